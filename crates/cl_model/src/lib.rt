@@ -1,0 +1,11 @@
+//! The typed program, launches and buffers: what a launch of a kernel is about.
+#![tactic(auto)]
+
+pub mod launch;
+pub mod program;
+
+pub use launch::{Bound, Buffers, Launch};
+pub use program::{
+    Arg, Array, Expr, Function, Program, Query, Root, Space, Stmt, SwitchArm, Table, Target, Var,
+    VarKind,
+};
