@@ -1,0 +1,13 @@
+pub mod Lists
+pub mod MemoryLemmas
+pub mod Steps
+pub mod Diamond
+pub mod Agree
+pub mod Ends
+pub mod Outcomes
+pub mod Quietly
+pub mod Lift
+pub mod HistoryLemmas
+pub mod Own
+pub mod Phases
+pub mod Comes
