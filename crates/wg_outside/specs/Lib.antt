@@ -1,0 +1,7 @@
+pub mod Counts
+pub mod Files
+pub mod Bytes
+pub mod Spans
+pub mod MemoryStore
+pub mod MemorySink
+pub mod FolderStore
