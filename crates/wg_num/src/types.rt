@@ -2,6 +2,7 @@
 
 use thiserror::Error;
 
+/// An integer type of the language (OpenCL 1.2, section 6.1.1); `size_t` is `Ulong`.
 #[derive(Clone, Copy, PartialEq, Eq, Debug)]
 pub enum IntType {
     Bool,
@@ -15,6 +16,7 @@ pub enum IntType {
     Ulong,
 }
 
+/// The unary operators `+`, `-`, `~` and `!` (C99, section 6.5.3.3).
 #[derive(Clone, Copy, PartialEq, Eq, Debug)]
 pub enum Un {
     Plus,
@@ -23,6 +25,7 @@ pub enum Un {
     Not,
 }
 
+/// The binary operators that take two values (C99, sections 6.5.5 to 6.5.12).
 #[derive(Clone, Copy, PartialEq, Eq, Debug)]
 pub enum Bin {
     Add,
@@ -43,6 +46,7 @@ pub enum Bin {
     Ge,
 }
 
+/// The built-in integer functions (OpenCL 1.2, section 6.12.3).
 #[derive(Clone, Copy, PartialEq, Eq, Debug)]
 pub enum Fun {
     Abs,
@@ -67,6 +71,7 @@ pub struct Place {
     pub column: u32,
 }
 
+/// How many work-items a chunk has.
 #[derive(Clone, Copy, PartialEq, Eq, Debug)]
 pub enum Width {
     W1,
