@@ -1,0 +1,13 @@
+#![tactic(auto)]
+
+use crate::{word_bytes, words};
+use std::test::Fail;
+
+#[test]
+fn numbers_go_to_bytes_and_back(rt: HostRuntime) -> Result<(), Fail> {
+    let read = words(rt.alloc(), &[1, 0, 0, 0, 2])?;
+    assert_eq!(rt; read.as_slice(), [1u32].as_slice());
+    let bytes = word_bytes(rt.alloc(), &read)?;
+    assert_eq!(rt; bytes.as_slice(), [1u8, 0, 0, 0].as_slice());
+    Ok(())
+}
