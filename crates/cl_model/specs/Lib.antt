@@ -1,0 +1,11 @@
+pub mod Tree
+pub mod View
+pub mod Sizes
+pub mod Values
+pub mod Calls
+pub mod Objects
+pub mod Task
+pub mod Steps
+pub mod Meaning
+pub mod Valid
+pub mod Fitting
