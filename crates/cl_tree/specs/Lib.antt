@@ -1,0 +1,6 @@
+pub mod Grammar
+pub mod Leaves
+pub mod Nodes
+pub mod Precedence
+pub mod Syntax
+pub mod Words
