@@ -19,6 +19,7 @@ abbrev mutual
   calls_among none = []
   calls_among (more e rest) = calls_in e ++ calls_among rest
 
+-- the calls of an expression that may be absent
 abbrev pub calls_in_optional : Option Expression → List CallSite
 calls_in_optional None = []
 calls_in_optional (Some e) = calls_in e
@@ -45,6 +46,7 @@ abbrev mutual
   calls_of_arms no_arm = []
   calls_of_arms (arm labels other body rest) = calls_of_all body ++ calls_of_arms rest
 
+-- what stands for a function that is not there
 abbrev pub no_function : Function
 no_function = record { parameters = 0; result = None; variables = []; arrays = []; body = empty }
 
@@ -52,6 +54,7 @@ no_function = record { parameters = 0; result = None; variables = []; arrays = [
 abbrev pub function_at : Program → ℕ → Function
 function_at program f = unwrap_or (slice_get program.functions f) no_function
 
+-- the function that is the kernel
 abbrev pub kernel_of : Program → Function
 kernel_of program = function_at program program.kernel
 

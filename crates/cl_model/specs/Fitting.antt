@@ -22,6 +22,7 @@ ArgumentFits launch (Pointer space.Constant element root) (bound.Buffer b) = b <
 ArgumentFits launch (Pointer space.Local element root) (bound.Local n) = Unit {0}
 ArgumentFits launch _ _ = ⊥
 
+-- the same of each parameter, with none left over on either side
 abbrev pub ArgumentsFit : Launch → List VarKind → List Bound → Type 0
 ArgumentsFit launch [] [] = Unit {0}
 ArgumentsFit launch (kind ∷ kinds) (b ∷ args) = ArgumentFits launch kind b × ArgumentsFit launch kinds args

@@ -16,18 +16,21 @@ use Rattle.cl_model.specs.Values.{size_of}
 use Rattle.cl_model.specs.Sizes.{Launch, group_count, item_count, group_of}
 use Rattle.cl_model.specs.Calls.{Instance, instances, function_at, kernel_of}
 
+-- the space is local memory
 abbrev pub is_local : Space → Test
 is_local space.Global = false
 is_local space.Constant = false
 is_local space.Local = true
 is_local space.Private = false
 
+-- the space is private memory
 abbrev pub is_private : Space → Test
 is_private space.Global = false
 is_private space.Constant = false
 is_private space.Local = false
 is_private space.Private = true
 
+-- how many bytes an array has
 abbrev pub array_bytes : Array → ℕ
 array_bytes a = a.count * size_of a.element
 
@@ -46,12 +49,15 @@ placed_from path number (a ∷ rest) = record { path = path; number = number; ar
 abbrev pub placed_arrays : Program → List PlacedArray
 placed_arrays program = flat_map (λ (i : Instance). placed_from i.path 0 (function_at program i.function).arrays) (instances program)
 
+-- those in local memory
 abbrev pub local_arrays : Program → List PlacedArray
 local_arrays program = filter (λ (a : PlacedArray). is_local a.array.space) (placed_arrays program)
 
+-- those in private memory
 abbrev pub private_arrays : Program → List PlacedArray
 private_arrays program = filter (λ (a : PlacedArray). is_private a.array.space) (placed_arrays program)
 
+-- the lists are equal
 abbrev pub same_path : List ℕ → List ℕ → Test
 same_path [] [] = true
 same_path [] (y ∷ ys) = false
@@ -74,9 +80,11 @@ local_arguments (bound.Local n ∷ args) = n ∷ local_arguments args
 abbrev pub local_sizes : Program → Launch → List ℕ
 local_sizes program launch = map (λ (a : PlacedArray). array_bytes a.array) (local_arrays program) ++ local_arguments launch.args
 
+-- and of each private object of an item
 abbrev pub private_sizes : Program → List ℕ
 private_sizes program = map (λ (a : PlacedArray). array_bytes a.array) (private_arrays program)
 
+-- so many zero bytes
 abbrev pub zeros : ℕ → List ℕ
 zeros n = replicate n 0
 
@@ -96,9 +104,11 @@ start_memory program launch buffers =
 abbrev pub first_table : Launch → ℕ
 first_table launch = length launch.lengths
 
+-- the number of the first local object of a group
 abbrev pub first_local : Program → Launch → ℕ → ℕ
 first_local program launch group = first_table launch + length program.tables + group * length (local_sizes program launch)
 
+-- the number of the first private object of an item
 abbrev pub first_private : Program → Launch → ℕ → ℕ
 first_private program launch item = first_local program launch (group_count launch) + item * length (private_sizes program)
 
@@ -133,6 +143,7 @@ is_constant_pointer (Some (Pointer space.Constant element root)) = true
 is_constant_pointer (Some (Pointer space.Local element root)) = false
 is_constant_pointer (Some (Pointer space.Private element root)) = false
 
+-- what is bound is the buffer with this number
 abbrev pub is_buffer : Option Bound → ℕ → Test
 is_buffer None object = false
 is_buffer (Some (bound.Buffer b)) object = nat_eq b object

@@ -16,6 +16,7 @@ pub record Launch : Type 0 where
   pub load_count : ℕ
   pub save_count : ℕ
 
+-- the product of the numbers, 1 for none
 abbrev pub product : List ℕ → ℕ
 product [] = 1
 product (n ∷ ns) = n * product ns
@@ -24,6 +25,7 @@ product (n ∷ ns) = n * product ns
 abbrev pub size_at : List ℕ → ℕ → ℕ
 size_at sizes d = unwrap_or (slice_get sizes d) 1
 
+-- an offset in a dimension
 abbrev pub offset_at : List ℕ → ℕ → ℕ
 offset_at offsets d = unwrap_or (slice_get offsets d) 0
 
@@ -39,9 +41,11 @@ groups_of launch = groups_at launch 0 ∷ groups_at launch 1 ∷ groups_at launc
 abbrev pub group_count : Launch → ℕ
 group_count launch = product (groups_of launch)
 
+-- how many items a group has
 abbrev pub group_size : Launch → ℕ
 group_size launch = product launch.local
 
+-- how many items the launch has
 abbrev pub item_count : Launch → ℕ
 item_count launch = group_count launch * group_size launch
 
@@ -49,6 +53,7 @@ item_count launch = group_count launch * group_size launch
 abbrev pub group_of : Launch → ℕ → ℕ
 group_of launch item = item / group_size launch
 
+-- the number of an item in its group
 abbrev pub number_in_group : Launch → ℕ → ℕ
 number_in_group launch item = item % group_size launch
 
@@ -56,9 +61,11 @@ number_in_group launch item = item % group_size launch
 abbrev pub local_id : Launch → ℕ → ℕ → ℕ
 local_id launch item d = number_in_group launch item / product (take d launch.local) % size_at launch.local d
 
+-- the group's
 abbrev pub group_id : Launch → ℕ → ℕ → ℕ
 group_id launch item d = group_of launch item / product (take d (groups_of launch)) % groups_at launch d
 
+-- and its number in the whole launch, from the offset on
 abbrev pub global_id : Launch → ℕ → ℕ → ℕ
 global_id launch item d = offset_at launch.offset d + group_id launch item d * size_at launch.local d + local_id launch item d
 

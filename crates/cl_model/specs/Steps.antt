@@ -25,6 +25,7 @@ abbrev pub last : List ℤ → ℤ
 last [] = pos 0
 last (v ∷ values) = v
 
+-- the values before the last
 abbrev pub before : List ℤ → List ℤ
 before [] = []
 before (v ∷ values) = values
@@ -34,6 +35,7 @@ abbrev pub taken_onto : ℕ → List ℤ → List ℤ → List ℤ
 taken_onto zero values onto = onto
 taken_onto (suc n) values onto = taken_onto n (before values) (last values ∷ onto)
 
+-- the last values, so many of them, the earliest first
 abbrev pub taken : ℕ → List ℤ → List ℤ
 taken n values = taken_onto n values []
 
@@ -46,6 +48,7 @@ below (suc n) values = below n (before values)
 abbrev pub nth : List ℤ → ℕ → ℤ
 nth values n = unwrap_or (slice_get values n) (pos 0)
 
+-- what stands for the frame where there is none
 abbrev pub no_frame : Frame
 no_frame = record { function = 0; path = []; objects = λ n. 0; variables = λ x. pos 0 }
 
@@ -54,6 +57,7 @@ abbrev pub frame_of : List Frame → Frame
 frame_of [] = no_frame
 frame_of (frame ∷ frames) = frame
 
+-- the frames of the calls around it
 abbrev pub frames_below : List Frame → List Frame
 frames_below [] = []
 frames_below (frame ∷ frames) = frames
@@ -62,6 +66,7 @@ frames_below (frame ∷ frames) = frames
 abbrev pub set_in : Frame → ℕ → ℤ → Frame
 set_in frame x v = record frame { variables = λ y. if nat_eq x y then v else frame.variables y }
 
+-- the frames after a variable of the first is set
 abbrev pub set_first : List Frame → ℕ → ℤ → List Frame
 set_first [] x v = []
 set_first (frame ∷ frames) x v = set_in frame x v ∷ frames
@@ -70,6 +75,7 @@ set_first (frame ∷ frames) x v = set_in frame x v ∷ frames
 abbrev pub with_tasks : Item → List Task → Item
 with_tasks i tasks = record i { tasks = tasks }
 
+-- the item with other tasks and values
 abbrev pub with_values : Item → List Task → List ℤ → Item
 with_values i tasks values = record i { tasks = tasks; values = values }
 
@@ -86,6 +92,7 @@ abbrev pub each_operand : Point → ℕ → Expressions → List Task → List T
 each_operand at k none tasks = tasks
 each_operand at k (more e rest) tasks = Evaluate (at ++ Operand k ∷ []) e ∷ each_operand at (suc k) rest tasks
 
+-- how many expressions there are
 abbrev pub count_of : Expressions → ℕ
 count_of none = 0
 count_of (more e rest) = suc (count_of rest)
@@ -150,10 +157,12 @@ abbrev pub defaulted : ℕ → Arms → Entry
 defaulted k no_arm = nowhere
 defaulted k (arm labels other body rest) = if other then entry k (arm labels other body rest) else defaulted (suc k) rest
 
+-- the first entry, or else the second
 abbrev pub or_else : Entry → Entry → Entry
 or_else nowhere second = second
 or_else (entry k arms) second = entry k arms
 
+-- where a switch on the value is entered: at its label, else at `default`, else nowhere
 abbrev pub entry_of : ℤ → Arms → Entry
 entry_of v arms = or_else (labelled v 0 arms) (defaulted 0 arms)
 
@@ -162,6 +171,7 @@ abbrev pub arm_tasks : Point → ℕ → Arms → List Task → List Task
 arm_tasks at k no_arm tasks = tasks
 arm_tasks at k (arm labels other body rest) tasks = in_order (at ++ Arm k ∷ []) 0 body (arm_tasks at (suc k) rest tasks)
 
+-- the bodies from the entry on, before other tasks
 abbrev pub entry_tasks : Point → Entry → List Task → List Task
 entry_tasks at nowhere tasks = tasks
 entry_tasks at (entry k arms) tasks = arm_tasks at k arms tasks
@@ -225,6 +235,7 @@ run_next program i at (Barrier site) rest = Waits site (with_tasks i rest)
 abbrev pub no_array : Array
 no_array = record { space = space.Private; element = Long; count = 0 }
 
+-- the array with this number of the function that is under way
 abbrev pub array_at : Program → Item → ℕ → Array
 array_at program i array = unwrap_or (slice_get (function_at program (frame_of i.frames).function).arrays array) no_array
 
@@ -293,6 +304,7 @@ task_next program launch i (Select at site arms) rest =
 task_next program launch i (InSwitch at site) rest = Goes (with_tasks i rest)
 task_next program launch i (Leave at) rest = Goes (behind_return i rest i.values)
 
+-- the step of the first task, if there is one
 abbrev pub first_next : Program → Launch → Item → List Task → Next Item
 first_next program launch i [] = Ends
 first_next program launch i (task ∷ rest) = task_next program launch i task rest

@@ -32,6 +32,7 @@ pub data Leg : Type 0 where
 abbrev pub Point : Type 0
 Point = List Leg
 
+-- what is to be done, with the way to its node
 pub data Task : Type 0 where
   Run : (at : Point) (s : Statement) → Task
   -- an expression whose value is to be put on the list of values

@@ -34,6 +34,7 @@ pub data Action : Type 0 where
   Store : (site : ℕ) (element : IntType) (root : Root) → Action
 
 mutual
+  -- an expression
   pub data Expression : Type 0 where
     -- the operands from left to right, then a step on their values
     Apply : (action : Action) (operands : Expressions) → Expression
@@ -44,6 +45,7 @@ mutual
     -- a call, with the root of each argument that is a pointer, whose value is its element offset
     Call : (site function : ℕ) (roots : List (Option Root)) (arguments : Expressions) → Expression
 
+  -- expressions in order
   pub data Expressions : Type 0 where
     none : Expressions
     more : (first : Expression) (rest : Expressions) → Expressions
@@ -52,6 +54,7 @@ mutual
 abbrev pub single : Expression → Expressions
 single a = more a none
 
+-- two operands
 abbrev pub pair : Expression → Expression → Expressions
 pair a b = more a (more b none)
 
@@ -64,6 +67,7 @@ abbrev pub decided : Test → Expression
 decided answer = Apply (Decided answer) none
 
 mutual
+  -- a statement
   pub data Statement : Type 0 where
     Do : (value : Expression) → Statement
     Declare : (x : ℕ) (value : Option Expression) → Statement
@@ -78,6 +82,7 @@ mutual
     Return : (site : ℕ) (value : Option Expression) → Statement
     Barrier : (site : ℕ) → Statement
 
+  -- statements in order
   pub data Statements : Type 0 where
     empty : Statements
     also : (first : Statement) (rest : Statements) → Statements
@@ -93,6 +98,7 @@ pub record Array : Type 0 where
   pub element : IntType
   pub count : ℕ
 
+-- a constant table with its bytes
 pub record Table : Type 0 where
   pub array : Array
   pub bytes : List ℕ

@@ -43,6 +43,7 @@ unary_type un.Minus of = of
 unary_type un.Flip of = of
 unary_type un.Not of = Int
 
+-- the type of the result of an operator on two operands: int for a comparison
 abbrev pub binary_type : Bin → IntType → IntType
 binary_type bin.Add of = of
 binary_type bin.Sub of = of
@@ -93,6 +94,7 @@ abbrev pub kind_type : VarKind → IntType
 kind_type (Scalar t) = t
 kind_type (Pointer space element root) = Long
 
+-- the function has this variable, and what it holds is of this type
 abbrev pub HasVariable : Function → ℕ → IntType → Type 0
 HasVariable f x t = (kind : VarKind) × (slice_get f.variables x ≡ Some kind) × (kind_type kind ≡ t)
 
@@ -111,6 +113,7 @@ RootIs program f (Private n) at element = (array : Array) × (slice_get f.arrays
 abbrev pub CanLoad : Program → Function → Root → IntType → Type 0
 CanLoad program f root element = (at : Space) × RootIs program f root at element
 
+-- elements of this type can be stored there
 abbrev pub CanStore : Program → Function → Root → IntType → Type 0
 CanStore program f root element = (at : Space) × RootIs program f root at element × (at ≢ space.Constant)
 
@@ -175,24 +178,29 @@ IsPlainCall program f (Call site g roots arguments) =
     CanBeCalled program g None × ((ts : List IntType) × HaveTypes program f arguments ts × ArgumentsFit program f (parameter_kinds (function_at program g)) roots ts)
 IsPlainCall program f _ = ⊥
 
+-- the expression has a value, where it is there
 abbrev pub OptionalFits : Program → Function → Option Expression → Type 0
 OptionalFits program f None = Unit {0}
 OptionalFits program f (Some e) = HasValue program f e
 
+-- the variable is there, and the value is of its type
 abbrev pub DeclaredFits : Program → Function → ℕ → Option Expression → Type 0
 DeclaredFits program f x None = (t : IntType) × HasVariable f x t
 DeclaredFits program f x (Some e) = (t : IntType) × HasVariable f x t × HasType program f e t
 
+-- a return has a value exactly where the function has a result, of its type
 abbrev pub ReturnFits : Program → Function → Option IntType → Option Expression → Type 0
 ReturnFits program f None None = Unit {0}
 ReturnFits program f (Some t) (Some e) = HasType program f e t
 ReturnFits program f None (Some e) = ⊥
 ReturnFits program f (Some t) None = ⊥
 
+-- all of them have a value of the type
 abbrev pub AllHaveType : Program → Function → Expressions → IntType → Type 0
 AllHaveType program f none t = Unit {0}
 AllHaveType program f (more e rest) t = HasType program f e t × AllHaveType program f rest t
 
+-- how many there are
 abbrev pub number_of_values : Expressions → ℕ
 number_of_values none = 0
 number_of_values (more e rest) = suc (number_of_values rest)
@@ -202,6 +210,7 @@ abbrev pub labels_of : Arms → List ℤ
 labels_of no_arm = []
 labels_of (arm labels other body rest) = labels ++ labels_of rest
 
+-- how many arms of a switch are `default`
 abbrev pub defaults_of : Arms → ℕ
 defaults_of no_arm = 0
 defaults_of (arm labels other body rest) = (if other then 1 else 0) + defaults_of rest
@@ -240,10 +249,12 @@ abbrev mutual
 abbrev pub Scope : Type 0
 Scope = List ℕ
 
+-- the variable is in scope
 abbrev pub Has : Scope → ℕ → Type 0
 Has [] x = ⊥
 Has (y ∷ scope) x = (y ≡ x) ⊎ Has scope x
 
+-- the variable that an action names is in scope
 abbrev pub ActionNames : Scope → Action → Type 0
 ActionNames scope (Variable x) = Has scope x
 ActionNames scope (Set x) = Has scope x
@@ -272,6 +283,7 @@ abbrev mutual
   NamesAmong scope none = Unit {0}
   NamesAmong scope (more e rest) = NamesIn scope e × NamesAmong scope rest
 
+-- the same of an expression that may be absent
 abbrev pub NamesInOptional : Scope → Option Expression → Type 0
 NamesInOptional scope None = Unit {0}
 NamesInOptional scope (Some e) = NamesIn scope e
@@ -395,6 +407,7 @@ abbrev mutual
   sites_among none = []
   sites_among (more e rest) = sites_in e ++ sites_among rest
 
+-- the sites of an expression that may be absent
 abbrev pub sites_in_optional : Option Expression → List ℕ
 sites_in_optional None = []
 sites_in_optional (Some e) = sites_in e
@@ -450,6 +463,7 @@ abbrev mutual
   nodes_among none = 0
   nodes_among (more e rest) = nodes_in e + nodes_among rest
 
+-- the nodes of an expression that may be absent
 abbrev pub nodes_in_optional : Option Expression → ℕ
 nodes_in_optional None = 0
 nodes_in_optional (Some e) = nodes_in e
@@ -491,6 +505,7 @@ abbrev pub KindFits : Program → Function → ℕ → VarKind → Type 0
 KindFits program f x (Scalar t) = Unit {0}
 KindFits program f x (Pointer at element root) = (x < f.parameters → root ≡ Param x) × (f.parameters ≤ x → RootIs program f root at element)
 
+-- the function of a program is valid
 pub record IsValidFunction (program : Program) (f : Function) : Type 0 where
   pub parameters : f.parameters ≤ length f.variables
   pub kinds : (x : ℕ) (kind : VarKind) → slice_get f.variables x ≡ Some kind → KindFits program f x kind
@@ -501,10 +516,12 @@ pub record IsValidFunction (program : Program) (f : Function) : Type 0 where
   pub undeclared : (x : ℕ) → x < f.parameters → all_declarations f.body x ≡ 0
   pub exits : AllExitsFit false false f.body
 
+-- the table is constant memory, with its bytes
 pub record IsValidTable (table : Table) : Type 0 where
   pub constant : table.array.space ≡ space.Constant
   pub size : length table.bytes ≡ array_bytes table.array
 
+-- the program is valid
 pub record IsValid (program : Program) : Type 0 where
   pub kernel : program.kernel < length program.functions
   pub tables : (n : ℕ) (table : Table) → slice_get program.tables n ≡ Some table → IsValidTable table

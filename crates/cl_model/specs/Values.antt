@@ -35,6 +35,7 @@ number_of_bytes (b ∷ bytes) = b + 256 * number_of_bytes bytes
 abbrev pub value_of_bytes : IntType → List ℕ → ℤ
 value_of_bytes t bytes = value_of t (number_of_bytes bytes)
 
+-- the value is 0
 abbrev pub is_zero : ℤ → Test
 is_zero (pos zero) = true
 is_zero (pos (suc n)) = false

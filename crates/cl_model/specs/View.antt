@@ -69,6 +69,7 @@ abbrev mutual
   argument_of (arg.Value e) = expression_of e
   argument_of (arg.Offset root e) = expression_of e
 
+-- of an expression that may be absent
 abbrev pub optional_expression : Option Expr → Option tree.Expression
 optional_expression None = None
 optional_expression (Some e) = Some (expression_of e)
@@ -109,12 +110,15 @@ abbrev pub listed_statements : List Stmt → tree.Statements
 listed_statements [] = tree.empty
 listed_statements (s ∷ ss) = tree.also (statement_of s) (listed_statements ss)
 
+-- the plain view of an array, a table and a function
 abbrev pub array_of : Array → tree.Array
 array_of a = record { space = a.space; element = a.element; count = product a.dims.items }
 
+-- of a constant table
 abbrev pub table_of : Table → tree.Table
 table_of t = record { array = array_of t.array; bytes = t.bytes.items }
 
+-- of a function
 abbrev pub function_of : Function → tree.Function
 function_of f = record {
   parameters = f.params;

@@ -5,7 +5,7 @@ use Rattle.std.proofs.lemmas.Option.{none-some, same_Some}
 use Rattle.work_items.specs.Memory.{Memory, Access, bytes_of, has_element, loaded}
 use Rattle.work_items.specs.Items.{Next, Ends, Waits, Goes, Begins, Loads, Stores, Machine, World, Move, Step, Release, HasStep, IsWaiting, fault_of, memory_after, state_after, after_wait, IsPossible, released, after_step, after_step_of, moved}
 use Rattle.work_items.specs.Runs.{world_after, IsRun}
-use Rattle.work_items.specs.Simulation.{Event, Freed, trace, events_of, events_of_step, events_of_next, events_of_access, GoesIn, SameLabel, both_end, both_wait, both_go, both_begin, both_load, both_store, MatchesAt, Simulates, IsMatched}
+use Rattle.work_items.specs.Simulation.{Event, Freed, trace, events_of, events_of_step, events_of_next, events_of_access, GoesIn, SameLabel, both_end, both_wait, both_go, both_begin, both_load, both_store, MatchesAt, SimulatesFor, IsMatched}
 use Rattle.work_items.specs.Histories.{Deed, Passed, Turned, Read, Wrote, DoesOnce, History, nothing, going, doing, Tells, KeepsTold, deed_of, deeds_of, HasHistories}
 use Rattle.work_items.proofs.Lists.{get-set_same, get-set_other}
 use Rattle.work_items.proofs.Diamond.{released_other}
@@ -175,10 +175,10 @@ module _ {S P : Type 0} (machine : Machine S P) (lengths : ℕ → ℕ) (told : 
       → IsRun machine start moves → HasHistories machine lengths told start moves
   run_histories start moves k t l run = record { each = run_becomes start moves (record { all_keep = k; tells = t; same_lengths = l }) run }
 
--- in matched runs each item does the same
-pub matched_deeds : {S P T Q : Type 0} (machine : Machine S P) (other : Machine T Q) (point_of : P → Q) (R : S → T → Type 0) → Simulates machine other point_of R → (world : World S) (moves : List Move) (world' : World T) → (m : IsMatched machine other R world moves world')
+-- in runs with one trace each item does the same
+pub matched_deeds : {S P T Q : Type 0} (machine : Machine S P) (other : Machine T Q) → ((item : ℕ) → other.group item ≡ machine.group item) → (R : S → T → Type 0) (world : World S) (moves : List Move) (world' : World T) → (m : IsMatched machine other R world moves world')
     → (item : ℕ) → deeds_of other.group item (trace other world' m.moves') ≡ deeds_of machine.group item (trace machine world moves)
-matched_deeds machine other point_of R sim world moves world' m item = ap (λ es. deeds_of other.group item es) m.same_trace ∙ (λ k. deeds_of (λ i. sim.same_group i k) item (trace machine world moves))
+matched_deeds machine other same_group R world moves world' m item = ap (λ es. deeds_of other.group item es) m.same_trace ∙ (λ k. deeds_of (λ i. same_group i k) item (trace machine world moves))
 
 -- steps with one label do one deed, and lead to related states
 deed_matched : {S T : Type 0} {R : S → T → Type 0} {n : Next S} {n' : Next T} (lengths : ℕ → ℕ) (told : Access → List ℕ → Type 0) (deed : Deed) (mid : S) → SameLabel R n n' → DoesOnce lengths told n deed mid → (mid' : T) × DoesOnce lengths told n' deed mid' × R mid mid'
@@ -200,21 +200,29 @@ goes_history next (suc n) a b g h = going g.1 (goes_history next n g.0 b g.2 h)
 no_deed : {S : Type 0} (lengths : ℕ → ℕ) (told : Access → List ℕ → Type 0) (deed : Deed) (n : Next S) (after mid : S) → n ≡ Goes after → DoesOnce lengths told n deed mid → ⊥
 no_deed lengths told deed n after mid e d = subst (λ n. DoesOnce lengths told n deed mid) e d
 
+-- how many steps a history has, and so many more
+abbrev pub steps_and : {S : Type 0} {lengths : ℕ → ℕ} {told : Access → List ℕ → Type 0} {next : S → Next S} {s to : S} {deeds : List Deed} → History lengths told next s deeds to → ℕ → ℕ
+steps_and nothing n = n
+steps_and (going e h) n = suc (steps_and h n)
+steps_and (doing d h) n = suc (steps_and h n)
+
 -- each history of an item is matched by one of the other machine's, with the same deeds
-pub history_matched : {S P T Q : Type 0} (machine : Machine S P) (other : Machine T Q) (point_of : P → Q) (R : S → T → Type 0) → Simulates machine other point_of R → (lengths : ℕ → ℕ) (told : Access → List ℕ → Type 0)
-    → (s : S) (deeds : List Deed) (to : S) (t : T) → History lengths told machine.next s deeds to → R s t → (t' : T) × History lengths told other.next t deeds t' × R to t'
-history_matched machine other point_of R sim lengths told s deeds to t nothing r = (t, nothing, r)
-history_matched machine other point_of R sim lengths told s deeds to t (going {mid = mid} e h) r =
-    let m = sim.matches s t r in
-    let r' = subst (λ n. MatchesAt other R (point_of (machine.point s)) n m.1) e m.3 in
-    let rest = history_matched machine other point_of R sim lengths told mid deeds to m.1 h r' in
+pub history_matched : {S P T Q : Type 0} (machine : Machine S P) (other : Machine T Q) (point_of : P → Q) (R : ℕ → S → T → Type 0) → SimulatesFor machine other point_of R → (lengths : ℕ → ℕ) (told : Access → List ℕ → Type 0)
+    → (n : ℕ) (s : S) (deeds : List Deed) (to : S) (t : T) (h : History lengths told machine.next s deeds to) → R (steps_and h n) s t → (t' : T) × History lengths told other.next t deeds t' × R n to t'
+history_matched machine other point_of R sim lengths told n s deeds to t nothing r = (t, nothing, r)
+history_matched machine other point_of R sim lengths told n s deeds to t (going {mid = mid} e h) r =
+    let k = steps_and h n in
+    let m = sim.matches k s t r in
+    let r' = subst (λ n. MatchesAt other (R k) (point_of (machine.point s)) n m.1) e m.3 in
+    let rest = history_matched machine other point_of R sim lengths told n mid deeds to m.1 h r' in
     (rest.0, goes_history other.next m.0 t m.1 m.2 rest.1, rest.2)
-history_matched machine other point_of R sim lengths told s deeds to t (doing {mid = mid} {deed = deed} {deeds = ds} d h) r =
-    elim (labelled other R (point_of (machine.point s)) (machine.next s) (sim.matches s t r).1 (sim.matches s t r).3).1 [
+history_matched machine other point_of R sim lengths told n s deeds to t (doing {mid = mid} {deed = deed} {deeds = ds} d h) r =
+    let k = steps_and h n in
+    elim (labelled other (R k) (point_of (machine.point s)) (machine.next s) (sim.matches k s t r).1 (sim.matches k s t r).3).1 [
       | inl goes ↦ absurd (no_deed lengths told deed (machine.next s) goes.0 mid goes.1 d)
       | inr label ↦
-          let m = sim.matches s t r in
+          let m = sim.matches k s t r in
           let done = deed_matched lengths told deed mid label.0 d in
-          let rest = history_matched machine other point_of R sim lengths told mid ds to done.0 h done.2 in
+          let rest = history_matched machine other point_of R sim lengths told n mid ds to done.0 h done.2 in
           (rest.0, goes_history other.next m.0 t m.1 m.2 (doing done.1 rest.1), rest.2)
     ]

@@ -11,3 +11,4 @@ pub mod HistoryLemmas
 pub mod Own
 pub mod Phases
 pub mod Comes
+pub mod Follows

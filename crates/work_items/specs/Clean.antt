@@ -60,9 +60,11 @@ FallsAt keeps measure rise here (Begins after) = keeps after × (measure after �
 FallsAt keeps measure rise here (Loads site access after) = (bytes : List ℕ) → keeps (after bytes) × (measure (after bytes) < here)
 FallsAt keeps measure rise here (Stores site object index bytes after) = keeps after × (measure after < here)
 
+-- each state of which the fact holds has the number that falls
 abbrev pub Falls : {S P : Type 0} → Machine S P → (S → Type 0) → (S → ℕ) → ℕ → Type 0
 Falls {S} machine keeps measure rise = (state : S) → keeps state → FallsAt keeps measure rise (measure state) (machine.next state)
 
+-- of each item's state something holds
 abbrev pub AllKeep : {S : Type 0} → (S → Type 0) → List S → Type 0
 AllKeep {S} keeps items = (item : ℕ) (state : S) → slice_get items item ≡ Some state → keeps state
 
@@ -75,6 +77,7 @@ ComesAt goes_on can_come point come (Begins after) = can_come after point → co
 ComesAt goes_on can_come point come (Loads site access after) = goes_on access → (bytes : List ℕ) → can_come (after bytes) point → come point
 ComesAt goes_on can_come point come (Stores site object index bytes after) = goes_on (record { object = object; size = length bytes; index = index }) → can_come after point → come point
 
+-- `can_come` holds where an item stands, and wherever it holds after one of its steps
 pub record IsComing {S P : Type 0} (machine : Machine S P) (goes_on : Access → Type 0) (can_come : S → P → Type 0) : Type 0 where
   pub here : (state : S) → can_come state (machine.point state)
   pub later : (state : S) (point : P) → ComesAt goes_on can_come point (can_come state) (machine.next state)

@@ -28,6 +28,7 @@ pub record Fault : Type 0 where
   pub item : ℕ
   pub site : ℕ
 
+-- the memory, the state of each item, and the fault that ended the run, if there was one
 pub record World (S : Type 0) : Type 0 where
   pub memory : Memory
   pub items : List S
@@ -47,10 +48,12 @@ HasStep (Begins after) = Unit {0}
 HasStep (Loads site access after) = Unit {0}
 HasStep (Stores site object index bytes after) = Unit {0}
 
+-- the item stands at a barrier
 abbrev pub IsWaiting : {S : Type 0} → Next S → Type 0
 IsWaiting (Waits site after) = Unit {0}
 IsWaiting _ = ⊥
 
+-- no task of the item is left
 abbrev pub HasEnded : {S : Type 0} → Next S → Type 0
 HasEnded Ends = Unit {0}
 HasEnded _ = ⊥
@@ -116,6 +119,7 @@ after_step machine world item state None =
     }
 after_step machine world item state (Some site) = record world { fault = Some (record { item = item; site = site }) }
 
+-- the same, where there is such an item
 abbrev pub after_step_of : {S P : Type 0} → Machine S P → World S → ℕ → Option S → World S
 after_step_of machine world item None = world
 after_step_of machine world item (Some state) =

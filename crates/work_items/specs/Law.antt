@@ -11,6 +11,7 @@ pub record Commutes {S P : Type 0} (machine : Machine S P) (world : World S) (on
   pub still_one : IsPossible machine (moved machine world other) one
   pub same_world : moved machine (moved machine world one) other ≡ moved machine (moved machine world other) one
 
+-- what all runs of a clean launch have in common
 pub record Agrees {S P : Type 0} (machine : Machine S P) (can_come : S → P → Type 0) (start : World S) : Type 0 where
   pub commutes : (moves : List Move) (one other : Move) → IsRun machine start moves → one ≢ other → IsPossible machine (world_after machine start moves) one → IsPossible machine (world_after machine start moves) other
       → Commutes machine (world_after machine start moves) one other

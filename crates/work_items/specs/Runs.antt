@@ -22,14 +22,17 @@ pub record IsMaximal {S P : Type 0} (machine : Machine S P) (world : World S) (m
   pub run : IsRun machine world moves
   pub over : IsOver machine (world_after machine world moves)
 
+-- 1 for a step that begins an iteration, else 0
 abbrev pub turns_of : {S : Type 0} → Next S → ℕ
 turns_of (Begins after) = 1
 turns_of _ = 0
 
+-- the same of the item at a place, if there is one
 abbrev pub turns_of_step : {S P : Type 0} → Machine S P → Option S → ℕ
 turns_of_step machine None = 0
 turns_of_step machine (Some state) = turns_of (machine.next state)
 
+-- the same of a move
 abbrev pub turns_of_move : {S P : Type 0} → Machine S P → World S → Move → ℕ
 turns_of_move machine world (Step item) = turns_of_step machine (slice_get world.items item)
 turns_of_move machine world (Release group) = 0

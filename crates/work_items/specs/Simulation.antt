@@ -20,15 +20,18 @@ events_of_next memory item (Stores site object index bytes after) = Stored item 
 events_of_next memory item (Begins after) = Began item ∷ []
 events_of_next memory item _ = []
 
+-- the events of a step, or its fault where its access is out of range
 abbrev pub events_of_access : ℕ → List Event → Option ℕ → List Event
 events_of_access item events None = events
 events_of_access item events (Some site) = Faulted item site ∷ []
 
+-- the events of the step of an item, if there is one
 abbrev pub events_of_step : {S P : Type 0} → Machine S P → Memory → ℕ → Option S → List Event
 events_of_step machine memory item None = []
 events_of_step machine memory item (Some state) =
     events_of_access item (events_of_next memory item (machine.next state)) (fault_of memory (machine.next state))
 
+-- the events of a move
 abbrev pub events_of : {S P : Type 0} → Machine S P → World S → Move → List Event
 events_of machine world (Step item) = events_of_step machine world.memory item (slice_get world.items item)
 events_of machine world (Release group) = Freed group ∷ []
@@ -61,6 +64,17 @@ MatchesAt machine R point next state = SameLabel R next (machine.next state) × 
 pub record Simulates {S P T Q : Type 0} (machine : Machine S P) (other : Machine T Q) (point_of : P → Q) (R : S → T → Type 0) : Type 0 where
   pub same_group : (item : ℕ) → other.group item ≡ machine.group item
   pub matches : (s : S) (t : T) → R s t → (n : ℕ) × (t' : T) × GoesIn other.next n t t' × MatchesAt other R (point_of (machine.point s)) (machine.next s) t'
+
+-- the same, counted: states that are related for one move more are matched, and lead to states that are related for one move fewer
+pub record SimulatesFor {S P T Q : Type 0} (machine : Machine S P) (other : Machine T Q) (point_of : P → Q) (R : ℕ → S → T → Type 0) : Type 0 where
+  pub same_group : (item : ℕ) → other.group item ≡ machine.group item
+  pub fewer : (n : ℕ) (s : S) (t : T) → R (suc n) s t → R n s t
+  pub matches : (n : ℕ) (s : S) (t : T) → R (suc n) s t → (k : ℕ) × (t' : T) × GoesIn other.next k t t' × MatchesAt other (R n) (point_of (machine.point s)) (machine.next s) t'
+
+-- so many moves, and one for each move of a list
+abbrev pub moves_and : {A : Type 0} → List A → ℕ → ℕ
+moves_and [] n = n
+moves_and (move ∷ moves) n = suc (moves_and moves n)
 
 -- the items at one place are related, or there is none on either side
 abbrev pub RelatedAt : {S T : Type 0} → (S → T → Type 0) → Option S → Option T → Type 0
