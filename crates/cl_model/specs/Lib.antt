@@ -1,3 +1,4 @@
+pub mod Lists
 pub mod Tree
 pub mod View
 pub mod Sizes
@@ -9,3 +10,5 @@ pub mod Steps
 pub mod Meaning
 pub mod Valid
 pub mod Fitting
+pub mod Varying
+pub mod Agreement

@@ -1,5 +1,5 @@
 -- Which typed programs are valid: numbers name something, types fit, scopes, exits, calls and sites are as a checked source gives them.
-use Rattle.std.specs.Prelude.{◌≡◌, ◌≢◌, ℕ, zero, suc, ◌+◌, ◌<◌, ◌≤◌, ℤ, List, [], ◌∷◌, ◌++◌, Option, Some, None, length, flat_map, take, slice_get, sum_by, replicate, nat_eq, All, Contains, ◌⊎◌, if◌then◌else◌}
+use Rattle.std.specs.Prelude.{◌≡◌, ◌≢◌, ℕ, zero, suc, ◌+◌, ◌<◌, ◌≤◌, ℤ, List, [], ◌∷◌, ◌++◌, Option, Some, None, length, flat_map, take, slice_get, sum_by, replicate, nat_eq, ◌⊎◌, if◌then◌else◌}
 use Rattle.std.specs.Prelude.{Bool as Test, true, false}
 use Rattle.wg_num.specs.declared.types.IntType.{IntType}
 use Rattle.wg_num.specs.declared.types.IntType.TheVariants.{Bool, Char, Uchar, Short, Ushort, Int, Uint, Long, Ulong}
@@ -21,6 +21,7 @@ use Rattle.cl_model.specs.declared.program.VarKind.TheVariants.{Scalar, Pointer}
 use Rattle.cl_model.specs.declared.program.Query.{Query}
 use Rattle.cl_model.specs.declared.program.Query.TheVariants.{WorkDim, GlobalId, LocalId, GroupId, GlobalSize, LocalSize, NumGroups, GlobalOffset}
 use Rattle.cl_model.specs.Tree.{Action, Literal, Variable, Unary, Binary, Builtin, Convert, Ask, Second, Truth, Decided, Set, Change, Load, Store, Expression, Apply, Update, Choose, Call, Expressions, none, more, Statement, Do, Declare, Fill, Block, If, Loop, Switch, Break, Continue, Return, Barrier, Statements, empty, also, Arms, no_arm, arm, Array, Table, Function, Program}
+use Rattle.cl_model.specs.Lists.{Each, AllDiffer}
 use Rattle.cl_model.specs.Calls.{CallSite, calls_of_all, function_at, Instance, instances}
 use Rattle.cl_model.specs.Objects.{is_local, array_bytes}
 
@@ -215,11 +216,6 @@ abbrev pub defaults_of : Arms → ℕ
 defaults_of no_arm = 0
 defaults_of (arm labels other body rest) = (if other then 1 else 0) + defaults_of rest
 
--- no element of the list comes twice
-abbrev pub AllDiffer : {A : Type 0} → List A → Type 0
-AllDiffer [] = Unit {0}
-AllDiffer (x ∷ xs) = (Contains xs x → ⊥) × AllDiffer xs
-
 -- the types of a statement of a function fit
 abbrev mutual
   pub StatementFits : Program → Function → Statement → Type 0
@@ -231,7 +227,7 @@ abbrev mutual
   StatementFits program f (If site test chosen other) = HasValue program f test × AllFit program f chosen × AllFit program f other
   StatementFits program f (Loop site test_first test step body) = OptionalFits program f test × OptionalFits program f step × StatementFits program f body
   StatementFits program f (Switch site value arms) =
-      ((t : IntType) × HasType program f value t × All (λ v. IsValue (promoted t) v) (labels_of arms)) × AllDiffer (labels_of arms) × (defaults_of arms ≤ 1) × ArmsFit program f arms
+      ((t : IntType) × HasType program f value t × Each (λ v. IsValue (promoted t) v) (labels_of arms)) × AllDiffer (labels_of arms) × (defaults_of arms ≤ 1) × ArmsFit program f arms
   StatementFits program f (Break site) = Unit {0}
   StatementFits program f (Continue site) = Unit {0}
   StatementFits program f (Return site value) = ReturnFits program f f.result value
@@ -493,7 +489,7 @@ abbrev mutual
 -- calls of the function nest less deep than the depth
 abbrev pub CallsEnd : Program → ℕ → ℕ → Type 0
 CallsEnd program zero f = ⊥
-CallsEnd program (suc depth) f = All (λ (c : CallSite). CallsEnd program depth c.function) (calls_of_all (function_at program f).body)
+CallsEnd program (suc depth) f = Each (λ (c : CallSite). CallsEnd program depth c.function) (calls_of_all (function_at program f).body)
 
 -- the numbers from one on, so many of them, the last first in the list
 abbrev pub numbers_below : ℕ → List ℕ
@@ -530,5 +526,5 @@ pub record IsValid (program : Program) : Type 0 where
   pub calls : (n : ℕ) → n < length program.functions → CallsEnd program (length program.functions) n
   -- no two nodes have one site, and each site has a place
   pub sites : AllDiffer (flat_map (λ (f : Function). sites_of_all f.body) program.functions)
-  pub places : All (λ site. site < length program.sites) (flat_map (λ (f : Function). sites_of_all f.body) program.functions)
+  pub places : Each (λ site. site < length program.sites) (flat_map (λ (f : Function). sites_of_all f.body) program.functions)
   pub size : sum_by (λ (i : Instance). nodes_of_all (function_at program i.function).body) (instances program) ≤ 4194304
