@@ -1,0 +1,9 @@
+pub mod Numbers
+pub mod Fields
+pub mod LaunchForm
+pub mod SourceForm
+pub mod Items
+pub mod Lines
+pub mod Causes
+pub mod Stages
+pub mod Ends
