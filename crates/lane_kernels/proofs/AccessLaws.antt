@@ -1,0 +1,106 @@
+-- Laws of loads and stores.
+use Rattle.std.proofs.Common.{◌≡◌, ℕ, zero, suc, ◌+◌, ◌-◌, ◌*◌, ◌/◌, ◌%◌, ◌^◌, ◌<◌, ◌≤◌, refl, sym, ap, ap₂, ◌∙◌, arith, Bool, false, List, [], ◌∷◌, length, take, set, get_or, drop-cons, add-one, ℤ, add-zero}
+use Rattle.std.specs.Simd.Lanes.{chunk, put_chunk, number_l, digits_l}
+use Rattle.wg_num.specs.Wrap.{bits_of}
+use Rattle.wg_num.proofs.WrapLaws.{congruent_trans, congruent_divides, bits_congruent}
+use Rattle.lane_values.specs.Lanes.{lane}
+use Rattle.lane_values.specs.Access.{lane_put, scattered}
+use Rattle.lane_kernels.proofs.LaneLaws as K
+
+-- the low bits of a pattern are the lane
+pub bits_lane : (z : ℤ) → bits_of z % 2 ^ 32 ≡ lane 32 z
+bits_lane z =
+    sym (K.lane_unique 32 (2 ^ 31) refl refl (omega arith) (omega arith) (bits_of z % 2 ^ 32) z (omega arith)
+    (congruent_trans (K.mod_congruent 32 (2 ^ 31) refl refl (omega arith) (omega arith) (bits_of z)) (congruent_divides (2 ^ 32) (2 ^ 32) refl (bits_congruent z))))
+
+-- a pattern is the lane of 64 bits
+pub bits_lane_64 : (z : ℤ) → bits_of z ≡ lane 64 z
+unfolding bits_of lane
+bits_lane_64 z = refl
+
+pub chunk_cons : (i n : ℕ) (xs : List ℕ) → i < length xs → chunk i (suc n) xs ≡ get_or xs i 0 ∷ chunk (i + 1) n xs
+chunk_cons i n xs h = ap (take (suc n)) (drop-cons xs i 0 h) ∙ rw add-one refl
+
+pub number_1 : (i : ℕ) (xs : List ℕ) → i + 1 ≤ length xs → get_or xs i 0 ≡ number_l 256 (chunk i 1 xs)
+number_1 i xs h = sym (ap (number_l 256) (chunk_cons i 0 xs (omega arith)) ∙ add-zero (get_or xs i 0))
+
+pub number_2 : (i : ℕ) (xs : List ℕ) → i + 2 ≤ length xs → get_or xs i 0 + 256 * get_or xs (i + 1) 0 ≡ number_l 256 (chunk i 2 xs)
+number_2 i xs h = sym (ap (number_l 256) (chunk_cons i 1 xs (omega arith)) ∙ ap (λ n. get_or xs i 0 + 256 * n) (sym (number_1 (i + 1) xs (omega arith))))
+
+pub number_4 : (i : ℕ) (xs : List ℕ) → i + 4 ≤ length xs → get_or xs i 0 + 256 * (get_or xs (i + 1) 0 + 256 * (get_or xs (i + 2) 0 + 256 * get_or xs (i + 3) 0)) ≡ number_l 256 (chunk i 4 xs)
+number_4 i xs h =
+    let two : i + 1 + 1 ≡ i + 2 = omega arith in
+    let three : i + 2 + 1 ≡ i + 3 = omega arith in
+    sym (ap (number_l 256) (chunk_cons i 3 xs (omega arith))
+    ∙ ap (λ n. get_or xs i 0 + 256 * n) (ap (number_l 256) (chunk_cons (i + 1) 2 xs (omega arith))
+    ∙ ap (λ n. get_or xs (i + 1) 0 + 256 * n) (ap (λ k. number_l 256 (chunk k 2 xs)) two ∙ sym (number_2 (i + 2) xs (omega arith)) ∙ ap (λ k. get_or xs (i + 2) 0 + 256 * get_or xs k 0) three)))
+
+pub number_8 : (i : ℕ) (xs : List ℕ) → i + 8 ≤ length xs → number_l 256 (chunk i 4 xs) + 2 ^ 32 * number_l 256 (chunk (i + 4) 4 xs) ≡ number_l 256 (chunk i 8 xs)
+number_8 i xs h =
+    let low = number_4 i xs (omega arith) in
+    let e : number_l 256 (chunk i 8 xs) ≡ get_or xs i 0 + 256 * (get_or xs (i + 1) 0 + 256 * (get_or xs (i + 2) 0 + 256 * (get_or xs (i + 3) 0 + 256 * number_l 256 (chunk (i + 4) 4 xs)))) =
+    ap (number_l 256) (chunk_cons i 7 xs (omega arith))
+    ∙ ap (λ n. get_or xs i 0 + 256 * n) (ap (number_l 256) (chunk_cons (i + 1) 6 xs (omega arith)))
+    ∙ ap (λ n. get_or xs i 0 + 256 * (get_or xs (i + 1) 0 + 256 * n)) (ap (λ k. number_l 256 (chunk k 6 xs)) two ∙ ap (number_l 256) (chunk_cons (i + 2) 5 xs (omega arith)))
+    ∙ ap (λ n. get_or xs i 0 + 256 * (get_or xs (i + 1) 0 + 256 * (get_or xs (i + 2) 0 + 256 * n))) (ap (λ k. number_l 256 (chunk k 5 xs)) three ∙ ap (number_l 256) (chunk_cons (i + 3) 4 xs (omega arith)))
+    ∙ ap (λ k. get_or xs i 0 + 256 * (get_or xs (i + 1) 0 + 256 * (get_or xs (i + 2) 0 + 256 * (get_or xs (i + 3) 0 + 256 * number_l 256 (chunk k 4 xs))))) four in
+    omega (arith, low, e)
+  where
+    two : i + 1 + 1 ≡ i + 2
+    two = omega arith
+
+    three : i + 2 + 1 ≡ i + 3
+    three = omega arith
+
+    four : i + 3 + 1 ≡ i + 4
+    four = omega arith
+
+-- ---- stores
+
+pub put_none : (i : ℕ) (xs : List ℕ) → put_chunk i xs [] ≡ xs
+put_none i [] = refl
+put_none zero (x ∷ xs) = refl
+put_none (suc i) (x ∷ xs) = ap (λ ys. x ∷ ys) (put_none i xs)
+
+put_next' : (i : ℕ) (xs : List ℕ) (y : ℕ) (ys : List ℕ) → put_chunk i xs (y ∷ ys) ≡ put_chunk (suc i) (set xs i y) ys
+put_next' i [] y ys = refl
+put_next' zero (x ∷ xs) y ys = refl
+put_next' (suc i) (x ∷ xs) y ys = ap (λ zs. x ∷ zs) (put_next' i xs y ys)
+
+pub put_next : (i : ℕ) (xs : List ℕ) (y : ℕ) (ys : List ℕ) → put_chunk i xs (y ∷ ys) ≡ put_chunk (i + 1) (set xs i y) ys
+put_next i xs y ys = put_next' i xs y ys ∙ rw add-one refl
+
+-- one more byte of a number
+pub put_step : (from k n x : ℕ) (xs : List ℕ) → k < n → put_chunk (from + k) xs (digits_l 256 (n - k) x) ≡ put_chunk (from + (k + 1)) (set xs (from + k) (x % 256)) (digits_l 256 (n - (k + 1)) (x / 256))
+put_step from k n x xs h =
+    let one : n - k ≡ suc (n - (k + 1)) = omega arith in
+    let place : from + k + 1 ≡ from + (k + 1) = omega arith in
+    ap (λ m. put_chunk (from + k) xs (digits_l 256 m x)) one
+    ∙ put_next (from + k) xs (x % 256) (digits_l 256 (n - (k + 1)) (x / 256))
+    ∙ ap (λ i. put_chunk i (set xs (from + k) (x % 256)) (digits_l 256 (n - (k + 1)) (x / 256))) place
+
+pub put_done : (from k n x : ℕ) (xs : List ℕ) → n ≤ k → put_chunk (from + k) xs (digits_l 256 (n - k) x) ≡ xs
+put_done from k n x xs h =
+    let none : n - k ≡ 0 = omega arith in
+    ap (λ m. put_chunk (from + k) xs (digits_l 256 m x)) none ∙ put_none (from + k) xs
+
+pub put_start : (from n x : ℕ) (xs : List ℕ) → put_chunk (from + 0) xs (digits_l 256 (n - 0) x) ≡ put_chunk from xs (digits_l 256 n x)
+put_start from n x xs =
+    let a : from + 0 ≡ from = omega arith in
+    let b : n - 0 ≡ n = omega arith in
+    ap₂ (λ i m. put_chunk i xs (digits_l 256 m x)) a b
+
+-- one more lane
+pub scattered_next : (size : ℕ) (bytes : List ℕ) (m : List Bool) (index from : List ℕ) (i : ℕ) → i < length m → i < length index → i < length from
+    → scattered size bytes (take (i + 1) m) (take (i + 1) index) (take (i + 1) from)
+    ≡ (let before = scattered size bytes (take i m) (take i index) (take i from) in lane_put size before (get_or m i false) (get_or index i 0) (get_or from i 0))
+scattered_next size bytes m index from i a b c = rw add-one (by bytes m index from i a b c)
+  where
+    by : (bytes : List ℕ) (m : List Bool) (index from : List ℕ) (i : ℕ) → i < length m → i < length index → i < length from
+        → scattered size bytes (take (suc i) m) (take (suc i) index) (take (suc i) from)
+        ≡ (let before = scattered size bytes (take i m) (take i index) (take i from) in lane_put size before (get_or m i false) (get_or index i 0) (get_or from i 0))
+    by bytes [] index from i a b c = absurd (omega arith)
+    by bytes (on ∷ m) [] from i a b c = absurd (omega arith)
+    by bytes (on ∷ m) (at ∷ index) [] i a b c = absurd (omega arith)
+    by bytes (on ∷ m) (at ∷ index) (x ∷ from) zero a b c = refl
+    by bytes (on ∷ m) (at ∷ index) (x ∷ from) (suc i) a b c = by (lane_put size bytes on at x) m index from i (omega arith) (omega arith) (omega arith)

@@ -1,0 +1,4 @@
+pub mod AccessLaws
+pub mod ConvertLaws
+pub mod LaneLaws
+pub mod ListLaws

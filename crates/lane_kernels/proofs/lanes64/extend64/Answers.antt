@@ -1,0 +1,22 @@
+use Rattle.std.proofs.Common.{refl, arith}
+use Rattle.std.proofs.Common.{◌+◌, ◌-◌, ◌^◌, ◌%◌, ap, ap₂, ◌∙◌, not, nat_eq, cond, bit_and}
+use Rattle.wg_num.specs.Wrap.{is_bool}
+use Rattle.wg_num.proofs.WrapLaws.{not_bool}
+use Rattle.lane_values.specs.Lanes.{extended}
+use Rattle.lane_kernels.proofs.LaneLaws as K
+use Rattle.lane_kernels.proofs.ListLaws as L
+use Rattle.lane_kernels.proofs.lanes64.extend64.Goals as goal
+
+pub returns-in-Bool : goal.returns-in-Bool
+returns-in-Bool g c =
+    L.chosen_by 64 63 18446744073709551615 refl refl (λ x y. not (nat_eq x y)) 0 1 0 g.row.W c.args.a c.fits-a.0
+    ∙ L.map_same 64 63 18446744073709551615 refl refl (λ p. cond (not (nat_eq p 0)) 1 0) ((extended 64) c.args.t) (λ p. K.extend_bool 64 (2 ^ 63) refl refl (omega arith) (omega arith) c.args.t p (ap is_bool c.in-Bool.is)) c.args.a
+
+pub returns : goal.returns
+returns g c =
+    let h = c.half_of-half.result in
+    let m = c.low_bits.result in
+    L.three_splats 64 63 18446744073709551615 refl refl (λ x y. (x + y) % 2 ^ 64) bit_and (λ x y. (x + (2 ^ 64 - y)) % 2 ^ 64) h m h g.row.W c.args.a c.fits-a.0
+    ∙ L.map_same 64 63 18446744073709551615 refl refl (λ p. (bit_and ((p + h) % 2 ^ 64) m + (2 ^ 64 - h)) % 2 ^ 64) ((extended 64) c.args.t)
+    (λ p. ap₂ (λ x y. (bit_and ((p + x) % 2 ^ 64) y + (2 ^ 64 - x)) % 2 ^ 64) c.half_of-half.ensures c.low_bits.ensures
+    ∙ K.extend_whole 64 (2 ^ 63) refl refl (omega arith) (omega arith) c.args.t p c.requires (not_bool c.args.t c.in_default.not-Bool)) c.args.a

@@ -1,0 +1,35 @@
+-- What the vector operations do in a lane of W bits, as the code writes them.
+use Rattle.std.specs.Prelude.{ℕ, ◌+◌, ◌-◌, ◌*◌, ◌/◌, ◌%◌, ◌^◌, ◌≡◌, ◌⊎◌, if◌then◌else◌, nat_lt, nat_eq}
+use Rattle.wg_num.specs.declared.types.IntType.{IntType}
+use Rattle.wg_num.specs.Wrap.{is_signed}
+
+-- two to the width less one for a signed type: added to a lane it makes the order of values that of numbers
+abbrev pub bias_of : ℕ → IntType → ℕ
+bias_of W t = if is_signed t then 2 ^ (W - 1) else 0
+
+abbrev pub raised : ℕ → ℕ → ℕ → ℕ
+raised W bias p = (p + bias) % 2 ^ W
+
+-- x, or its two's complement where s stands for a negative number
+abbrev pub signed_by : ℕ → ℕ → ℕ → ℕ → ℕ
+signed_by W bias s x = if nat_lt (raised W bias s) bias then (0 + (2 ^ W - x)) % 2 ^ W else x
+
+-- the magnitude of q, or 1 for 0
+abbrev pub divisor_of : ℕ → ℕ → ℕ → ℕ
+divisor_of W bias q = if nat_eq (signed_by W bias q q) 0 then 1 else signed_by W bias q q
+
+abbrev pub quotient_lane : ℕ → ℕ → ℕ → ℕ → ℕ
+quotient_lane W bias p q = if nat_eq q 0 then 0 else signed_by W bias q (signed_by W bias p (signed_by W bias p p / divisor_of W bias q))
+
+abbrev pub rest_lane : ℕ → ℕ → ℕ → ℕ → ℕ
+rest_lane W bias p q = if nat_eq q 0 then p else signed_by W bias p (signed_by W bias p p % divisor_of W bias q)
+
+abbrev pub shl_lane : ℕ → ℕ → ℕ → ℕ → ℕ
+shl_lane W width p q = p * 2 ^ (q % width) % 2 ^ W
+
+abbrev pub shr_lane : ℕ → ℕ → ℕ → ℕ → ℕ → ℕ
+shr_lane W bias width p q = (raised W bias p / 2 ^ (q % width) + (2 ^ W - bias / 2 ^ (q % width))) % 2 ^ W
+
+-- how many bytes a value may have
+pub record IsSize (size : ℕ) : Type 0 where
+  pub small : (size ≡ 1) ⊎ ((size ≡ 2) ⊎ ((size ≡ 4) ⊎ (size ≡ 8)))

@@ -1,0 +1,78 @@
+//! Conversions of lanes from one type to another.
+ghost use Rattle.std.specs.Prelude.{◌≡◌, ◌≤◌, ◌+◌, ◌-◌, ◌%◌, ◌^◌, min, map, not, nat_eq, if◌then◌else◌};
+ghost use Rattle.std.specs.Int.{from_bool};
+ghost use Rattle.wg_num.specs.Wrap.{width_bits, is_bool};
+ghost use Rattle.lane_values.specs.Lanes.{FitsLane, convert_lane};
+
+use crate::lanes32::{bias, extend32};
+use crate::lanes64::extend64;
+use crate::tally::Tally;
+use std::simd::prelude::*;
+use wg_num::IntType;
+
+/// Narrow lanes, read as values of `from`, as lanes of `to`.
+pub fn convert32<const W: usize>(
+    to: IntType,
+    a: Simd<u32, W>,
+    from: IntType,
+    tally: &mut Tally,
+) -> Simd<u32, W>
+    requires to { FitsLane 32 to }
+    requires from { FitsLane 32 from }
+    requires lanes { W ≤ 64 }
+    ensures lanes { result ≡ map (convert_lane 32 to from) a.entry }
+    ensures counted { tally.new ≡ min (tally.old + 1) (2 ^ 64 - 1) }
+{
+    tally.raise();
+    extend32(to, extend32(from, a))
+}
+
+/// From narrow lanes to wide ones.
+pub fn widen<const W: usize>(
+    to: IntType,
+    a: Simd<u32, W>,
+    from: IntType,
+    tally: &mut Tally,
+) -> Simd<u64, W>
+    requires to { width_bits to ≡ 64 }
+    requires from { FitsLane 32 from }
+    requires lanes { W ≤ 64 }
+    ensures lanes { result ≡ map (convert_lane 64 to from) a.entry }
+    ensures counted { tally.new ≡ min (tally.old + 1) (2 ^ 64 - 1) }
+{
+    tally.raise();
+    let held = extend32(from, a);
+    let lift = bias(from);
+    let raised = held + Simd::splat(lift);
+    raised.cast::<u64>() - Simd::splat(lift as u64)
+}
+
+/// The low 32 bits, or for `Bool` whether there is a bit.
+fn low_halves<const W: usize>(to: IntType, a: Simd<u64, W>) -> Simd<u32, W>
+    ensures { result ≡ map (λ x. if is_bool to then from_bool (not (nat_eq x 0)) else x % 2 ^ 32) a.entry }
+{
+    if let IntType::Bool = to {
+        let set = a
+            .simd_ne(Simd::<u64, W>::splat(0))
+            .select(Simd::<u64, W>::splat(1), Simd::<u64, W>::splat(0));
+        return set.cast::<u32>();
+    }
+    (a & Simd::splat(0xffff_ffff)).cast::<u32>()
+}
+
+/// From wide lanes to narrow ones.
+pub fn narrow<const W: usize>(
+    to: IntType,
+    a: Simd<u64, W>,
+    from: IntType,
+    tally: &mut Tally,
+) -> Simd<u32, W>
+    requires to { FitsLane 32 to }
+    requires from { width_bits from ≡ 64 }
+    requires lanes { W ≤ 64 }
+    ensures lanes { result ≡ map (convert_lane 32 to from) a.entry }
+    ensures counted { tally.new ≡ min (tally.old + 1) (2 ^ 64 - 1) }
+{
+    tally.raise();
+    extend32(to, low_halves(to, extend64(from, a)))
+}

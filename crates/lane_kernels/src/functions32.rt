@@ -1,0 +1,50 @@
+//! The built-in functions on narrow lanes, lane by lane.
+ghost use Rattle.std.specs.Prelude.{◌≡◌, ◌≤◌, ◌+◌, ◌-◌, ◌^◌, min};
+ghost use Rattle.lane_values.specs.Lanes.{FitsLane, lane, builtin_lane, zip3};
+
+use crate::tally::Tally;
+use std::simd::prelude::*;
+use wg_num::{Fun, IntType, builtin, value};
+
+/// The lane of a number.
+fn lane_of32(z: i128) -> u32
+    ensures { result ≡ lane 32 z }
+{
+    z.rem_euclid(0x1_0000_0000) as u32
+}
+
+fn builtin_at32(f: Fun, t: IntType, p: u32, q: u32, r: u32) -> u32
+    ensures { result ≡ builtin_lane 32 f t p q r }
+{
+    lane_of32(builtin(
+        f,
+        t,
+        [value(t, p as u64), value(t, q as u64), value(t, r as u64)],
+    ))
+}
+
+/// The function on each lane, which is read as the value of the type that its bits have; lanes that
+/// the function does not take are ignored.
+pub fn builtin32<const W: usize>(
+    f: Fun,
+    t: IntType,
+    a: Simd<u32, W>,
+    b: Simd<u32, W>,
+    c: Simd<u32, W>,
+    tally: &mut Tally,
+) -> Simd<u32, W>
+    requires fits { FitsLane 32 t }
+    requires lanes { W ≤ 64 }
+    ensures lanes { result ≡ zip3 (builtin_lane 32 f t) a.entry b.entry c.entry }
+    ensures counted { tally.new ≡ min (tally.old + 1) (2 ^ 64 - 1) }
+{
+    tally.raise();
+    let first = a.to_array();
+    let second = b.to_array();
+    let third = c.to_array();
+    let mut lanes = [0u32; W];
+    for i in 0..W {
+        lanes[i] = builtin_at32(f, t, first[i], second[i], third[i]);
+    }
+    Simd::from_array(lanes)
+}

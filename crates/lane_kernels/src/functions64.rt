@@ -1,0 +1,46 @@
+//! The built-in functions on wide lanes, lane by lane.
+ghost use Rattle.std.specs.Prelude.{◌≡◌, ◌≤◌, ◌+◌, ◌-◌, ◌^◌, min};
+ghost use Rattle.lane_values.specs.Lanes.{FitsLane, lane, builtin_lane, zip3};
+
+use crate::tally::Tally;
+use std::simd::prelude::*;
+use wg_num::{Fun, IntType, builtin, value};
+
+/// The lane of a number.
+fn lane_of64(z: i128) -> u64
+    ensures { result ≡ lane 64 z }
+{
+    z.rem_euclid(0x1_0000_0000_0000_0000) as u64
+}
+
+fn builtin_at64(f: Fun, t: IntType, p: u64, q: u64, r: u64) -> u64
+    ensures { result ≡ builtin_lane 64 f t p q r }
+{
+    lane_of64(builtin(f, t, [value(t, p), value(t, q), value(t, r)]))
+}
+
+/// The function on each lane, which is read as the value of the type that its bits have; lanes that
+/// the function does not take are ignored.
+pub fn builtin64<const W: usize>(
+    f: Fun,
+    t: IntType,
+    a: Simd<u64, W>,
+    b: Simd<u64, W>,
+    c: Simd<u64, W>,
+    tally: &mut Tally,
+) -> Simd<u64, W>
+    requires fits { FitsLane 64 t }
+    requires lanes { W ≤ 64 }
+    ensures lanes { result ≡ zip3 (builtin_lane 64 f t) a.entry b.entry c.entry }
+    ensures counted { tally.new ≡ min (tally.old + 1) (2 ^ 64 - 1) }
+{
+    tally.raise();
+    let first = a.to_array();
+    let second = b.to_array();
+    let third = c.to_array();
+    let mut lanes = [0u64; W];
+    for i in 0..W {
+        lanes[i] = builtin_at64(f, t, first[i], second[i], third[i]);
+    }
+    Simd::from_array(lanes)
+}

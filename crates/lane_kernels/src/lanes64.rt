@@ -1,0 +1,226 @@
+//! Wide lanes: values of types up to 64 bits, extended to 64 bits.
+ghost use Rattle.std.specs.Prelude.{◌≡◌, ◌≤◌, ◌+◌, ◌-◌, ◌%◌, ◌^◌, min, map, false, not, nat_eq, if◌then◌else◌};
+ghost use Rattle.std.specs.Int.{from_bool};
+ghost use Rattle.std.specs.Simd.Lanes.{zip2, Each1};
+ghost use Rattle.wg_num.specs.Wrap.{half, modulus, width_bits, value_of, is_bool};
+ghost use Rattle.wg_num.specs.Operators.{is_shift};
+ghost use Rattle.lane_values.specs.Lanes.{FitsLane, IsLane, binary_value, binary_lane, unary_value, unary_lane, extended};
+ghost use Rattle.lane_kernels.specs.Vectors.{bias_of, signed_by, divisor_of, quotient_lane, rest_lane, shl_lane, shr_lane};
+
+use crate::tally::Tally;
+use std::simd::prelude::*;
+use wg_num::{Bin, IntType, Un};
+
+/// How many values of the type are negative.
+#[tactic(auto, unfolding(wg_num::specs::Wrap::half))]
+fn half_of(t: IntType) -> u64
+    requires { FitsLane 64 t }
+    ensures { result ≡ half t }
+{
+    match t {
+        IntType::Char => 0x80,
+        IntType::Short => 0x8000,
+        IntType::Int => 0x8000_0000,
+        IntType::Long => 0x8000_0000_0000_0000,
+        _ => 0,
+    }
+}
+
+/// The bits that a value of the type takes.
+#[tactic(auto, unfolding(wg_num::specs::Wrap::modulus))]
+fn low_bits(t: IntType) -> u64
+    requires { FitsLane 64 t }
+    ensures { result ≡ modulus t - 1 }
+{
+    match t {
+        IntType::Bool | IntType::Char | IntType::Uchar => 0xff,
+        IntType::Short | IntType::Ushort => 0xffff,
+        IntType::Int | IntType::Uint => 0xffff_ffff,
+        _ => 0xffff_ffff_ffff_ffff,
+    }
+}
+
+pub(crate) fn bias(t: IntType) -> u64
+    ensures { result ≡ bias_of 64 t }
+{
+    match t {
+        IntType::Char | IntType::Short | IntType::Int | IntType::Long => 0x8000_0000_0000_0000,
+        _ => 0,
+    }
+}
+
+/// Each lane becomes the lane of the value that its low bits have in the type.
+pub(crate) fn extend64<const W: usize>(t: IntType, a: Simd<u64, W>) -> Simd<u64, W>
+    requires { FitsLane 64 t }
+    ensures { result ≡ map (extended 64 t) a.entry }
+{
+    if let IntType::Bool = t {
+        return a
+            .simd_ne(Simd::splat(0))
+            .select(Simd::splat(1), Simd::splat(0));
+    }
+    let half = Simd::splat(half_of(t));
+    ((a + half) & Simd::splat(low_bits(t))) - half
+}
+
+/// Where `sign` stands for a negative number, the two's complement of `a`, and else `a`.
+fn signed_as<const W: usize>(bias: u64, sign: Simd<u64, W>, a: Simd<u64, W>) -> Simd<u64, W>
+    ensures { result ≡ zip2 (signed_by 64 bias) sign.entry a.entry }
+{
+    let raise = Simd::splat(bias);
+    (sign + raise).simd_lt(raise).select(Simd::splat(0) - a, a)
+}
+
+/// The magnitudes of divisors, and 1 for 0.
+fn divisors<const W: usize>(bias: u64, b: Simd<u64, W>) -> Simd<u64, W>
+    ensures { result ≡ map (divisor_of 64 bias) b.entry }
+{
+    let size = signed_as(bias, b, b);
+    size.simd_eq(Simd::splat(0)).select(Simd::splat(1), size)
+}
+
+fn quotients<const W: usize>(bias: u64, a: Simd<u64, W>, b: Simd<u64, W>) -> Simd<u64, W>
+    ensures { result ≡ zip2 (quotient_lane 64 bias) a.entry b.entry }
+{
+    let size = signed_as(bias, a, a) / divisors(bias, b);
+    let quotient = signed_as(bias, b, signed_as(bias, a, size));
+    b.simd_eq(Simd::splat(0)).select(Simd::splat(0), quotient)
+}
+
+fn rests<const W: usize>(bias: u64, a: Simd<u64, W>, b: Simd<u64, W>) -> Simd<u64, W>
+    ensures { result ≡ zip2 (rest_lane 64 bias) a.entry b.entry }
+{
+    let rest = signed_as(bias, a, signed_as(bias, a, a) % divisors(bias, b));
+    b.simd_eq(Simd::splat(0)).select(a, rest)
+}
+
+/// The bits of a shift's amount.
+fn amount_bits(t: IntType) -> u64
+    requires { FitsLane 64 t }
+    ensures { result ≡ width_bits t - 1 }
+{
+    match t {
+        IntType::Bool | IntType::Char | IntType::Uchar => 7,
+        IntType::Short | IntType::Ushort => 15,
+        IntType::Int | IntType::Uint => 31,
+        _ => 63,
+    }
+}
+
+fn amounts<const W: usize>(t: IntType, b: Simd<u64, W>) -> Simd<u64, W>
+    requires { FitsLane 64 t }
+    ensures { result ≡ map (λ q. q % width_bits t) b.entry }
+{
+    b & Simd::splat(amount_bits(t))
+}
+
+fn shifted_left<const W: usize>(t: IntType, a: Simd<u64, W>, b: Simd<u64, W>) -> Simd<u64, W>
+    requires { FitsLane 64 t }
+    ensures { result ≡ zip2 (shl_lane 64 (width_bits t)) a.entry b.entry }
+{
+    a << amounts(t, b)
+}
+
+fn shifted_right<const W: usize>(t: IntType, a: Simd<u64, W>, b: Simd<u64, W>) -> Simd<u64, W>
+    requires { FitsLane 64 t }
+    ensures { result ≡ zip2 (shr_lane 64 (bias_of 64 t) (width_bits t)) a.entry b.entry }
+{
+    let raise = Simd::splat(bias(t));
+    let amount = amounts(t, b);
+    ((a + raise) >> amount) - (raise >> amount)
+}
+
+/// Numbers whose low bits have the values that the operator gives.
+fn numbers64<const W: usize>(op: Bin, t: IntType, a: Simd<u64, W>, b: Simd<u64, W>) -> Simd<u64, W>
+    requires narrow { FitsLane 64 t }
+    requires left { Each1 (IsLane 64 t) a }
+    requires right { is_shift op ≡ false → Each1 (IsLane 64 t) b }
+    ensures { map (value_of t) result ≡ zip2 (binary_value op t) a.entry b.entry }
+{
+    let lift = bias(t);
+    let raise = Simd::splat(lift);
+    let one = Simd::splat(1);
+    let zero = Simd::splat(0);
+    match op {
+        Bin::Add => a + b,
+        Bin::Sub => a - b,
+        Bin::Mul => a * b,
+        Bin::Div => quotients(lift, a, b),
+        Bin::Rem => rests(lift, a, b),
+        Bin::Shl => shifted_left(t, a, b),
+        Bin::Shr => shifted_right(t, a, b),
+        Bin::And => a & b,
+        Bin::Or => a | b,
+        Bin::Xor => a ^ b,
+        Bin::Eq => (a + raise).simd_eq(b + raise).select(one, zero),
+        Bin::Ne => (a + raise).simd_ne(b + raise).select(one, zero),
+        Bin::Lt => (a + raise).simd_lt(b + raise).select(one, zero),
+        Bin::Le => (a + raise).simd_le(b + raise).select(one, zero),
+        Bin::Gt => (a + raise).simd_gt(b + raise).select(one, zero),
+        Bin::Ge => (a + raise).simd_ge(b + raise).select(one, zero),
+    }
+}
+
+/// The operator on lanes that hold values of the type.
+fn values64<const W: usize>(op: Bin, t: IntType, a: Simd<u64, W>, b: Simd<u64, W>) -> Simd<u64, W>
+    requires narrow { FitsLane 64 t }
+    requires left { Each1 (IsLane 64 t) a }
+    requires right { is_shift op ≡ false → Each1 (IsLane 64 t) b }
+    ensures { result ≡ zip2 (binary_lane 64 op t) a.entry b.entry }
+{
+    extend64(t, numbers64(op, t, a, b))
+}
+
+/// The operator on each lane, which is read as the value of the type that its bits have; of the
+/// right lanes of a shift any bits are taken.
+pub fn binary64<const W: usize>(
+    op: Bin,
+    t: IntType,
+    a: Simd<u64, W>,
+    b: Simd<u64, W>,
+    tally: &mut Tally,
+) -> Simd<u64, W>
+    requires fits { FitsLane 64 t }
+    requires lanes { W ≤ 64 }
+    ensures lanes { result ≡ zip2 (binary_lane 64 op t) a.entry b.entry }
+    ensures counted { tally.new ≡ min (tally.old + 1) (2 ^ 64 - 1) }
+{
+    tally.raise();
+    let left = extend64(t, a);
+    match op {
+        Bin::Shl | Bin::Shr => values64(op, t, left, b),
+        _ => values64(op, t, left, extend64(t, b)),
+    }
+}
+
+/// Numbers whose low bits have the values that the operator gives.
+fn unary_numbers64<const W: usize>(op: Un, t: IntType, a: Simd<u64, W>) -> Simd<u64, W>
+    requires narrow { FitsLane 64 t }
+    requires lanes { Each1 (IsLane 64 t) a }
+    ensures { map (value_of t) result ≡ map (unary_value op t) a.entry }
+{
+    match op {
+        Un::Plus => a,
+        Un::Minus => Simd::splat(0) - a,
+        Un::Flip => !a,
+        Un::Not => a
+            .simd_eq(Simd::splat(0))
+            .select(Simd::splat(1), Simd::splat(0)),
+    }
+}
+
+/// The operator on each lane, which is read as the value of the type that its bits have.
+pub fn unary64<const W: usize>(
+    op: Un,
+    t: IntType,
+    a: Simd<u64, W>,
+    tally: &mut Tally,
+) -> Simd<u64, W>
+    requires fits { FitsLane 64 t }
+    requires lanes { W ≤ 64 }
+    ensures lanes { result ≡ map (unary_lane 64 op t) a.entry }
+    ensures counted { tally.new ≡ min (tally.old + 1) (2 ^ 64 - 1) }
+{
+    tally.raise();
+    extend64(t, unary_numbers64(op, t, extend64(t, a)))
+}

@@ -1,0 +1,26 @@
+//! Vectors of lanes: each lane of a result is what the definition of the operator gives for that
+//! lane, at every width of a vector.
+#![tactic(auto)]
+
+pub mod access;
+pub mod access32;
+pub mod access64;
+pub mod convert;
+pub mod functions32;
+pub mod functions64;
+pub mod lanes32;
+pub mod lanes64;
+pub mod masks;
+pub mod tally;
+#[cfg(test)]
+mod tests;
+
+pub use access32::{gather32, scatter32};
+pub use access64::{gather64, scatter64};
+pub use convert::{convert32, narrow, widen};
+pub use functions32::builtin32;
+pub use functions64::builtin64;
+pub use lanes32::{binary32, unary32};
+pub use lanes64::{binary64, unary64};
+pub use masks::{any, blend32, blend64, lowest, nonzero32, nonzero64};
+pub use tally::Tally;
