@@ -1,0 +1,4 @@
+pub mod Play
+pub mod Terms
+pub mod Straight
+pub mod Barriers

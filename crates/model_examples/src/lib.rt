@@ -1,0 +1,48 @@
+//! Worked examples of what a launch means. The definitions compute, so each example is proved by
+//! computing it: no test runs, and an example that does not hold is a failed proof.
+#![tactic(auto)]
+
+ghost use Rattle.model_examples.specs.Straight.{Increments, Wraps, Faults, FaultsBefore, Squares, Switches, Shares, SomeCleared, Calls, TableSum, Indices, ColumnWide, ColumnHigh};
+ghost use Rattle.model_examples.specs.Barriers.{Reverses, IsFresh, IsPassed, Parts, IterationsPart, Lengths, Meets, Scans, FallsThrough, ScansBack, MeetsBack, RaceOneWay, RaceOtherWay};
+
+/// Kernels without barriers end with the buffers, or the fault, that a reader of them expects.
+pub fn straight_kernels()
+    ensures increments { Increments }
+    ensures wraps { Wraps }
+    ensures faults { Faults }
+    ensures faults_before { FaultsBefore }
+    ensures squares { Squares }
+    ensures switches { Switches }
+    ensures shares { Shares }
+    ensures some_cleared { SomeCleared }
+    ensures calls { Calls }
+    ensures table_sum { TableSum }
+{}
+
+/// Launches in two dimensions, with the ids that OpenCL 1.2, section 3.2, gives.
+pub fn planes()
+    ensures indices { Indices }
+    ensures column_wide { ColumnWide }
+    ensures column_high { ColumnHigh }
+{}
+
+/// Kernels with barriers: they meet at one point, or wait for ever.
+pub fn barriers()
+    ensures reverses { Reverses }
+    ensures fresh { IsFresh }
+    ensures passed { IsPassed }
+    ensures parts { Parts }
+    ensures iterations_part { IterationsPart }
+    ensures lengths { Lengths }
+    ensures meets { Meets }
+    ensures scans { Scans }
+    ensures falls_through { FallsThrough }
+{}
+
+/// Another order of the items leaves the same buffers, unless items race.
+pub fn orders()
+    ensures scans { ScansBack }
+    ensures meets { MeetsBack }
+    ensures race_one_way { RaceOneWay }
+    ensures race_other_way { RaceOtherWay }
+{}
