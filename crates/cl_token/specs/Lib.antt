@@ -1,1 +1,4 @@
+pub mod Bytes
 pub mod Lexeme
+pub mod Number
+pub mod NumberReading
