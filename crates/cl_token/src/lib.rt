@@ -3,6 +3,7 @@
 
 mod bytes;
 pub mod number;
+mod piece;
 pub mod token;
 
 pub use number::{Literal, LiteralError, literal_of};

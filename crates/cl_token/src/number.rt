@@ -229,7 +229,7 @@ fn type_of(base: Base, unsigned: bool, long: bool, value: u64) -> Option<IntType
 }
 
 #[tactic(auto, unfolding(crate::specs::NumberReading::outcome_of))]
-fn outcome_of(word: &[u8]) -> Result<Literal, LiteralError>
+pub(crate) fn outcome_of(word: &[u8]) -> Result<Literal, LiteralError>
     ensures { result ≡ reading.outcome_of word.now }
 {
     let Some(parts) = parts_of(word) else {
