@@ -3,6 +3,9 @@ pub mod Comments
 pub mod Literals
 pub mod Marks
 pub mod Numbers
+pub mod Outcomes
 pub mod Pieces
 pub mod Runs
+pub mod Steps
+pub mod Unique
 pub mod Words

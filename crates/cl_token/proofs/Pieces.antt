@@ -126,10 +126,10 @@ BadWord LargeNumber w = IsTooLarge w
 BadWord NoToken w = ⊥
 BadWord OpenComment w = ⊥
 
-abbrev fails : Fault → Result Piece Fault
+abbrev pub fails : Fault → Result Piece Fault
 fails f = Err f
 
-err_is : (a b : Fault) → fails a ≡ fails b → a ≡ b
+pub err_is : (a b : Fault) → fails a ≡ fails b → a ≡ b
 err_is a b h = cc
 
 bad_word : (n : ℕ) (w : List ℕ) (f : Fault) (o : Result Literal LiteralError) → outcome_of w ≡ o → with_value n o ≡ Err f → BadWord f w
@@ -372,7 +372,7 @@ piece_stands s some = elim (test_is (first_of s == 10)) [
 
 -- ---- what stands there is read
 
-abbrev skips : ℕ → Result Piece Fault
+abbrev pub skips : ℕ → Result Piece Fault
 skips n = Ok (Skipped n)
 
 some_length : (n : ℕ) → 0 < n → (n == 0) ≡ false

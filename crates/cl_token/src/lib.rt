@@ -2,9 +2,11 @@
 #![tactic(auto)]
 
 mod bytes;
+pub mod lexer;
 pub mod number;
 mod piece;
 pub mod token;
 
+pub use lexer::{SOURCE_LIMIT, tokens};
 pub use number::{Literal, LiteralError, literal_of};
 pub use token::{Kind, LexError, Token};
