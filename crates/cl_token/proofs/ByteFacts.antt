@@ -1,17 +1,14 @@
 -- Facts about single bytes, and about tables of words.
-use Rattle.std.proofs.Common.{ℕ, zero, suc, List, [], ◌∷◌, ◌++◌, length, take, drop, Bool, true, false, cond, not, ◌&&◌, ◌||◌, ◌==◌, ◌⊎◌, inl, inr, ◌≡◌, ◌+◌, ◌<◌, ◌≤◌, refl, sym, ap, subst, ◌∙◌, arith}
-use Rattle.std.specs.Prelude.{slice_index, codes}
+use Rattle.std.proofs.Common.{ℕ, List, [], ◌∷◌, Bool, true, false, ◌&&◌, ◌||◌, ◌==◌, ◌⊎◌, inl, inr, ◌≡◌, refl, sym, ap, ◌∙◌, arith}
 use Rattle.std.specs.List.{list_all, list_any}
 use Rattle.std.specs.Str.{bytes_eq}
-use Rattle.std.proofs.lemmas.Bool.{eqb-true, eq-eqb}
+use Rattle.std.proofs.lemmas.Bool.{eqb-true}
 use Rattle.std.proofs.lemmas.Bool.Decides.{nat_tests}
 use Rattle.std.proofs.lemmas.Slice.Eq.{bytes_eq-Decides}
-use Rattle.cl_token.specs.declared.token.Kind.{Kind}
-use Rattle.cl_token.specs.declared.token.Kind.TheVariants.{Name, Number, Mark, Hash}
 use Rattle.cl_token.specs.Bytes.{is_digit, is_name_start, is_name_byte, is_number_byte}
-use Rattle.cl_token.specs.Spelling.{IsOneOf, marks, blanks}
-use Rattle.cl_token.specs.Reading.{is_among, spaces, kind_at}
-use Rattle.cl_token.proofs.Runs.{chosen, both, and_true, test_is}
+use Rattle.cl_token.specs.Spelling.{IsOneOf}
+use Rattle.cl_token.specs.Reading.{is_among, spaces}
+use Rattle.cl_token.proofs.Runs.{both}
 
 pub either : (a b : Bool) → (a || b) ≡ true → (a ≡ true) ⊎ (b ≡ true)
 either true b h = inl refl

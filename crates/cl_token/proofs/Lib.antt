@@ -1,10 +1,12 @@
 pub mod ByteFacts
 pub mod Comments
+pub mod Inside
 pub mod Literals
 pub mod Marks
 pub mod Numbers
 pub mod Outcomes
 pub mod Pieces
+pub mod PlaceLaws
 pub mod Runs
 pub mod Steps
 pub mod Unique

@@ -1,5 +1,5 @@
 -- What is read of a number is its spelling, and every spelling is read.
-use Rattle.std.proofs.Common.{ℕ, zero, suc, List, [], ◌∷◌, ◌++◌, length, take, drop, get_or, Bool, true, false, cond, not, ◌&&◌, ◌||◌, ◌==◌, ◌⊎◌, inl, inr, ◌≡◌, ◌+◌, ◌<◌, ◌≤◌, refl, sym, ap, subst, ◌∙◌, arith, take-append-drop, append_assoc, Option, None, Some, Result, Ok, Err}
+use Rattle.std.proofs.Common.{ℕ, suc, List, [], ◌∷◌, ◌++◌, length, take, drop, Bool, true, false, cond, ◌&&◌, ◌||◌, ◌==◌, ◌⊎◌, inl, inr, ◌≡◌, refl, sym, ap, subst, ◌∙◌, arith, take-append-drop, append_assoc, Option, None, Some, Ok, Err}
 use Rattle.std.specs.Prelude.{slice_index}
 use Rattle.std.proofs.lemmas.Bool.{eqb-true}
 use Rattle.std.proofs.lemmas.Bool.Decides.{nat_tests}
@@ -12,8 +12,8 @@ use Rattle.cl_token.specs.declared.number.Literal.{Literal}
 use Rattle.cl_token.specs.declared.number.LiteralError.TheVariants.{Malformed, TooLarge}
 use Rattle.cl_token.specs.Bytes.{is_digit, is_octal_digit, is_hexadecimal_digit, is_nonzero_digit, IsRun}
 use Rattle.cl_token.specs.Number.{number_in, is_x, is_u, is_l, IsConstant, decimal, octal, hexadecimal, IsSuffix, no_suffix, only_u, only_l, u_then_l, l_then_u, Form, SpellsNumber, type_of, IsLiteral, IsMalformed, IsTooLarge}
-use Rattle.cl_token.specs.NumberReading.{base_of, prefix_length, radix, digit_in, needs_digits, suffix_of, Parts, with_suffix, split_body, parts_in, parts_of, value_in, typed, outcome_with, outcome_of}
-use Rattle.cl_token.proofs.Runs.{chosen, both, and_true, test_is, Stops, head_passes, head_is, head_within}
+use Rattle.cl_token.specs.NumberReading.{prefix_length, radix, digit_in, needs_digits, suffix_of, Parts, with_suffix, parts_in, parts_of, value_in, typed, outcome_with, outcome_of}
+use Rattle.cl_token.proofs.Runs.{chosen, both, and_true, Stops, head_passes, head_is, head_within}
 
 -- ---- bytes
 

@@ -1,14 +1,14 @@
 -- Blanks and marks: what is measured is in the table, and no word of the table is longer.
-use Rattle.std.proofs.Common.{ℕ, zero, suc, List, [], ◌∷◌, ◌++◌, length, take, drop, Bool, true, false, cond, not, ◌&&◌, ◌||◌, ◌==◌, ◌⊎◌, inl, inr, ◌≡◌, ◌+◌, ◌<◌, ◌≤◌, refl, sym, ap, subst, ◌∙◌, arith}
-use Rattle.std.specs.Prelude.{slice_index, codes}
-use Rattle.std.specs.List.{list_all, list_any}
-use Rattle.std.proofs.lemmas.Bool.{eqb-true, eq-eqb}
+use Rattle.std.proofs.Common.{ℕ, zero, suc, List, [], ◌∷◌, ◌++◌, length, take, Bool, true, false, not, ◌&&◌, ◌||◌, ◌==◌, inl, inr, ◌≡◌, ◌<◌, ◌≤◌, refl, sym, subst, ◌∙◌, arith}
+use Rattle.std.specs.Prelude.{slice_index}
+use Rattle.std.specs.List.{list_all}
+use Rattle.std.proofs.lemmas.Bool.{eqb-true}
 use Rattle.cl_token.specs.declared.token.Kind.{Kind}
 use Rattle.cl_token.specs.declared.token.Kind.TheVariants.{Name, Number, Mark, Hash}
 use Rattle.cl_token.specs.Spelling.{IsOneOf, marks, blanks}
-use Rattle.cl_token.specs.Reading.{is_among, spaces, blank_with, blank_length, singles, before_equals, doubled, is_single, is_double, is_triple, mark_with, mark_length, kind_at}
-use Rattle.cl_token.proofs.Runs.{both, and_true, test_is}
-use Rattle.cl_token.proofs.ByteFacts.{either, or_left, or_right, and_false_left, of_table, is_in, in_table, of_bytes, Solid}
+use Rattle.cl_token.specs.Reading.{is_among, spaces, blank_length, singles, before_equals, doubled, is_single, is_double, is_triple, mark_with, mark_length, kind_at}
+use Rattle.cl_token.proofs.Runs.{both, test_is}
+use Rattle.cl_token.proofs.ByteFacts.{either, of_table, is_in, in_table, of_bytes}
 
 -- a front of a list, measured by n, is in a table
 pub record Front (table : List (List ℕ)) (s : List ℕ) (n : ℕ) : Type 0 where

@@ -1,15 +1,15 @@
 -- The value of digits, digit by digit.
-use Rattle.std.proofs.Common.{ℕ, zero, suc, List, [], ◌∷◌, ◌++◌, length, get_or, take, drop, ◌≡◌, ◌+◌, ◌*◌, ◌^◌, ◌<◌, ◌≤◌, refl, sym, ap, subst, ◌∙◌, arith, append_assoc, length-append, take-append-drop, add-one}
+use Rattle.std.proofs.Common.{ℕ, List, [], ◌∷◌, ◌++◌, length, get_or, take, drop, ◌≡◌, ◌+◌, ◌*◌, ◌^◌, ◌<◌, ◌≤◌, refl, ap, ◌∙◌, arith, append_assoc, take-append-drop, add-one}
 use Rattle.std.proofs.lemmas.List.{take_more, length_push, append-nil}
 use Rattle.std.proofs.Math.Nat.{pow-suc, pow-zero, le-mul_of_pos_right}
-use Rattle.std.proofs.Common.{Bool as Test, true, false, Option, None, Some, Result, Ok, Err}
+use Rattle.std.proofs.Common.{false, None, Some, Err}
 use Rattle.std.proofs.lemmas.Bool.Decides.{nat_tests}
 use Rattle.std.specs.List.{find}
 use Rattle.wg_num.specs.declared.types.IntType.{IntType}
 use Rattle.wg_num.specs.declared.types.IntType.TheVariants.{Bool, Char, Uchar, Short, Ushort, Int, Uint, Long, Ulong}
 use Rattle.wg_num.specs.Wrap.{half, modulus}
-use Rattle.cl_token.specs.declared.number.LiteralError.TheVariants.{Malformed, TooLarge}
-use Rattle.cl_token.specs.Number.{digit_value, number_in, holds, types_in, type_of}
+use Rattle.cl_token.specs.declared.number.LiteralError.TheVariants.{TooLarge}
+use Rattle.cl_token.specs.Number.{digit_value, number_in, holds, types_in}
 use Rattle.cl_token.specs.NumberReading.{radix, Parts, parts_of, value_in, outcome_of}
 use Rattle.cl_token.specs.declared.number.Base.{Base}
 use Rattle.cl_token.specs.declared.number.Base.TheVariants.{Decimal, Octal, Hexadecimal}

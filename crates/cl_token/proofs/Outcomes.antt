@@ -1,5 +1,5 @@
 -- The one answer for a source that is not too long.
-use Rattle.std.proofs.Common.{ℕ, List, length, ◌⊎◌, inl, inr, ◌≡◌, ◌<◌, ◌≤◌, refl, sym, ap, subst, ◌∙◌, arith, Vec, Global, Result, Ok, Err}
+use Rattle.std.proofs.Common.{ℕ, List, length, ◌⊎◌, inl, inr, ◌≡◌, ◌≤◌, refl, sym, ap, subst, ◌∙◌, arith, Vec, Global, Result, Ok, Err}
 use Rattle.cl_token.specs.declared.token.Token.{Token}
 use Rattle.cl_token.specs.declared.token.LexError.{LexError}
 use Rattle.cl_token.specs.declared.token.LexError.TheVariants as errors

@@ -1,11 +1,10 @@
 -- What is read at the head of a list is the piece that stands there, and the piece that stands there is read.
-use Rattle.std.proofs.Common.{ℕ, zero, suc, List, [], ◌∷◌, ◌++◌, length, take, drop, Bool, true, false, cond, not, ◌&&◌, ◌||◌, ◌==◌, ◌⊎◌, inl, inr, ◌≡◌, ◌+◌, ◌<◌, ◌≤◌, refl, sym, ap, subst, ◌∙◌, arith, take-append-drop, append_assoc, length-append, Result, Ok, Err, Option, None, Some}
+use Rattle.std.proofs.Common.{ℕ, suc, List, [], ◌∷◌, ◌++◌, length, take, drop, Bool, true, false, ◌&&◌, ◌||◌, ◌==◌, ◌⊎◌, inl, inr, ◌≡◌, ◌+◌, ◌<◌, refl, sym, ap, subst, ◌∙◌, arith, take-append-drop, append_assoc, length-append, Result, Ok, Err, Option, None, Some}
 use Rattle.std.specs.Prelude.{slice_index, codes}
 use Rattle.std.specs.List.{list_all, prefix_len}
-use Rattle.std.proofs.lemmas.Bool.{eqb-true, eq-eqb}
+use Rattle.std.proofs.lemmas.Bool.{eqb-true}
 use Rattle.std.proofs.lemmas.Bool.Decides.{nat_tests}
-use Rattle.std.proofs.lemmas.List.{length-take-le, take_at, drop_at}
-use Rattle.wg_num.specs.declared.types.IntType.{IntType}
+use Rattle.std.proofs.lemmas.List.{length-take-le, take_at}
 use Rattle.cl_token.specs.declared.token.Kind.{Kind}
 use Rattle.cl_token.specs.declared.token.Kind.TheVariants.{Name, Number, Mark, Hash}
 use Rattle.cl_token.specs.declared.number.Literal.{Literal}
@@ -15,12 +14,12 @@ use Rattle.cl_token.specs.declared.piece.Piece.{Piece}
 use Rattle.cl_token.specs.declared.piece.Piece.TheVariants.{LineEnd, Skipped, Cut}
 use Rattle.cl_token.specs.declared.piece.Fault.{Fault}
 use Rattle.cl_token.specs.declared.piece.Fault.TheVariants.{NoToken, OpenComment, BadNumber, LargeNumber}
-use Rattle.cl_token.specs.Number.{IsLiteral, IsMalformed, IsTooLarge}
+use Rattle.cl_token.specs.Number.{IsMalformed, IsTooLarge}
 use Rattle.cl_token.specs.NumberReading.{outcome_of}
 use Rattle.cl_token.specs.Spelling.{IsOneOf, blanks, Spells, IsLongest, OpensComment, line, block, EndsLine, ClosesAt, IsSkipped, blank, line_comment, block_comment, HasValue, IsNext}
 use Rattle.cl_token.specs.Cuts.{BeginsNothing, OpensEndless, BeginsMalformed, BeginsTooLarge}
-use Rattle.cl_token.specs.Reading.{blank_length, close_of, kind_at, length_of, with_value, valued, token_with, token_of, closed, is_line_byte, solid_of, piece_with, piece_of}
-use Rattle.cl_token.proofs.Runs.{chosen, both, and_true, test_is, Stops, head_passes, head_within, head_is, rest_stops}
+use Rattle.cl_token.specs.Reading.{blank_length, close_of, with_value, valued, token_of, closed, is_line_byte, solid_of, piece_of}
+use Rattle.cl_token.proofs.Runs.{chosen, both, test_is, Stops, head_passes, head_within, head_is, rest_stops}
 use Rattle.cl_token.proofs.Comments.{FirstClose, close_found, close_none, close_missing, close_of_text}
 use Rattle.cl_token.proofs.Literals.{literal_sound, literal_complete, malformed_sound, malformed_complete, large_sound, large_complete}
 use Rattle.cl_token.proofs.Marks.{blank_sound, blank_complete, blank_some, blank_start, no_blank}

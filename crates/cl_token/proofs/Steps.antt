@@ -1,11 +1,10 @@
 -- One piece more of a source, and the one way in which it is cut.
-use Rattle.std.proofs.Common.{ℕ, zero, suc, List, [], ◌∷◌, ◌++◌, length, take, drop, Bool, true, false, ◌⊎◌, inl, inr, ◌≡◌, ◌+◌, ◌-◌, ◌<◌, ◌≤◌, refl, sym, ap, subst, ◌∙◌, arith, take-append-drop, length-append, length-drop, Result, Ok, Err, Option, None, Some}
+use Rattle.std.proofs.Common.{ℕ, List, [], ◌∷◌, ◌++◌, length, take, drop, Bool, true, false, ◌≡◌, ◌+◌, ◌-◌, ◌<◌, ◌≤◌, refl, sym, ap, subst, ◌∙◌, arith, length-append, length-drop, Result, Ok}
 use Rattle.std.specs.Prelude.{slice_range}
 use Rattle.std.proofs.lemmas.List.{take_at, drop_at, drop-drop, drop_all}
 use Rattle.cl_token.specs.declared.token.Kind.{Kind}
 use Rattle.cl_token.specs.declared.token.Token.{Token}
-use Rattle.cl_token.specs.Spelling.{IsSkipped, IsNext, HasValue}
-use Rattle.cl_token.specs.Cuts.{CutsTo, start, skip, line_end, token, Cuts, limit}
+use Rattle.cl_token.specs.Cuts.{CutsTo, skip, line_end, token, Cuts, limit}
 use Rattle.cl_token.specs.declared.piece.Piece.{Piece}
 use Rattle.cl_token.specs.declared.piece.Fault.{Fault}
 use Rattle.cl_token.specs.declared.piece.Fault.TheVariants.{NoToken, OpenComment, BadNumber, LargeNumber}

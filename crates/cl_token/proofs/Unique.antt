@@ -1,5 +1,5 @@
 -- A source is cut in one way: each step is the one that is read at what remains.
-use Rattle.std.proofs.Common.{ℕ, zero, suc, List, [], ◌∷◌, ◌++◌, length, Bool, true, false, ◌⊎◌, inl, inr, ◌≡◌, ◌+◌, ◌<◌, ◌≤◌, refl, sym, ap, subst, ◌∙◌, arith, append_assoc, length-append, take, drop, Option, None, Some, Result, Ok, Err}
+use Rattle.std.proofs.Common.{ℕ, zero, suc, List, [], ◌∷◌, ◌++◌, length, Bool, true, false, ◌⊎◌, inl, inr, ◌≡◌, ◌+◌, ◌<◌, refl, sym, ap, ◌∙◌, arith, length-append, take, drop, Option, None, Some, Result, Ok, Err}
 use Rattle.std.proofs.lemmas.List.{take_at, drop_at}
 use Rattle.std.proofs.lemmas.Bool.Decides.{leb_tells}
 use Rattle.cl_token.specs.declared.token.Kind.{Kind}

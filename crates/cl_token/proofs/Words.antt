@@ -1,16 +1,16 @@
 -- The longest token at the head of a list: what is measured is spelled, and nothing longer is.
-use Rattle.std.proofs.Common.{ℕ, zero, suc, List, [], ◌∷◌, ◌++◌, length, take, drop, Bool, true, false, cond, not, ◌&&◌, ◌||◌, ◌==◌, ◌⊎◌, inl, inr, ◌≡◌, ◌+◌, ◌<◌, ◌≤◌, refl, sym, ap, subst, ◌∙◌, arith, take-append-drop}
-use Rattle.std.specs.Prelude.{slice_index, codes}
+use Rattle.std.proofs.Common.{ℕ, zero, suc, List, [], ◌∷◌, ◌++◌, length, take, drop, Bool, true, false, ◌==◌, inl, inr, ◌≡◌, ◌+◌, ◌<◌, ◌≤◌, refl, sym, ap, subst, arith, take-append-drop}
+use Rattle.std.specs.Prelude.{slice_index}
 use Rattle.std.specs.List.{list_all, prefix_len}
-use Rattle.std.proofs.lemmas.Bool.{eqb-true, eq-eqb}
+use Rattle.std.proofs.lemmas.Bool.{eqb-true}
 use Rattle.std.proofs.lemmas.Bool.Decides.{nat_tests}
-use Rattle.std.proofs.lemmas.List.{length-take-le, take_at, drop_at}
+use Rattle.std.proofs.lemmas.List.{length-take-le}
 use Rattle.cl_token.specs.declared.token.Kind.{Kind}
 use Rattle.cl_token.specs.declared.token.Kind.TheVariants.{Name, Number, Mark, Hash}
 use Rattle.cl_token.specs.Bytes.{is_digit, is_name_start, is_name_byte, is_number_byte, IsRun}
-use Rattle.cl_token.specs.Spelling.{IsOneOf, marks, Spells, IsLongest}
-use Rattle.cl_token.specs.Reading.{is_among, spaces, mark_length, blank_length, kind_at, length_of}
-use Rattle.cl_token.proofs.Runs.{both, and_true, test_is, chosen, head_passes, head_within, head_reaches}
+use Rattle.cl_token.specs.Spelling.{Spells, IsLongest}
+use Rattle.cl_token.specs.Reading.{blank_length, kind_at, length_of}
+use Rattle.cl_token.proofs.Runs.{and_true, test_is, head_passes, head_within, head_reaches}
 use Rattle.cl_token.proofs.ByteFacts.{start_is_name_byte, digit_is_number_byte, start_not_digit, Solid, start_solid, digit_solid}
 use Rattle.cl_token.proofs.Marks.{mark_sound, mark_reaches, mark_some, starts, no_blank}
 

@@ -1,12 +1,12 @@
 -- What the lexer answers, case by case.
-use Rattle.std.specs.Prelude.{◌≡◌, ◌≤◌, ℕ, List, length, Result, Ok, Err, Vec}
+use Rattle.std.specs.Prelude.{◌≡◌, ℕ, List, Result, Ok, Err, Vec}
 use Rattle.std.specs.declared.alloc.Global.{Global}
 use Rattle.cl_token.specs.declared.token.Token.{Token}
 use Rattle.cl_token.specs.declared.token.LexError.{LexError}
 use Rattle.cl_token.specs.declared.token.LexError.TheVariants as errors
 use Rattle.cl_token.specs.declared.piece.Fault.{Fault}
 use Rattle.cl_token.specs.declared.piece.Fault.TheVariants as faults
-use Rattle.cl_token.specs.Cuts.{Cuts, FailsAt, BeginsNothing, OpensEndless, BeginsMalformed, BeginsTooLarge, IsRefused}
+use Rattle.cl_token.specs.Cuts.{Cuts, IsRefused}
 
 -- It answers these tokens, unless memory ran out.
 abbrev pub IsTokens : Result (Vec Token Global) LexError → List Token → Type 0

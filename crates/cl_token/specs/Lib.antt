@@ -4,5 +4,6 @@ pub mod Cuts
 pub mod Lexeme
 pub mod Number
 pub mod NumberReading
+pub mod Places
 pub mod Reading
 pub mod Spelling

@@ -1,5 +1,5 @@
 -- Integer constants: their spelling, their value and their type (C99, 6.4.4.1).
-use Rattle.std.specs.Prelude.{ℕ, List, [], ◌∷◌, ◌++◌, length, Bool, true, false, ◌≡◌, ◌+◌, ◌-◌, ◌*◌, ◌^◌, ◌||◌, ◌==◌, nat_le, if◌then◌else◌, Option, None, Some, pos, int_le, codes}
+use Rattle.std.specs.Prelude.{ℕ, List, [], ◌∷◌, ◌++◌, length, Bool, true, false, ◌≡◌, ◌+◌, ◌-◌, ◌*◌, ◌^◌, ◌||◌, ◌==◌, nat_le, if◌then◌else◌, Option, None, Some, pos, int_le}
 use Rattle.std.specs.List.{list_all, find}
 use Rattle.wg_num.specs.declared.types.IntType.{IntType}
 use Rattle.wg_num.specs.declared.types.IntType.TheVariants.{Int, Uint, Long, Ulong}

@@ -1,5 +1,5 @@
 -- What stands at the head of the rest of a source, as a function of its bytes.
-use Rattle.std.specs.Prelude.{ℕ, zero, suc, List, [], ◌∷◌, Bool, true, false, not, ◌&&◌, ◌||◌, ◌==◌, ◌+◌, if◌then◌else◌, take, drop, Option, None, Some, Result, Ok, Err, slice_index, option_map, codes}
+use Rattle.std.specs.Prelude.{ℕ, suc, List, [], ◌∷◌, Bool, not, ◌&&◌, ◌||◌, ◌==◌, ◌+◌, if◌then◌else◌, take, drop, Option, None, Some, Result, Ok, Err, slice_index, option_map, codes}
 use Rattle.std.specs.List.{prefix_len, list_any}
 use Rattle.cl_token.specs.Bytes.{is_digit, is_name_start, is_name_byte, is_number_byte}
 use Rattle.cl_token.specs.NumberReading.{outcome_of}

@@ -1,5 +1,5 @@
 -- How tokens, blanks and comments are spelled (OpenCL 1.2, section 6; C99, sections 5.1.1.2 and 6.4).
-use Rattle.std.specs.Prelude.{ℕ, suc, List, [], ◌∷◌, ◌++◌, length, Bool, true, not, ◌≡◌, ◌<◌, ◌≤◌, ◌==◌, ◌⊎◌, codes, slice_index}
+use Rattle.std.specs.Prelude.{ℕ, suc, List, [], ◌∷◌, ◌++◌, length, true, not, ◌≡◌, ◌<◌, ◌≤◌, ◌==◌, ◌⊎◌, codes, slice_index}
 use Rattle.std.specs.List.{list_all}
 use Rattle.wg_num.specs.declared.types.IntType.{IntType}
 use Rattle.cl_token.specs.Bytes.{is_digit, is_name_start, is_name_byte, is_number_byte, IsRun}

@@ -1,5 +1,5 @@
 //! The cutting of a source into tokens.
-ghost use Rattle.std.specs.Prelude.{◌≡◌, ◌↔◌, ℕ, List, ◌<◌, ◌≤◌, length, IfOk, IfErr, OnOk, MatchResult, ◌++◌, ◌∷◌, [], Err, slice_range, drop};
+ghost use Rattle.std.specs.Prelude.{◌≡◌, ◌↔◌, ℕ, List, ◌<◌, ◌≤◌, length, All, IfOk, IfErr, OnOk, MatchResult, ◌++◌, ◌∷◌, [], Err, slice_range, drop};
 ghost use Rattle.cl_token.specs.declared.token.Token.{Token as AnyToken};
 ghost use Rattle.cl_token.specs.declared.token.LexError.{LexError as AnyError};
 ghost use Rattle.cl_token.specs.Cuts.{Cuts, IsRefused, limit};
@@ -101,6 +101,7 @@ fn cut(alloc: Global, source: &[u8]) -> Result<Vec<Token>, LexError>
 pub fn tokens(alloc: Global, source: &[u8]) -> Result<Vec<Token>, LexError>
     ensures short { IfOk result (λ ts. length source.now ≤ limit) }
     ensures cuts { IfOk result (λ ts. Cuts source.now ts.items) }
+    ensures inside { IfOk result (λ ts. All (λ t. t.start ≤ length source.now) ts.items) }
     ensures all { (ts : List AnyToken) → length source.now ≤ limit → Cuts source.now ts → IsTokens result ts }
     ensures refused { IfErr result (λ e. IsRefusedOrMemory source.now e) }
     ensures fault { (e : AnyError) → IsRefused source.now e → IsFault result e }

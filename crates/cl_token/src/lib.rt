@@ -5,8 +5,12 @@ mod bytes;
 pub mod lexer;
 pub mod number;
 mod piece;
+pub mod place;
+#[cfg(test)]
+mod tests;
 pub mod token;
 
 pub use lexer::{SOURCE_LIMIT, tokens};
 pub use number::{Literal, LiteralError, literal_of};
+pub use place::{place_of, places};
 pub use token::{Kind, LexError, Token};

@@ -1,6 +1,4 @@
-use Rattle.std.proofs.Common.{ℕ, ◌≡◌, ◌<◌, get_or, length, sym, ap, ◌∙◌, add-one, arith}
-use Rattle.std.proofs.lemmas.List.{get_or_past}
-use Rattle.cl_token.specs.Spelling.{ClosesAt}
+use Rattle.std.proofs.Common.{sym, ◌∙◌}
 use Rattle.cl_token.proofs.Comments.{close_none, close_first, closes_at, none_closes}
 use Rattle.cl_token.proofs.piece.close_of.Goals as goal
 
