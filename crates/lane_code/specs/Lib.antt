@@ -1,0 +1,4 @@
+pub mod Acts
+pub mod Groups
+pub mod Meaning
+pub mod Registers
