@@ -117,18 +117,20 @@ abbrev pub iteration : Point → ℕ → Option Expression → Option Expression
 iteration at site test step body k tasks =
     Run (at ++ (Turn k ∷ Body ∷ [])) body ∷ step_tasks at k step (test_tasks at k test (InLoop at site test step body k ∷ tasks))
 
--- `break`: the tasks behind the nearest loop or switch
+-- `break`: the tasks behind the nearest loop or switch; it never leaves its function
 abbrev pub behind_break : List Task → List Task
 behind_break [] = []
 behind_break (InLoop at site test step body begun ∷ tasks) = tasks
 behind_break (InSwitch at site ∷ tasks) = tasks
+behind_break (InCall at site ∷ tasks) = InCall at site ∷ tasks
 behind_break (_ ∷ tasks) = behind_break tasks
 
--- `continue`: the step expression and the test of the nearest loop, whose marker stays
+-- `continue`: the step expression and the test of the nearest loop, whose marker stays; it never leaves its function
 abbrev pub behind_continue : List Task → List Task
 behind_continue [] = []
 behind_continue (InLoop at site test step body begun ∷ tasks) =
     step_tasks at begun step (test_tasks at begun test (InLoop at site test step body begun ∷ tasks))
+behind_continue (InCall at site ∷ tasks) = InCall at site ∷ tasks
 behind_continue (_ ∷ tasks) = behind_continue tasks
 
 -- `return`: the item behind the nearest call, without its frame, or in the kernel with no task left

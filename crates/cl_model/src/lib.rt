@@ -2,6 +2,7 @@
 #![tactic(auto)]
 
 pub mod launch;
+pub mod laws;
 pub mod program;
 
 pub use launch::{Bound, Buffers, Launch};

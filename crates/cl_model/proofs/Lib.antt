@@ -1,0 +1,5 @@
+pub mod Weights
+pub mod Fitted
+pub mod CallWeights
+pub mod Falling
+pub mod CleanLaunches
