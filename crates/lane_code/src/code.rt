@@ -1,8 +1,9 @@
-//! Codes and the program of a work-group.
+//! Codes, and what a work-group does with them.
+
+ghost use Rattle.std.specs.Prelude.{◌≡◌, true};
+ghost use Rattle.lane_code.specs.Fits.{is_code};
 
 use crate::step::Step;
-use cl_model::{Table, VarKind};
-use wg_num::{Place, Width, Word};
 
 /// How many registers of each bank a code has.
 #[derive(Clone, Copy, PartialEq, Eq, Debug)]
@@ -18,6 +19,7 @@ pub struct Counts {
 pub struct Code {
     pub steps: Vec<Step>,
     pub counts: Counts,
+    ghost well: { is_code counts steps.items ≡ true },
 }
 
 /// What a work-group does: a code on each of its chunks, nodes one after the other, a vote on a
@@ -38,22 +40,4 @@ pub enum Node {
         body: Box<Node>,
         rest: Code,
     },
-}
-
-/// The program of a work-group: the kernel's name, the width of a chunk, the kinds of the kernel's
-/// parameters, its constant tables, the bytes of each local array of a group and of each private
-/// array of an item, how many columns and once slots it has, the place of each site, and what it
-/// does.
-#[derive(Drop)]
-pub struct GroupProgram {
-    pub kernel: Word,
-    pub width: Width,
-    pub params: Vec<VarKind>,
-    pub tables: Vec<Table>,
-    pub locals: Vec<u64>,
-    pub privates: Vec<u64>,
-    pub columns: u32,
-    pub slots: u32,
-    pub sites: Vec<Place>,
-    pub top: Node,
 }

@@ -3,8 +3,10 @@
 
 pub mod code;
 pub mod end;
+pub mod program;
 pub mod step;
 
-pub use code::{Code, Counts, GroupProgram, Node};
+pub use code::{Code, Counts, Node};
 pub use end::{RegionEnd, RunEnd};
+pub use program::GroupProgram;
 pub use step::{Bank, Reg, Step};

@@ -68,7 +68,10 @@ pub enum Step {
         mask: Reg,
     },
     /// The scalar into every lane.
-    Spread { to: Reg, from: Reg },
+    Spread {
+        to: Reg,
+        from: Reg,
+    },
     /// The scalar becomes the value of the lowest active lane; where no lane is set it stays.
     First {
         to: Reg,
@@ -106,33 +109,80 @@ pub enum Step {
         mask: Reg,
     },
     /// The active items' private array becomes zero.
-    Clear { array: u32, mask: Reg },
-    ColumnGet { column: u32, to: Reg },
+    Clear {
+        array: u32,
+        mask: Reg,
+    },
+    ColumnGet {
+        column: u32,
+        to: Reg,
+    },
     ColumnPut {
         column: u32,
         from: Reg,
         mask: Reg,
     },
     /// The entry value of a once slot.
-    OnceGet { slot: u32, to: Reg },
+    OnceGet {
+        slot: u32,
+        to: Reg,
+    },
     /// The exit value of a once slot.
-    OncePut { slot: u32, from: Reg },
+    OncePut {
+        slot: u32,
+        from: Reg,
+    },
     /// The items' answers of the last vote.
-    VoteGet { to: Reg },
-    VotePut { from: Reg, mask: Reg },
+    VoteGet {
+        to: Reg,
+    },
+    VotePut {
+        from: Reg,
+        mask: Reg,
+    },
     /// The active lanes whose value is not 0.
-    Test { to: Reg, from: Reg, mask: Reg },
-    MaskAnd { to: Reg, a: Reg, b: Reg },
-    MaskOr { to: Reg, a: Reg, b: Reg },
+    Test {
+        to: Reg,
+        from: Reg,
+        mask: Reg,
+    },
+    MaskAnd {
+        to: Reg,
+        a: Reg,
+        b: Reg,
+    },
+    MaskOr {
+        to: Reg,
+        a: Reg,
+        b: Reg,
+    },
     /// The lanes of `a` that are not in `b`.
-    MaskLess { to: Reg, a: Reg, b: Reg },
-    Jump { target: u32 },
+    MaskLess {
+        to: Reg,
+        a: Reg,
+        b: Reg,
+    },
+    Jump {
+        target: u32,
+    },
     /// Jumps if no lane is set.
-    SkipNone { mask: Reg, target: u32 },
+    SkipNone {
+        mask: Reg,
+        target: u32,
+    },
     /// Jumps if the scalar is 0.
-    SkipZero { from: Reg, target: u32 },
+    SkipZero {
+        from: Reg,
+        target: u32,
+    },
     /// Jumps back and takes a turn if a lane is set; where no turn is left the code ends.
-    Turn { mask: Reg, target: u32 },
+    Turn {
+        mask: Reg,
+        target: u32,
+    },
     /// Ends at a barrier if a lane is set.
-    Mark { site: u32, mask: Reg },
+    Mark {
+        site: u32,
+        mask: Reg,
+    },
 }
