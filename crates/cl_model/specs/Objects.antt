@@ -12,7 +12,7 @@ use Rattle.cl_model.specs.declared.program.VarKind.TheVariants.{Scalar, Pointer}
 use Rattle.cl_model.specs.declared.launch.Bound.{Bound}
 use Rattle.cl_model.specs.declared.launch.Bound.TheVariants as bound
 use Rattle.cl_model.specs.Tree.{Array, Table, Program}
-use Rattle.cl_model.specs.Values.{size_of}
+use Rattle.wg_num.specs.Bytes.{size_of}
 use Rattle.cl_model.specs.Sizes.{Launch, group_count, item_count, group_of}
 use Rattle.cl_model.specs.Calls.{Instance, instances, function_at, kernel_of}
 

@@ -14,7 +14,8 @@ use Rattle.cl_model.specs.declared.program.Space.TheVariants as space
 use Rattle.cl_model.specs.declared.program.Root.{Root}
 use Rattle.cl_model.specs.declared.program.Root.TheVariants.{Private}
 use Rattle.cl_model.specs.Tree.{Action, Literal, Variable, Unary, Binary, Builtin, Convert, Ask, Second, Truth, Decided, Set, Change, Load, Store, Expression, Apply, Update, Choose, Call, Expressions, none, more, Statement, Do, Declare, Fill, Block, If, Loop, Switch, Break, Continue, Return, Barrier, Statements, empty, also, Arms, no_arm, arm, Array, Program}
-use Rattle.cl_model.specs.Values.{size_of, bytes_of_value, value_of_bytes, is_zero, number_of}
+use Rattle.wg_num.specs.Bytes.{size_of, bytes_of, value_of_bytes}
+use Rattle.cl_model.specs.Values.{is_zero, number_of}
 use Rattle.cl_model.specs.Sizes.{Launch, answer_of}
 use Rattle.cl_model.specs.Calls.{function_at}
 use Rattle.cl_model.specs.Objects.{object_of, array_bytes, zeros}
@@ -204,7 +205,7 @@ action_next program launch i (Change x op of back old) args values rest =
 action_next program launch i (Load site element root) args values rest =
     Loads site (access_at program launch i element root (nth args 0)) (λ bytes. with_values i rest (value_of_bytes element bytes ∷ values))
 action_next program launch i (Store site element root) args values rest =
-    Stores site (object_at program launch i root) (nth args 0) (bytes_of_value element (nth args 1)) (with_values i rest (nth args 1 ∷ values))
+    Stores site (object_at program launch i root) (nth args 0) (bytes_of element (nth args 1)) (with_values i rest (nth args 1 ∷ values))
 
 -- the step of an expression that begins
 abbrev pub evaluate_next : Program → Launch → Item → Point → Expression → List Task → Next Item
@@ -264,7 +265,7 @@ new_frame program launch i site function roots args = record {
 -- the last step of an update: it stores the new value
 abbrev pub alter_next : Program → Launch → Item → ℕ → IntType → Root → ℤ → ℤ → ℤ → List ℤ → List Task → Next Item
 alter_next program launch i site element root index new value values rest =
-    Stores site (object_at program launch i root) index (bytes_of_value element new) (with_values i rest (value ∷ values))
+    Stores site (object_at program launch i root) index (bytes_of element new) (with_values i rest (value ∷ values))
 
 -- the step of the first task
 abbrev pub task_next : Program → Launch → Item → Task → List Task → Next Item
@@ -293,7 +294,7 @@ task_next program launch i (Clear at site array count) rest =
     Stores 0 (object_at program launch i (Private array)) (pos 0) (zeros (array_bytes (array_at program i array)))
     (with_values i (initial_tasks at site array 0 (taken count i.values) rest) (below count i.values))
 task_next program launch i (Initialise at site array index value) rest =
-    Stores site (object_at program launch i (Private array)) (pos index) (bytes_of_value (array_at program i array).element value) (with_tasks i rest)
+    Stores site (object_at program launch i (Private array)) (pos index) (bytes_of (array_at program i array).element value) (with_tasks i rest)
 task_next program launch i (Branch at chosen other) rest =
     Goes (with_values i (if is_zero (last i.values) then in_order (at ++ Other ∷ []) 0 other rest else in_order (at ++ Chosen ∷ []) 0 chosen rest) (before i.values))
 task_next program launch i (InLoop at site None step body begun) rest = Begins (with_tasks i (iteration at site None step body (suc begun) rest))

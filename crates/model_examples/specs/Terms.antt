@@ -10,7 +10,7 @@ use Rattle.cl_model.specs.declared.program.VarKind.TheVariants as kind
 use Rattle.cl_model.specs.declared.program.Query.{Query}
 use Rattle.cl_model.specs.declared.launch.Bound.{Bound}
 use Rattle.cl_model.specs.Tree.{Literal, Variable, Binary, Convert, Ask, Set, Load, Store, Expression, Apply, none, single, pair, Statement, Do, Statements, empty, also, Array, Function, Program}
-use Rattle.cl_model.specs.Values.{bytes_of_value}
+use Rattle.wg_num.specs.Bytes.{bytes_of}
 use Rattle.cl_model.specs.Sizes.{Launch}
 
 -- an int literal, a variable, a conversion to long, an operator on ints
@@ -92,4 +92,4 @@ line global local args lengths = record {
 -- a buffer of ints
 abbrev pub buffer : List ℕ → List ℕ
 buffer [] = []
-buffer (n ∷ ns) = bytes_of_value t.Int (pos n) ++ buffer ns
+buffer (n ∷ ns) = bytes_of t.Int (pos n) ++ buffer ns
