@@ -3,10 +3,16 @@
 
 pub mod code;
 pub mod end;
+pub mod field;
+pub mod listings;
 pub mod program;
 pub mod step;
+#[cfg(test)]
+mod tests;
+pub mod text;
 
 pub use code::{Code, Counts, Node};
 pub use end::{RegionEnd, RunEnd};
+pub use listings::listing;
 pub use program::GroupProgram;
 pub use step::{Bank, Reg, Step};
