@@ -12,6 +12,7 @@ use Rattle.wg_top.specs.LaunchForm.{IsFirstLaunch}
 use Rattle.wg_top.specs.SourceForm.{IsFirstSource}
 use Rattle.wg_top.specs.Causes.{Standing, Cause, Accepted, LacksName}
 use Rattle.wg_top.specs.Lines.{status_of}
+use Rattle.wg_top.specs.Ends.{Outside, Ends}
 
 -- what is loaded of a file that is told
 start_is : (files : Option FileMap) (name : List ℕ) (most : ℕ) (bytes held : List ℕ) → told_file files name ≡ Some (Some held) → HasFileStart files name most bytes → bytes ≡ take most held
@@ -73,3 +74,12 @@ complete old new source launch form s (Range group item place) n all quiet is ca
     let same = read_form old.files source launch form cause.form s cause.read.launch_bytes all cause.read.launch_loaded cause.read.is_launch in
     absurd (omega (arith, same.global, same.size, cause.item_in, cause.outside.outside, all.in_range))
 complete old new source launch form s Memory n all quiet is cause = inr is
+
+pub ends_complete : (old new : Outside) (source launch : List ℕ) (form : LaunchForm) (s : FirstSource) (n : ℕ) → Ends old new source launch n → Accepted old.store.files source launch form s → (Rose old.store.faults new.store.faults → ⊥) → (Rose old.out.faults new.out.faults → ⊥) → (n ≡ 0) ⊎ (n ≡ 8)
+ends_complete old new source launch form s n ends all quiet out_quiet = elim ends [
+  | inl done ↦ inl done.status_is
+  | inr more ↦ elim more [
+    | inl unsaid ↦ absurd (out_quiet unsaid.failed)
+    | inr refused ↦ complete old.store new.store source launch form s refused.error n all quiet refused.status_is refused.cause
+  ]
+]

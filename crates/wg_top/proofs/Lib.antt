@@ -4,4 +4,9 @@ pub mod CauseLemmas
 pub mod EndLemmas
 pub mod CompleteLemmas
 pub mod ItemLemmas
-pub mod SourceLemmas
+pub mod ValueLemmas
+pub mod NameLemmas
+pub mod LiteralLemmas
+pub mod TextLemmas
+pub mod TokenLemmas
+pub mod ReaderLemmas

@@ -2,11 +2,12 @@
 use Rattle.std.specs.Prelude.{◌≡◌, ◌∷◌, [], ◌⊎◌, ℕ, List, Option, codes}
 use Rattle.std.specs.Io.KnownBytes.{Appends}
 use Rattle.wg_outside.specs.Counts.{Rose}
+use Rattle.wg_outside.specs.Files.{FileMap}
 use Rattle.wg_outside.specs.Bytes.{AppendsPrefix}
 use Rattle.wg_top.specs.declared.RunError.{RunError}
 use Rattle.wg_top.specs.declared.RunError.TheVariants.{Failed}
 use Rattle.wg_top.specs.declared.Summary.{Summary}
-use Rattle.wg_top.specs.Causes.{Standing, Cause, LeavesFiles, IsDone}
+use Rattle.wg_top.specs.Causes.{Standing, standing, Cause, LeavesFiles, IsDone}
 use Rattle.wg_top.specs.Lines.{IsSaid, done_line, error_line, status_of}
 
 -- a sink at one moment
@@ -31,6 +32,10 @@ pub record Outside : Type 0 where
   pub store : Standing
   pub out : SinkStanding
   pub err : SinkStanding
+
+-- the same, by the members of the three traits
+abbrev pub outside : {S O E : Type 0} → (S → Option FileMap) → (S → ℕ) → (S → ℕ) → (O → Option (List ℕ)) → (O → ℕ) → (E → Option (List ℕ)) → (E → ℕ) → S → O → E → Outside
+outside files faults misses out_written out_faults err_written err_faults store out err = record { store = standing files faults misses store; out = sink_standing out_written out_faults out; err = sink_standing err_written err_faults err }
 
 -- the run is done, and its line is on `out`
 pub record EndsDone (old new : Outside) (source launch : List ℕ) (status : ℕ) : Type 0 where
@@ -62,9 +67,20 @@ pub record EndsRefused (old new : Outside) (source launch : List ℕ) (status : 
 abbrev pub Ends : Outside → Outside → List ℕ → List ℕ → ℕ → Type 0
 Ends old new source launch status = EndsDone old new source launch status ⊎ EndsUnsaid old new source launch status ⊎ EndsRefused old new source launch status
 
+-- these are no words of a run
+abbrev pub AreOtherWords : List (List ℕ) → Type 0
+AreOtherWords words = (source launch : List ℕ) → AreRunWords words source launch → ⊥
+
 -- the words are refused: nothing but the line on `err` happens
-pub record EndsUnread (old new : Outside) (words : List (List ℕ)) : Type 0 where
-  pub no_run : (source launch : List ℕ) → AreRunWords words source launch → ⊥
+pub record EndsUnread (old new : Outside) : Type 0 where
   pub store_stays : new.store ≡ old.store
   pub out_stays : new.out ≡ old.out
   pub said : Says old.err new.err (codes "wgcc: usage\n")
+
+-- nothing went to `out` but a first part of a line, where its faults rose
+abbrev pub KeepsOut : SinkStanding → SinkStanding → Type 0
+KeepsOut old new = (new ≡ old) ⊎ ((line : List ℕ) × AppendsPrefix old.written new.written line × Rose old.faults new.faults)
+
+-- a line went to `err`
+abbrev pub SaysLine : SinkStanding → SinkStanding → Type 0
+SaysLine old new = (line : List ℕ) × Says old new line

@@ -1,6 +1,7 @@
 pub mod Numbers
 pub mod Fields
 pub mod LaunchForm
+pub mod SourceTokens
 pub mod SourceForm
 pub mod Items
 pub mod Lines

@@ -7,17 +7,16 @@ ghost use Rattle.wg_num.specs.Bytes.{bytes_of, value_of_bytes};
 ghost use Rattle.wg_top.specs.SourceForm.{LiteralsFit, element_after};
 ghost use Rattle.wg_top.specs.Items.{ItemsRan, IsFirstOutside};
 
-use crate::source_form::{Source, value_after};
-use wg_num::laws::wrap_law;
-use wg_num::{IntType, bits, value};
+use crate::source_form::{Source, pattern_after, value_of_pattern};
+use wg_num::{IntType, bits};
 
 // The number that four bytes spell, lowest byte first.
-fn number_of(element: &[u8]) -> u64
+fn pattern_of(element: &[u8]) -> u32
     requires { length element.now ≡ 4 }
     ensures { result ≡ number_l 256 element.now }
 {
-    let high = u64::from(element[2]) + 256 * u64::from(element[3]);
-    u64::from(element[0]) + 256 * (u64::from(element[1]) + 256 * high)
+    let high = u32::from(element[2]) + 256 * u32::from(element[3]);
+    u32::from(element[0]) + 256 * (u32::from(element[1]) + 256 * high)
 }
 
 // The four bytes of a value, lowest byte first.
@@ -37,25 +36,15 @@ fn bytes_of_value(v: i128) -> [u8; 4]
     ]
 }
 
-// The value that four bytes stand for.
-fn value_of_element(element: &[u8]) -> i128
-    requires { length element.now ≡ 4 }
-    ensures value { result ≡ value_of_bytes Int element.now }
-    ensures fits { IsValue Int result }
-{
-    wrap_law();
-    value(IntType::Int, number_of(element))
-}
-
 // One item changes its element.
 fn run_item(element: &mut [u8], source: &Source)
     requires size { length element.old ≡ 4 }
     requires literals { LiteralsFit source.now }
     ensures { element.new ≡ bytes_of Int (element_after source.now (value_of_bytes Int element.old)) }
 {
-    let old = value_of_element(element);
-    let after = bytes_of_value(value_after(source, old));
-    element.copy_from_slice(&after);
+    let after = pattern_after(source, pattern_of(element));
+    let bytes = bytes_of_value(value_of_pattern(after));
+    element.copy_from_slice(&bytes);
 }
 
 /// Runs the items, and answers the first whose element does not lie within the buffer.

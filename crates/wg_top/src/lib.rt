@@ -3,10 +3,10 @@
 
 ghost use Rattle.std.specs.Prelude.{◌≡◌, ◌≤◌, ◌⊎◌, ◌∷◌, [], ℕ, List, map, string_bytes, MatchOption};
 ghost use Rattle.wg_outside.specs.Counts.{Rose};
-ghost use Rattle.wg_top.specs.Causes.{standing, Accepted};
+ghost use Rattle.wg_top.specs.Causes.{Accepted};
 ghost use Rattle.wg_top.specs.declared.launch_form.LaunchForm.{LaunchForm};
 ghost use Rattle.wg_top.specs.declared.source_form.Source.{Source};
-ghost use Rattle.wg_top.specs.Ends.{sink_standing, AreRunWords, Ends, EndsUnread};
+ghost use Rattle.wg_top.specs.Ends.{sink_standing, outside, AreRunWords, AreOtherWords, Ends, EndsUnread, KeepsOut, SaysLine};
 ghost use Rattle.wg_top.specs.Lines.{status_of};
 
 use std::alloc::Global;
@@ -68,37 +68,20 @@ fn status(error: &RunError) -> u8
     }
 }
 
-/// Does what the words say, and answers the program's status.
-pub fn wgcc<S: Store, O: Sink, E: Sink>(
+// Runs the launch, and prints its line.
+fn run_and_say<S: Store, O: Sink, E: Sink>(
     alloc: Global,
-    words: &[String],
+    source: &str,
+    launch: &str,
     store: &mut S,
     out: &mut O,
     err: &mut E,
 ) -> u8
-    ensures read { (source launch : List ℕ) → AreRunWords (map string_bytes words.now) source launch →
-        Ends
-        (record { store = standing S.files S.faults S.misses store.old; out = sink_standing O.written O.faults out.old; err = sink_standing E.written E.faults err.old })
-        (record { store = standing S.files S.faults S.misses store.new; out = sink_standing O.written O.faults out.new; err = sink_standing E.written E.faults err.new })
-        source launch result }
-    ensures unread { result ≡ 2 →
-        EndsUnread
-        (record { store = standing S.files S.faults S.misses store.old; out = sink_standing O.written O.faults out.old; err = sink_standing E.written E.faults err.old })
-        (record { store = standing S.files S.faults S.misses store.new; out = sink_standing O.written O.faults out.new; err = sink_standing E.written E.faults err.new })
-        (map string_bytes words.now) }
-    ensures failed { result ≡ 1 → Rose (S.faults store.old) (S.faults store.new) ⊎ Rose (O.faults out.old) (O.faults out.new) }
-    ensures absent { result ≡ 9 → Rose (S.misses store.old) (S.misses store.new) }
-    ensures no_save { (result ≡ 0 → ⊥) → (result ≡ 1 → ⊥) → S.files store.new ≡ S.files store.old }
-    ensures complete { (source launch : List ℕ) (form : LaunchForm) (s : Source) → AreRunWords (map string_bytes words.now) source launch →
-        Accepted (S.files store.old) source launch form s →
-        (Rose (S.faults store.old) (S.faults store.new) → ⊥) → (Rose (O.faults out.old) (O.faults out.new) → ⊥) →
-        (result ≡ 0) ⊎ (result ≡ 8) }
-    ensures usage { ((source launch : List ℕ) → AreRunWords (map string_bytes words.now) source launch → ⊥) → result ≡ 2 }
+    ensures { Ends
+        (outside S.files S.faults S.misses O.written O.faults E.written E.faults store.old out.old err.old)
+        (outside S.files S.faults S.misses O.written O.faults E.written E.faults store.new out.new err.new)
+        source.now launch.now result }
 {
-    let Some((source, launch)) = run_words(words) else {
-        lines::say_usage(err);
-        return 2;
-    };
     match run_source(alloc, store, source, launch) {
         Ok(summary) => match lines::say_done(out, summary.groups, summary.items) {
             Ok(()) => 0,
@@ -110,6 +93,56 @@ pub fn wgcc<S: Store, O: Sink, E: Sink>(
         Err(error) => {
             lines::say_error(err, source, &error);
             status(&error)
+        }
+    }
+}
+
+/// Does what the words say, and answers the program's status; `words` are those of the command
+/// line without the program's name. It takes `run SOURCE LAUNCH`: it loads the source, then the
+/// launch file, then the buffer, runs the launch, saves the buffer, and puts one line on `out`.
+/// Where a step is refused, that ends the call with its status and its line on `err`: 1 for a
+/// fault, 2 for other words, 3 and 4 for a source and a launch file that are not of the first form,
+/// 5 for an access out of range, 8 for want of memory, which may come at each step, and 9 for a
+/// file that is not there.
+pub fn wgcc<S: Store, O: Sink, E: Sink>(
+    alloc: Global,
+    words: &[String],
+    store: &mut S,
+    out: &mut O,
+    err: &mut E,
+) -> u8
+    // How a run ends, with its cause, its files and its lines.
+    ensures ends { (source launch : List ℕ) → AreRunWords (map string_bytes words.now) source launch → Ends
+        (outside S.files S.faults S.misses O.written O.faults E.written E.faults store.old out.old err.old)
+        (outside S.files S.faults S.misses O.written O.faults E.written E.faults store.new out.new err.new)
+        source launch result }
+
+    // Other words.
+    ensures usage { AreOtherWords (map string_bytes words.now) → result ≡ 2 }
+    ensures usage_only { result ≡ 2 → AreOtherWords (map string_bytes words.now) }
+    ensures usage_line { result ≡ 2 → EndsUnread
+        (outside S.files S.faults S.misses O.written O.faults E.written E.faults store.old out.old err.old)
+        (outside S.files S.faults S.misses O.written O.faults E.written E.faults store.new out.new err.new) }
+
+    // What each status says.
+    ensures failed { result ≡ 1 → Rose (S.faults store.old) (S.faults store.new) ⊎ Rose (O.faults out.old) (O.faults out.new) }
+    ensures absent { result ≡ 9 → Rose (S.misses store.old) (S.misses store.new) }
+    ensures no_save { (result ≡ 0 → ⊥) → (result ≡ 1 → ⊥) → S.files store.new ≡ S.files store.old }
+    ensures quiet { result ≡ 0 → sink_standing E.written E.faults err.new ≡ sink_standing E.written E.faults err.old }
+    ensures line { (result ≡ 0 → ⊥) → SaysLine (sink_standing E.written E.faults err.old) (sink_standing E.written E.faults err.new) }
+    ensures out { (result ≡ 0 → ⊥) → KeepsOut (sink_standing O.written O.faults out.old) (sink_standing O.written O.faults out.new) }
+
+    // What must come where the store tells its files and no fault rises, want of memory aside.
+    ensures complete { (source launch : List ℕ) (form : LaunchForm) (s : Source) → AreRunWords (map string_bytes words.now) source launch →
+        Accepted (S.files store.old) source launch form s →
+        (Rose (S.faults store.old) (S.faults store.new) → ⊥) → (Rose (O.faults out.old) (O.faults out.new) → ⊥) →
+        (result ≡ 0) ⊎ (result ≡ 8) }
+{
+    match run_words(words) {
+        Some((source, launch)) => run_and_say(alloc, source, launch, store, out, err),
+        None => {
+            lines::say_usage(err);
+            2
         }
     }
 }

@@ -23,7 +23,35 @@ const BEFORE: [u8; 16] = [1, 0, 0, 0, 2, 0, 0, 0, 3, 0, 0, 0, 4, 0, 0, 0];
 
 const AFTER: [u8; 16] = [2, 0, 0, 0, 3, 0, 0, 0, 4, 0, 0, 0, 5, 0, 0, 0];
 
+const AFTER_SPREAD: [u8; 16] = [1, 0, 0, 0, 4, 0, 0, 0, 9, 0, 0, 0, 16, 0, 0, 0];
+
+const LOW_BEFORE: [u8; 16] = [
+    255, 255, 255, 127, 255, 255, 255, 255, 0, 0, 0, 0, 0, 0, 0, 0,
+];
+
+const LOW_AFTER: [u8; 16] = [0, 0, 0, 128, 0, 0, 0, 0, 1, 0, 0, 0, 1, 0, 0, 0];
+
 const AFTER_SHORT: [u8; 16] = [2, 0, 0, 0, 3, 0, 0, 0, 1, 0, 0, 0, 1, 0, 0, 0];
+
+// The products come first, sums go from left to right, and blanks stand where they are needed.
+const SPREAD: &str =
+    "\n__kernel  void\ninc(__global int*a){a[get_global_id(0)]=2+a[get_global_id(0)]*a [ get_global_id ( 0 ) ]-3*4+10;}\n";
+
+const LITERAL: &str = "__kernel void k(__global int *a) { a[get_global_id(0)] = 7; }";
+
+const LARGE: &str = "__kernel void inc(__global int *a) { a[get_global_id(0)] = 2147483648; }";
+
+const ZERO: &str = "__kernel void inc(__global int *a) { a[get_global_id(0)] = 01; }";
+
+const JOINED: &str =
+    "__kernel void inc(__global int *a) { a[get_global_id(0)] = a[get_global_id(0)]1; }";
+
+const TAB: &str = "__kernel void inc(__global int *a) {\ta[get_global_id(0)] = 1; }";
+
+const RESERVED: &str =
+    "__kernel void inc(__global int *clz) { clz[get_global_id(0)] = clz[get_global_id(0)] + 1; }";
+
+const NOT_BUILT: &str = "wgcc: k.cl:1:1: E000 form not built\n";
 
 // A run over a store and two sinks in memory, and what it is to leave.
 #[derive(Clone, Copy)]
@@ -69,10 +97,9 @@ fn run(alloc: Global, row: &Row) -> Result<Ran, Fail> {
     })
 }
 
-#[test]
-fn runs_leave_what_the_examples_say(rt: HostRuntime) -> Result<(), Fail> {
-    let done = Row {
-        source: INC,
+fn done_row(source: &str) -> Row<'_> {
+    Row {
+        source,
         launch: LAUNCH,
         buffer: Some(&BEFORE),
         fail: &[],
@@ -80,6 +107,17 @@ fn runs_leave_what_the_examples_say(rt: HostRuntime) -> Result<(), Fail> {
         saved: Some(&AFTER),
         out: "wgcc: done, 2 groups, 4 items\n",
         err: "",
+    }
+}
+
+#[test]
+fn runs_leave_what_the_examples_say(rt: HostRuntime) -> Result<(), Fail> {
+    let done = done_row(INC);
+    let refused = Row {
+        status: 5,
+        saved: None,
+        out: "",
+        ..done
     };
     let rows = [
         Row {
@@ -89,53 +127,92 @@ fn runs_leave_what_the_examples_say(rt: HostRuntime) -> Result<(), Fail> {
         },
         Row {
             launch: SHORT_LAUNCH,
-            status: 5,
-            saved: None,
-            out: "",
             err: "wgcc: range: group 1, item 2, 1:60\n",
+            ..refused
+        },
+        Row {
+            source: SPREAD,
+            saved: Some(&AFTER_SPREAD),
             ..done
         },
         Row {
-            source: EMPTY,
-            status: 3,
-            saved: None,
-            out: "",
-            err: "wgcc: k.cl:1:1: E000 form not built\n",
+            buffer: Some(&LOW_BEFORE),
+            saved: Some(&LOW_AFTER),
             ..done
+        },
+        Row {
+            source: SPREAD,
+            launch: SHORT_LAUNCH,
+            err: "wgcc: range: group 1, item 2, 3:43\n",
+            ..refused
         },
         Row {
             launch: OTHER_LAUNCH,
             status: 4,
-            saved: None,
-            out: "",
             err: "wgcc: L0 form not built\n",
-            ..done
+            ..refused
         },
         Row {
             buffer: None,
             status: 9,
-            saved: None,
-            out: "",
             err: "wgcc: no such file\n",
-            ..done
+            ..refused
         },
         Row {
             fail: &[0],
             status: 1,
-            saved: None,
-            out: "",
             err: "wgcc: cannot read or write\n",
-            ..done
+            ..refused
         },
         done,
     ];
     for row in &rows {
-        let ran = run(rt.alloc(), row)?;
-        assert_eq!(rt; ran.status, row.status, "{}", row.err);
-        assert_eq!(rt; ran.store.file("a.out"), row.saved, "{}", row.err);
-        assert_eq!(rt; ran.out.bytes(), row.out.as_bytes(), "{}", row.err);
-        assert_eq!(rt; ran.err.bytes(), row.err.as_bytes(), "{}", row.err);
+        assert!(rt; leaves(rt.alloc(), row)?, "{}", row.source);
     }
+    for source in [EMPTY, LITERAL, LARGE, ZERO, JOINED, TAB, RESERVED] {
+        let row = Row {
+            source,
+            status: 3,
+            err: NOT_BUILT,
+            ..refused
+        };
+        assert!(rt; leaves(rt.alloc(), &row)?, "{}", row.source);
+    }
+    Ok(())
+}
+
+// Whether the run leaves what it is to leave.
+fn leaves(alloc: Global, row: &Row) -> Result<bool, Fail> {
+    let ran = run(alloc, row)?;
+    Ok(
+        ran.status == row.status
+            && ran.store.file("a.out") == row.saved
+            && ran.out.bytes() == row.out.as_bytes()
+            && ran.err.bytes() == row.err.as_bytes(),
+    )
+}
+
+// A source that adds so many literals to the element.
+fn sum_of(alloc: Global, literals: u32) -> Result<String, Fail> {
+    let mut source = String::from_str(
+        alloc,
+        "__kernel void inc(__global int *a) { a[get_global_id(0)] = a[get_global_id(0)]",
+    )?;
+    for _ in 0..literals {
+        source.push_str(" + 1")?;
+    }
+    source.push_str("; }")?;
+    Ok(source)
+}
+
+#[test]
+fn a_sum_has_at_most_sixty_four_operands(rt: HostRuntime) -> Result<(), Fail> {
+    let most = sum_of(rt.alloc(), 63)?;
+    let ran = run(rt.alloc(), &done_row(most.as_str()))?;
+    assert_eq!(rt; ran.status, 0);
+    let more = sum_of(rt.alloc(), 64)?;
+    let ran = run(rt.alloc(), &done_row(more.as_str()))?;
+    assert_eq!(rt; ran.status, 3);
     Ok(())
 }
 
