@@ -12,3 +12,5 @@ pub mod Valid
 pub mod Fitting
 pub mod Varying
 pub mod Agreement
+pub mod Increment
+pub mod Exchange

@@ -1,12 +1,19 @@
 //! What holds of launches.
 
+ghost use Rattle.std.specs.Prelude.{◌≡◌, ◌*◌, [], ◌∷◌, IfOk, replicate};
 ghost use Rattle.work_items.specs.Law.{Agrees};
 ghost use Rattle.cl_model.specs.View.{program_of, launch_of, buffers_of};
 ghost use Rattle.cl_model.specs.Valid.{IsValid};
+ghost use Rattle.cl_model.specs.Fitting.{FitsProgram};
+ghost use Rattle.cl_model.specs.Increment.{IsFlat, increment_program, flat_launch};
+ghost use Rattle.cl_model.specs.Exchange.{exchange_program, exchange_launch};
 ghost use Rattle.cl_model.specs.Meaning.{machine_of, start_world, ItemCanCome, IsCleanLaunch};
 
 use crate::launch::{Buffers, Launch};
+use crate::law_programs;
 use crate::program::Program;
+use std::alloc::Global;
+use wg_num::Memory;
 
 /// All interleavings agree. In a clean launch two different moves that can both be made lead, in
 /// either order, to one world; each run goes on to one that no move can follow; all of these have
@@ -18,3 +25,71 @@ pub fn agree_law(program: &Program, launch: &Launch, buffers: &Buffers)
     ensures { IsCleanLaunch (program_of program.now) (launch_of launch.now) (buffers_of buffers.now)
         → Agrees (machine_of (program_of program.now) (launch_of launch.now)) (ItemCanCome (program_of program.now) (launch_of launch.now) (buffers_of buffers.now)) (start_world (program_of program.now) (launch_of launch.now) (buffers_of buffers.now)) }
 {}
+
+/// The premise of that law is met at every size: the program in which each item adds 1 to its own
+/// element, `a[get_global_id(0)] = a[get_global_id(0)] + 1`, with a launch of these sizes in one
+/// dimension and no turn, and a buffer of zeros with one element an item.
+pub fn increment_law(
+    alloc: Global,
+    global: u64,
+    local: u64,
+) -> Result<(Program, Launch, Buffers), Memory>
+    requires { IsFlat global local }
+    ensures program { IfOk result (λ r. program_of r.0 ≡ increment_program) }
+    ensures launch { IfOk result (λ r. launch_of r.1 ≡ flat_launch global local (global * 4)) }
+    ensures buffers { IfOk result (λ r. buffers_of r.2 ≡ replicate (global * 4) 0 ∷ []) }
+    ensures valid { IfOk result (λ r. IsValid (program_of r.0)) }
+    ensures fits { IfOk result (λ r. FitsProgram (program_of r.0) (launch_of r.1)) }
+    ensures clean { IfOk result (λ r. IsCleanLaunch (program_of r.0) (launch_of r.1) (buffers_of r.2)) }
+{
+    let program = law_programs::increment_program(alloc)?;
+    let launch = law_programs::flat_launch(alloc, global, local, global * 4)?;
+    let buffers = law_programs::zero_buffer(alloc, (global * 4) as usize)?;
+    Ok((program, launch, buffers))
+}
+
+/// It is met with barriers as well: two items exchange their elements through local memory.
+pub fn exchange_law(alloc: Global) -> Result<(Program, Launch, Buffers), Memory>
+    ensures program { IfOk result (λ r. program_of r.0 ≡ exchange_program) }
+    ensures launch { IfOk result (λ r. launch_of r.1 ≡ exchange_launch) }
+    ensures buffers { IfOk result (λ r. buffers_of r.2 ≡ replicate 8 0 ∷ []) }
+    ensures valid { IfOk result (λ r. IsValid (program_of r.0)) }
+    ensures fits { IfOk result (λ r. FitsProgram (program_of r.0) (launch_of r.1)) }
+    ensures clean { IfOk result (λ r. IsCleanLaunch (program_of r.0) (launch_of r.1) (buffers_of r.2)) }
+{
+    let program = law_programs::exchange_program(alloc)?;
+    let launch = law_programs::flat_launch(alloc, 2, 2, 8)?;
+    let buffers = law_programs::zero_buffer(alloc, 8)?;
+    Ok((program, launch, buffers))
+}
+
+#[cfg(test)]
+mod tests {
+    use super::*;
+    use std::test::Fail;
+
+    #[test]
+    fn increments_are_found_at_four_and_two(rt: HostRuntime) -> Result<(), Fail> {
+        let (program, launch, buffers) = increment_law(rt.alloc(), 4, 2)?;
+        assert_eq!(rt; program.functions.len(), 1);
+        assert_eq!(rt; program.functions[0].name.bytes(), b"inc".as_slice());
+        assert_eq!(rt; program.functions[0].body.len(), 1);
+        assert_eq!(rt; launch.global[0], 4);
+        assert_eq!(rt; launch.local[0], 2);
+        assert_eq!(rt; buffers.list.len(), 1);
+        assert_eq!(rt; buffers.list[0].len(), 16);
+        Ok(())
+    }
+
+    #[test]
+    fn an_exchange_of_two_items_is_found(rt: HostRuntime) -> Result<(), Fail> {
+        let (program, launch, buffers) = exchange_law(rt.alloc())?;
+        assert_eq!(rt; program.functions.len(), 1);
+        assert_eq!(rt; program.functions[0].name.bytes(), b"ex".as_slice());
+        assert_eq!(rt; launch.global[0], 2);
+        assert_eq!(rt; launch.turns, 0);
+        assert_eq!(rt; buffers.list.len(), 1);
+        assert_eq!(rt; buffers.list[0].len(), 8);
+        Ok(())
+    }
+}

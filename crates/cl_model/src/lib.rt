@@ -1,7 +1,9 @@
 //! The typed program, launches and buffers: what a launch of a kernel is about.
 #![tactic(auto)]
 
+mod build;
 pub mod launch;
+mod law_programs;
 pub mod laws;
 pub mod program;
 

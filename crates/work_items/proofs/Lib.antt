@@ -12,3 +12,4 @@ pub mod Own
 pub mod Phases
 pub mod Comes
 pub mod Follows
+pub mod Ahead
