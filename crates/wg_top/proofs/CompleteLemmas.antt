@@ -33,7 +33,7 @@ pub record SameForm (f g : LaunchForm) : Type 0 where
   pub global : f.global ≡ g.global
   pub size : f.size ≡ g.size
 
-same_form : (bytes others : List ℕ) (f g : LaunchForm) → bytes ≡ others → IsFirstLaunch bytes f → IsFirstLaunch others g → SameForm f g
+pub same_form : (bytes others : List ℕ) (f g : LaunchForm) → bytes ≡ others → IsFirstLaunch bytes f → IsFirstLaunch others g → SameForm f g
 same_form bytes others f g e a b =
     let fields : a.fields ≡ b.fields = cc (a.read, b.read, e) in
     let at : (i : ℕ) → get_or a.fields i [] ≡ get_or b.fields i [] = λ i. ap (λ (fs : List (List ℕ)). get_or fs i []) fields in

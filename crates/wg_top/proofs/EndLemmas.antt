@@ -50,7 +50,7 @@ same_words words P s l source launch mine given p =
     subst (λ (x : List ℕ). P x launch) same_source (subst (λ (y : List ℕ). P s y) same_launch p)
 
 -- a refusal is no success, and no fault of the words
-status_above : (e : RunError) (n : ℕ) → n ≡ status_of e → (n ≡ 0 → ⊥) × (n ≡ 2 → ⊥)
+pub status_above : (e : RunError) (n : ℕ) → n ≡ status_of e → (n ≡ 0 → ⊥) × (n ≡ 2 → ⊥)
 status_above Failed n is = (λ h. omega arith, λ h. omega arith)
 status_above Absent n is = (λ h. omega arith, λ h. omega arith)
 status_above (Source number place) n is = (λ h. omega arith, λ h. omega arith)

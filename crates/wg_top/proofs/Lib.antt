@@ -10,3 +10,4 @@ pub mod LiteralLemmas
 pub mod TextLemmas
 pub mod TokenLemmas
 pub mod ReaderLemmas
+pub mod ExactLemmas

@@ -91,13 +91,22 @@ pub record IsOutOfRange (files : Option FileMap) (source launch : List ℕ) (gro
   pub outside : IsFirstOutside item form.size
   pub place_is : place ≡ s.place
 
+-- the cause of a refusal that the files decide, without faults and want of memory
+abbrev pub Finds : Option FileMap → List ℕ → List ℕ → RunError → Type 0
+Finds files source launch Failed = ⊥
+Finds files source launch Absent = LacksName files source launch
+Finds files source launch (Source number place) = (number ≡ 0) × (place ≡ record { line = 1; column = 1 }) × SourceRefused files source launch
+Finds files source launch (Launch number) = (number ≡ 0) × LaunchRefused files source launch
+Finds files source launch (Range group item place) = IsOutOfRange files source launch group item place
+Finds files source launch Memory = ⊥
+
 -- the cause of each refusal
 abbrev pub Cause : Standing → Standing → List ℕ → List ℕ → RunError → Type 0
 Cause old new source launch Failed = Rose old.faults new.faults
-Cause old new source launch Absent = Rose old.misses new.misses × LacksName old.files source launch
-Cause old new source launch (Source number place) = (number ≡ 0) × (place ≡ record { line = 1; column = 1 }) × SourceRefused old.files source launch
-Cause old new source launch (Launch number) = (number ≡ 0) × LaunchRefused old.files source launch
-Cause old new source launch (Range group item place) = IsOutOfRange old.files source launch group item place
+Cause old new source launch Absent = Rose old.misses new.misses × Finds old.files source launch Absent
+Cause old new source launch (Source number place) = Finds old.files source launch (Source number place)
+Cause old new source launch (Launch number) = Finds old.files source launch (Launch number)
+Cause old new source launch (Range group item place) = Finds old.files source launch (Range group item place)
 Cause old new source launch Memory = ⊤
 
 -- saving had begun: all was read, the buffer was loaded, each item was in range, and only the buffer's `save` may have changed

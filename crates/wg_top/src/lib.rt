@@ -1,9 +1,10 @@
 //! The top call.
 #![tactic(auto)]
 
-ghost use Rattle.std.specs.Prelude.{◌≡◌, ◌≤◌, ◌⊎◌, ◌∷◌, [], ℕ, List, map, string_bytes, MatchOption};
+ghost use Rattle.std.specs.Prelude.{◌≡◌, ◌≤◌, ◌⊎◌, ◌∷◌, [], ℕ, List, map, string_bytes, MatchOption, is_some, true};
 ghost use Rattle.wg_outside.specs.Counts.{Rose};
-ghost use Rattle.wg_top.specs.Causes.{Accepted};
+ghost use Rattle.wg_top.specs.Causes.{Accepted, Finds};
+ghost use Rattle.wg_top.specs.declared.RunError.{RunError};
 ghost use Rattle.wg_top.specs.declared.launch_form.LaunchForm.{LaunchForm};
 ghost use Rattle.wg_top.specs.declared.source_form.Source.{Source};
 ghost use Rattle.wg_top.specs.Ends.{sink_standing, outside, AreRunWords, AreOtherWords, Ends, EndsUnread, KeepsOut, SaysLine};
@@ -137,6 +138,9 @@ pub fn wgcc<S: Store, O: Sink, E: Sink>(
         Accepted (S.files store.old) source launch form s →
         (Rose (S.faults store.old) (S.faults store.new) → ⊥) → (Rose (O.faults out.old) (O.faults out.new) → ⊥) →
         (result ≡ 0) ⊎ (result ≡ 8) }
+    ensures exact { (source launch : List ℕ) (error : RunError) → AreRunWords (map string_bytes words.now) source launch →
+        is_some (S.files store.old) ≡ true → Finds (S.files store.old) source launch error →
+        (Rose (S.faults store.old) (S.faults store.new) → ⊥) → (result ≡ status_of error) ⊎ (result ≡ 8) }
 {
     match run_words(words) {
         Some((source, launch)) => run_and_say(alloc, source, launch, store, out, err),
