@@ -5,3 +5,4 @@ pub mod Spans
 pub mod MemoryStore
 pub mod MemorySink
 pub mod FolderStore
+pub mod StdSink
