@@ -2,3 +2,4 @@ pub mod Play
 pub mod Terms
 pub mod Straight
 pub mod Barriers
+pub mod Outcomes

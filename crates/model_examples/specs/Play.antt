@@ -1,5 +1,5 @@
 -- One run of a launch, for worked examples: the items in order, each as far as it goes, then the groups whose items all wait at one point, and again.
-use Rattle.std.specs.Prelude.{ℕ, zero, suc, List, [], ◌∷◌, Option, Some, None, length, take, nat_eq, ◌&&◌, if◌then◌else◌}
+use Rattle.std.specs.Prelude.{◌≡◌, ℕ, zero, suc, ◌+◌, slice_get, List, [], ◌∷◌, Option, Some, None, length, take, nat_eq, ◌&&◌, if◌then◌else◌}
 use Rattle.std.specs.Prelude.{Bool as Test, true, false}
 use Rattle.work_items.specs.Items.{Next, Ends, Waits, Goes, Begins, Loads, Stores, Machine, World, Fault, Move, Step, Release, moved}
 use Rattle.cl_model.specs.Tree.{Program}
@@ -68,9 +68,15 @@ abbrev pub first_of : Machine Item (Option Point) → ℕ → ℕ → List Item 
 first_of machine group k [] = None
 first_of machine group k (i ∷ items) = if nat_eq (machine.group k) group then machine.point i else first_of machine group (suc k) items
 
+-- there is one
+abbrev pub is_there : Option Point → Test
+is_there None = false
+is_there (Some point) = true
+
 abbrev pub first_gathered : Machine Item (Option Point) → List Item → ℕ → ℕ → Option ℕ
 first_gathered machine items zero g = None
-first_gathered machine items (suc n) g = if all_at machine g (first_of machine g 0 items) 0 items then Some g else first_gathered machine items n (suc g)
+first_gathered machine items (suc n) g =
+    if is_there (first_of machine g 0 items) && all_at machine g (first_of machine g 0 items) 0 items then Some g else first_gathered machine items n (suc g)
 
 abbrev pub to_release : Option ℕ → Option Move
 to_release None = None
@@ -102,6 +108,15 @@ abbrev pub play_from : Order → Machine Item (Option Point) → ℕ → ℕ →
 play_from order machine groups zero world = world
 play_from order machine groups (suc n) world = go_or_stay machine world (chosen_move order machine groups world) (λ w. play_from order machine groups n w)
 
+-- the moves that lead there
+abbrev pub with_move : Option Move → (Move → List Move) → List Move
+with_move None further = []
+with_move (Some m) further = m ∷ further m
+
+abbrev pub moves_from : Order → Machine Item (Option Point) → ℕ → ℕ → World Item → List Move
+moves_from order machine groups zero world = []
+moves_from order machine groups (suc n) world = with_move (chosen_move order machine groups world) (λ m. moves_from order machine groups n (moved machine world m))
+
 -- how a run ended: every item done with these buffers; a fault of an item at a site; or items that can go no further, of which the first that waits has this number
 pub data Ended : Type 0 where
   Finished : (buffers : List (List ℕ)) → Ended
@@ -122,6 +137,12 @@ ended_of machine count world (Some f) = Faulted f.item f.site
 
 abbrev pub ended_at : Machine Item (Option Point) → ℕ → World Item → Ended
 ended_at machine count world = ended_of machine count world world.fault
+
+-- the order picks an item that can step
+abbrev pub PicksReady : Order → Type 0
+PicksReady order =
+    (machine : Machine Item (Option Point)) (first : ℕ) (items : List Item) (k : ℕ) → order machine first items ≡ Some k
+    → (n : ℕ) × (i : Item) × (k ≡ first + n) × (slice_get items n ≡ Some i) × (can_step (machine.next i) ≡ true)
 
 -- how a run ends in which the first item that can steps, and one in which the last does, within so many moves
 abbrev pub play : ℕ → Program → Launch → List (List ℕ) → Ended

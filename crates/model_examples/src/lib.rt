@@ -4,6 +4,7 @@
 
 ghost use Rattle.model_examples.specs.Straight.{Increments, Wraps, Faults, FaultsBefore, Squares, Switches, Shares, SomeCleared, Calls, TableSum, Indices, ColumnWide, ColumnHigh};
 ghost use Rattle.model_examples.specs.Barriers.{Reverses, IsFresh, IsPassed, Parts, IterationsPart, Lengths, Meets, Scans, FallsThrough, ScansBack, MeetsBack, RaceOneWay, RaceOtherWay};
+ghost use Rattle.model_examples.specs.Outcomes.{FinishedIsDone, FaultedIsRange, IsParting, IsNeverReleased, NothingFollowsAFault, RaceIsNotClean};
 
 /// Kernels without barriers end with the buffers, or the fault, that a reader of them expects.
 pub fn straight_kernels()
@@ -45,4 +46,20 @@ pub fn orders()
     ensures meets { MeetsBack }
     ensures race_one_way { RaceOneWay }
     ensures race_other_way { RaceOtherWay }
+{}
+
+/// What is played is a run of the launch, for every program: where it finishes or faults, that is
+/// an outcome.
+pub fn played_runs()
+    ensures finished { FinishedIsDone }
+    ensures faulted { FaultedIsRange }
+{}
+
+/// What must not happen: a group is not released while one of its items has ended, nothing follows
+/// a fault, and items that race are not clean.
+pub fn refusals()
+    ensures parted { IsParting }
+    ensures never_released { IsNeverReleased }
+    ensures over { NothingFollowsAFault }
+    ensures not_clean { RaceIsNotClean }
 {}
