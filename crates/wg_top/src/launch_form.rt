@@ -36,7 +36,8 @@ fn launch_parts() -> [Part; 19]
     ]
 }
 
-/// A launch file of the first form.
+/// A launch file of the first form: the kernel's name, the global and the local size in work-items,
+/// and the buffer's length in bytes with the files that it starts as and is saved as.
 #[derive(Drop)]
 pub struct LaunchForm {
     pub kernel: Word,
@@ -89,7 +90,7 @@ fn is_text_at(fields: &[Word], i: usize) -> bool
 }
 
 /// The launch, where the bytes are of the first form.
-pub fn read_launch(alloc: Global, bytes: &[u8]) -> Result<Option<LaunchForm>, Memory>
+pub(crate) fn read_launch(alloc: Global, bytes: &[u8]) -> Result<Option<LaunchForm>, Memory>
     ensures some { IfOk result (λ o. IfSome o (IsFirstLaunch bytes.now)) }
     ensures none { IfOk result (λ o. IfNone o ((t : LaunchForm) → IsFirstLaunch bytes.now t → ⊥)) }
 {

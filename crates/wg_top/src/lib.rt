@@ -1,4 +1,5 @@
-//! The top call.
+//! The top call: from words to a status, from files to files. Today it takes sources and launch
+//! files of their first forms, which `source_form` and `launch_form` recognise.
 #![tactic(auto)]
 
 ghost use Rattle.std.specs.Prelude.{◌≡◌, ◌≤◌, ◌⊎◌, ◌∷◌, [], ℕ, List, map, string_bytes, MatchOption, is_some, true};
@@ -24,16 +25,24 @@ pub mod source_form;
 
 pub use run::run_source;
 
+/// Why a run is refused.
 #[derive(Clone, Copy)]
 pub enum RunError {
+    /// A fault of the store rose.
     Failed,
+    /// A file that the run loads is not there.
     Absent,
+    /// The condition of that number stands at that place of the source.
     Source { number: u16, place: Place },
+    /// The condition of that number stands of the launch file.
     Launch { number: u16 },
+    /// A work-item, by the number of its group and its own number in the launch, came to an element
+    /// outside the buffer, at the access of that place of the source.
     Range { group: u64, item: u64, place: Place },
     Memory,
 }
 
+/// The numbers of the groups and of the work-items of a launch that was run.
 #[derive(Clone, Copy)]
 pub struct Summary {
     pub groups: u64,

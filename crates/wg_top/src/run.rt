@@ -19,8 +19,10 @@ use std::alloc::Global;
 use wg_num::{Memory, Place};
 use wg_outside::{Failed, LoadError, Store};
 
+// How many bytes of a source are loaded: one more than a source may have.
 const SOURCE_MOST: u64 = 262_145;
 
+// The same of a launch file.
 const LAUNCH_MOST: u64 = 1_048_577;
 
 // The turns of a launch whose file does not say them.
@@ -64,6 +66,7 @@ fn read_program(alloc: Global, bytes: &[u8], form: &LaunchForm) -> Result<Source
     }
 }
 
+// The refusal of a source that is not of the first form.
 const NOT_BUILT: RunError = RunError::Source {
     number: 0,
     place: Place { line: 1, column: 1 },
@@ -161,7 +164,9 @@ fn run_forms<S: Store>(
     }
 }
 
-/// Runs the launch of the launch file with the source.
+/// Runs the launch of the launch file with the source, from its files to its files. The source is
+/// loaded first, then the launch file, then the buffer; the first step that is refused ends the
+/// call. No file is saved before each work-item has ended.
 pub fn run_source<S: Store>(
     alloc: Global,
     store: &mut S,
