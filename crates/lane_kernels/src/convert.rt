@@ -27,6 +27,23 @@ pub fn convert32<const W: usize>(
     extend32(to, extend32(from, a))
 }
 
+/// Wide lanes, read as values of `from`, as lanes of `to`.
+pub fn convert64<const W: usize>(
+    to: IntType,
+    a: Simd<u64, W>,
+    from: IntType,
+    tally: &mut Tally,
+) -> Simd<u64, W>
+    requires to { FitsLane 64 to }
+    requires from { FitsLane 64 from }
+    requires lanes { W ≤ 64 }
+    ensures lanes { result ≡ map (convert_lane 64 to from) a.entry }
+    ensures counted { tally.new ≡ min (tally.old + 1) (2 ^ 64 - 1) }
+{
+    tally.raise();
+    extend64(to, extend64(from, a))
+}
+
 /// From narrow lanes to wide ones.
 pub fn widen<const W: usize>(
     to: IntType,

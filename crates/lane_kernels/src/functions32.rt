@@ -6,8 +6,8 @@ use crate::tally::Tally;
 use std::simd::prelude::*;
 use wg_num::{Fun, IntType, builtin, value};
 
-/// The lane of a number.
-fn lane_of32(z: i128) -> u32
+/// The lane of a number: its low 32 bits in two's complement.
+pub fn lane_of32(z: i128) -> u32
     ensures { result ≡ lane 32 z }
 {
     z.rem_euclid(0x1_0000_0000) as u32

@@ -6,8 +6,8 @@ use crate::tally::Tally;
 use std::simd::prelude::*;
 use wg_num::{Fun, IntType, builtin, value};
 
-/// The lane of a number.
-fn lane_of64(z: i128) -> u64
+/// The lane of a number: its low 64 bits in two's complement.
+pub fn lane_of64(z: i128) -> u64
     ensures { result ≡ lane 64 z }
 {
     z.rem_euclid(0x1_0000_0000_0000_0000) as u64

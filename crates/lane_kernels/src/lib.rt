@@ -17,9 +17,9 @@ mod tests;
 
 pub use access32::{gather32, scatter32};
 pub use access64::{gather64, scatter64};
-pub use convert::{convert32, narrow, widen};
-pub use functions32::builtin32;
-pub use functions64::builtin64;
+pub use convert::{convert32, convert64, narrow, widen};
+pub use functions32::{builtin32, lane_of32};
+pub use functions64::{builtin64, lane_of64};
 pub use lanes32::{binary32, unary32};
 pub use lanes64::{binary64, unary64};
 pub use masks::{any, blend32, blend64, lowest, nonzero32, nonzero64};
