@@ -1,0 +1,12 @@
+use Rattle.std.proofs.Common.{◌≡◌, length}
+use Rattle.cl_tree.specs.declared.terminal.Terminal.TheVariants as terminals
+use Rattle.cl_parse.specs.Gives.{with_front}
+use Rattle.cl_parse.specs.Members.{members}
+use Rattle.cl_parse.specs.Reading.{is, readers, all_of, behind_comma}
+use Rattle.cl_parse.proofs.declaration.declarators.Given as goal
+
+abbrev pub invariant-members : goal.invariant-members
+invariant-members l = with_front (members l.list) (all_of (is terminals.Comma) (behind_comma (readers l.room).declarator) l.rest) ≡ all_of (is terminals.Comma) (behind_comma (readers l.room).declarator) l.items
+
+abbrev pub decreases-members : goal.decreases-members
+decreases-members l = length l.rest

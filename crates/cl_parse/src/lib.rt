@@ -1,0 +1,15 @@
+//! The parser of a source's tokens, proved against the grammar.
+#![tactic(auto)]
+
+mod cursor;
+mod declaration;
+mod expression;
+mod members;
+mod node;
+mod parser;
+mod set;
+mod statement;
+mod types;
+mod unit;
+
+pub use parser::{ParseError, parse};
