@@ -1,5 +1,5 @@
 // Calls that are numbered, of which some are to fail.
-ghost use Rattle.std.specs.Prelude.{◌≡◌, ◌↔◌, IfOk, true, Contains};
+ghost use Rattle.std.specs.Prelude.{◌≡◌, IfOk, true, false, Contains};
 ghost use Rattle.wg_outside.specs.Counts.{next_count};
 
 use std::alloc::Global;
@@ -25,7 +25,8 @@ impl Calls {
 
     // Counts a call, and says whether it is to fail.
     pub(crate) fn next_fails(&mut self) -> bool
-        ensures listed { (result ≡ true) ↔ Contains self.old.fail.items self.old.count }
+        ensures listed { result ≡ true → Contains self.old.fail.items self.old.count }
+        ensures unlisted { result ≡ false → Contains self.old.fail.items self.old.count → ⊥ }
         ensures counts { self.new.count ≡ next_count self.old.count }
         ensures fail_stays { self.new.fail ≡ self.old.fail }
     {

@@ -1,6 +1,8 @@
 // A sink in memory.
 ghost use Rattle.std.specs.Prelude.{◌≡◌, ◌↔◌, ◌≤◌, ◌+◌, ◌++◌, Some, IfOk, OnOk, OnErr, true, false, vec_capacity, vec_len, length, Contains};
-ghost use Rattle.wg_outside.specs.Counts.{next_count};
+ghost use Rattle.std.specs.Io.KnownBytes.{Appends};
+ghost use Rattle.wg_outside.specs.Bytes.{AppendsPrefix};
+ghost use Rattle.wg_outside.specs.Counts.{Rose, next_count};
 ghost use Rattle.wg_outside.specs.MemorySink.{new_sink};
 
 use crate::calls::Calls;
@@ -76,7 +78,22 @@ impl Sink for MemorySink {
 
     ghost faults = { λ s. s.faults };
 
-    fn put(&mut self, bytes: &[u8]) -> Result<(), Failed> {
+    // The clauses of the trait, and that the listed calls and those beyond the room fail, and no
+    // others; a call that fails appends nothing.
+    fn put(&mut self, bytes: &[u8]) -> Result<(), Failed>
+        ensures appended { OnOk result (Appends (Some self.old.bytes) (Some self.new.bytes) bytes.now) }
+        ensures failed { OnErr result (Rose self.old.faults self.new.faults) }
+        ensures part { OnErr result (AppendsPrefix (Some self.old.bytes) (Some self.new.bytes) bytes.now) }
+        ensures faults_stand { self.old.faults ≤ self.new.faults }
+        ensures listed { Contains self.old.fail self.old.calls → OnOk result ⊥ }
+        ensures beyond { OnOk result (length bytes.now ≤ self.old.room) }
+        ensures only_these { OnErr result ((Contains self.old.fail self.old.calls → ⊥) → length bytes.now ≤ self.old.room → ⊥) }
+        ensures failed_keeps { OnErr result (self.new.bytes ≡ self.old.bytes) }
+        ensures fault_only_there { OnOk result (self.new.faults ≡ self.old.faults) }
+        ensures numbered { self.new.calls ≡ next_count self.old.calls }
+        ensures room { OnOk result (self.new.room + length bytes.now ≡ self.old.room) }
+        ensures fail_stays { self.new.fail ≡ self.old.fail }
+    {
         if self.calls.next_fails() {
             raise(&mut self.faults);
             return Err(Failed);

@@ -1,7 +1,7 @@
 // A store in memory.
-ghost use Rattle.std.specs.Prelude.{◌≡◌, ◌↔◌, ◌≤◌, ◌<◌, ◌+◌, ◌++◌, ◌∷◌, [], Some, None, Err, IfOk, OnErr, OnOk, length, option_map, take, Contains, true, false};
-ghost use Rattle.wg_outside.specs.Counts.{next_count};
-ghost use Rattle.wg_outside.specs.Files.{file_in};
+ghost use Rattle.std.specs.Prelude.{◌≡◌, ◌↔◌, ◌≤◌, ◌<◌, ◌+◌, ◌++◌, ◌∷◌, [], Some, None, Err, IfOk, OnErr, OnOk, length, option_map, take, Contains, true, false, ℕ, vec_len, is_some};
+ghost use Rattle.wg_outside.specs.Counts.{Rose, next_count};
+ghost use Rattle.wg_outside.specs.Files.{file_in, HasFileStart, LacksFile, HasSaved, KeepsOthers};
 ghost use Rattle.wg_outside.specs.MemoryStore.{HasRoomFor, new_store};
 
 use crate::calls::Calls;
@@ -66,7 +66,9 @@ impl MemoryStore {
 
     // Saves a file, where the call is not to fail and there is room.
     fn try_save(&mut self, name: &str, bytes: &[u8]) -> bool
-        ensures succeeds { self.old.fail ≡ [] → HasRoomFor self.old name.now bytes.now → result ≡ true }
+        ensures listed { Contains self.old.fail self.old.calls → result ≡ true → ⊥ }
+        ensures within { result ≡ true → HasRoomFor self.old name.now bytes.now }
+        ensures succeeds { (Contains self.old.fail self.old.calls → ⊥) → HasRoomFor self.old name.now bytes.now → result ≡ true }
         ensures saved { result ≡ true → self.new.files ≡ self.old.files ++ (name.now, bytes.now) ∷ [] }
         ensures saves { result ≡ true → self.new.saves + 1 ≡ self.old.saves }
         ensures room { result ≡ true → self.new.room + length name.now + length bytes.now ≡ self.old.room }
@@ -101,7 +103,23 @@ impl Store for MemoryStore {
 
     ghost certain = { λ s saves room. (s.fail ≡ []) × (saves ≤ s.saves) × (room ≤ s.room) };
 
-    fn load(&mut self, alloc: Global, name: &str, most: u64) -> Result<Vec<u8>, LoadError> {
+    // The clauses of the trait, and that the listed calls fail and no others.
+    fn load(&mut self, alloc: Global, name: &str, most: u64) -> Result<Vec<u8>, LoadError>
+        ensures content { IfOk result (λ v. HasFileStart (Some self.old.files) name.now most v.items) }
+        ensures at_most { IfOk result (λ v. vec_len v ≤ most) }
+        ensures failed { result ≡ Err LoadError.Failed → Rose self.old.faults self.new.faults }
+        ensures absent { result ≡ Err LoadError.Absent → Rose self.old.misses self.new.misses }
+        ensures absent_name { result ≡ Err LoadError.Absent → LacksFile (Some self.old.files) name.now }
+        ensures absent_is_no_fault { result ≡ Err LoadError.Absent → self.new.faults ≡ self.old.faults }
+        ensures files_stay { Some self.new.files ≡ Some self.old.files }
+        ensures faults_stand { self.old.faults ≤ self.new.faults }
+        ensures misses_stand { self.old.misses ≤ self.new.misses }
+        ensures certain { (saves room : ℕ) → (self.old.fail ≡ []) × (saves ≤ self.old.saves) × (room ≤ self.old.room) → ((self.new.fail ≡ []) × (saves ≤ self.new.saves) × (room ≤ self.new.room)) × (self.new.faults ≡ self.old.faults) }
+        ensures listed { Contains self.old.fail self.old.calls → result ≡ Err LoadError.Failed }
+        ensures only_listed { result ≡ Err LoadError.Failed → Contains self.old.fail self.old.calls }
+        ensures numbered { self.new.calls ≡ next_count self.old.calls }
+        ensures stays { (self.new.fail ≡ self.old.fail) × (self.new.saves ≡ self.old.saves) × (self.new.room ≡ self.old.room) }
+    {
         if self.calls.next_fails() {
             raise(&mut self.faults);
             return Err(LoadError::Failed);
@@ -116,7 +134,22 @@ impl Store for MemoryStore {
         }
     }
 
-    fn save(&mut self, name: &str, bytes: &[u8]) -> Result<(), Failed> {
+    // The clauses of the trait, and that the listed calls and those beyond the room fail, and no
+    // others; a call that fails leaves the files.
+    fn save(&mut self, name: &str, bytes: &[u8]) -> Result<(), Failed>
+        ensures saved { OnOk result (HasSaved (Some self.old.files) (Some self.new.files) name.now bytes.now) }
+        ensures failed { OnErr result (Rose self.old.faults self.new.faults) }
+        ensures others { KeepsOthers (Some self.old.files) (Some self.new.files) name.now }
+        ensures tells { is_some (Some self.new.files) ≡ is_some (Some self.old.files) }
+        ensures faults_stand { self.old.faults ≤ self.new.faults }
+        ensures misses_stand { self.old.misses ≤ self.new.misses }
+        ensures certain { (saves room : ℕ) → (self.old.fail ≡ []) × (saves + 1 ≤ self.old.saves) × (room + length name.now + length bytes.now ≤ self.old.room) → ((self.new.fail ≡ []) × (saves ≤ self.new.saves) × (room ≤ self.new.room)) × (self.new.faults ≡ self.old.faults) }
+        ensures listed { Contains self.old.fail self.old.calls → OnOk result ⊥ }
+        ensures beyond { OnOk result (HasRoomFor self.old name.now bytes.now) }
+        ensures only_these { OnErr result ((Contains self.old.fail self.old.calls → ⊥) → HasRoomFor self.old name.now bytes.now → ⊥) }
+        ensures failed_keeps { OnErr result (self.new.files ≡ self.old.files) }
+        ensures numbered { self.new.calls ≡ next_count self.old.calls }
+    {
         if self.try_save(name, bytes) {
             return Ok(());
         }
