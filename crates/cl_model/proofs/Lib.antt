@@ -6,3 +6,6 @@ pub mod CleanLaunches
 pub mod IncrementItems
 pub mod ExchangeItems
 pub mod LawPrograms
+pub mod Stores
+pub mod Stored
+pub mod ItemHistories

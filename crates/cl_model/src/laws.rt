@@ -1,13 +1,16 @@
 //! What holds of launches.
 
-ghost use Rattle.std.specs.Prelude.{◌≡◌, ◌*◌, [], ◌∷◌, IfOk, replicate};
+ghost use Rattle.std.specs.Prelude.{◌≡◌, List, ◌*◌, [], ◌∷◌, IfOk, replicate};
+ghost use Rattle.work_items.specs.Items.{Move};
+ghost use Rattle.work_items.specs.Runs.{IsRun};
+ghost use Rattle.work_items.specs.Histories.{HasHistories};
 ghost use Rattle.work_items.specs.Law.{Agrees};
 ghost use Rattle.cl_model.specs.View.{program_of, launch_of, buffers_of};
 ghost use Rattle.cl_model.specs.Valid.{IsValid};
 ghost use Rattle.cl_model.specs.Fitting.{FitsProgram};
 ghost use Rattle.cl_model.specs.Increment.{IsFlat, increment_program, flat_launch};
 ghost use Rattle.cl_model.specs.Exchange.{exchange_program, exchange_launch};
-ghost use Rattle.cl_model.specs.Meaning.{machine_of, start_world, ItemCanCome, IsCleanLaunch};
+ghost use Rattle.cl_model.specs.Meaning.{machine_of, start_world, lengths_of, MayBeTold, ItemCanCome, IsCleanLaunch};
 
 use crate::launch::{Buffers, Launch};
 use crate::law_programs;
@@ -26,7 +29,18 @@ pub fn agree_law(program: &Program, launch: &Launch, buffers: &Buffers)
         → Agrees (machine_of (program_of program.now) (launch_of launch.now)) (ItemCanCome (program_of program.now) (launch_of launch.now) (buffers_of buffers.now)) (start_world (program_of program.now) (launch_of launch.now) (buffers_of buffers.now)) }
 {}
 
-/// The premise of that law is met at every size: the program in which each item adds 1 to its own
+/// What each item does in a run is a history of it: its own steps from its start, whatever the
+/// others do. A load from constant memory gives what the launch starts with, since no item of a
+/// valid program stores there.
+pub fn history_law(program: &Program, launch: &Launch, buffers: &Buffers)
+    requires valid { IsValid (program_of program.now) }
+    requires fits { FitsProgram (program_of program.now) (launch_of launch.now) }
+    ensures { (moves : List Move) → IsRun (machine_of (program_of program.now) (launch_of launch.now)) (start_world (program_of program.now) (launch_of launch.now) (buffers_of buffers.now)) moves
+        → HasHistories (machine_of (program_of program.now) (launch_of launch.now)) (lengths_of (program_of program.now) (launch_of launch.now) (buffers_of buffers.now))
+        (MayBeTold (program_of program.now) (launch_of launch.now) (buffers_of buffers.now)) (start_world (program_of program.now) (launch_of launch.now) (buffers_of buffers.now)) moves }
+{}
+
+/// The premise of `agree_law` is met at every size: the program in which each item adds 1 to its own
 /// element, `a[get_global_id(0)] = a[get_global_id(0)] + 1`, with a launch of these sizes in one
 /// dimension and no turn, and a buffer of zeros with one element an item.
 pub fn increment_law(
