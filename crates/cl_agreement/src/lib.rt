@@ -1,0 +1,17 @@
+//! Which variables agree: items of one group that stand at one point hold equal values of them.
+#![tactic(auto)]
+
+ghost use Rattle.cl_model.specs.View.{program_of, launch_of, buffers_of};
+ghost use Rattle.cl_model.specs.Valid.{IsValid};
+ghost use Rattle.cl_model.specs.Fitting.{FitsProgram};
+ghost use Rattle.cl_agreement.specs.InRuns.{CarriesToRuns};
+
+use cl_model::{Buffers, Launch, Program};
+
+/// A variable that agrees at the ends of any two histories agrees in every run of the launch:
+/// whenever two items of one group stand, at any two moments, at one point in its scope.
+pub fn runs_law(program: &Program, launch: &Launch, buffers: &Buffers)
+    requires valid { IsValid (program_of program.now) }
+    requires fits { FitsProgram (program_of program.now) (launch_of launch.now) }
+    ensures { CarriesToRuns (program_of program.now) (launch_of launch.now) (buffers_of buffers.now) }
+{}
