@@ -1,0 +1,21 @@
+-- A scope, as a contract sees it.
+use Rattle.std.specs.Prelude.{ℕ, List, [], ◌∷◌, ◌+◌, ◌≡◌, if◌then◌else◌, Result, Ok, Err}
+use Rattle.cl_prep.specs.declared.directive.Conditional.{Conditional}
+use Rattle.cl_prep.specs.declared.prep.PrepError.{PrepError}
+use Rattle.cl_prep.specs.declared.prep.PrepError.TheVariants as errors
+use Rattle.cl_prep.specs.Directives.{Scope, Outcome}
+
+-- how many conditionals are not taken
+abbrev pub idle_of : List Conditional → ℕ
+idle_of [] = 0
+idle_of (c ∷ cs) = if c.taken then idle_of cs else 1 + idle_of cs
+
+-- an error that was answered is the one of an outcome, or memory ran out
+abbrev pub Fails : PrepError → Outcome → Type 0
+Fails errors.Memory outcome = Unit {0}
+Fails e outcome = outcome ≡ Err e
+
+-- What was answered, with the scope that was left, follows an outcome.
+abbrev pub Follows : Outcome → Result (Unit {0}) PrepError → Scope → Type 0
+Follows outcome (Ok u) s = outcome ≡ Ok s
+Follows outcome (Err e) s = Fails e outcome

@@ -1,0 +1,9 @@
+//! Directives, conditionals and the replacement of names in the tokens of a source.
+#![tactic(auto)]
+
+pub mod directive;
+mod names;
+pub mod prep;
+mod scope;
+
+pub use prep::{Define, Defines, PrepError};
