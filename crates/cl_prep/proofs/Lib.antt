@@ -1,2 +1,5 @@
+pub mod Finite
+pub mod Reading
+pub mod Replacements
 pub mod ScopeLaws
 pub mod Tables

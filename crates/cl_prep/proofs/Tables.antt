@@ -8,10 +8,11 @@ use Rattle.std.proofs.lemmas.Slice.Eq.{bytes_eq-Decides}
 use Rattle.indexmap.specs.IndexMap.{IndexMap, get_by, UpdatesBy}
 use Rattle.cl_token.specs.Lexeme.{Lexeme, lexemes_of}
 use Rattle.cl_token.specs.declared.token.Token.{Token}
-use Rattle.cl_prep.specs.Names.{Names, with_name, words_of, same_words}
+use Rattle.cl_prep.specs.Names.{Names, with_name, words_of, same_words, replacement}
+use Rattle.cl_token.specs.declared.token.Kind.TheVariants.{Name}
 use Rattle.cl_prep.specs.Table.{names_of}
 
-test_is : (b : Bool) → (b ≡ true) ⊎ (b ≡ false)
+pub test_is : (b : Bool) → (b ≡ true) ⊎ (b ≡ false)
 test_is true = inl refl
 test_is false = inr refl
 
@@ -84,3 +85,7 @@ same_from xs ys i x y h k e f =
 
 pub same_end : (xs ys : List Token) (i : ℕ) → length xs ≤ i → length ys ≤ i → same_words (words (drop i xs)) (words (drop i ys)) ≡ true
 same_end xs ys i h k = rw (drop_all i xs h, drop_all i ys k) refl
+
+-- a name is replaced by what the names have at it
+pub name_replaced : (names : Names) (x : Lexeme) → x.kind ≡ Name → replacement names x ≡ names x.word
+name_replaced names x h = rw h refl

@@ -1,6 +1,8 @@
 pub mod Directives
 pub mod Expands
+pub mod Frames
 pub mod Names
+pub mod Pending
 pub mod ScopeViews
 pub mod Scopes
 pub mod Start

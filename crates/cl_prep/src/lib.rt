@@ -4,6 +4,7 @@
 pub mod directive;
 mod names;
 pub mod prep;
+mod replace;
 mod scope;
 
 pub use prep::{Define, Defines, PrepError};
