@@ -1,4 +1,5 @@
 pub mod Finite
+pub mod GivenNames
 pub mod Reading
 pub mod Replacements
 pub mod ScopeLaws

@@ -89,3 +89,7 @@ same_end xs ys i h k = rw (drop_all i xs h, drop_all i ys k) refl
 -- a name is replaced by what the names have at it
 pub name_replaced : (names : Names) (x : Lexeme) → x.kind ≡ Name → replacement names x ≡ names x.word
 name_replaced names x h = rw h refl
+
+-- one name more, over names that are known
+pub more : (n k : Names) (name : List ℕ) (body : List Lexeme) (m : Names) → m ≡ with_name n name (Some body) → n ≡ k → m ≡ with_name k name (Some body)
+more n k name body m e f = e ∙ ap (λ (x : Names). with_name x name (Some body)) f

@@ -83,3 +83,15 @@ pub record IsReading (es : Entries) (names : Names) (t : Token) (body : List Lex
 -- A token is no name in force, or one that is marked.
 abbrev pub IsNotFree : Entries → Names → List Bool → Token → Type 0
 IsNotFree es names marks x = (replacement names (lexeme_of x) ≡ None) ⊎ ((number : ℕ) × IsNumber es number x.word × (get_or marks number false ≡ true))
+
+-- A token of an active part is kept or replaced.
+abbrev pub IsRead : Names → Token → List Token → List Token → ℕ → ℕ → Type 0
+IsRead names t before after count new =
+    ((replacement names (lexeme_of t) ≡ None) × (after ≡ before ++ t ∷ []) × (new ≡ count) × (length before + 1 ≤ token_limit))
+    ⊎ ((body : List Lexeme) × (replacement names (lexeme_of t) ≡ Some body) × Replaces names t body before after count new)
+
+-- A token of an active part is one too many, or its replacement is.
+abbrev pub IsTooMuch : Names → Token → List Token → ℕ → Type 0
+IsTooMuch names t before count =
+    ((replacement names (lexeme_of t) ≡ None) × (token_limit < length before + 1))
+    ⊎ ((body : List Lexeme) × (replacement names (lexeme_of t) ≡ Some body) × Exceeds names t body before count)

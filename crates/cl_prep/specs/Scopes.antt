@@ -1,9 +1,10 @@
 -- A scope, as a contract sees it.
-use Rattle.std.specs.Prelude.{ℕ, List, [], ◌∷◌, ◌+◌, ◌≡◌, if◌then◌else◌, Result, Ok, Err}
+use Rattle.std.specs.Prelude.{ℕ, List, [], ◌∷◌, ◌+◌, ◌≡◌, if◌then◌else◌, Option, None, Some, Result, Ok, Err}
 use Rattle.cl_prep.specs.declared.directive.Conditional.{Conditional}
 use Rattle.cl_prep.specs.declared.prep.PrepError.{PrepError}
 use Rattle.cl_prep.specs.declared.prep.PrepError.TheVariants as errors
 use Rattle.cl_prep.specs.Directives.{Scope, Outcome}
+use Rattle.cl_prep.specs.Names.{Names}
 
 -- how many conditionals are not taken
 abbrev pub idle_of : List Conditional → ℕ
@@ -19,3 +20,10 @@ Fails e outcome = outcome ≡ Err e
 abbrev pub Follows : Outcome → Result (Unit {0}) PrepError → Scope → Type 0
 Follows outcome (Ok u) s = outcome ≡ Ok s
 Follows outcome (Err e) s = Fails e outcome
+
+-- What was answered, with the names that were left, is what defining gives.
+abbrev pub Adds : Option Names → Result (Unit {0}) PrepError → Names → Type 0
+Adds o (Ok u) names = o ≡ Some names
+Adds o (Err errors.Memory) names = Unit {0}
+Adds o (Err (errors.Redefined at)) names = (at ≡ 0) × (o ≡ None)
+Adds o (Err _) names = ⊥

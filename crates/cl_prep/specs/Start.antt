@@ -16,8 +16,9 @@ mark word = record { kind = Mark; word = word }
 abbrev pub lowest : List ℕ → List Lexeme
 lowest word = mark (codes "(") ∷ mark (codes "-") ∷ record { kind = Number; word = word } ∷ mark (codes "-") ∷ record { kind = Number; word = codes "1" } ∷ mark (codes ")") ∷ []
 
-abbrev pub limits : List (List ℕ × List Lexeme)
-limits =
+-- the limits of the types of up to 16 bits that have a sign
+abbrev pub narrow_limits : List (List ℕ × List Lexeme)
+narrow_limits =
     (codes "CHAR_BIT", number (codes "8"))
     ∷ (codes "SCHAR_MAX", number (codes "127"))
     ∷ (codes "SCHAR_MIN", lowest (codes "127"))
@@ -25,11 +26,21 @@ limits =
     ∷ (codes "CHAR_MIN", lowest (codes "127"))
     ∷ (codes "SHRT_MAX", number (codes "32767"))
     ∷ (codes "SHRT_MIN", lowest (codes "32767"))
-    ∷ (codes "INT_MAX", number (codes "2147483647"))
+    ∷ []
+
+-- those of 32 and 64 bits
+abbrev pub wide_limits : List (List ℕ × List Lexeme)
+wide_limits =
+    (codes "INT_MAX", number (codes "2147483647"))
     ∷ (codes "INT_MIN", lowest (codes "2147483647"))
     ∷ (codes "LONG_MAX", number (codes "0x7fffffffffffffffL"))
     ∷ (codes "LONG_MIN", lowest (codes "0x7fffffffffffffffL"))
-    ∷ (codes "UCHAR_MAX", number (codes "255"))
+    ∷ []
+
+-- and those of the types without a sign
+abbrev pub unsigned_limits : List (List ℕ × List Lexeme)
+unsigned_limits =
+    (codes "UCHAR_MAX", number (codes "255"))
     ∷ (codes "USHRT_MAX", number (codes "65535"))
     ∷ (codes "UINT_MAX", number (codes "0xffffffff"))
     ∷ (codes "ULONG_MAX", number (codes "0xffffffffffffffffUL"))
@@ -41,7 +52,7 @@ names_in names (e ∷ es) = names_in (with_name names e.0 (Some e.1)) es
 
 -- the names from the start
 unfoldable pub start_names : Names
-start_names = names_in no_names limits
+start_names = names_in (names_in (names_in no_names narrow_limits) wide_limits) unsigned_limits
 
 -- the names with a given one, whose replacement is one decimal number
 abbrev pub with_define : Define → Option Names → Option Names

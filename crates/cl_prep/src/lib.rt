@@ -6,5 +6,6 @@ mod names;
 pub mod prep;
 mod replace;
 mod scope;
+mod start;
 
 pub use prep::{Define, Defines, PrepError};

@@ -4,9 +4,9 @@ ghost use Rattle.cl_token.specs.Lexeme.{lexeme_of, lexemes_of};
 ghost use Rattle.cl_prep.specs.Names.{replacement};
 ghost use Rattle.cl_prep.specs.Expands.{placed as placed_at, token_limit, replacement_limit};
 ghost use Rattle.cl_prep.specs.Table.{names_of};
-ghost use Rattle.cl_prep.specs.Frames.{IsNumber, IsNotFree, AreClear, Replaces, Exceeds, StopsBy};
+ghost use Rattle.cl_prep.specs.Frames.{IsNumber, IsNotFree, AreClear, Replaces, Exceeds, StopsBy, IsRead, IsTooMuch};
 
-use crate::names::{Names, placed, push};
+use crate::names::{Names, copy, placed, push};
 use cl_token::{Kind, Token};
 use std::alloc::Global;
 use std::collections::VecDeque;
@@ -167,4 +167,58 @@ pub(crate) fn replace<'a>(
         }
     }
     Ok(replaced)
+}
+
+/// Makes room for a mark of each name.
+fn make_room(marks: &mut Vec<bool>, count: usize) -> Result<(), Stop>
+    requires { AreClear marks.old.items }
+    ensures clear { OnOk result (AreClear marks.new.items) }
+    ensures enough { OnOk result (count ≤ length marks.new.items) }
+    ensures err { IfErr result (λ e. e ≡ Stop.Memory) }
+{
+    while marks.len() < count {
+        if marks.push(false).is_err() {
+            return Err(Stop::Memory);
+        }
+    }
+    Ok(())
+}
+
+/// Gives a token that is not replaced.
+fn keep(alloc: Global, token: &Token, out: &mut Vec<Token>) -> Result<(), Stop>
+    ensures ok { OnOk result (out.new.items ≡ out.old.items ++ token.now ∷ []) }
+    ensures few { OnOk result (length out.old.items + 1 ≤ token_limit) }
+    ensures err { IfErr result (λ e. StopsBy e (token_limit < length out.old.items + 1)) }
+{
+    if out.len() >= TOKEN_LIMIT {
+        return Err(Stop::TooMany);
+    }
+    match copy(alloc, token) {
+        Ok(token) => push(out, token).map_err(|_| Stop::Memory),
+        Err(_) => Err(Stop::Memory),
+    }
+}
+
+/// Reads a token of an active part. Answers how many names have been replaced then.
+pub(crate) fn read(
+    alloc: Global,
+    names: &Names,
+    marks: &mut Vec<bool>,
+    token: &Token,
+    out: &mut Vec<Token>,
+    count: usize,
+) -> Result<usize, Stop>
+    requires clear { AreClear marks.old.items }
+    requires few { length out.old.items ≤ token_limit }
+    requires seldom { count ≤ replacement_limit }
+    ensures clear { OnOk result (AreClear marks.new.items) }
+    ensures ok { IfOk result (λ n. IsRead (names_of names.now) token.now out.old.items out.new.items count n) }
+    ensures err { IfErr result (λ e. StopsBy e (IsTooMuch (names_of names.now) token.now out.old.items count)) }
+{
+    let Some(frame) = frame_of(names, token) else {
+        keep(alloc, token, out)?;
+        return Ok(count);
+    };
+    make_room(marks, names.len())?;
+    replace(alloc, names, marks, token, frame, out, count)
 }
