@@ -1,3 +1,4 @@
+pub mod Advances
 pub mod Finite
 pub mod GivenNames
 pub mod Reading

@@ -57,20 +57,32 @@ pub data Refuses (s : State) : PrepError → Type 0 where
 abbrev pub start_state : List Token → Names → State
 start_state tokens names = record { at = 0; rest = tokens; scope = record { names = names; conditionals = [] }; out = []; replaced = 0 }
 
--- what is reached from the start, with the given names
-pub data Reaches (tokens : List Token) (defines : List Define) : State → Type 0 where
-  start : (names : Names) → with_defines (Some start_names) defines ≡ Some names → Reaches tokens defines (start_state tokens names)
-  then : (s t : State) → Reaches tokens defines s → Step s t → Reaches tokens defines t
+-- one step after another
+pub data Leads (s : State) : State → Type 0 where
+  here : Leads s s
+  onward : (t u : State) → Leads s t → Step t u → Leads s u
 
--- The tokens, with the given names, expand to `out`.
-pub record Expands (tokens : List Token) (defines : List Define) (out : List Token) : Type 0 where
+-- From where expansion stands, all is read, no conditional is open, and `out` has been given.
+pub record Ends (s : State) (out : List Token) : Type 0 where
   pub end : State
-  pub reached : Reaches tokens defines end
+  pub reached : Leads s end
   pub read : end.rest ≡ []
   pub closed : end.scope.conditionals ≡ []
   pub given : end.out ≡ out
 
+-- From where expansion stands, a rule fails.
+pub record Fails (s : State) (e : PrepError) : Type 0 where
+  pub at : State
+  pub reached : Leads s at
+  pub refuses : Refuses at e
+
+-- The tokens, with the given names, expand to `out`.
+pub record Expands (tokens : List Token) (defines : List Define) (out : List Token) : Type 0 where
+  pub names : Names
+  pub begun : with_defines (Some start_names) defines ≡ Some names
+  pub ends : Ends (start_state tokens names) out
+
 -- The tokens, with the given names, are refused with this error.
 pub data IsRefused (tokens : List Token) (defines : List Define) : PrepError → Type 0 where
   defined_twice : with_defines (Some start_names) defines ≡ None → IsRefused tokens defines (Redefined 0)
-  fails : (s : State) (e : PrepError) → Reaches tokens defines s → Refuses s e → IsRefused tokens defines e
+  fails : (names : Names) (e : PrepError) → with_defines (Some start_names) defines ≡ Some names → Fails (start_state tokens names) e → IsRefused tokens defines e

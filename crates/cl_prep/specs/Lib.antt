@@ -3,6 +3,7 @@ pub mod Expands
 pub mod Frames
 pub mod Names
 pub mod Pending
+pub mod Progress
 pub mod ScopeViews
 pub mod Scopes
 pub mod Start

@@ -2,6 +2,7 @@
 #![tactic(auto)]
 
 pub mod directive;
+pub mod expand;
 mod names;
 pub mod prep;
 mod replace;

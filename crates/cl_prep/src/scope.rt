@@ -1,7 +1,7 @@
 //! The names in force and the open conditionals.
-ghost use Rattle.std.specs.Prelude.{◌≡◌, ◌+◌, ◌<◌, ◌∷◌, ◌^◌, ◌++◌, [], ℕ, OnOk, OnErr, IfErr, IfNone, MatchResult, option_to_list};
+ghost use Rattle.std.specs.Prelude.{◌≡◌, ◌+◌, ◌<◌, ◌∷◌, ◌^◌, ◌++◌, [], ℕ, OnOk, OnErr, IfErr, IfSome, IfNone, MatchResult, option_to_list};
 ghost use Rattle.cl_prep.specs.Directives as spec;
-ghost use Rattle.cl_prep.specs.Scopes.{idle_of, Follows};
+ghost use Rattle.cl_prep.specs.Scopes.{idle_of, Follows, IsInnermost};
 ghost use Rattle.cl_prep.specs.Table.{names_of};
 
 use crate::directive::{Conditional, Directive, directive_of, has_parameters, name_in};
@@ -41,6 +41,16 @@ impl Scope {
         ensures { result ≡ spec.is_active (scope_of self.now).conditionals }
     {
         self.idle == 0
+    }
+
+    /// The number of the `#` that opened the innermost conditional.
+    pub(crate) fn innermost(&self) -> Option<u32>
+        ensures none { IfNone result ((scope_of self.now).conditionals ≡ []) }
+        ensures some { IfSome result (IsInnermost (scope_of self.now).conditionals) }
+    {
+        self.conditionals
+            .front()
+            .map(|conditional| conditional.token)
     }
 
     fn open(&mut self, conditional: Conditional) -> Result<(), PrepError>
