@@ -1,7 +1,9 @@
 pub mod Advances
 pub mod Finite
 pub mod GivenNames
+pub mod Outcomes
 pub mod Reading
 pub mod Replacements
 pub mod ScopeLaws
 pub mod Tables
+pub mod Unique

@@ -2,11 +2,12 @@
 #![tactic(auto)]
 
 pub mod directive;
-pub mod expand;
+pub mod expansion;
 mod names;
 pub mod prep;
 mod replace;
 mod scope;
 mod start;
 
+pub use expansion::expand;
 pub use prep::{Define, Defines, PrepError};

@@ -49,3 +49,24 @@ fn run(alloc: Global, mut scope: Scope, tokens: &[Token]) -> Result<Vec<Token>, 
         None => Ok(out),
     }
 }
+
+/// The tokens after directives, conditionals and the replacement of names (C99, section 6.10), with
+/// these given names.
+///
+/// A given name that is defined twice comes before any other error. Of the others, the first token at
+/// which a rule fails decides, and a conditional that is not closed is found last.
+pub fn expand(alloc: Global, tokens: &[Token], defines: &Defines) -> Result<Vec<Token>, PrepError>
+    requires { length tokens.now + 1 < 2 ^ 32 }
+    ensures expands { IfOk result (λ ts. Expands tokens.now defines.now.list.items ts.items) }
+    ensures few { IfOk result (λ ts. length ts.items ≤ token_limit) }
+    ensures inside { (n : ℕ) → All (λ t. t.start ≤ n) tokens.now → IfOk result (λ ts. All (λ t. t.start ≤ n) ts.items) }
+    ensures all { (out : List AnyToken) → Expands tokens.now defines.now.list.items out → IsTokens result out }
+    ensures refused { IfErr result (λ e. IsRefusedOrMemory tokens.now defines.now.list.items e) }
+    ensures fault { (e : AnyError) → IsRefused tokens.now defines.now.list.items e → IsFault result e }
+{
+    let mut names = start_names(alloc)?;
+    if let Err(error) = add_defines(alloc, &mut names, defines.list.as_slice()) {
+        return Err(error);
+    }
+    run(alloc, Scope::new(alloc, names), tokens)
+}

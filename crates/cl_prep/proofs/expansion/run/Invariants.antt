@@ -3,7 +3,7 @@ use Rattle.cl_prep.specs.Expands.{start_state, Leads, token_limit, replacement_l
 use Rattle.cl_prep.specs.Frames.{AreClear}
 use Rattle.cl_prep.specs.Progress.{state}
 use Rattle.cl_prep.specs.ScopeViews.{scope_of}
-use Rattle.cl_prep.proofs.expand.run.Given as goal
+use Rattle.cl_prep.proofs.expansion.run.Given as goal
 
 abbrev pub invariant-loop-at : goal.invariant-loop-at
 invariant-loop-at l = record {

@@ -8,8 +8,8 @@ use Rattle.cl_prep.specs.declared.replace.Stop.{Stop}
 use Rattle.cl_prep.specs.Progress.{state}
 use Rattle.cl_prep.specs.ScopeViews.{scope_of}
 use Rattle.cl_prep.proofs.Advances.{obeys, disobeys, line_within, passes, reads, read_few, read_seldom, exceeds, finishes, left_open, begun}
-use Rattle.cl_prep.proofs.expand.run.Goals as goal
-use Rattle.cl_prep.proofs.expand.run.Goals.{then-is_active+in-Ok, else-is_active}
+use Rattle.cl_prep.proofs.expansion.run.Goals as goal
+use Rattle.cl_prep.proofs.expansion.run.Goals.{then-is_active+in-Ok, else-is_active}
 
 pub loop-at-init : goal.loop-at-init
 loop-at-init c = record {
