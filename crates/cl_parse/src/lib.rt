@@ -9,6 +9,8 @@ mod node;
 mod parser;
 mod set;
 mod statement;
+#[cfg(test)]
+mod tests;
 mod types;
 mod unit;
 
