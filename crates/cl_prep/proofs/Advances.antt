@@ -1,16 +1,14 @@
 -- One directive or one token more, as the loop reads them.
-use Rattle.std.proofs.Common.{ℕ, zero, suc, List, [], ◌∷◌, ◌++◌, length, map, get_or, take, drop, Bool, true, false, ◌⊎◌, inl, inr, ◌≡◌, ◌+◌, ◌-◌, ◌<◌, ◌≤◌, refl, sym, ap, subst, ◌∙◌, arith, length-append, length-drop, Option, None, Some, Result, Ok, Err}
+use Rattle.std.proofs.Common.{ℕ, suc, List, [], ◌∷◌, ◌++◌, length, map, get_or, take, drop, true, false, ◌⊎◌, inl, inr, ◌≡◌, ◌+◌, ◌<◌, ◌≤◌, refl, sym, ap, subst, ◌∙◌, arith, length-append, length-drop, Ok, Err}
 use Rattle.std.specs.List.{prefix_len}
-use Rattle.std.proofs.lemmas.List.{drop_more, drop_all, drop-drop, length-take-le, take_all, length_push, length-map}
+use Rattle.std.proofs.lemmas.List.{drop_more, drop_all, drop-drop, length-take-le, length_push, length-map}
 use Rattle.cl_token.specs.declared.token.Token.{Token}
-use Rattle.cl_token.specs.Lexeme.{Lexeme, lexeme_of}
 use Rattle.cl_prep.specs.declared.prep.PrepError.{PrepError}
 use Rattle.cl_prep.specs.declared.prep.PrepError.TheVariants as errors
 use Rattle.cl_prep.specs.declared.directive.Conditional.{Conditional}
-use Rattle.cl_prep.specs.Names.{Names, replacement}
 use Rattle.cl_prep.specs.Directives.{Scope, begins_directive, is_inside, line_of, behind_line, is_active, effect, Outcome}
-use Rattle.cl_prep.specs.Expands.{State, Step, directive, skipped, kept, replaced, Refuses, directive_fails, not_closed, one_too_many, too_many, Leads, here, onward, start_state, Ends, Fails, placed, token_limit, replacement_limit}
-use Rattle.cl_prep.specs.Frames.{Replaces, Exceeds, IsRead, IsTooMuch}
+use Rattle.cl_prep.specs.Expands.{State, directive, skipped, kept, replaced, Refuses, directive_fails, not_closed, one_too_many, too_many, Leads, here, onward, start_state, Ends, Fails, placed, token_limit, replacement_limit}
+use Rattle.cl_prep.specs.Frames.{IsRead, IsTooMuch}
 use Rattle.cl_prep.specs.Scopes.{IsErrOf, IsInnermost}
 use Rattle.cl_prep.specs.Progress.{state, FailsOrMemory}
 

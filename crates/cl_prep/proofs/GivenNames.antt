@@ -1,5 +1,5 @@
 -- The given names, one after another.
-use Rattle.std.proofs.Common.{ℕ, List, [], ◌∷◌, length, get_or, drop, ◌≡◌, ◌+◌, ◌<◌, refl, sym, ap, ◌∙◌, Option, None, Some, Result, Ok, Err}
+use Rattle.std.proofs.Common.{ℕ, List, [], ◌∷◌, length, get_or, drop, ◌≡◌, ◌+◌, ◌<◌, refl, sym, ap, ◌∙◌, Option, None, Err}
 use Rattle.std.proofs.lemmas.List.{drop_more}
 use Rattle.cl_prep.specs.declared.prep.Define.{Define}
 use Rattle.cl_prep.specs.declared.prep.PrepError.{PrepError}

@@ -1,11 +1,10 @@
 -- The one answer.
-use Rattle.std.proofs.Common.{ℕ, suc, List, [], ◌∷◌, ◌++◌, length, map, get_or, take, drop, ◌⊎◌, inl, inr, ◌≡◌, ◌+◌, ◌<◌, ◌≤◌, refl, sym, ap, subst, ◌∙◌, arith, length-append, Vec, Global, Option, None, Some, Result, Ok, Err}
+use Rattle.std.proofs.Common.{ℕ, suc, List, [], ◌∷◌, length, map, ◌⊎◌, inl, inr, ◌≡◌, ◌≤◌, refl, sym, ap, subst, ◌∙◌, arith, length-append, Vec, Global, Option, Some, Result, Ok, Err}
 use Rattle.std.specs.Prelude.{IfOk, IfErr}
 use Rattle.std.specs.List.{All, prefix_len}
 use Rattle.std.proofs.lemmas.List.{length-map}
 use Rattle.std.proofs.lemmas.List.Elements.{All-push, All-append, All-map, All-drop}
 use Rattle.cl_token.specs.declared.token.Token.{Token}
-use Rattle.cl_token.specs.Lexeme.{Lexeme}
 use Rattle.cl_prep.specs.declared.prep.Define.{Define}
 use Rattle.cl_prep.specs.declared.prep.PrepError.{PrepError}
 use Rattle.cl_prep.specs.declared.prep.PrepError.TheVariants as errors

@@ -1,13 +1,13 @@
 -- One token of a replacement after another.
-use Rattle.std.proofs.Common.{ℕ, zero, suc, List, [], ◌∷◌, ◌++◌, length, get_or, set, Bool, true, false, cond, ◌||◌, ◌⊎◌, inl, inr, ◌≡◌, ◌≢◌, ◌+◌, ◌<◌, ◌≤◌, refl, sym, ap, subst, ◌∙◌, arith, append_assoc, length-append, length-set, get_or-set_same, get_or-set_other, Option, None, Some}
-use Rattle.std.proofs.lemmas.List.{append-nil, length_push}
+use Rattle.std.proofs.Common.{ℕ, suc, List, [], ◌∷◌, ◌++◌, length, Bool, true, false, cond, inl, inr, ◌≡◌, ◌+◌, ◌≤◌, refl, sym, ap, subst, ◌∙◌, arith, append_assoc, length-append, Option, None, Some}
+use Rattle.std.proofs.lemmas.List.{append-nil}
 use Rattle.std.specs.Str.{bytes_eq}
 use Rattle.cl_token.specs.Lexeme.{Lexeme}
 use Rattle.cl_token.specs.declared.token.Kind.{Kind}
 use Rattle.cl_token.specs.declared.token.Kind.TheVariants.{Name, Number, Mark, Hash}
 use Rattle.cl_prep.specs.Names.{Names, with_name, replacement, Gives, none, kept, replaced}
 use Rattle.cl_prep.specs.Pending.{Pending, inside, is_member, Waits}
-use Rattle.cl_prep.proofs.Tables.{same_bytes, bytes_same, test_is}
+use Rattle.cl_prep.proofs.Tables.{test_is}
 use Rattle.cl_prep.proofs.Finite.{AtMost, at_most_without, given}
 
 -- ---- one outcome

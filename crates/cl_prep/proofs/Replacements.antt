@@ -1,5 +1,5 @@
 -- A replacement, step by step.
-use Rattle.std.proofs.Common.{ℕ, zero, suc, List, [], ◌∷◌, ◌++◌, length, map, get_or, set, Bool, true, false, cond, ◌||◌, ◌⊎◌, inl, inr, ◌≡◌, ◌≢◌, ◌+◌, ◌<◌, ◌≤◌, refl, sym, ap, subst, ◌∙◌, arith, append_assoc, length-append, length-set, get_or-set_same, get_or-set_other, Option, None, Some, Vec, Global, Bor}
+use Rattle.std.proofs.Common.{ℕ, suc, List, [], ◌∷◌, ◌++◌, length, map, get_or, set, Bool, true, false, ◌||◌, ◌⊎◌, inl, inr, ◌≡◌, ◌≢◌, ◌+◌, ◌<◌, ◌≤◌, refl, sym, ap, subst, ◌∙◌, arith, append_assoc, length-append, length-set, get_or-set_same, get_or-set_other, None, Some, Vec, Global, Bor}
 use Rattle.std.specs.Prelude.{position}
 use Rattle.std.proofs.Math.Dec.{eqb}
 use Rattle.std.specs.Map.{keys_of}
@@ -13,12 +13,12 @@ use Rattle.cl_prep.specs.declared.replace.Frame.{Frame}
 use Rattle.cl_prep.specs.declared.replace.Stop.{Stop}
 use Rattle.cl_prep.specs.declared.replace.Stop.TheVariants as kinds
 use Rattle.cl_prep.specs.Expands.{placed, token_limit, replacement_limit}
-use Rattle.cl_prep.specs.Names.{Names, with_name, replacement, Gives}
-use Rattle.cl_prep.specs.Pending.{Pending, inside, is_member, Waits}
+use Rattle.cl_prep.specs.Names.{Names, replacement}
+use Rattle.cl_prep.specs.Pending.{Pending, inside, is_member}
 use Rattle.cl_prep.specs.Frames.{Entries, IsNumber, pending_of, pendings_of, AreFrames, AreMarks, IsFrameOf, AreClear, IsReading, IsNotFree, Replaces, Exceeds, StopsBy}
 use Rattle.cl_prep.proofs.Tables.{same_bytes, bytes_same, test_is}
-use Rattle.cl_prep.proofs.Finite.{AtMost, names_in, table_at_most}
-use Rattle.cl_prep.proofs.Reading.{Going, pending, open_name, closed_name, no_name, going_start, going_end, going_out, going_on, going_in, GivesAtLeast, at_least}
+use Rattle.cl_prep.proofs.Finite.{names_in, table_at_most}
+use Rattle.cl_prep.proofs.Reading.{Going, pending, open_name, closed_name, no_name, going_start, going_end, going_out, going_on, going_in, at_least}
 
 -- ---- numbers and marks
 

@@ -1,8 +1,8 @@
 -- The names that a table keeps, after a change.
-use Rattle.std.proofs.Common.{ℕ, suc, [], ◌∷◌, ◌+◌, ◌<◌, ◌≤◌, ◌&&◌, get_or, drop, List, Bool, true, false, cond, Option, None, Some, Vec, Global, ◌≡◌, ◌⊎◌, inl, inr, refl, sym, ap, subst, ◌∙◌}
-use Rattle.std.specs.Prelude.{option_map, slice_get, length}
+use Rattle.std.proofs.Common.{ℕ, suc, [], ◌∷◌, ◌+◌, ◌<◌, ◌≤◌, ◌&&◌, get_or, drop, List, Bool, true, false, Option, Some, Vec, Global, ◌≡◌, ◌⊎◌, inl, inr, refl, sym, ap, ◌∙◌}
+use Rattle.std.specs.Prelude.{option_map, length}
 use Rattle.std.specs.Str.{bytes_eq}
-use Rattle.std.specs.Map.{KeepsOthers, lookup}
+use Rattle.std.specs.Map.{KeepsOthers}
 use Rattle.std.proofs.lemmas.List.{drop_more, drop_all}
 use Rattle.std.proofs.lemmas.Slice.Eq.{bytes_eq-Decides}
 use Rattle.indexmap.specs.IndexMap.{IndexMap, get_by, UpdatesBy}

@@ -1,5 +1,5 @@
 -- Expansion has one outcome.
-use Rattle.std.proofs.Common.{ℕ, zero, suc, List, [], ◌∷◌, ◌++◌, length, map, Bool, true, false, ◌⊎◌, inl, inr, ◌≡◌, ◌+◌, ◌<◌, ◌≤◌, refl, sym, ap, subst, ◌∙◌, arith, Option, None, Some, Result, Ok, Err}
+use Rattle.std.proofs.Common.{ℕ, zero, suc, List, [], ◌∷◌, ◌++◌, length, map, true, false, ◌⊎◌, inl, inr, ◌≡◌, ◌+◌, ◌<◌, ◌≤◌, refl, sym, ap, subst, ◌∙◌, arith, None, Some, Ok, Err}
 use Rattle.std.proofs.lemmas.Bool.Decides.{leb_tells}
 use Rattle.cl_token.specs.declared.token.Token.{Token}
 use Rattle.cl_token.specs.Lexeme.{Lexeme, lexeme_of}
@@ -7,7 +7,7 @@ use Rattle.cl_prep.specs.declared.prep.PrepError.{PrepError}
 use Rattle.cl_prep.specs.declared.prep.PrepError.TheVariants as errors
 use Rattle.cl_prep.specs.declared.directive.Conditional.{Conditional}
 use Rattle.cl_prep.specs.Names.{Names, with_name, replacement, Gives}
-use Rattle.cl_prep.specs.Directives.{Scope, begins_directive, line_of, behind_line, is_active, effect}
+use Rattle.cl_prep.specs.Directives.{Scope, begins_directive, line_of, behind_line, effect}
 use Rattle.cl_prep.specs.Expands.{State, Step, directive, skipped, kept, replaced, Refuses, directive_fails, not_closed, one_too_many, too_many, Leads, here, onward, Ends, Fails, placed, token_limit, replacement_limit}
 use Rattle.cl_prep.proofs.Reading.{Same, one_gift}
 

@@ -1,13 +1,13 @@
 -- What a directive does (C99, section 6.10).
-use Rattle.std.specs.Prelude.{ℕ, List, [], ◌∷◌, Bool, true, false, not, ◌&&◌, ◌||◌, ◌==◌, ◌≡◌, ◌+◌, if◌then◌else◌, Option, None, Some, Result, Ok, Err, is_some, codes, map, drop, take}
+use Rattle.std.specs.Prelude.{ℕ, List, [], ◌∷◌, Bool, true, false, not, ◌&&◌, ◌==◌, ◌+◌, if◌then◌else◌, Option, None, Some, Result, Ok, Err, is_some, codes, drop, take}
 use Rattle.std.specs.List.{list_all, prefix_len}
 use Rattle.std.specs.Str.{bytes_eq}
-use Rattle.cl_token.specs.Lexeme.{Lexeme, lexeme_of, lexemes_of}
+use Rattle.cl_token.specs.Lexeme.{lexemes_of}
 use Rattle.cl_token.specs.declared.token.Token.{Token}
 use Rattle.cl_token.specs.declared.token.Kind.{Kind}
-use Rattle.cl_token.specs.declared.token.Kind.TheVariants.{Name, Number, Mark, Hash}
+use Rattle.cl_token.specs.declared.token.Kind.TheVariants.{Name, Mark, Hash}
 use Rattle.cl_prep.specs.declared.prep.PrepError.{PrepError}
-use Rattle.cl_prep.specs.declared.prep.PrepError.TheVariants.{BadDirective, NoName, Redefined, NoOpening, NotClosed, TooMany}
+use Rattle.cl_prep.specs.declared.prep.PrepError.TheVariants.{BadDirective, NoName, Redefined, NoOpening}
 use Rattle.cl_prep.specs.declared.directive.Directive.{Directive}
 use Rattle.cl_prep.specs.declared.directive.Directive.TheVariants.{Define, Undef, Ifdef, Ifndef, Else, Endif, If, Pragma, Other}
 use Rattle.cl_prep.specs.declared.directive.Conditional.{Conditional}

@@ -1,5 +1,5 @@
 -- How tokens expand: directives, conditionals and the replacement of names.
-use Rattle.std.specs.Prelude.{ℕ, suc, List, [], ◌∷◌, ◌++◌, length, Bool, true, false, ◌≡◌, ◌+◌, ◌<◌, ◌≤◌, ◌⊎◌, Option, None, Some, Result, Ok, Err, map}
+use Rattle.std.specs.Prelude.{ℕ, suc, List, [], ◌∷◌, ◌++◌, length, true, false, ◌≡◌, ◌+◌, ◌<◌, ◌≤◌, ◌⊎◌, None, Some, Ok, Err, map}
 use Rattle.cl_token.specs.Lexeme.{Lexeme, lexeme_of}
 use Rattle.cl_token.specs.declared.token.Token.{Token}
 use Rattle.cl_prep.specs.declared.prep.Define.{Define}

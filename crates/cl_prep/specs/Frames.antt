@@ -1,5 +1,5 @@
 -- The replacements that are being read, as a contract sees them.
-use Rattle.std.specs.Prelude.{ℕ, List, [], ◌∷◌, ◌<◌, ◌≤◌, ◌≡◌, ◌+◌, ◌++◌, suc, Bool, true, false, Option, Some, None, Vec, length, map, get_or, ◌⊎◌, Result, Ok, Err, position}
+use Rattle.std.specs.Prelude.{ℕ, List, [], ◌∷◌, ◌<◌, ◌≤◌, ◌≡◌, ◌+◌, ◌++◌, suc, Bool, true, false, Some, None, Vec, length, map, get_or, ◌⊎◌, position}
 use Rattle.std.specs.Str.{bytes_eq}
 use Rattle.std.specs.declared.alloc.Global.{Global}
 use Rattle.std.specs.Map.{keys_of}

@@ -6,7 +6,7 @@ use Rattle.cl_prep.specs.declared.prep.Define.{Define}
 use Rattle.cl_prep.specs.declared.prep.PrepError.{PrepError}
 use Rattle.cl_prep.specs.declared.prep.PrepError.TheVariants as errors
 use Rattle.cl_prep.specs.Directives.{Scope}
-use Rattle.cl_prep.specs.Expands.{State, Ends, Fails, Expands, IsRefused}
+use Rattle.cl_prep.specs.Expands.{State, Ends, Fails, IsRefused}
 
 abbrev pub state : ℕ → List Token → Scope → List Token → ℕ → State
 state at rest scope out replaced = record { at = at; rest = rest; scope = scope; out = out; replaced = replaced }

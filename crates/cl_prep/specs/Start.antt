@@ -2,7 +2,7 @@
 use Rattle.std.specs.Prelude.{ℕ, List, [], ◌∷◌, Option, None, Some, codes}
 use Rattle.std.specs.Fmt.{decimal}
 use Rattle.cl_token.specs.Lexeme.{Lexeme}
-use Rattle.cl_token.specs.declared.token.Kind.TheVariants.{Name, Number, Mark}
+use Rattle.cl_token.specs.declared.token.Kind.TheVariants.{Number, Mark}
 use Rattle.cl_prep.specs.declared.prep.Define.{Define}
 use Rattle.cl_prep.specs.Names.{Names, no_names, with_name, defined}
 

@@ -1,5 +1,5 @@
 -- The table of names, as a contract sees it.
-use Rattle.std.specs.Prelude.{ℕ, List, Option, option_map, Vec}
+use Rattle.std.specs.Prelude.{ℕ, option_map, Vec}
 use Rattle.std.specs.Str.{bytes_eq}
 use Rattle.std.specs.declared.alloc.Global.{Global}
 use Rattle.indexmap.specs.IndexMap.{IndexMap, get_by}

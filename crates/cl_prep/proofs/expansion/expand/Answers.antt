@@ -1,6 +1,6 @@
-use Rattle.std.proofs.Common.{ℕ, List, ◌≡◌, Some, refl, sym, ap, subst, ◌∙◌}
+use Rattle.std.proofs.Common.{Some, sym, ap, subst, ◌∙◌}
 use Rattle.cl_prep.specs.Names.{Names}
-use Rattle.cl_prep.specs.Start.{start_names, with_defines}
+use Rattle.cl_prep.specs.Start.{with_defines}
 use Rattle.cl_prep.specs.Directives.{Scope}
 use Rattle.cl_prep.specs.Expands.{start_state}
 use Rattle.cl_prep.specs.Progress.{Finishes}

@@ -1,13 +1,10 @@
-use Rattle.std.proofs.Common.{ℕ, List, length, take, drop, get_or, Bool, false, ◌≡◌, ◌+◌, ◌-◌, ◌≤◌, refl, sym, subst, ◌∙◌, arith, ap}
+use Rattle.std.proofs.Common.{List, length, take, drop, get_or, Bool, false, ◌+◌, ◌-◌, refl, sym, subst, ◌∙◌, arith, ap}
 use Rattle.std.proofs.lemmas.List.{take_rest}
-use Rattle.cl_token.specs.declared.token.Token.{Token}
-use Rattle.cl_prep.specs.Directives.{Scope}
-use Rattle.cl_prep.specs.Expands.{start_state, Leads, here}
+use Rattle.cl_prep.specs.Expands.{start_state}
 use Rattle.cl_prep.specs.Frames.{StopsBy, IsTooMuch}
 use Rattle.cl_prep.specs.declared.replace.Stop.{Stop}
-use Rattle.cl_prep.specs.Progress.{state}
 use Rattle.cl_prep.specs.ScopeViews.{scope_of}
-use Rattle.cl_prep.proofs.Advances.{obeys, disobeys, line_within, passes, reads, read_few, read_seldom, exceeds, finishes, left_open, begun}
+use Rattle.cl_prep.proofs.Advances.{obeys, disobeys, line_within, passes, reads, read_few, read_seldom, exceeds, left_open, begun}
 use Rattle.cl_prep.proofs.expansion.run.Goals as goal
 use Rattle.cl_prep.proofs.expansion.run.Goals.{then-is_active+in-Ok, else-is_active}
 

@@ -1,4 +1,4 @@
-use Rattle.std.proofs.Common.{ℕ, List, Bool, false, true, ◌<◌, ◌∷◌, [], ◌≡◌, ◌≤◌, refl, subst, sym, ap, ◌∙◌, arith, get_or, length}
+use Rattle.std.proofs.Common.{List, Bool, false, true, ◌<◌, ◌∷◌, ◌≡◌, ◌≤◌, refl, subst, sym, ap, ◌∙◌, arith, get_or, length}
 use Rattle.cl_token.specs.Lexeme.{lexemes_of}
 use Rattle.cl_prep.specs.Expands.{token_limit}
 use Rattle.cl_prep.specs.Table.{names_of}
