@@ -1,0 +1,5 @@
+pub mod Keys
+pub mod Texts
+pub mod Values
+pub mod Refusals
+pub mod ValueViews

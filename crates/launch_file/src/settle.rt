@@ -1,0 +1,156 @@
+//! The conditions on the values of a launch file, and its text.
+ghost use Rattle.std.specs.Prelude.{◌≡◌, IfOk, IfErr, None, Some, MatchOption, true, false, pos};
+ghost use Rattle.std.specs.List.{list_any};
+ghost use Rattle.wg_num.specs.Operators.{lanes_of};
+ghost use Rattle.launch_file.specs.Refusals as spec;
+ghost use Rattle.launch_file.specs.Texts.{text_of};
+ghost use Rattle.launch_file.specs.ValueViews.{values_of};
+
+use crate::parts::Values;
+use crate::text::{BufferText, Defines, LaunchError, LaunchText};
+use wg_num::{Width, Word};
+
+fn is_named(name: &[u8], buffer: &BufferText) -> bool
+    ensures { result ≡ spec.is_named name.now buffer.now }
+{
+    buffer.name.bytes() == name
+}
+
+fn has_name(name: &[u8], buffers: &[BufferText]) -> bool
+    ensures { result ≡ list_any (spec.is_named name.now) buffers.now }
+{
+    for buffer in buffers {
+        if is_named(name, buffer) {
+            return true;
+        }
+    }
+    false
+}
+
+fn named_twice(buffers: &[BufferText]) -> bool
+    ensures { result ≡ spec.named_twice buffers.now }
+{
+    for i in 0..buffers.len() {
+        if has_name(buffers[i].name.bytes(), &buffers[i + 1..]) {
+            return true;
+        }
+    }
+    false
+}
+
+fn is_this(name: &[u8], other: &Option<Word>) -> bool
+    ensures { result ≡ spec.is_this name.now other.now }
+{
+    match other {
+        Some(other) => other.bytes() == name,
+        None => false,
+    }
+}
+
+fn is_saved(name: &[u8], buffers: &[BufferText]) -> bool
+    ensures { result ≡ list_any (λ b. spec.is_this name.now b.save) buffers.now }
+{
+    for buffer in buffers {
+        if is_this(name, &buffer.save) {
+            return true;
+        }
+    }
+    false
+}
+
+fn saved_again(save: &Option<Word>, buffers: &[BufferText]) -> bool
+    ensures { result ≡ spec.saved_again save.now buffers.now }
+{
+    match save {
+        Some(name) => is_saved(name.bytes(), buffers),
+        None => false,
+    }
+}
+
+fn saved_twice(buffers: &[BufferText]) -> bool
+    ensures { result ≡ spec.saved_twice buffers.now }
+{
+    for i in 0..buffers.len() {
+        if saved_again(&buffers[i].save, &buffers[i + 1..]) {
+            return true;
+        }
+    }
+    false
+}
+
+fn chosen(option: Option<u64>, in_file: Option<i64>, other: u32) -> i128
+    ensures { result ≡ spec.chosen option in_file other }
+{
+    match option {
+        Some(number) => number as i128,
+        None => match in_file {
+            Some(number) => number as i128,
+            None => other as i128,
+        },
+    }
+}
+
+fn width_of(lanes: i128) -> Option<Width>
+    ensures { MatchOption result (spec.is_lane_count lanes ≡ false) (λ w. (spec.is_lane_count lanes ≡ true) × (pos (lanes_of w) ≡ lanes)) }
+{
+    match lanes {
+        1 => Some(Width::W1),
+        4 => Some(Width::W4),
+        8 => Some(Width::W8),
+        16 => Some(Width::W16),
+        _ => None,
+    }
+}
+
+fn turn_count(turns: i128) -> Option<u64>
+    ensures { MatchOption result (spec.is_turn_count turns ≡ false) (λ n. (spec.is_turn_count turns ≡ true) × (pos n ≡ turns)) }
+{
+    if turns < 0 || turns > 1_000_000_000_000 {
+        None
+    } else {
+        Some(turns as u64)
+    }
+}
+
+fn is_launch_count(count: usize) -> bool
+    ensures { result ≡ spec.is_launch_count count }
+{
+    1 <= count && count <= 16
+}
+
+/// The text of a file's values and the two options, or the number of the first condition that
+/// stands on them.
+pub(crate) fn settle(
+    values: Values,
+    lanes: Option<u64>,
+    turns: Option<u64>,
+) -> Result<LaunchText, u16>
+    ensures ok { IfOk result (λ t. spec.Says lanes turns (values_of values) (text_of t)) }
+    ensures accepted { IfOk result (λ _. spec.first_of (spec.value_conditions lanes turns (values_of values)) ≡ None) }
+    ensures refused { IfErr result (λ n. spec.first_of (spec.value_conditions lanes turns (values_of values)) ≡ Some n) }
+{
+    if named_twice(values.buffers.as_slice()) {
+        return Err(9);
+    }
+    if saved_twice(values.buffers.as_slice()) {
+        return Err(10);
+    }
+    let Some(width) = width_of(chosen(lanes, values.lanes, 8)) else {
+        return Err(15);
+    };
+    let Some(count) = turn_count(chosen(turns, values.turns, 100_000_000)) else {
+        return Err(16);
+    };
+    if !is_launch_count(values.list.len()) {
+        return Err(17);
+    }
+    Ok(LaunchText {
+        defines: Defines {
+            list: values.defines,
+        },
+        lanes: width,
+        turns: count,
+        buffers: values.buffers,
+        list: values.list,
+    })
+}

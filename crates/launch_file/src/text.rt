@@ -1,0 +1,77 @@
+//! What a launch file says.
+
+use thiserror::Error;
+use wg_num::{Memory, Width, Word};
+
+/// A name that is given with the source, and the number that replaces it.
+#[derive(Drop)]
+pub struct Define {
+    pub name: Word,
+    pub value: u64,
+}
+
+/// The names that are given with the source.
+#[derive(Drop)]
+pub struct Defines {
+    pub list: Vec<Define>,
+}
+
+/// A buffer: its name and its length in bytes, the file that it starts as and the file that it is
+/// saved as.
+#[derive(Drop)]
+pub struct BufferText {
+    pub name: Word,
+    pub bytes: i64,
+    pub load: Option<Word>,
+    pub save: Option<Word>,
+}
+
+/// An argument: a buffer by its name, a value, or bytes of local memory.
+#[derive(Drop)]
+pub enum ArgText {
+    Buffer(Word),
+    Value(i64),
+    Local(i64),
+}
+
+/// One launch: the kernel by its name, the global and local sizes and the offset in each dimension
+/// (OpenCL 1.2, section 5.8), and the arguments in order.
+#[derive(Drop)]
+pub struct LaunchPart {
+    pub kernel: Word,
+    pub global: Vec<i64>,
+    pub local: Vec<i64>,
+    pub offset: Vec<i64>,
+    pub args: Vec<ArgText>,
+}
+
+/// A launch file. `turns` is the most loop iterations that the work-items of a launch may begin
+/// together. A file of format 1 or 2 has one launch in `list`.
+#[derive(Drop)]
+pub struct LaunchText {
+    pub defines: Defines,
+    pub lanes: Width,
+    pub turns: u64,
+    pub buffers: Vec<BufferText>,
+    pub list: Vec<LaunchPart>,
+}
+
+/// Why a launch file is refused: the number of the first condition that stands.
+#[derive(Clone, Copy, PartialEq, Eq, Debug, Error)]
+pub enum LaunchError {
+    #[error("launch file refused")]
+    Fault { number: u16 },
+    #[error("out of memory")]
+    Memory,
+}
+
+impl From<Memory> for LaunchError {
+    ghost use Rattle.std.specs.Prelude.{◌≡◌};
+    ghost use Rattle.launch_file.specs.declared.text.LaunchError.TheVariants.{Memory as OutOfMemory};
+
+    ghost from_gives = { λ _ e. e ≡ OutOfMemory };
+
+    fn from(_memory: Memory) -> LaunchError {
+        LaunchError::Memory
+    }
+}
