@@ -1,7 +1,7 @@
 -- What a launch file says, as plain values.
 use Rattle.std.specs.Prelude.{ℕ, ℤ, pos, List, map, Option}
 use Rattle.wg_num.specs.Operators.{lanes_of}
-use Rattle.launch_file.specs.declared.text.Define.{Define}
+use Rattle.cl_prep.specs.declared.prep.Define.{Define}
 use Rattle.launch_file.specs.declared.text.BufferText.{BufferText}
 use Rattle.launch_file.specs.declared.text.ArgText.{ArgText}
 use Rattle.launch_file.specs.declared.text.LaunchPart.{LaunchPart}

@@ -3,7 +3,7 @@ use Rattle.std.specs.Prelude.{◌≡◌, ◌&&◌, ◌==◌, ◌+◌, Bool, true
 use Rattle.std.specs.List.{list_all}
 use Rattle.toml.specs.Data.{Data, Items, Members, no_items, item, no_members, member, as_array, as_integer, as_str, as_table, get_member}
 use Rattle.cl_token.specs.Bytes.{is_name_start, is_name_byte}
-use Rattle.launch_file.specs.declared.text.Define.{Define}
+use Rattle.cl_prep.specs.declared.prep.Define.{Define}
 use Rattle.launch_file.specs.declared.text.BufferText.{BufferText}
 use Rattle.launch_file.specs.declared.text.ArgText.{ArgText}
 use Rattle.launch_file.specs.declared.text.ArgText.TheVariants as arg

@@ -7,8 +7,10 @@ mod keys;
 mod parts;
 mod reader;
 mod settle;
+#[cfg(test)]
+mod tests;
 pub mod text;
 mod values;
 
 pub use reader::read;
-pub use text::{ArgText, BufferText, Define, Defines, LaunchError, LaunchPart, LaunchText};
+pub use text::{ArgText, BufferText, LaunchError, LaunchPart, LaunchText};

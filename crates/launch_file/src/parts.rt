@@ -9,8 +9,9 @@ ghost use Rattle.launch_file.specs.ValueViews.{values_of};
 
 use crate::format::{Format, format_of};
 use crate::keys::{optional_integer, string_at, value_at};
-use crate::text::{BufferText, Define, LaunchPart};
+use crate::text::{BufferText, LaunchPart};
 use crate::values::{args_in, buffers_in, defines_in};
+use cl_prep::Define;
 use std::alloc::Global;
 use toml::{Table, Value};
 use wg_num::{Memory, Word};

@@ -7,7 +7,8 @@ ghost use Rattle.launch_file.specs.Texts.{text_of};
 ghost use Rattle.launch_file.specs.ValueViews.{values_of};
 
 use crate::parts::Values;
-use crate::text::{BufferText, Defines, LaunchError, LaunchText};
+use crate::text::{BufferText, LaunchError, LaunchText};
+use cl_prep::Defines;
 use wg_num::{Width, Word};
 
 fn is_named(name: &[u8], buffer: &BufferText) -> bool

@@ -1,20 +1,8 @@
 //! What a launch file says.
 
+use cl_prep::Defines;
 use thiserror::Error;
 use wg_num::{Memory, Width, Word};
-
-/// A name that is given with the source, and the number that replaces it.
-#[derive(Drop)]
-pub struct Define {
-    pub name: Word,
-    pub value: u64,
-}
-
-/// The names that are given with the source.
-#[derive(Drop)]
-pub struct Defines {
-    pub list: Vec<Define>,
-}
 
 /// A buffer: its name and its length in bytes, the file that it starts as and the file that it is
 /// saved as.

@@ -8,7 +8,8 @@ ghost use Rattle.launch_file.specs.Keys.{given};
 ghost use Rattle.launch_file.specs.Values as spec;
 
 use crate::keys::{integer_at, optional_string, string_at, value_at};
-use crate::text::{ArgText, BufferText, Define};
+use crate::text::{ArgText, BufferText};
+use cl_prep::Define;
 use std::alloc::Global;
 use toml::{Table, Value};
 use wg_num::{Memory, Word};
