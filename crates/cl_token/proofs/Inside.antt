@@ -3,6 +3,8 @@ use Rattle.std.proofs.Common.{ℕ, List, [], ◌∷◌, ◌++◌, length, Bool, 
 use Rattle.std.specs.Prelude.{IfOk}
 use Rattle.cl_token.specs.declared.token.LexError.{LexError}
 use Rattle.cl_token.specs.Answers.{Stands}
+use Rattle.cl_token.proofs.Words.{within}
+use Rattle.std.proofs.lemmas.List.{length_push}
 use Rattle.std.specs.List.{All}
 use Rattle.std.proofs.lemmas.List.Elements.{All-push}
 use Rattle.cl_token.specs.declared.token.Token.{Token}
@@ -42,3 +44,21 @@ inside source ts h =
 pub all_inside : (source : List ℕ) (r : Result (Vec Token Global) LexError) → Stands source r → IfOk r (λ ts. All (λ t. t.start ≤ length source) ts.items)
 all_inside source (Ok v) h = inside source v.items h
 all_inside source (Err e) h = tt
+
+-- each token has a byte
+fewer : (source : List ℕ) (at : ℕ) (first : Bool) (rest : List ℕ) (ts : List Token) → CutsTo source at first rest ts → length ts ≤ at
+fewer source at first rest ts start = omega arith
+fewer source at first rest ts (skip {at = b} {first = f} {ts = us} piece after h k) =
+    omega (arith, fewer source b f (piece ++ after) us h)
+fewer source at first rest ts (line_end {at = b} {first = f} {ts = us} after h) =
+    omega (arith, fewer source b f (10 ∷ after) us h)
+fewer source at first rest ts (token {at = b} {first = f} {ts = us} kind word after h k v) =
+    let made : Token = record { kind = kind; word = word; start = b; end = b + length word; first = f } in
+    omega (arith, fewer source b f (word ++ after) us h, length_push us made, (within kind word after k.spelled).some)
+
+pub few : (source : List ℕ) (ts : List Token) → Cuts source ts → length ts ≤ length source
+few source ts h = omega (arith, fewer source h.at h.first [] ts h.whole, size_is source h.at h.first [] ts h.whole)
+
+pub all_few : (source : List ℕ) (r : Result (Vec Token Global) LexError) → Stands source r → IfOk r (λ ts. length ts.items ≤ length source)
+all_few source (Ok v) h = few source v.items h
+all_few source (Err e) h = tt

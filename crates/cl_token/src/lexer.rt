@@ -101,6 +101,7 @@ fn cut(alloc: Global, source: &[u8]) -> Result<Vec<Token>, LexError>
 pub fn tokens(alloc: Global, source: &[u8]) -> Result<Vec<Token>, LexError>
     ensures short { IfOk result (λ ts. length source.now ≤ limit) }
     ensures cuts { IfOk result (λ ts. Cuts source.now ts.items) }
+    ensures few { IfOk result (λ ts. length ts.items ≤ length source.now) }
     ensures inside { IfOk result (λ ts. All (λ t. t.start ≤ length source.now) ts.items) }
     ensures all { (ts : List AnyToken) → length source.now ≤ limit → Cuts source.now ts → IsTokens result ts }
     ensures refused { IfErr result (λ e. IsRefusedOrMemory source.now e) }

@@ -1,5 +1,5 @@
 use Rattle.cl_token.proofs.Outcomes.{all_tokens, all_faults}
-use Rattle.cl_token.proofs.Inside.{all_inside}
+use Rattle.cl_token.proofs.Inside.{all_few, all_inside}
 use Rattle.cl_token.proofs.lexer.tokens.Goals as goal
 
 pub returns-clause-all : goal.returns-clause-all
@@ -10,3 +10,6 @@ returns-clause-fault c = λ e h. all_faults c.args.source.now c.cut.result c.if-
 
 pub returns-clause-inside : goal.returns-clause-inside
 returns-clause-inside c = all_inside c.args.source.now c.cut.result c.cut.ensures
+
+pub returns-clause-few : goal.returns-clause-few
+returns-clause-few c = all_few c.args.source.now c.cut.result c.cut.ensures
