@@ -2,6 +2,8 @@
 #![tactic(auto)]
 
 pub mod terminal;
+#[cfg(test)]
+mod tests;
 pub mod tree;
 mod words;
 
