@@ -13,6 +13,7 @@ use Rattle.wg_top.specs.declared.Summary.{Summary}
 use Rattle.wg_top.specs.declared.launch_form.LaunchForm.{LaunchForm}
 use Rattle.wg_top.specs.declared.source_form.Source.{Source as FirstSource}
 use Rattle.wg_top.specs.SourceForm.{IsFirstSource}
+use Rattle.wg_top.specs.Front.{HasUnit}
 use Rattle.wg_top.specs.Items.{ItemsRan, IsFirstOutside}
 use Rattle.wg_top.specs.Causes.{Standing, Stands, SourceLoaded, RunRead, Cause, LeavesFiles, IsDone}
 use Rattle.wg_top.specs.Stages.{FormRead, LaunchCause, ProgramCause, BackCause, LeavesOthers, SaveStopped, IsOutside, IsRun}
@@ -26,13 +27,14 @@ pub form_before : (files later : Option FileMap) (launch : List ℕ) (form : Lau
 form_before files later launch form same read = subst (λ (f : Option FileMap). FormRead f launch form) same read
 
 -- what was read
-pub run_read : (files : Option FileMap) (source launch bytes held : List ℕ) (form : LaunchForm) (s : FirstSource) → SourceLoaded files source bytes → held ≡ bytes → FormRead files launch form → IsFirstSource held s → s.name ≡ form.kernel → RunRead files source launch form s
-run_read files source launch bytes held form s loaded same read is kernel = record {
+pub run_read : (files : Option FileMap) (source launch bytes held : List ℕ) (form : LaunchForm) (s : FirstSource) → SourceLoaded files source bytes → held ≡ bytes → FormRead files launch form → HasUnit held [] → IsFirstSource held s → s.name ≡ form.kernel → RunRead files source launch form s
+run_read files source launch bytes held form s loaded same read unit is kernel = record {
   source_bytes = bytes;
   source_loaded = loaded;
   launch_bytes = read.bytes;
   launch_loaded = read.loaded;
   is_launch = read.is_launch;
+  unit = subst (λ (b : List ℕ). HasUnit b []) same unit;
   is_source = subst (λ (b : List ℕ). IsFirstSource b s) same is;
   kernel = kernel;
 }
@@ -54,7 +56,7 @@ launch_cause old mid new source launch bytes _ loaded same before after c = absu
 -- a refusal of the source's bytes
 pub program_cause : (old new : Standing) (source launch bytes : List ℕ) (form : LaunchForm) (e : RunError) → FormRead old.files launch form → SourceLoaded old.files source bytes → ProgramCause bytes form e → Cause old new source launch e
 program_cause old new source launch bytes form (Source number place) read loaded c =
-    (c.0, c.1, record { form = form; source_bytes = bytes; source_loaded = loaded; launch_bytes = read.bytes; launch_loaded = read.loaded; is_launch = read.is_launch; no_form = c.2 })
+    record { form = form; source_bytes = bytes; source_loaded = loaded; launch_bytes = read.bytes; launch_loaded = read.loaded; is_launch = read.is_launch; fault = c }
 program_cause old new source launch bytes form Memory read loaded c = tt
 program_cause old new source launch bytes form _ read loaded c = absurd c
 

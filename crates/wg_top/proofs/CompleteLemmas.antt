@@ -10,9 +10,11 @@ use Rattle.wg_top.specs.declared.source_form.Source.{Source as FirstSource}
 use Rattle.wg_top.specs.Numbers.{IsNumber, decimal_from}
 use Rattle.wg_top.specs.LaunchForm.{IsFirstLaunch}
 use Rattle.wg_top.specs.SourceForm.{IsFirstSource}
+use Rattle.wg_top.specs.Front.{HasUnit}
 use Rattle.wg_top.specs.Causes.{Standing, Cause, Accepted, LacksName}
 use Rattle.wg_top.specs.Lines.{status_of}
 use Rattle.wg_top.specs.Ends.{Outside, Ends}
+use Rattle.wg_top.proofs.FrontLemmas.{refused_or_unit}
 
 -- what is loaded of a file that is told
 start_is : (files : Option FileMap) (name : List ℕ) (most : ℕ) (bytes held : List ℕ) → told_file files name ≡ Some (Some held) → HasFileStart files name most bytes → bytes ≡ take most held
@@ -62,10 +64,13 @@ pub complete : (old new : Standing) (source launch : List ℕ) (form : LaunchFor
 complete old new source launch form s Failed n all quiet is cause = absurd (quiet cause)
 complete old new source launch form s Absent n all quiet is cause = absurd (none_lacked old.files source launch form s all cause.1)
 complete old new source launch form s (Source number place) n all quiet is cause =
-    let refused = cause.2 in
+    let refused = cause in
     let same = read_form old.files source launch form refused.form s refused.launch_bytes all refused.launch_loaded refused.is_launch in
     let bytes : refused.source_bytes ≡ take 262145 all.source_bytes = start_is old.files source 262145 refused.source_bytes all.source_bytes all.source_told refused.source_loaded in
-    absurd (refused.no_form s (subst (λ (b : List ℕ). IsFirstSource b s) (sym bytes) all.is_source) (all.kernel ∙ sym same.kernel))
+    absurd (elim refused.fault [
+      | inl stands ↦ refused_or_unit refused.source_bytes [] number place stands (subst (λ (b : List ℕ). HasUnit b []) (sym bytes) all.unit)
+      | inr other ↦ other.no_form s (subst (λ (b : List ℕ). IsFirstSource b s) (sym bytes) all.is_source) (all.kernel ∙ sym same.kernel)
+    ])
 complete old new source launch form s (Launch number) n all quiet is cause =
     let refused = cause.1 in
     let bytes : refused.launch_bytes ≡ take 1048577 all.launch_bytes = start_is old.files launch 1048577 refused.launch_bytes all.launch_bytes all.launch_told refused.launch_loaded in

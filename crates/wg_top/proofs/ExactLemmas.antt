@@ -1,5 +1,5 @@
 -- Where files are told, they decide how a run ends.
-use Rattle.std.proofs.Common.{◌≡◌, ℕ, ◌*◌, ◌≤◌, List, take, true, Option, Some, None, option_map, inl, inr, refl, sym, ◌∙◌, subst, arith}
+use Rattle.std.proofs.Common.{◌≡◌, ℕ, ◌*◌, ◌≤◌, List, [], take, true, Option, Some, None, option_map, inl, inr, refl, sym, ◌∙◌, subst, arith}
 use Rattle.std.specs.Prelude.{◌⊎◌, is_some}
 use Rattle.wg_num.specs.declared.types.Place.{Place}
 use Rattle.wg_outside.specs.Counts.{Rose}
@@ -12,18 +12,20 @@ use Rattle.wg_top.specs.declared.launch_form.LaunchForm.{LaunchForm}
 use Rattle.wg_top.specs.declared.source_form.Source.{Source as FirstSource}
 use Rattle.wg_top.specs.LaunchForm.{IsFirstLaunch}
 use Rattle.wg_top.specs.SourceForm.{IsFirstSource}
+use Rattle.wg_top.specs.Front.{HasUnit}
 use Rattle.wg_top.specs.Causes.{Standing, SourceLoaded, LaunchLoaded, RunRead, LaunchRefused, SourceRefused, IsOutOfRange, Finds, Cause, IsDone}
 use Rattle.wg_top.specs.Lines.{status_of}
 use Rattle.wg_top.specs.Ends.{Outside, Ends}
 use Rattle.wg_top.proofs.CompleteLemmas.{SameForm, same_form}
 use Rattle.wg_top.proofs.EndLemmas.{status_above}
+use Rattle.wg_top.proofs.FrontLemmas.{refused_or_unit}
 
 -- how far a run comes by its files
 pub data Found (files : Option FileMap) (source launch : List ℕ) : Type 0 where
   no_source : LacksFile files source → Found files source launch
   no_launch : (bytes : List ℕ) → SourceLoaded files source bytes → LacksFile files launch → Found files source launch
   bad_launch : LaunchRefused files source launch → Found files source launch
-  bad_source : SourceRefused files source launch → Found files source launch
+  bad_source : (number : ℕ) (place : Place) → SourceRefused files source launch number place → Found files source launch
   no_buffer : (form : LaunchForm) (s : FirstSource) → RunRead files source launch form s → LacksFile files form.load → Found files source launch
   outside : (group item : ℕ) (place : Place) → IsOutOfRange files source launch group item place → Found files source launch
   fits : (form : LaunchForm) (s : FirstSource) → RunRead files source launch form s → (before : List ℕ) → StartsAs files form.size (Some form.load) before → 4 * form.global ≤ form.size → Found files source launch
@@ -33,7 +35,7 @@ status_at : (files : Option FileMap) (source launch : List ℕ) → Found files 
 status_at files source launch (no_source x) = 9
 status_at files source launch (no_launch b l x) = 9
 status_at files source launch (bad_launch x) = 4
-status_at files source launch (bad_source x) = 3
+status_at files source launch (bad_source xn xq x) = 3
 status_at files source launch (no_buffer f s r x) = 9
 status_at files source launch (outside g i p x) = 5
 status_at files source launch (fits f s r b l x) = 0
@@ -49,10 +51,14 @@ same_start fs name most bytes others a b = let e : Some bytes ≡ Some others = 
 launch_differs : (fs : FileMap) (source launch bytes : List ℕ) (form : LaunchForm) → LaunchRefused (Some fs) source launch → LaunchLoaded (Some fs) launch bytes → IsFirstLaunch bytes form → ⊥
 launch_differs fs source launch bytes form refused loaded is = refused.no_form form (subst (λ (b : List ℕ). IsFirstLaunch b form) (same_start fs launch 1048577 bytes refused.launch_bytes loaded refused.launch_loaded) is)
 
-source_differs : (fs : FileMap) (source launch : List ℕ) (form : LaunchForm) (s : FirstSource) → SourceRefused (Some fs) source launch → RunRead (Some fs) source launch form s → ⊥
-source_differs fs source launch form s refused read =
+source_differs : (fs : FileMap) (source launch : List ℕ) (number : ℕ) (place : Place) (form : LaunchForm) (s : FirstSource) → SourceRefused (Some fs) source launch number place → RunRead (Some fs) source launch form s → ⊥
+source_differs fs source launch number place form s refused read =
     let same = same_form refused.launch_bytes read.launch_bytes refused.form form (same_start fs launch 1048577 refused.launch_bytes read.launch_bytes refused.launch_loaded read.launch_loaded) refused.is_launch read.is_launch in
-    refused.no_form s (subst (λ (b : List ℕ). IsFirstSource b s) (same_start fs source 262145 read.source_bytes refused.source_bytes read.source_loaded refused.source_loaded) read.is_source) (read.kernel ∙ sym same.kernel)
+    let bytes = same_start fs source 262145 read.source_bytes refused.source_bytes read.source_loaded refused.source_loaded in
+    elim refused.fault [
+      | inl stands ↦ refused_or_unit refused.source_bytes [] number place stands (subst (λ (b : List ℕ). HasUnit b []) bytes read.unit)
+      | inr other ↦ other.no_form s (subst (λ (b : List ℕ). IsFirstSource b s) bytes read.is_source) (read.kernel ∙ sym same.kernel)
+    ]
 
 two_forms : (fs : FileMap) (source launch : List ℕ) (form other : LaunchForm) (s t : FirstSource) → RunRead (Some fs) source launch form s → RunRead (Some fs) source launch other t → SameForm form other
 two_forms fs source launch form other s t a b = same_form a.launch_bytes b.launch_bytes form other (same_start fs launch 1048577 a.launch_bytes b.launch_bytes a.launch_loaded b.launch_loaded) a.is_launch b.is_launch
@@ -73,49 +79,49 @@ unfolding status_at
 agree_on fs source launch (no_source x) (no_source y) = refl
 agree_on fs source launch (no_source x) (no_launch yb yl y) = refl
 agree_on fs source launch (no_source x) (bad_launch y) = absurd (lacks_loaded fs source 262145 _ x y.source_loaded)
-agree_on fs source launch (no_source x) (bad_source y) = absurd (lacks_loaded fs source 262145 _ x y.source_loaded)
+agree_on fs source launch (no_source x) (bad_source yn yq y) = absurd (lacks_loaded fs source 262145 _ x y.source_loaded)
 agree_on fs source launch (no_source x) (no_buffer yf ys yr y) = refl
 agree_on fs source launch (no_source x) (outside yg yi yp y) = absurd (lacks_loaded fs source 262145 _ x y.read.source_loaded)
 agree_on fs source launch (no_source x) (fits yf ys yr yb yl y) = absurd (lacks_loaded fs source 262145 _ x yr.source_loaded)
 agree_on fs source launch (no_launch xb xl x) (no_source y) = refl
 agree_on fs source launch (no_launch xb xl x) (no_launch yb yl y) = refl
 agree_on fs source launch (no_launch xb xl x) (bad_launch y) = absurd (lacks_loaded fs launch 1048577 _ x y.launch_loaded)
-agree_on fs source launch (no_launch xb xl x) (bad_source y) = absurd (lacks_loaded fs launch 1048577 _ x y.launch_loaded)
+agree_on fs source launch (no_launch xb xl x) (bad_source yn yq y) = absurd (lacks_loaded fs launch 1048577 _ x y.launch_loaded)
 agree_on fs source launch (no_launch xb xl x) (no_buffer yf ys yr y) = refl
 agree_on fs source launch (no_launch xb xl x) (outside yg yi yp y) = absurd (lacks_loaded fs launch 1048577 _ x y.read.launch_loaded)
 agree_on fs source launch (no_launch xb xl x) (fits yf ys yr yb yl y) = absurd (lacks_loaded fs launch 1048577 _ x yr.launch_loaded)
 agree_on fs source launch (bad_launch x) (no_source y) = absurd (lacks_loaded fs source 262145 _ y x.source_loaded)
 agree_on fs source launch (bad_launch x) (no_launch yb yl y) = absurd (lacks_loaded fs launch 1048577 _ y x.launch_loaded)
 agree_on fs source launch (bad_launch x) (bad_launch y) = refl
-agree_on fs source launch (bad_launch x) (bad_source y) = absurd (launch_differs fs source launch _ _ x y.launch_loaded y.is_launch)
+agree_on fs source launch (bad_launch x) (bad_source yn yq y) = absurd (launch_differs fs source launch _ _ x y.launch_loaded y.is_launch)
 agree_on fs source launch (bad_launch x) (no_buffer yf ys yr y) = absurd (launch_differs fs source launch _ _ x yr.launch_loaded yr.is_launch)
 agree_on fs source launch (bad_launch x) (outside yg yi yp y) = absurd (launch_differs fs source launch _ _ x y.read.launch_loaded y.read.is_launch)
 agree_on fs source launch (bad_launch x) (fits yf ys yr yb yl y) = absurd (launch_differs fs source launch _ _ x yr.launch_loaded yr.is_launch)
-agree_on fs source launch (bad_source x) (no_source y) = absurd (lacks_loaded fs source 262145 _ y x.source_loaded)
-agree_on fs source launch (bad_source x) (no_launch yb yl y) = absurd (lacks_loaded fs launch 1048577 _ y x.launch_loaded)
-agree_on fs source launch (bad_source x) (bad_launch y) = absurd (launch_differs fs source launch _ _ y x.launch_loaded x.is_launch)
-agree_on fs source launch (bad_source x) (bad_source y) = refl
-agree_on fs source launch (bad_source x) (no_buffer yf ys yr y) = absurd (source_differs fs source launch _ _ x yr)
-agree_on fs source launch (bad_source x) (outside yg yi yp y) = absurd (source_differs fs source launch _ _ x y.read)
-agree_on fs source launch (bad_source x) (fits yf ys yr yb yl y) = absurd (source_differs fs source launch _ _ x yr)
+agree_on fs source launch (bad_source xn xq x) (no_source y) = absurd (lacks_loaded fs source 262145 _ y x.source_loaded)
+agree_on fs source launch (bad_source xn xq x) (no_launch yb yl y) = absurd (lacks_loaded fs launch 1048577 _ y x.launch_loaded)
+agree_on fs source launch (bad_source xn xq x) (bad_launch y) = absurd (launch_differs fs source launch _ _ y x.launch_loaded x.is_launch)
+agree_on fs source launch (bad_source xn xq x) (bad_source yn yq y) = refl
+agree_on fs source launch (bad_source xn xq x) (no_buffer yf ys yr y) = absurd (source_differs fs source launch _ _ _ _ x yr)
+agree_on fs source launch (bad_source xn xq x) (outside yg yi yp y) = absurd (source_differs fs source launch _ _ _ _ x y.read)
+agree_on fs source launch (bad_source xn xq x) (fits yf ys yr yb yl y) = absurd (source_differs fs source launch _ _ _ _ x yr)
 agree_on fs source launch (no_buffer xf xs xr x) (no_source y) = refl
 agree_on fs source launch (no_buffer xf xs xr x) (no_launch yb yl y) = refl
 agree_on fs source launch (no_buffer xf xs xr x) (bad_launch y) = absurd (launch_differs fs source launch _ _ y xr.launch_loaded xr.is_launch)
-agree_on fs source launch (no_buffer xf xs xr x) (bad_source y) = absurd (source_differs fs source launch _ _ y xr)
+agree_on fs source launch (no_buffer xf xs xr x) (bad_source yn yq y) = absurd (source_differs fs source launch _ _ _ _ y xr)
 agree_on fs source launch (no_buffer xf xs xr x) (no_buffer yf ys yr y) = refl
 agree_on fs source launch (no_buffer xf xs xr x) (outside yg yi yp y) = absurd (buffer_differs fs source launch _ _ _ _ _ xr x y.read y.loaded)
 agree_on fs source launch (no_buffer xf xs xr x) (fits yf ys yr yb yl y) = absurd (buffer_differs fs source launch _ _ _ _ _ xr x yr yl)
 agree_on fs source launch (outside xg xi xp x) (no_source y) = absurd (lacks_loaded fs source 262145 _ y x.read.source_loaded)
 agree_on fs source launch (outside xg xi xp x) (no_launch yb yl y) = absurd (lacks_loaded fs launch 1048577 _ y x.read.launch_loaded)
 agree_on fs source launch (outside xg xi xp x) (bad_launch y) = absurd (launch_differs fs source launch _ _ y x.read.launch_loaded x.read.is_launch)
-agree_on fs source launch (outside xg xi xp x) (bad_source y) = absurd (source_differs fs source launch _ _ y x.read)
+agree_on fs source launch (outside xg xi xp x) (bad_source yn yq y) = absurd (source_differs fs source launch _ _ _ _ y x.read)
 agree_on fs source launch (outside xg xi xp x) (no_buffer yf ys yr y) = absurd (buffer_differs fs source launch _ _ _ _ _ yr y x.read x.loaded)
 agree_on fs source launch (outside xg xi xp x) (outside yg yi yp y) = refl
 agree_on fs source launch (outside xg xi xp x) (fits yf ys yr yb yl y) = absurd (range_differs fs source launch _ _ _ x _ _ yr y)
 agree_on fs source launch (fits xf xs xr xb xl x) (no_source y) = absurd (lacks_loaded fs source 262145 _ y xr.source_loaded)
 agree_on fs source launch (fits xf xs xr xb xl x) (no_launch yb yl y) = absurd (lacks_loaded fs launch 1048577 _ y xr.launch_loaded)
 agree_on fs source launch (fits xf xs xr xb xl x) (bad_launch y) = absurd (launch_differs fs source launch _ _ y xr.launch_loaded xr.is_launch)
-agree_on fs source launch (fits xf xs xr xb xl x) (bad_source y) = absurd (source_differs fs source launch _ _ y xr)
+agree_on fs source launch (fits xf xs xr xb xl x) (bad_source yn yq y) = absurd (source_differs fs source launch _ _ _ _ y xr)
 agree_on fs source launch (fits xf xs xr xb xl x) (no_buffer yf ys yr y) = absurd (buffer_differs fs source launch _ _ _ _ _ yr y xr xl)
 agree_on fs source launch (fits xf xs xr xb xl x) (outside yg yi yp y) = absurd (range_differs fs source launch _ _ _ y _ _ xr x)
 agree_on fs source launch (fits xf xs xr xb xl x) (fits yf ys yr yb yl y) = refl
@@ -131,7 +137,7 @@ found files source launch Absent finds = elim finds [
     | inr third ↦ (no_buffer third.0 third.1 third.2 third.3, refl)
   ]
 ]
-found files source launch (Source number place) finds = (bad_source finds.2, refl)
+found files source launch (Source number place) finds = (bad_source number place finds, refl)
 found files source launch (Launch number) finds = (bad_launch finds.1, refl)
 found files source launch (Range group item place) finds = (outside group item place finds, refl)
 found files source launch Memory finds = absurd finds

@@ -2,6 +2,7 @@ pub mod NumberLemmas
 pub mod LineLemmas
 pub mod CauseLemmas
 pub mod EndLemmas
+pub mod FrontLemmas
 pub mod CompleteLemmas
 pub mod ItemLemmas
 pub mod ValueLemmas

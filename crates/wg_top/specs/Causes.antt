@@ -1,5 +1,5 @@
 -- Why a run ends as it does.
-use Rattle.std.specs.Prelude.{◌≡◌, ◌*◌, ◌/◌, ◌<◌, ◌≤◌, ◌⊎◌, ⊤, ℕ, List, take, Option, Some}
+use Rattle.std.specs.Prelude.{◌≡◌, ◌*◌, ◌/◌, ◌<◌, ◌≤◌, ◌⊎◌, ⊤, ℕ, List, [], take, Option, Some}
 use Rattle.wg_num.specs.declared.types.Place.{Place}
 use Rattle.wg_outside.specs.Counts.{Rose}
 use Rattle.wg_outside.specs.Files.{FileMap, HasFileStart, LacksFile, HasSaved, KeepsOthers, told_file}
@@ -11,6 +11,7 @@ use Rattle.wg_top.specs.declared.launch_form.LaunchForm.{LaunchForm}
 use Rattle.wg_top.specs.declared.source_form.Source.{Source as FirstSource}
 use Rattle.wg_top.specs.LaunchForm.{IsFirstLaunch}
 use Rattle.wg_top.specs.SourceForm.{IsFirstSource}
+use Rattle.wg_top.specs.Front.{HasUnit, StandsAt}
 use Rattle.wg_top.specs.Items.{ItemsRan, IsFirstOutside}
 
 -- a store at one moment
@@ -44,13 +45,14 @@ pub record LaunchRead (files : Option FileMap) (source launch : List ℕ) (form 
   pub launch_loaded : LaunchLoaded files launch launch_bytes
   pub is_launch : IsFirstLaunch launch_bytes form
 
--- besides, the source is this, with the kernel of the launch
+-- besides, the source has a unit, and is this, with the kernel of the launch
 pub record RunRead (files : Option FileMap) (source launch : List ℕ) (form : LaunchForm) (s : FirstSource) : Type 0 where
   pub source_bytes : List ℕ
   pub source_loaded : SourceLoaded files source source_bytes
   pub launch_bytes : List ℕ
   pub launch_loaded : LaunchLoaded files launch launch_bytes
   pub is_launch : IsFirstLaunch launch_bytes form
+  pub unit : HasUnit source_bytes []
   pub is_source : IsFirstSource source_bytes s
   pub kernel : s.name ≡ form.kernel
 
@@ -62,15 +64,26 @@ pub record LaunchRefused (files : Option FileMap) (source launch : List ℕ) : T
   pub launch_loaded : LaunchLoaded files launch launch_bytes
   pub no_form : (form : LaunchForm) → IsFirstLaunch launch_bytes form → ⊥
 
--- the launch file was read, and the source is not of the first form with the kernel of the launch
-pub record SourceRefused (files : Option FileMap) (source launch : List ℕ) : Type 0 where
+-- the source has a unit, and is not of the first form with that kernel
+pub record NotBuilt (bytes kernel : List ℕ) (number : ℕ) (place : Place) : Type 0 where
+  pub number_is : number ≡ 0
+  pub place_is : place ≡ record { line = 1; column = 1 }
+  pub unit : HasUnit bytes []
+  pub no_form : (s : FirstSource) → IsFirstSource bytes s → s.name ≡ kernel → ⊥
+
+-- the condition of that number stands of the source at that place; a source without a unit comes first
+abbrev pub IsSourceFault : List ℕ → List ℕ → ℕ → Place → Type 0
+IsSourceFault bytes kernel number place = StandsAt bytes [] number place ⊎ NotBuilt bytes kernel number place
+
+-- the launch file was read, and the condition of that number stands of the source at that place
+pub record SourceRefused (files : Option FileMap) (source launch : List ℕ) (number : ℕ) (place : Place) : Type 0 where
   pub form : LaunchForm
   pub source_bytes : List ℕ
   pub source_loaded : SourceLoaded files source source_bytes
   pub launch_bytes : List ℕ
   pub launch_loaded : LaunchLoaded files launch launch_bytes
   pub is_launch : IsFirstLaunch launch_bytes form
-  pub no_form : (s : FirstSource) → IsFirstSource source_bytes s → s.name ≡ form.kernel → ⊥
+  pub fault : IsSourceFault source_bytes form.kernel number place
 
 -- where files are told, the first name that was to be loaded and is not among them is the source, or the launch file, or the buffer's file
 abbrev pub LacksName : Option FileMap → List ℕ → List ℕ → Type 0
@@ -95,7 +108,7 @@ pub record IsOutOfRange (files : Option FileMap) (source launch : List ℕ) (gro
 abbrev pub Finds : Option FileMap → List ℕ → List ℕ → RunError → Type 0
 Finds files source launch Failed = ⊥
 Finds files source launch Absent = LacksName files source launch
-Finds files source launch (Source number place) = (number ≡ 0) × (place ≡ record { line = 1; column = 1 }) × SourceRefused files source launch
+Finds files source launch (Source number place) = SourceRefused files source launch number place
 Finds files source launch (Launch number) = (number ≡ 0) × LaunchRefused files source launch
 Finds files source launch (Range group item place) = IsOutOfRange files source launch group item place
 Finds files source launch Memory = ⊥
@@ -139,7 +152,7 @@ pub record IsDone (old new : Option FileMap) (source launch : List ℕ) (summary
   pub items : summary.items ≡ form.global
   pub groups : summary.groups ≡ form.global / form.local
 
--- the store tells its files, has those that the run loads, and they are of the first forms, with a buffer that is long enough
+-- the store tells its files, has those that the run loads, the source has a unit, and they are of the first forms, with a buffer that is long enough
 pub record Accepted (files : Option FileMap) (source launch : List ℕ) (form : LaunchForm) (s : FirstSource) : Type 0 where
   pub source_bytes : List ℕ
   pub launch_bytes : List ℕ
@@ -147,6 +160,7 @@ pub record Accepted (files : Option FileMap) (source launch : List ℕ) (form : 
   pub source_told : told_file files source ≡ Some (Some source_bytes)
   pub launch_told : told_file files launch ≡ Some (Some launch_bytes)
   pub buffer_told : told_file files form.load ≡ Some (Some buffer_bytes)
+  pub unit : HasUnit (take 262145 source_bytes) []
   pub is_source : IsFirstSource (take 262145 source_bytes) s
   pub kernel : s.name ≡ form.kernel
   pub is_launch : IsFirstLaunch (take 1048577 launch_bytes) form

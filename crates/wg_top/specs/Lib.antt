@@ -1,3 +1,4 @@
+pub mod Front
 pub mod Numbers
 pub mod Fields
 pub mod LaunchForm

@@ -12,9 +12,8 @@ use Rattle.wg_top.specs.declared.Summary.{Summary}
 use Rattle.wg_top.specs.declared.launch_form.LaunchForm.{LaunchForm}
 use Rattle.wg_top.specs.declared.source_form.Source.{Source as FirstSource}
 use Rattle.wg_top.specs.LaunchForm.{IsFirstLaunch}
-use Rattle.wg_top.specs.SourceForm.{IsFirstSource}
 use Rattle.wg_top.specs.Items.{ItemsRan, IsFirstOutside}
-use Rattle.wg_top.specs.Causes.{Standing, LaunchLoaded}
+use Rattle.wg_top.specs.Causes.{Standing, LaunchLoaded, IsSourceFault}
 
 -- the launch file was loaded, and says this
 pub record FormRead (files : Option FileMap) (launch : List ℕ) (form : LaunchForm) : Type 0 where
@@ -38,7 +37,7 @@ LaunchCause old new launch _ = ⊥
 
 -- the cause of a refusal of the source's bytes
 abbrev pub ProgramCause : List ℕ → LaunchForm → RunError → Type 0
-ProgramCause bytes form (Source number place) = (number ≡ 0) × (place ≡ record { line = 1; column = 1 }) × ((s : FirstSource) → IsFirstSource bytes s → s.name ≡ form.kernel → ⊥)
+ProgramCause bytes form (Source number place) = IsSourceFault bytes form.kernel number place
 ProgramCause bytes form Memory = ⊤
 ProgramCause bytes form _ = ⊥
 

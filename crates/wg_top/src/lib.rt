@@ -16,6 +16,7 @@ use wg_num::Place;
 use wg_outside::{Failed, Sink, Store};
 
 mod fields;
+pub mod front;
 mod items;
 pub mod launch_form;
 mod lines;

@@ -1,5 +1,5 @@
 // Running a launch from its files.
-ghost use Rattle.std.specs.Prelude.{◌≡◌, ◌≤◌, ◌<◌, ◌*◌, ◌+◌, ◌^◌, ℕ, Some, Ok, Err, IfOk, IfErr, IfSome, IfNone, OnErr, OnOk, IsUtf8, length};
+ghost use Rattle.std.specs.Prelude.{◌≡◌, ◌≤◌, ◌<◌, ◌*◌, ◌+◌, ◌^◌, [], ℕ, Some, Ok, Err, IfOk, IfErr, IfSome, IfNone, OnErr, OnOk, IsUtf8, length};
 ghost use Rattle.wg_outside.specs.Counts.{Rose};
 ghost use Rattle.wg_outside.specs.Files.{HasFileStart, LacksFile};
 ghost use Rattle.wg_top.specs.Causes.{standing, Stands, Cause, LeavesFiles, IsDone};
@@ -7,14 +7,18 @@ ghost use Rattle.wg_top.specs.Stages.{FormRead, FormRefused, LaunchCause, Progra
 ghost use Rattle.wg_top.specs.Items.{ItemsRan, IsFirstOutside};
 ghost use Rattle.wg_top.specs.SourceForm.{IsFirstSource, LiteralsFit};
 ghost use Rattle.wg_top.specs.LaunchForm.{AreSizes};
+ghost use Rattle.wg_top.specs.Front.{HasUnit};
+ghost use Rattle.wg_top.specs.declared.launch_form.LaunchForm.{LaunchForm as AnyForm};
 
 use crate::fields::is_same;
+use crate::front::{SourceError, read_unit};
 use crate::items::run_items;
 use crate::launch_form::{LaunchForm, read_launch};
 use crate::source_form::{Source, read_source};
 use crate::{RunError, Summary};
 use buffer_io::{load_all, save_all};
 use cl_model::{Bound, Launch};
+use cl_prep::Defines;
 use std::alloc::Global;
 use wg_num::{Memory, Place};
 use wg_outside::{Failed, LoadError, Store};
@@ -47,12 +51,31 @@ fn load_launch<S: Store>(alloc: Global, store: &mut S, launch: &str) -> Result<L
     }
 }
 
-// The program, where the source is of the first form with the kernel of the launch.
+// Sees that the source has a unit.
+fn see_unit(alloc: Global, bytes: &[u8]) -> Result<(), RunError>
+    ensures ok { IfOk result (λ _. HasUnit bytes.now []) }
+    ensures err { IfErr result (λ e. (form : AnyForm) → ProgramCause bytes.now form e) }
+{
+    let defines = Defines {
+        list: Vec::new(alloc),
+    };
+    match read_unit(alloc, bytes, &defines) {
+        Ok(_) => Ok(()),
+        Err(SourceError::Fault { number, place }) => Err(RunError::Source { number, place }),
+        Err(SourceError::Memory) => Err(RunError::Memory),
+    }
+}
+
+// The program, where the source has a unit and is of the first form with the kernel of the launch.
 fn read_program(alloc: Global, bytes: &[u8], form: &LaunchForm) -> Result<Source, RunError>
+    ensures unit { IfOk result (λ s. HasUnit bytes.now []) }
     ensures ok { IfOk result (IsFirstSource bytes.now) }
     ensures kernel { IfOk result (λ s. s.name ≡ form.now.kernel) }
     ensures err { IfErr result (ProgramCause bytes.now form.now) }
 {
+    if let Err(error) = see_unit(alloc, bytes) {
+        return Err(error);
+    }
     match read_source(alloc, bytes) {
         Ok(Some(program)) => {
             if is_same(&program.name, &form.kernel) {
@@ -66,7 +89,7 @@ fn read_program(alloc: Global, bytes: &[u8], form: &LaunchForm) -> Result<Source
     }
 }
 
-// The refusal of a source that is not of the first form.
+// The refusal of a source that has a unit and is not of the first form.
 const NOT_BUILT: RunError = RunError::Source {
     number: 0,
     place: Place { line: 1, column: 1 },

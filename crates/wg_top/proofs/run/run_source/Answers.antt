@@ -21,7 +21,7 @@ returns-clause-ok g c =
     let old : Standing = standing g.S.Store.files g.S.Store.faults g.S.Store.misses c.args.store.now in
     let mid : Standing = standing g.S.Store.files g.S.Store.faults g.S.Store.misses c.load_launch.new.store in
     let form = form_before old.files (g.S.Store.files c.load.new.self) _ _ c.in-Ok.ensures.files_stay c.in-Ok-load_launch.ensures.ok in
-    let read = run_read old.files c.args.source.now c.args.launch.now c.in-Ok.bytes.items c.deref.result.now _ _ c.in-Ok.ensures.content c.deref.ensures.value form c.in-Ok-read_program.ensures.ok c.in-Ok-read_program.ensures.kernel in
+    let read = run_read old.files c.args.source.now c.args.launch.now c.in-Ok.bytes.items c.deref.result.now _ _ c.in-Ok.ensures.content c.deref.ensures.value form (c.in-Ok-read_program.ensures.unit) c.in-Ok-read_program.ensures.ok c.in-Ok-read_program.ensures.kernel in
     IfOk-weaker _ _ _ (λ summary run. is_done old.files mid.files _ c.args.source.now c.args.launch.now _ _ summary read (c.in-Ok-load_launch.ensures.files_stay ∙ c.in-Ok.ensures.files_stay) run) c.run_forms.ensures.ok
 
 pub returns-clause-err : goal.returns-clause-err
@@ -29,7 +29,7 @@ returns-clause-err g c =
     let old : Standing = standing g.S.Store.files g.S.Store.faults g.S.Store.misses c.args.store.now in
     let mid : Standing = standing g.S.Store.files g.S.Store.faults g.S.Store.misses c.load_launch.new.store in
     let form = form_before old.files (g.S.Store.files c.load.new.self) _ _ c.in-Ok.ensures.files_stay c.in-Ok-load_launch.ensures.ok in
-    let read = run_read old.files c.args.source.now c.args.launch.now c.in-Ok.bytes.items c.deref.result.now _ _ c.in-Ok.ensures.content c.deref.ensures.value form c.in-Ok-read_program.ensures.ok c.in-Ok-read_program.ensures.kernel in
+    let read = run_read old.files c.args.source.now c.args.launch.now c.in-Ok.bytes.items c.deref.result.now _ _ c.in-Ok.ensures.content c.deref.ensures.value form (c.in-Ok-read_program.ensures.unit) c.in-Ok-read_program.ensures.ok c.in-Ok-read_program.ensures.kernel in
     IfErr-weaker _ _ _ (λ error cause. back_cause old mid _ c.args.source.now c.args.launch.now _ _ error read (c.in-Ok-load_launch.ensures.files_stay ∙ c.in-Ok.ensures.files_stay) (stands_over old mid _ _ c.in-Ok.ensures.faults_stand c.in-Ok.ensures.misses_stand c.in-Ok-load_launch.ensures.stands.faults c.in-Ok-load_launch.ensures.stands.misses) c.run_forms.ensures.stands cause) c.run_forms.ensures.err
 
 pub returns-clause-left : goal.returns-clause-left
@@ -37,5 +37,5 @@ returns-clause-left g c =
     let old : Standing = standing g.S.Store.files g.S.Store.faults g.S.Store.misses c.args.store.now in
     let mid : Standing = standing g.S.Store.files g.S.Store.faults g.S.Store.misses c.load_launch.new.store in
     let form = form_before old.files (g.S.Store.files c.load.new.self) _ _ c.in-Ok.ensures.files_stay c.in-Ok-load_launch.ensures.ok in
-    let read = run_read old.files c.args.source.now c.args.launch.now c.in-Ok.bytes.items c.deref.result.now _ _ c.in-Ok.ensures.content c.deref.ensures.value form c.in-Ok-read_program.ensures.ok c.in-Ok-read_program.ensures.kernel in
+    let read = run_read old.files c.args.source.now c.args.launch.now c.in-Ok.bytes.items c.deref.result.now _ _ c.in-Ok.ensures.content c.deref.ensures.value form (c.in-Ok-read_program.ensures.unit) c.in-Ok-read_program.ensures.ok c.in-Ok-read_program.ensures.kernel in
     IfErr-weaker _ _ _ (λ error left. leaves_files old mid (standing g.S.Store.files g.S.Store.faults g.S.Store.misses c.run_forms.new.store) c.args.source.now c.args.launch.now _ _ error read (c.in-Ok-load_launch.ensures.files_stay ∙ c.in-Ok.ensures.files_stay) left) c.run_forms.ensures.left
