@@ -51,6 +51,18 @@ const TAB: &str = "__kernel void inc(__global int *a) {\ta[get_global_id(0)] = 1
 const RESERVED: &str =
     "__kernel void inc(__global int *clz) { clz[get_global_id(0)] = clz[get_global_id(0)] + 1; }";
 
+const NESTED: &str = "__kernel void p(__global int *a) { a[0] = ";
+
+const NO_TOKEN: &str = "__kernel void inc(__global int *a) { a[0] = @; }";
+
+const OLD_OCTAL: &str = "__kernel void inc(__global int *a) { a[0] = 08; }";
+
+const FRACTION: &str = "__kernel void inc(__global int *a) { a[0] = 1.5; }";
+
+const TOO_LARGE: &str = "__kernel void inc(__global int *a) { a[0] = 9223372036854775808; }";
+
+const NO_END: &str = "__kernel void m(__global int *a) {\n  a[0] = 1\n}";
+
 const NOT_BUILT: &str = "wgcc: k.cl:1:1: E000 form not built\n";
 
 // A run over a store and two sinks in memory, and what it is to leave.
@@ -80,7 +92,7 @@ fn run(alloc: Global, row: &Row) -> Result<Ran, Fail> {
     words.push(String::from_str(alloc, "run")?)?;
     words.push(String::from_str(alloc, "k.cl")?)?;
     words.push(String::from_str(alloc, "k.toml")?)?;
-    let mut store = MemoryStore::new(alloc, row.fail, 8, 4096)?;
+    let mut store = MemoryStore::new(alloc, row.fail, 8, 300000)?;
     store.add(alloc, "k.cl", row.source.as_bytes())?;
     store.add(alloc, "k.toml", row.launch.as_bytes())?;
     if let Some(bytes) = row.buffer {
@@ -169,7 +181,7 @@ fn runs_leave_what_the_examples_say(rt: HostRuntime) -> Result<(), Fail> {
     for row in &rows {
         assert!(rt; leaves(rt.alloc(), row)?, "{}", row.source);
     }
-    for source in [EMPTY, LITERAL, LARGE, ZERO, JOINED, TAB, RESERVED] {
+    for source in ["", EMPTY, LITERAL, LARGE, ZERO, TAB, RESERVED] {
         let row = Row {
             source,
             status: 3,
@@ -190,6 +202,106 @@ fn leaves(alloc: Global, row: &Row) -> Result<bool, Fail> {
             && ran.out.bytes() == row.out.as_bytes()
             && ran.err.bytes() == row.err.as_bytes(),
     )
+}
+
+#[test]
+fn sources_without_a_unit_are_refused_at_their_place(rt: HostRuntime) -> Result<(), Fail> {
+    let refused = Row {
+        status: 3,
+        saved: None,
+        out: "",
+        ..done_row(EMPTY)
+    };
+    let rows = [
+        (NO_TOKEN, "wgcc: k.cl:1:45: E101 no token\n"),
+        ("/* x", "wgcc: k.cl:1:1: E102 unfinished comment\n"),
+        (OLD_OCTAL, "wgcc: k.cl:1:45: E103 malformed number\n"),
+        (FRACTION, "wgcc: k.cl:1:45: E103 malformed number\n"),
+        (TOO_LARGE, "wgcc: k.cl:1:45: E104 number too large\n"),
+        (
+            "#if 1\n#endif\n",
+            "wgcc: k.cl:1:1: E201 directive not in the profile\n",
+        ),
+        (
+            "#define F(x) x\n",
+            "wgcc: k.cl:1:1: E201 directive not in the profile\n",
+        ),
+        ("#define\n", "wgcc: k.cl:1:1: E202 name missing\n"),
+        (
+            "#define A 1\n#define A 2\n",
+            "wgcc: k.cl:2:9: E203 defined twice\n",
+        ),
+        ("\n  #endif\n", "wgcc: k.cl:2:3: E204 no opening\n"),
+        (
+            "#ifdef A\n",
+            "wgcc: k.cl:1:1: E205 conditional not closed\n",
+        ),
+        (NO_END, "wgcc: k.cl:3:1: E301 syntax\n"),
+        (JOINED, "wgcc: k.cl:1:79: E301 syntax\n"),
+    ];
+    for (source, err) in rows {
+        let row = Row {
+            source,
+            err,
+            ..refused
+        };
+        assert!(rt; leaves(rt.alloc(), &row)?, "{}", row.source);
+    }
+    Ok(())
+}
+
+// Lines that define each name as two of the one before, down to `names` many, and a line with the last.
+fn doubled(alloc: Global, first: &str, names: u32) -> Result<String, Fail> {
+    let mut source = String::from_str(alloc, first)?;
+    let mut before = String::from_str(alloc, "A")?;
+    for _ in 0..names {
+        source.push_str("#define ")?;
+        source.push_str(before.as_str())?;
+        source.push_str("B ")?;
+        source.push_str(before.as_str())?;
+        source.push_str(" ")?;
+        source.push_str(before.as_str())?;
+        source.push_str("\n")?;
+        before.push_str("B")?;
+    }
+    source.push_str(before.as_str())?;
+    Ok(source)
+}
+
+// Spaces, and nested parentheses.
+fn repeated(alloc: Global, front: &str, piece: &str, times: u32) -> Result<String, Fail> {
+    let mut source = String::from_str(alloc, front)?;
+    for _ in 0..times {
+        source.push_str(piece)?;
+    }
+    Ok(source)
+}
+
+#[test]
+fn large_sources_are_refused_at_their_place(rt: HostRuntime) -> Result<(), Fail> {
+    let tokens = doubled(rt.alloc(), "#define A 1\n", 17)?;
+    let names = doubled(rt.alloc(), "#define A\n", 30)?;
+    let most = doubled(rt.alloc(), "#define A 1\n", 16)?;
+    let spaces = repeated(rt.alloc(), "", " ", 262145)?;
+    let deep = repeated(rt.alloc(), NESTED, "(", 300)?;
+    let rows = [
+        (&tokens, "wgcc: k.cl:19:1: E206 too many tokens\n"),
+        (&names, "wgcc: k.cl:32:1: E206 too many tokens\n"),
+        (&most, "wgcc: k.cl:18:1: E301 syntax\n"),
+        (&spaces, "wgcc: k.cl:1:1: E105 source too long\n"),
+        (&deep, "wgcc: k.cl:1:294: E302 nested too deep\n"),
+    ];
+    for (source, err) in rows {
+        let row = Row {
+            status: 3,
+            saved: None,
+            out: "",
+            err,
+            ..done_row(source.as_str())
+        };
+        assert!(rt; leaves(rt.alloc(), &row)?, "{}", err);
+    }
+    Ok(())
 }
 
 // A source that adds so many literals to the element.
