@@ -1,0 +1,182 @@
+//! The command line: the words that the program takes, as `clap` reads them, and what they say.
+#![tactic(auto)]
+
+ghost use Rattle.std.specs.Prelude.{◌≡◌, ◌∷◌, [], ℕ, List, map, codes, false, string_bytes, Err, Some, IfOk, IfSome, option_map};
+ghost use Rattle.clap.specs.Words.{rule_of, subcommand_of, subcommand_rows_of, first_of, rows_of, found_of};
+ghost use Rattle.command_words.specs.Command.{argument, option, number, run_app, plan_app, code_app, sample_app, bare_app, wgcc_app, IsCommandOf, TakesWords, IsNumberAt};
+
+use clap::error::ErrorKind;
+use clap::{Arg, ArgAction, ArgMatches, Command, value_parser};
+use std::alloc::{AllocError, Global};
+use thiserror::Error;
+
+// A required argument.
+fn argument<'a>(alloc: Global, name: &'a str) -> Arg<'a>
+    ensures rule { rule_of result ≡ argument name.entry.now }
+    ensures local { result.global ≡ false }
+{
+    Arg::new(alloc, name).required(true).action(ArgAction::Set)
+}
+
+// An option with a number of 64 bits.
+fn option<'a>(alloc: Global, name: &'a str) -> Arg<'a>
+    ensures rule { rule_of result ≡ option name.entry.now }
+    ensures local { result.global ≡ false }
+{
+    Arg::new(alloc, name)
+        .long(name)
+        .action(ArgAction::Set)
+        .value_parser(value_parser!(u64))
+}
+
+// A required number of 32 bits.
+fn number<'a>(alloc: Global, name: &'a str) -> Arg<'a>
+    ensures rule { rule_of result ≡ number name.entry.now }
+    ensures local { result.global ≡ false }
+{
+    Arg::new(alloc, name)
+        .required(true)
+        .action(ArgAction::Set)
+        .value_parser(value_parser!(u32))
+}
+
+fn run_command<'a>(alloc: Global) -> Result<Command<'a>, AllocError>
+    ensures { IfOk result (IsCommandOf run_app) }
+{
+    Command::new(alloc, "run")
+        .arg(argument(alloc, "SOURCE"))?
+        .arg(argument(alloc, "LAUNCH"))?
+        .arg(option(alloc, "lanes"))?
+        .arg(option(alloc, "turns"))
+}
+
+fn plan_command<'a>(alloc: Global) -> Result<Command<'a>, AllocError>
+    ensures { IfOk result (IsCommandOf plan_app) }
+{
+    Command::new(alloc, "plan")
+        .arg(argument(alloc, "SOURCE"))?
+        .arg(argument(alloc, "LAUNCH"))
+}
+
+fn code_command<'a>(alloc: Global) -> Result<Command<'a>, AllocError>
+    ensures { IfOk result (IsCommandOf code_app) }
+{
+    Command::new(alloc, "code")
+        .arg(argument(alloc, "SOURCE"))?
+        .arg(argument(alloc, "LAUNCH"))?
+        .arg(option(alloc, "lanes"))
+}
+
+fn sample_command<'a>(alloc: Global) -> Result<Command<'a>, AllocError>
+    ensures { IfOk result (IsCommandOf sample_app) }
+{
+    Command::new(alloc, "sample").arg(number(alloc, "NUMBER"))
+}
+
+fn bare_command<'a>(alloc: Global) -> Command<'a>
+    ensures { IsCommandOf bare_app result }
+{
+    Command::new(alloc, "wgcc")
+        .no_binary_name(true)
+        .disable_help_flag(true)
+        .disable_help_subcommand(true)
+        .disable_version_flag(true)
+        .subcommand_required(true)
+}
+
+fn wgcc_command<'a>(alloc: Global) -> Result<Command<'a>, AllocError>
+    ensures { IfOk result (IsCommandOf wgcc_app) }
+{
+    let run = run_command(alloc)?;
+    let plan = plan_command(alloc)?;
+    let code = code_command(alloc)?;
+    let sample = sample_command(alloc)?;
+    bare_command(alloc)
+        .subcommand(run)?
+        .subcommand(plan)?
+        .subcommand(code)?
+        .subcommand(sample)
+}
+
+/// Why words are not read.
+#[derive(Clone, Copy, PartialEq, Eq, Debug, Error)]
+pub enum WordsError {
+    /// The command does not take the words.
+    #[error("usage")]
+    Usage,
+    #[error("out of memory")]
+    Memory,
+}
+
+/// The matches of the words, where the command takes them: one of `run SOURCE LAUNCH [--lanes N]
+/// [--turns N]`, `plan SOURCE LAUNCH`, `code SOURCE LAUNCH [--lanes N]` and `sample NUMBER`, with no
+/// help and no version.
+pub fn read_words<'a>(alloc: Global, words: &'a [String]) -> Result<ArgMatches<'a>, WordsError>
+    ensures usage { result ≡ Err WordsError.Usage → TakesWords (map string_bytes words.now) → ⊥ }
+    ensures taken { IfOk result (λ _. TakesWords (map string_bytes words.now)) }
+    ensures found { IfOk result (λ m. subcommand_rows_of m ≡ subcommand_of wgcc_app (map string_bytes words.now)) }
+{
+    match wgcc_command(alloc) {
+        Err(_) => Err(WordsError::Memory),
+        Ok(command) => match command.try_get_matches_from(words) {
+            Ok(matches) => Ok(matches),
+            Err(error) => {
+                if error.kind() == ErrorKind::OutOfMemory {
+                    Err(WordsError::Memory)
+                } else {
+                    Err(WordsError::Usage)
+                }
+            }
+        },
+    }
+}
+
+/// What follows `run`, `plan` or `code`: the names of the source and of the launch file, and the
+/// numbers of the options that are given.
+#[derive(Clone, Copy)]
+pub struct FileWords<'a> {
+    pub source: &'a str,
+    pub launch: &'a str,
+    pub lanes: Option<u64>,
+    pub turns: Option<u64>,
+}
+
+// The number of an option, where there is one; `None` where its text is no number, which the
+// option's parser has ruled out.
+fn number_at(matches: &ArgMatches<'_>, id: &str) -> Option<Option<u64>>
+    ensures { IfSome result (IsNumberAt id.now (found_of matches.now)) }
+{
+    if !matches.contains_id(id) {
+        return Some(None);
+    }
+    match matches.get_one::<u64>(id) {
+        Some(number) => Some(Some(number)),
+        None => None,
+    }
+}
+
+/// The words behind `run`, `plan` or `code`, by the matches of that command. `None` is for what
+/// `clap` has ruled out: a word that is missing, or an option's text that is no number.
+pub fn file_words<'a>(matches: &ArgMatches<'a>) -> Option<FileWords<'a>>
+    ensures source { IfSome result (λ r. first_of (codes "SOURCE") (rows_of (found_of matches.now)) ≡ Some r.source.now) }
+    ensures launch { IfSome result (λ r. first_of (codes "LAUNCH") (rows_of (found_of matches.now)) ≡ Some r.launch.now) }
+    ensures lanes { IfSome result (λ r. IsNumberAt (codes "lanes") (found_of matches.now) r.lanes) }
+    ensures turns { IfSome result (λ r. IsNumberAt (codes "turns") (found_of matches.now) r.turns) }
+{
+    let source = text_at(matches, "SOURCE")?;
+    let launch = text_at(matches, "LAUNCH")?;
+    let lanes = number_at(matches, "lanes")?;
+    let turns = number_at(matches, "turns")?;
+    Some(FileWords {
+        source,
+        launch,
+        lanes,
+        turns,
+    })
+}
+
+fn text_at<'a>(matches: &ArgMatches<'a>, id: &str) -> Option<&'a str>
+    ensures { option_map (λ s. s.now) result ≡ first_of id.now (rows_of (found_of matches.now)) }
+{
+    matches.get_str(id)
+}
