@@ -1,5 +1,5 @@
 -- What a launch file is refused for, and what an accepted one says.
-use Rattle.std.specs.Prelude.{◌≡◌, ◌<◌, ◌⊎◌, ◌&&◌, ◌||◌, ◌==◌, Bool, true, false, not, nat_le, bytes_eq, ℕ, ℤ, pos, negsuc, List, [], ◌∷◌, length, Option, Some, None, is_none, unwrap_or, codes, IsUtf8, if◌then◌else◌}
+use Rattle.std.specs.Prelude.{◌≡◌, ◌<◌, ◌⊎◌, ◌&&◌, ◌||◌, ◌==◌, Bool, false, not, nat_le, bytes_eq, ℕ, ℤ, pos, negsuc, List, [], ◌∷◌, length, Option, Some, None, is_none, unwrap_or, codes, IsUtf8, if◌then◌else◌}
 use Rattle.std.specs.List.{list_any}
 use Rattle.toml.specs.Data.{Members, get_member}
 use Rattle.toml.specs.Parse.{parse_document}

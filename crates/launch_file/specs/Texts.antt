@@ -1,5 +1,5 @@
 -- What a launch file says, as plain values.
-use Rattle.std.specs.Prelude.{ℕ, ℤ, pos, List, map, Option}
+use Rattle.std.specs.Prelude.{ℕ, ℤ, List, map}
 use Rattle.wg_num.specs.Operators.{lanes_of}
 use Rattle.cl_prep.specs.declared.prep.Define.{Define}
 use Rattle.launch_file.specs.declared.text.BufferText.{BufferText}

@@ -1,5 +1,5 @@
 -- The values of a launch file by its table of keys; none where a needed key is missing or a value is of another kind.
-use Rattle.std.specs.Prelude.{◌≡◌, ◌&&◌, ◌==◌, ◌+◌, Bool, true, false, nat_le, ℕ, ℤ, pos, negsuc, List, [], ◌∷◌, length, replicate, Option, Some, None, option_and_then, option_map, unwrap_or, codes, if◌then◌else◌}
+use Rattle.std.specs.Prelude.{◌&&◌, ◌==◌, Bool, false, nat_le, ℕ, ℤ, pos, negsuc, List, [], ◌∷◌, length, replicate, Option, Some, None, option_and_then, option_map, codes, if◌then◌else◌}
 use Rattle.std.specs.List.{list_all}
 use Rattle.toml.specs.Data.{Data, Items, Members, no_items, item, no_members, member, as_array, as_integer, as_str, as_table, get_member}
 use Rattle.cl_token.specs.Bytes.{is_name_start, is_name_byte}

@@ -1,7 +1,5 @@
-use Rattle.std.proofs.Common.{rules, ◌≡◌, ℕ, Err, subst, refl, arith}
-use Rattle.launch_file.specs.Refusals as spec
+use Rattle.std.proofs.Common.{rules, ◌≡◌, ℕ, subst}
 use Rattle.launch_file.specs.Refusals.{IsRefused, no_document, in_document}
-use Rattle.launch_file.specs.declared.text.LaunchError.TheVariants.{Fault}
 use Rattle.launch_file.proofs.reader.read.Goals as goal
 
 pub returns-in-Ok-clause-refused : goal.returns-in-Ok-clause-refused

@@ -1,4 +1,4 @@
-use Rattle.std.proofs.Common.{rules, ◌≡◌, ◌∙◌, ◌++◌, ◌∷◌, [], Option, Some, option_map, List, ap, sym, string_bytes}
+use Rattle.std.proofs.Common.{rules, ◌≡◌, ◌∙◌, ◌++◌, ◌∷◌, [], Some, option_map, ap, sym, string_bytes}
 use Rattle.toml.specs.View.{view, members_view}
 use Rattle.launch_file.specs.Values.{define_of, defines_of}
 use Rattle.launch_file.proofs.Pushed.{before-pushed}
