@@ -1,8 +1,11 @@
 -- The command that `clap` reads.
 use Rattle.std.specs.Prelude.{◌≡◌, ◌^◌, ◌-◌, ℕ, List, [], ◌∷◌, ◌++◌, Option, Some, None, true, false, pos, codes}
-use Rattle.clap.specs.Words.{App, Row, Rule, Shape, Text, app_of, fault_of, matched_of, new_app, new_rule, one_text, subcommand_of, with_rule, with_subcommand}
+use Rattle.clap.specs.Words.{App, Row, Rule, Text, all_of, app_of, fault_of, first_of, matched_of, new_app, new_rule, one_of, one_text, with_rule, with_subcommand}
 use Rattle.std.specs.Str.Parse.{IsNumeral, without_leading_plus, digits_value}
 use Rattle.clap.specs.declared.parser.matches.Found.{Found}
+use Rattle.command_words.specs.declared.FileWords.{FileWords}
+use Rattle.command_words.specs.declared.Words.{Words}
+use Rattle.command_words.specs.declared.Words.TheVariants.{Run, Plan, Code, Sample}
 use Rattle.clap.specs.declared.builder.action.ArgAction.TheVariants.{Set}
 use Rattle.clap.specs.declared.builder.command.Command.{Command}
 use Rattle.clap.specs.declared.builder.command.Command.TheViews.{out-Command}
@@ -61,7 +64,31 @@ pub record IsCommandOf (app : App) (command : Command) : Type 0 where
 abbrev pub TakesWords : List Text → Type 0
 TakesWords words = fault_of wgcc_app words ≡ []
 
--- the number at an option, where it has a text, which is its numeral
-abbrev pub IsNumberAt : Text → Found → Option ℕ → Type 0
-IsNumberAt id found None = matched_of found id ≡ None
-IsNumberAt id found (Some n) = (text : Text) × (one_text found id ≡ Some text) × IsNumeral 10 (without_leading_plus text) × (digits_value 10 (without_leading_plus text) ≡ n)
+-- the number at an option, by what was found: none where it is not given, and else the one whose numeral its text is
+abbrev pub IsNumberFound : Text → Found → Option ℕ → Type 0
+IsNumberFound id found None = matched_of found id ≡ None
+IsNumberFound id found (Some n) = (text : Text) × (one_text found id ≡ Some text) × IsNumeral 10 (without_leading_plus text) × (digits_value 10 (without_leading_plus text) ≡ n)
+
+-- the number at an option, by the rows of a command: none where it is not given, and else the one whose numeral its text is
+abbrev pub IsNumberAt : Text → List Row → Option ℕ → Type 0
+IsNumberAt id rows None = all_of id rows ≡ None
+IsNumberAt id rows (Some n) = (text : Text) × (one_of id rows ≡ Some text) × IsNumeral 10 (without_leading_plus text) × (digits_value 10 (without_leading_plus text) ≡ n)
+
+-- the rows name these files and give these numbers
+pub record NamesFiles (rows : List Row) (files : FileWords) : Type 0 where
+  pub source : first_of (codes "SOURCE") rows ≡ Some files.source.now
+  pub launch : first_of (codes "LAUNCH") rows ≡ Some files.launch.now
+  pub lanes : IsNumberAt (codes "lanes") rows files.lanes
+  pub turns : IsNumberAt (codes "turns") rows files.turns
+
+-- a command by its name and its rows
+abbrev pub IsAsked : Text → List Row → Words → Type 0
+IsAsked name rows (Run files) = (name ≡ codes "run") × NamesFiles rows files
+IsAsked name rows (Plan files) = (name ≡ codes "plan") × NamesFiles rows files
+IsAsked name rows (Code files) = (name ≡ codes "code") × NamesFiles rows files
+IsAsked name rows (Sample n) = (name ≡ codes "sample") × IsNumberAt (codes "NUMBER") rows (Some n)
+
+-- a command was named, and it is this one
+abbrev pub Asks : Option (Text × List Row) → Words → Type 0
+Asks None words = ⊥
+Asks (Some command) words = IsAsked command.0 command.1 words

@@ -3,7 +3,7 @@
 
 ghost use Rattle.std.specs.Prelude.{◌≡◌, ◌∷◌, [], ℕ, List, map, codes, false, string_bytes, Err, Some, IfOk, IfSome, option_map};
 ghost use Rattle.clap.specs.Words.{rule_of, subcommand_of, subcommand_rows_of, first_of, rows_of, found_of};
-ghost use Rattle.command_words.specs.Command.{argument, option, number, run_app, plan_app, code_app, sample_app, bare_app, wgcc_app, IsCommandOf, TakesWords, IsNumberAt};
+ghost use Rattle.command_words.specs.Command.{argument, option, number, run_app, plan_app, code_app, sample_app, bare_app, wgcc_app, IsCommandOf, TakesWords, IsNumberFound, IsNumberAt, NamesFiles, IsAsked, Asks};
 
 use clap::error::ErrorKind;
 use clap::{Arg, ArgAction, ArgMatches, Command, value_parser};
@@ -108,10 +108,27 @@ pub enum WordsError {
     Memory,
 }
 
-/// The matches of the words, where the command takes them: one of `run SOURCE LAUNCH [--lanes N]
-/// [--turns N]`, `plan SOURCE LAUNCH`, `code SOURCE LAUNCH [--lanes N]` and `sample NUMBER`, with no
-/// help and no version.
-pub fn read_words<'a>(alloc: Global, words: &'a [String]) -> Result<ArgMatches<'a>, WordsError>
+/// The names of the source and of the launch file, and the numbers of the options that are given.
+pub struct FileWords<'a> {
+    pub source: &'a str,
+    pub launch: &'a str,
+    pub lanes: Option<u64>,
+    pub turns: Option<u64>,
+}
+
+/// What the words ask for.
+pub enum Words<'a> {
+    /// `run SOURCE LAUNCH [--lanes N] [--turns N]`
+    Run(FileWords<'a>),
+    /// `plan SOURCE LAUNCH`
+    Plan(FileWords<'a>),
+    /// `code SOURCE LAUNCH [--lanes N]`
+    Code(FileWords<'a>),
+    /// `sample NUMBER`
+    Sample(u32),
+}
+
+fn matches_of<'a>(alloc: Global, words: &'a [String]) -> Result<ArgMatches<'a>, WordsError>
     ensures usage { result ≡ Err WordsError.Usage → TakesWords (map string_bytes words.now) → ⊥ }
     ensures taken { IfOk result (λ _. TakesWords (map string_bytes words.now)) }
     ensures found { IfOk result (λ m. subcommand_rows_of m ≡ subcommand_of wgcc_app (map string_bytes words.now)) }
@@ -131,20 +148,10 @@ pub fn read_words<'a>(alloc: Global, words: &'a [String]) -> Result<ArgMatches<'
     }
 }
 
-/// What follows `run`, `plan` or `code`: the names of the source and of the launch file, and the
-/// numbers of the options that are given.
-#[derive(Clone, Copy)]
-pub struct FileWords<'a> {
-    pub source: &'a str,
-    pub launch: &'a str,
-    pub lanes: Option<u64>,
-    pub turns: Option<u64>,
-}
-
-// The number of an option, where there is one; `None` where its text is no number, which the
+// The number of an option, where it is given; `None` where its text is no number, which the
 // option's parser has ruled out.
-fn number_at(matches: &ArgMatches<'_>, id: &str) -> Option<Option<u64>>
-    ensures { IfSome result (IsNumberAt id.now (found_of matches.now)) }
+fn number_found(matches: &ArgMatches<'_>, id: &str) -> Option<Option<u64>>
+    ensures { IfSome result (IsNumberFound id.now (found_of matches.now)) }
 {
     if !matches.contains_id(id) {
         return Some(None);
@@ -155,13 +162,36 @@ fn number_at(matches: &ArgMatches<'_>, id: &str) -> Option<Option<u64>>
     }
 }
 
-/// The words behind `run`, `plan` or `code`, by the matches of that command. `None` is for what
-/// `clap` has ruled out: a word that is missing, or an option's text that is no number.
-pub fn file_words<'a>(matches: &ArgMatches<'a>) -> Option<FileWords<'a>>
-    ensures source { IfSome result (λ r. first_of (codes "SOURCE") (rows_of (found_of matches.now)) ≡ Some r.source.now) }
-    ensures launch { IfSome result (λ r. first_of (codes "LAUNCH") (rows_of (found_of matches.now)) ≡ Some r.launch.now) }
-    ensures lanes { IfSome result (λ r. IsNumberAt (codes "lanes") (found_of matches.now) r.lanes) }
-    ensures turns { IfSome result (λ r. IsNumberAt (codes "turns") (found_of matches.now) r.turns) }
+fn number_at(matches: &ArgMatches<'_>, id: &str) -> Option<Option<u64>>
+    ensures { IfSome result (IsNumberAt id.now (rows_of (found_of matches.now))) }
+{
+    number_found(matches, id)
+}
+
+// The number of an argument that is needed.
+fn needed_number_found(matches: &ArgMatches<'_>, id: &str) -> Option<u32>
+    ensures { IfSome result (λ n. IsNumberFound id.now (found_of matches.now) (Some n)) }
+{
+    match matches.get_one::<u32>(id) {
+        Some(number) => Some(number),
+        None => None,
+    }
+}
+
+fn needed_number_at(matches: &ArgMatches<'_>, id: &str) -> Option<u32>
+    ensures { IfSome result (λ n. IsNumberAt id.now (rows_of (found_of matches.now)) (Some n)) }
+{
+    needed_number_found(matches, id)
+}
+
+fn text_at<'a>(matches: &ArgMatches<'a>, id: &str) -> Option<&'a str>
+    ensures { option_map (λ s. s.now) result ≡ first_of id.now (rows_of (found_of matches.now)) }
+{
+    matches.get_str(id)
+}
+
+fn file_words<'a>(matches: &ArgMatches<'a>) -> Option<FileWords<'a>>
+    ensures { IfSome result (NamesFiles (rows_of (found_of matches.now))) }
 {
     let source = text_at(matches, "SOURCE")?;
     let launch = text_at(matches, "LAUNCH")?;
@@ -175,8 +205,57 @@ pub fn file_words<'a>(matches: &ArgMatches<'a>) -> Option<FileWords<'a>>
     })
 }
 
-fn text_at<'a>(matches: &ArgMatches<'a>, id: &str) -> Option<&'a str>
-    ensures { option_map (λ s. s.now) result ≡ first_of id.now (rows_of (found_of matches.now)) }
+fn command_of<'a>(name: &str, matches: &ArgMatches<'a>) -> Option<Words<'a>>
+    ensures { IfSome result (IsAsked name.now (rows_of (found_of matches.now))) }
 {
-    matches.get_str(id)
+    if name == "run" {
+        return match file_words(matches) {
+            Some(files) => Some(Words::Run(files)),
+            None => None,
+        };
+    }
+    if name == "plan" {
+        return match file_words(matches) {
+            Some(files) => Some(Words::Plan(files)),
+            None => None,
+        };
+    }
+    if name == "code" {
+        return match file_words(matches) {
+            Some(files) => Some(Words::Code(files)),
+            None => None,
+        };
+    }
+    if name == "sample" {
+        return match needed_number_at(matches, "NUMBER") {
+            Some(number) => Some(Words::Sample(number)),
+            None => None,
+        };
+    }
+    None
+}
+
+fn words_of<'a>(matches: &ArgMatches<'a>) -> Option<Words<'a>>
+    ensures { IfSome result (Asks (subcommand_rows_of matches.now)) }
+{
+    match matches.subcommand() {
+        Some((name, found)) => command_of(name, found),
+        None => None,
+    }
+}
+
+/// What the words ask for. `Usage` comes exactly where the command, as `clap` defines it, does not
+/// take them. Help and version are not offered.
+pub fn read_words<'a>(alloc: Global, words: &'a [String]) -> Result<Words<'a>, WordsError>
+    ensures usage { result ≡ Err WordsError.Usage → TakesWords (map string_bytes words.now) → ⊥ }
+    ensures taken { IfOk result (λ _. TakesWords (map string_bytes words.now)) }
+    ensures asked { IfOk result (Asks (subcommand_of wgcc_app (map string_bytes words.now))) }
+{
+    match matches_of(alloc, words) {
+        Ok(matches) => match words_of(&matches) {
+            Some(asked) => Ok(asked),
+            None => Err(WordsError::Memory),
+        },
+        Err(error) => Err(error),
+    }
 }
