@@ -10,6 +10,9 @@ use clap::{Arg, ArgAction, ArgMatches, Command, value_parser};
 use std::alloc::{AllocError, Global};
 use thiserror::Error;
 
+#[cfg(test)]
+mod tests;
+
 // A required argument.
 fn argument<'a>(alloc: Global, name: &'a str) -> Arg<'a>
     ensures rule { rule_of result ≡ argument name.entry.now }
@@ -109,6 +112,7 @@ pub enum WordsError {
 }
 
 /// The names of the source and of the launch file, and the numbers of the options that are given.
+#[derive(Clone, Copy)]
 pub struct FileWords<'a> {
     pub source: &'a str,
     pub launch: &'a str,
@@ -117,6 +121,7 @@ pub struct FileWords<'a> {
 }
 
 /// What the words ask for.
+#[derive(Clone, Copy)]
 pub enum Words<'a> {
     /// `run SOURCE LAUNCH [--lanes N] [--turns N]`
     Run(FileWords<'a>),
