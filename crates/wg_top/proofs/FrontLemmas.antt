@@ -114,7 +114,7 @@ one_expansion : (tokens : List Token) (defines : List Define) (a b : List Token)
 one_expansion tokens defines a b h k =
     one_out (start_state tokens h.names) a b h.ends (subst (λ (n : Names). Ends (start_state tokens n) b) (names_are _ k.names h.names k.begun h.begun) k.ends)
 
-one_reading : (source : List ℕ) (defines : List Define) (tokens others a b : List Token) → Reads source defines tokens a → Reads source defines others b → a ≡ b
+pub one_reading : (source : List ℕ) (defines : List Define) (tokens others a b : List Token) → Reads source defines tokens a → Reads source defines others b → a ≡ b
 one_reading source defines tokens others a b h k =
     one_expansion tokens defines a b h.expands (subst (λ (ts : List Token). Expands ts defines b) (one_cut source others tokens k.cuts h.cuts) k.expands)
 

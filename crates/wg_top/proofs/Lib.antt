@@ -9,6 +9,6 @@ pub mod ValueLemmas
 pub mod NameLemmas
 pub mod LiteralLemmas
 pub mod TextLemmas
-pub mod TokenLemmas
 pub mod ReaderLemmas
+pub mod FormLemmas
 pub mod ExactLemmas

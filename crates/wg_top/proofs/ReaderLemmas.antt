@@ -16,8 +16,9 @@ use Rattle.wg_top.specs.declared.source_form.Operand.{Operand}
 use Rattle.wg_top.specs.declared.source_form.Operand.TheVariants.{Literal, Element}
 use Rattle.wg_top.specs.declared.source_form.Part.{Part}
 use Rattle.wg_top.specs.declared.source_form.Source.{Source}
-use Rattle.wg_top.specs.SourceTokens.{SpelledToken, tokens_from, texts_of, start_of}
-use Rattle.wg_top.specs.SourceForm.{join_token, operand_tokens, part_tokens, head_tokens, end_tokens, rest_tokens, is_free_name, LiteralFits, LiteralsFit, access_token, place_at, IsFirstSource}
+use Rattle.cl_token.specs.declared.token.Token.{Token}
+use Rattle.wg_top.specs.Front.{place_of_token}
+use Rattle.wg_top.specs.SourceForm.{join_token, operand_tokens, part_tokens, head_tokens, end_tokens, rest_tokens, is_free_name, LiteralFits, LiteralsFit, access_token, texts_of, AreFirstTokens}
 
 -- both of two tests
 both : (x y : Bool) → (x && y) ≡ true → (x ≡ true) × (y ≡ true)
@@ -144,14 +145,6 @@ all_fit so_far more part f g e = subst (λ (l : List Part). All (λ x. LiteralFi
 pub one_longer : (so_far more : List Part) (part : Part) (n : ℕ) → length so_far ≡ n → more ≡ so_far ++ part ∷ [] → length more ≡ n + 1
 one_longer so_far more part n is e = let long : length more ≡ length so_far + 1 = ap length e ∙ length-append so_far (part ∷ []) in omega arith
 
--- the texts of the tokens
-seconds : {A : Type 0} (start : A → ℕ) (text : A → List ℕ) (tokens : List A) → map text tokens ≡ map (λ (t : SpelledToken). t.1) (map (λ t. (start t, text t)) tokens)
-seconds start text [] = refl
-seconds start text (t ∷ ts) = ap (λ l. text t ∷ l) (seconds start text ts)
-
-pub texts_are : {A : Type 0} (start : A → ℕ) (text : A → List ℕ) (tokens : List A) (bytes : List ℕ) → map (λ t. (start t, text t)) tokens ≡ tokens_from 0 bytes → map text tokens ≡ texts_of bytes
-texts_are start text tokens bytes e = seconds start text tokens ∙ ap (map (λ (t : SpelledToken). t.1)) e
-
 -- the head of a source
 pub record SameHead (n m p q : List ℕ) (r t : List (List ℕ)) : Type 0 where
   pub name : n ≡ m
@@ -162,46 +155,45 @@ pub unique_head : (n m p q : List ℕ) (r t : List (List ℕ)) → head_tokens n
 unique_head n m p q r t e = record { name = cc; param = cc; behind = cc }
 
 -- what is left of a source behind its head
-pub head_of : (bytes : List ℕ) (s : Source) (texts r : List (List ℕ)) (n p : List ℕ) → texts ≡ texts_of bytes → IsFirstSource bytes s → texts ≡ head_tokens n p ++ r → SameHead n s.name p s.param r (operand_tokens s.param s.first ++ rest_tokens s.param s.rest.items)
-head_of bytes s texts r n p texts_is is read = unique_head n s.name p s.param r (operand_tokens s.param s.first ++ rest_tokens s.param s.rest.items) (sym read ∙ (texts_is ∙ is.spelled))
+pub head_of : (bytes : List ℕ) (tokens : List Token) (s : Source) (texts r : List (List ℕ)) (n p : List ℕ) → texts ≡ texts_of tokens → AreFirstTokens bytes tokens s → texts ≡ head_tokens n p ++ r → SameHead n s.name p s.param r (operand_tokens s.param s.first ++ rest_tokens s.param s.rest.items)
+head_of bytes tokens s texts r n p texts_is is read = unique_head n s.name p s.param r (operand_tokens s.param s.first ++ rest_tokens s.param s.rest.items) (sym read ∙ (texts_is ∙ is.spelled))
 
-pub no_head : (bytes : List ℕ) (s : Source) (texts : List (List ℕ)) → texts ≡ texts_of bytes → ((name param : List ℕ) (r : List (List ℕ)) → texts ≡ head_tokens name param ++ r → ⊥) → IsFirstSource bytes s → ⊥
-no_head bytes s texts texts_is none is = none s.name s.param (operand_tokens s.param s.first ++ rest_tokens s.param s.rest.items) (texts_is ∙ is.spelled)
+pub no_head : (bytes : List ℕ) (tokens : List Token) (s : Source) (texts : List (List ℕ)) → texts ≡ texts_of tokens → ((name param : List ℕ) (r : List (List ℕ)) → texts ≡ head_tokens name param ++ r → ⊥) → AreFirstTokens bytes tokens s → ⊥
+no_head bytes tokens s texts texts_is none is = none s.name s.param (operand_tokens s.param s.first ++ rest_tokens s.param s.rest.items) (texts_is ∙ is.spelled)
 
-pub no_name : (bytes : List ℕ) (s : Source) (texts r : List (List ℕ)) (n p : List ℕ) → texts ≡ texts_of bytes → texts ≡ head_tokens n p ++ r → is_free_name n ≡ false → IsFirstSource bytes s → ⊥
-no_name bytes s texts r n p texts_is read taken is =
-    let head = head_of bytes s texts r n p texts_is is read in
+pub no_name : (bytes : List ℕ) (tokens : List Token) (s : Source) (texts r : List (List ℕ)) (n p : List ℕ) → texts ≡ texts_of tokens → texts ≡ head_tokens n p ++ r → is_free_name n ≡ false → AreFirstTokens bytes tokens s → ⊥
+no_name bytes tokens s texts r n p texts_is read taken is =
+    let head = head_of bytes tokens s texts r n p texts_is is read in
     let free : is_free_name n ≡ true = ap is_free_name head.name ∙ is.name in
     cc
 
-pub no_param : (bytes : List ℕ) (s : Source) (texts r : List (List ℕ)) (n p : List ℕ) → texts ≡ texts_of bytes → texts ≡ head_tokens n p ++ r → is_free_name p ≡ false → IsFirstSource bytes s → ⊥
-no_param bytes s texts r n p texts_is read taken is =
-    let head = head_of bytes s texts r n p texts_is is read in
+pub no_param : (bytes : List ℕ) (tokens : List Token) (s : Source) (texts r : List (List ℕ)) (n p : List ℕ) → texts ≡ texts_of tokens → texts ≡ head_tokens n p ++ r → is_free_name p ≡ false → AreFirstTokens bytes tokens s → ⊥
+no_param bytes tokens s texts r n p texts_is read taken is =
+    let head = head_of bytes tokens s texts r n p texts_is is read in
     let free : is_free_name p ≡ true = ap is_free_name head.param ∙ is.param in
     cc
 
 -- what is left behind the head, with the parameter's name as it was read
-behind_head : (bytes : List ℕ) (s : Source) (texts r : List (List ℕ)) (n p : List ℕ) → texts ≡ texts_of bytes → texts ≡ head_tokens n p ++ r → IsFirstSource bytes s → r ≡ operand_tokens p s.first ++ rest_tokens p s.rest.items
-behind_head bytes s texts r n p texts_is read is =
-    let head = head_of bytes s texts r n p texts_is is read in
+behind_head : (bytes : List ℕ) (tokens : List Token) (s : Source) (texts r : List (List ℕ)) (n p : List ℕ) → texts ≡ texts_of tokens → texts ≡ head_tokens n p ++ r → AreFirstTokens bytes tokens s → r ≡ operand_tokens p s.first ++ rest_tokens p s.rest.items
+behind_head bytes tokens s texts r n p texts_is read is =
+    let head = head_of bytes tokens s texts r n p texts_is is read in
     head.behind ∙ ap (λ q. operand_tokens q s.first ++ rest_tokens q s.rest.items) (sym head.param)
 
-pub no_operand : (bytes : List ℕ) (s : Source) (texts r : List (List ℕ)) (n p : List ℕ) → texts ≡ texts_of bytes → texts ≡ head_tokens n p ++ r → ((o : Operand) (t : List (List ℕ)) → LiteralFits o → r ≡ operand_tokens p o ++ t → ⊥) → IsFirstSource bytes s → ⊥
-no_operand bytes s texts r n p texts_is read none is = none s.first (rest_tokens p s.rest.items) is.literals.0 (behind_head bytes s texts r n p texts_is read is)
+pub no_operand : (bytes : List ℕ) (tokens : List Token) (s : Source) (texts r : List (List ℕ)) (n p : List ℕ) → texts ≡ texts_of tokens → texts ≡ head_tokens n p ++ r → ((o : Operand) (t : List (List ℕ)) → LiteralFits o → r ≡ operand_tokens p o ++ t → ⊥) → AreFirstTokens bytes tokens s → ⊥
+no_operand bytes tokens s texts r n p texts_is read none is = none s.first (rest_tokens p s.rest.items) is.literals.0 (behind_head bytes tokens s texts r n p texts_is read is)
 
-pub no_rest : (bytes : List ℕ) (s : Source) (texts r t : List (List ℕ)) (n p : List ℕ) (o : Operand) → texts ≡ texts_of bytes → texts ≡ head_tokens n p ++ r → is_free_name p ≡ true → LiteralFits o → r ≡ operand_tokens p o ++ t → ((parts : List Part) → All (λ part. LiteralFits part.operand) parts → length parts < 64 → t ≡ rest_tokens p parts → ⊥) → IsFirstSource bytes s → ⊥
-no_rest bytes s texts r t n p o texts_is read free fits operand none is =
-    let front = unique_operand p o s.first t (rest_tokens p s.rest.items) free fits is.literals.0 (sym operand ∙ behind_head bytes s texts r n p texts_is read is) in
+pub no_rest : (bytes : List ℕ) (tokens : List Token) (s : Source) (texts r t : List (List ℕ)) (n p : List ℕ) (o : Operand) → texts ≡ texts_of tokens → texts ≡ head_tokens n p ++ r → is_free_name p ≡ true → LiteralFits o → r ≡ operand_tokens p o ++ t → ((parts : List Part) → All (λ part. LiteralFits part.operand) parts → length parts < 64 → t ≡ rest_tokens p parts → ⊥) → AreFirstTokens bytes tokens s → ⊥
+no_rest bytes tokens s texts r t n p o texts_is read free fits operand none is =
+    let front = unique_operand p o s.first t (rest_tokens p s.rest.items) free fits is.literals.0 (sym operand ∙ behind_head bytes tokens s texts r n p texts_is read is) in
     none s.rest.items is.literals.1 is.count front.behind
 
 -- the whole source
-pub spelled_is : (bytes : List ℕ) (texts r t : List (List ℕ)) (n p : List ℕ) (o : Operand) (parts : List Part) → texts ≡ texts_of bytes → texts ≡ head_tokens n p ++ r → r ≡ operand_tokens p o ++ t → t ≡ rest_tokens p parts → texts_of bytes ≡ head_tokens n p ++ (operand_tokens p o ++ rest_tokens p parts)
-spelled_is bytes texts r t n p o parts texts_is read operand rest = sym texts_is ∙ (read ∙ ap (λ l. head_tokens n p ++ l) (operand ∙ ap (λ l. operand_tokens p o ++ l) rest))
+pub spelled_is : (bytes : List ℕ) (tokens : List Token) (texts r t : List (List ℕ)) (n p : List ℕ) (o : Operand) (parts : List Part) → texts ≡ texts_of tokens → texts ≡ head_tokens n p ++ r → r ≡ operand_tokens p o ++ t → t ≡ rest_tokens p parts → texts_of tokens ≡ head_tokens n p ++ (operand_tokens p o ++ rest_tokens p parts)
+spelled_is bytes tokens texts r t n p o parts texts_is read operand rest = sym texts_is ∙ (read ∙ ap (λ l. head_tokens n p ++ l) (operand ∙ ap (λ l. operand_tokens p o ++ l) rest))
 
 -- a source that was read
-pub is_first : (bytes : List ℕ) (s : Source) (n p : List ℕ) → length bytes ≤ 262144 → texts_of bytes ≡ head_tokens n p ++ (operand_tokens p s.first ++ rest_tokens p s.rest.items) → s.name ≡ n → s.param ≡ p → is_free_name n ≡ true → is_free_name p ≡ true → length s.rest.items < 64 → LiteralsFit s → s.place ≡ place_at bytes (start_of bytes (access_token s)) → IsFirstSource bytes s
-is_first bytes s n p short spelled name param n_free p_free count literals place = record {
-  short = short;
+pub is_first : (bytes : List ℕ) (tokens : List Token) (s : Source) (n p : List ℕ) → texts_of tokens ≡ head_tokens n p ++ (operand_tokens p s.first ++ rest_tokens p s.rest.items) → s.name ≡ n → s.param ≡ p → is_free_name n ≡ true → is_free_name p ≡ true → length s.rest.items < 64 → LiteralsFit s → s.place ≡ place_of_token bytes tokens (access_token s) → AreFirstTokens bytes tokens s
+is_first bytes tokens s n p spelled name param n_free p_free count literals place = record {
   spelled = spelled ∙ (ap (λ x. head_tokens x p ++ (operand_tokens p s.first ++ rest_tokens p s.rest.items)) (sym name) ∙ ap (λ x. head_tokens s.name x ++ (operand_tokens x s.first ++ rest_tokens x s.rest.items)) (sym param));
   name = ap is_free_name name ∙ n_free;
   param = ap is_free_name param ∙ p_free;

@@ -1,5 +1,5 @@
 -- What a source is before its kernels are looked at: its tokens, what they expand to, and the unit that those spell.
-use Rattle.std.specs.Prelude.{◌≡◌, ◌<◌, ◌≤◌, ◌⊎◌, ⊤, ℕ, List, [], ◌∷◌, length, drop}
+use Rattle.std.specs.Prelude.{◌≡◌, ◌<◌, ◌≤◌, ⊤, ℕ, List, [], ◌∷◌, length, drop}
 use Rattle.wg_num.specs.declared.types.Place.{Place}
 use Rattle.cl_token.specs.declared.token.Token.{Token}
 use Rattle.cl_token.specs.declared.token.LexError.{LexError}
@@ -21,6 +21,10 @@ pub record Reads (source : List ℕ) (defines : List Define) (tokens expanded : 
   pub short : length source ≤ limit
   pub cuts : Cuts source tokens
   pub expands : Expands tokens defines expanded
+
+-- these are the expanded tokens of a source
+abbrev pub AreExpanded : List ℕ → List Define → List Token → Type 0
+AreExpanded source defines expanded = (tokens : List Token) × Reads source defines tokens expanded
 
 -- The unit of a source: what its expanded tokens spell.
 pub record IsUnitOf (source : List ℕ) (defines : List Define) (unit : Syntax) : Type 0 where

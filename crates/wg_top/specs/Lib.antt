@@ -2,7 +2,6 @@ pub mod Front
 pub mod Numbers
 pub mod Fields
 pub mod LaunchForm
-pub mod SourceTokens
 pub mod SourceForm
 pub mod Items
 pub mod Lines

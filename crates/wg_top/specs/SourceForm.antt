@@ -1,12 +1,12 @@
 -- The first form of a source, and what its items do.
-use Rattle.std.specs.Prelude.{◌≡◌, ◌^◌, ◌<◌, ◌≤◌, ◌+◌, ℕ, ℤ, pos, Bool, true, false, ◌&&◌, nat_le, nat_lt, nat_eq, not, bytes_eq, List, [], ◌∷◌, ◌++◌, map, length, take, decimal, codes, All, if◌then◌else◌}
+use Rattle.std.specs.Prelude.{◌≡◌, ◌^◌, ◌<◌, ◌+◌, ℕ, ℤ, pos, Bool, true, false, ◌&&◌, nat_le, nat_lt, not, bytes_eq, List, [], ◌∷◌, ◌++◌, map, length, decimal, codes, All, if◌then◌else◌}
 use Rattle.std.specs.List.{flat_map, list_all, list_any}
 use Rattle.wg_num.specs.declared.types.Bin.{Bin}
 use Rattle.wg_num.specs.declared.types.Bin.TheVariants.{Add, Sub, Mul}
 use Rattle.wg_num.specs.declared.types.IntType.TheVariants.{Int}
-use Rattle.wg_num.specs.declared.types.Place.{Place}
 use Rattle.wg_num.specs.Operators.{binary_of}
-use Rattle.wg_top.specs.SourceTokens.{texts_of, start_of}
+use Rattle.cl_token.specs.declared.token.Token.{Token}
+use Rattle.wg_top.specs.Front.{Reads, place_of_token}
 use Rattle.wg_top.specs.declared.source_form.Join.{Join}
 use Rattle.wg_top.specs.declared.source_form.Join.TheVariants.{Plus, Minus, Times}
 use Rattle.wg_top.specs.declared.source_form.Operand.{Operand}
@@ -81,24 +81,25 @@ access_from k (Literal n ∷ operands) = access_from (k + 2) operands
 abbrev pub access_token : Source → ℕ
 access_token s = access_from 18 (s.first ∷ map (λ part. part.operand) s.rest.items)
 
--- the line and the column behind these bytes, where lines end at a line feed
-abbrev pub place_behind : ℕ → ℕ → List ℕ → Place
-place_behind line column [] = record { line = line; column = column }
-place_behind line column (b ∷ bs) = if nat_eq b 10 then place_behind (line + 1) 1 bs else place_behind line (column + 1) bs
+-- the bytes of each token
+abbrev pub texts_of : List Token → List (List ℕ)
+texts_of tokens = map (λ t. t.word) tokens
 
--- the place of the byte with that number, both counted from 1
-abbrev pub place_at : List ℕ → ℕ → Place
-place_at bytes at = place_behind 1 1 (take at bytes)
-
--- a source of the first form
-pub record IsFirstSource (bytes : List ℕ) (s : Source) : Type 0 where
-  pub short : length bytes ≤ 262144
-  pub spelled : texts_of bytes ≡ source_tokens s
+-- These tokens of a source are of the first form.
+pub record AreFirstTokens (bytes : List ℕ) (tokens : List Token) (s : Source) : Type 0 where
+  pub spelled : texts_of tokens ≡ source_tokens s
   pub name : is_free_name s.name ≡ true
   pub param : is_free_name s.param ≡ true
   pub count : length s.rest.items < 64
   pub literals : LiteralsFit s
-  pub place : s.place ≡ place_at bytes (start_of bytes (access_token s))
+  pub place : s.place ≡ place_of_token bytes tokens (access_token s)
+
+-- a source of the first form: what its tokens expand to is
+pub record IsFirstSource (bytes : List ℕ) (s : Source) : Type 0 where
+  pub tokens : List Token
+  pub expanded : List Token
+  pub reads : Reads bytes [] tokens expanded
+  pub form : AreFirstTokens bytes expanded s
 
 -- the value of an operand
 abbrev pub operand_value : ℤ → Operand → ℤ

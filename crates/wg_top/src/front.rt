@@ -8,7 +8,7 @@ ghost use Rattle.cl_prep.specs.Expands.{token_limit};
 ghost use Rattle.cl_prep.specs.Progress.{IsRefusedOrMemory as IsUnexpandedOrMemory};
 ghost use Rattle.cl_tree.specs.Syntax.{view, nesting};
 ghost use Rattle.cl_tree.specs.Grammar.{SpellsUnit};
-ghost use Rattle.wg_top.specs.Front.{Reads, IsUnitOf, IsRefusal, place_of_token, number_of_lexical, offset_of_lexical, number_of_expansion, token_of_expansion};
+ghost use Rattle.wg_top.specs.Front.{Reads, AreExpanded, IsRefusal, place_of_token, number_of_lexical, offset_of_lexical, number_of_expansion, token_of_expansion};
 
 use cl_parse::{ParseError, parse};
 use cl_prep::{Defines, PrepError, expand};
@@ -26,7 +26,7 @@ pub enum SourceError {
 }
 
 // The place of the token with that number, or of the end of the source.
-fn token_place(source: &[u8], tokens: &[Token], number: u32) -> Place
+pub(crate) fn token_place(source: &[u8], tokens: &[Token], number: u32) -> Place
     requires short { length source.now ≤ limit }
     requires inside { All (λ t. t.start ≤ length source.now) tokens.now }
     ensures { result ≡ place_of_token source.now tokens.now number }
@@ -162,8 +162,32 @@ fn expand_tokens(
     }
 }
 
-// The unit that the expanded tokens of a source spell.
-fn parse_tokens(alloc: Global, source: &[u8], expanded: &[Token]) -> Result<Tree, SourceError>
+/// The tokens of a source after directives, conditionals and the replacement of names (C99, sections
+/// 6.4 and 6.10), with these given names.
+///
+/// A source is refused by its bytes first (E101 to E105), and then by its tokens (E201 to E206), at
+/// the place that the condition names.
+pub fn read_tokens(
+    alloc: Global,
+    source: &[u8],
+    defines: &Defines,
+) -> Result<Vec<Token>, SourceError>
+    ensures expanded { IfOk result (λ ts. AreExpanded source.now defines.now.list.items ts.items) }
+    ensures short { IfOk result (λ ts. length source.now ≤ limit) }
+    ensures inside { IfOk result (λ ts. All (λ t. t.start ≤ length source.now) ts.items) }
+    ensures few { IfOk result (λ ts. length ts.items ≤ token_limit) }
+    ensures err { IfErr result (λ e. IsRefusal source.now defines.now.list.items e) }
+{
+    let tokens = match cut_source(alloc, source) {
+        Ok(tokens) => tokens,
+        Err(error) => return Err(error),
+    };
+    expand_tokens(alloc, source, defines, &tokens)
+}
+
+/// The unit that the expanded tokens of a source spell (OpenCL 1.2, chapter 6; C99, sections 6.5 to
+/// 6.9), or its refusal (E301 and E302) at the place that the condition names.
+pub fn read_unit(alloc: Global, source: &[u8], expanded: &[Token]) -> Result<Tree, SourceError>
     requires short { length source.now ≤ limit }
     requires inside { All (λ t. t.start ≤ length source.now) expanded.now }
     requires few { length expanded.now ≤ token_limit }
@@ -182,23 +206,4 @@ fn parse_tokens(alloc: Global, source: &[u8], expanded: &[Token]) -> Result<Tree
         }),
         Err(ParseError::Memory) => Err(SourceError::Memory),
     }
-}
-
-/// The unit of a source (OpenCL 1.2, chapter 6; C99, sections 6.4 to 6.10), with these given names.
-///
-/// A source is refused by its bytes first (E101 to E105), then by its tokens (E201 to E206), and
-/// then by what they expand to (E301 and E302), at the place that the condition names.
-pub fn read_unit(alloc: Global, source: &[u8], defines: &Defines) -> Result<Tree, SourceError>
-    ensures ok { IfOk result (λ t. IsUnitOf source.now defines.now.list.items (view t)) }
-    ensures err { IfErr result (λ e. IsRefusal source.now defines.now.list.items e) }
-{
-    let tokens = match cut_source(alloc, source) {
-        Ok(tokens) => tokens,
-        Err(error) => return Err(error),
-    };
-    let expanded = match expand_tokens(alloc, source, defines, &tokens) {
-        Ok(expanded) => expanded,
-        Err(error) => return Err(error),
-    };
-    parse_tokens(alloc, source, &expanded)
 }

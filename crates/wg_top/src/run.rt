@@ -1,5 +1,5 @@
 // Running a launch from its files.
-ghost use Rattle.std.specs.Prelude.{◌≡◌, ◌≤◌, ◌<◌, ◌*◌, ◌+◌, ◌^◌, [], ℕ, Some, Ok, Err, IfOk, IfErr, IfSome, IfNone, OnErr, OnOk, IsUtf8, length};
+ghost use Rattle.std.specs.Prelude.{◌≡◌, ◌≤◌, ◌<◌, ◌*◌, ◌+◌, ◌^◌, [], ℕ, List, Some, Ok, Err, IfOk, IfErr, IfSome, IfNone, OnErr, OnOk, IsUtf8, length, All};
 ghost use Rattle.wg_outside.specs.Counts.{Rose};
 ghost use Rattle.wg_outside.specs.Files.{HasFileStart, LacksFile};
 ghost use Rattle.wg_top.specs.Causes.{standing, Stands, Cause, LeavesFiles, IsDone};
@@ -7,11 +7,13 @@ ghost use Rattle.wg_top.specs.Stages.{FormRead, FormRefused, LaunchCause, Progra
 ghost use Rattle.wg_top.specs.Items.{ItemsRan, IsFirstOutside};
 ghost use Rattle.wg_top.specs.SourceForm.{IsFirstSource, LiteralsFit};
 ghost use Rattle.wg_top.specs.LaunchForm.{AreSizes};
-ghost use Rattle.wg_top.specs.Front.{HasUnit};
+ghost use Rattle.cl_token.specs.Cuts.{limit};
+ghost use Rattle.cl_prep.specs.Expands.{token_limit};
+ghost use Rattle.wg_top.specs.Front.{HasUnit, AreExpanded, IsRefusal};
 ghost use Rattle.wg_top.specs.declared.launch_form.LaunchForm.{LaunchForm as AnyForm};
 
 use crate::fields::is_same;
-use crate::front::{SourceError, read_unit};
+use crate::front::{SourceError, read_tokens, read_unit};
 use crate::items::run_items;
 use crate::launch_form::{LaunchForm, read_launch};
 use crate::source_form::{Source, read_source};
@@ -19,6 +21,7 @@ use crate::{RunError, Summary};
 use buffer_io::{load_all, save_all};
 use cl_model::{Bound, Launch};
 use cl_prep::Defines;
+use cl_token::Token;
 use std::alloc::Global;
 use wg_num::{Memory, Place};
 use wg_outside::{Failed, LoadError, Store};
@@ -51,18 +54,45 @@ fn load_launch<S: Store>(alloc: Global, store: &mut S, launch: &str) -> Result<L
     }
 }
 
-// Sees that the source has a unit.
-fn see_unit(alloc: Global, bytes: &[u8]) -> Result<(), RunError>
-    ensures ok { IfOk result (λ _. HasUnit bytes.now []) }
+// The refusal of a run by that of its source.
+fn refused(error: SourceError) -> RunError
+    ensures { (bytes : List ℕ) (form : AnyForm) → IsRefusal bytes [] error → ProgramCause bytes form result }
+{
+    match error {
+        SourceError::Fault { number, place } => RunError::Source { number, place },
+        SourceError::Memory => RunError::Memory,
+    }
+}
+
+// The expanded tokens of the source.
+fn expanded_tokens(alloc: Global, bytes: &[u8]) -> Result<Vec<Token>, RunError>
+    ensures expanded { IfOk result (λ ts. AreExpanded bytes.now [] ts.items) }
+    ensures short { IfOk result (λ ts. length bytes.now ≤ limit) }
+    ensures inside { IfOk result (λ ts. All (λ t. t.start ≤ length bytes.now) ts.items) }
+    ensures few { IfOk result (λ ts. length ts.items ≤ token_limit) }
     ensures err { IfErr result (λ e. (form : AnyForm) → ProgramCause bytes.now form e) }
 {
     let defines = Defines {
         list: Vec::new(alloc),
     };
-    match read_unit(alloc, bytes, &defines) {
-        Ok(_) => Ok(()),
-        Err(SourceError::Fault { number, place }) => Err(RunError::Source { number, place }),
-        Err(SourceError::Memory) => Err(RunError::Memory),
+    match read_tokens(alloc, bytes, &defines) {
+        Ok(tokens) => Ok(tokens),
+        Err(error) => Err(refused(error)),
+    }
+}
+
+// Sees that the tokens spell a unit.
+fn see_unit(alloc: Global, bytes: &[u8], tokens: &[Token]) -> Result<(), RunError>
+    requires expanded { AreExpanded bytes.now [] tokens.now }
+    requires short { length bytes.now ≤ limit }
+    requires inside { All (λ t. t.start ≤ length bytes.now) tokens.now }
+    requires few { length tokens.now ≤ token_limit }
+    ensures ok { IfOk result (λ _. HasUnit bytes.now []) }
+    ensures err { IfErr result (λ e. (form : AnyForm) → ProgramCause bytes.now form e) }
+{
+    match read_unit(alloc, bytes, tokens) {
+        Ok(_unit) => Ok(()),
+        Err(error) => Err(refused(error)),
     }
 }
 
@@ -73,10 +103,14 @@ fn read_program(alloc: Global, bytes: &[u8], form: &LaunchForm) -> Result<Source
     ensures kernel { IfOk result (λ s. s.name ≡ form.now.kernel) }
     ensures err { IfErr result (ProgramCause bytes.now form.now) }
 {
-    if let Err(error) = see_unit(alloc, bytes) {
+    let tokens = match expanded_tokens(alloc, bytes) {
+        Ok(tokens) => tokens,
+        Err(error) => return Err(error),
+    };
+    if let Err(error) = see_unit(alloc, bytes, &tokens) {
         return Err(error);
     }
-    match read_source(alloc, bytes) {
+    match read_source(alloc, bytes, &tokens) {
         Ok(Some(program)) => {
             if is_same(&program.name, &form.kernel) {
                 Ok(program)

@@ -5,7 +5,6 @@ ghost use Rattle.wg_top.specs.declared.source_form.Source.{Source};
 
 mod names;
 mod parts;
-mod places;
 mod reader;
 mod tokens;
 mod values;

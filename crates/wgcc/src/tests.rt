@@ -46,7 +46,13 @@ const ZERO: &str = "__kernel void inc(__global int *a) { a[get_global_id(0)] = 0
 const JOINED: &str =
     "__kernel void inc(__global int *a) { a[get_global_id(0)] = a[get_global_id(0)]1; }";
 
-const TAB: &str = "__kernel void inc(__global int *a) {\ta[get_global_id(0)] = 1; }";
+// Comments and other blanks stand between tokens.
+const COMMENTED: &str =
+    "__kernel void inc(__global int *a) {\ta[get_global_id(0)] = /* one more */ a[get_global_id(0)] + 1; } // end";
+
+// A name in force is replaced.
+const NAMED: &str =
+    "#define ONE 1\n__kernel void inc(__global int *a) { a[get_global_id(0)] = a[get_global_id(0)] + ONE; }";
 
 const RESERVED: &str =
     "__kernel void inc(__global int *clz) { clz[get_global_id(0)] = clz[get_global_id(0)] + 1; }";
@@ -158,6 +164,8 @@ fn runs_leave_what_the_examples_say(rt: HostRuntime) -> Result<(), Fail> {
             err: "wgcc: range: group 1, item 2, 3:43\n",
             ..refused
         },
+        done_row(COMMENTED),
+        done_row(NAMED),
         Row {
             launch: OTHER_LAUNCH,
             status: 4,
@@ -181,7 +189,7 @@ fn runs_leave_what_the_examples_say(rt: HostRuntime) -> Result<(), Fail> {
     for row in &rows {
         assert!(rt; leaves(rt.alloc(), row)?, "{}", row.source);
     }
-    for source in ["", EMPTY, LITERAL, LARGE, ZERO, TAB, RESERVED] {
+    for source in ["", EMPTY, LITERAL, LARGE, ZERO, RESERVED] {
         let row = Row {
             source,
             status: 3,

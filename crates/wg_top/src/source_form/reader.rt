@@ -1,16 +1,17 @@
 // Reading a source.
-ghost use Rattle.std.specs.Prelude.{◌≡◌, ◌<◌, ◌≤◌, ◌++◌, ◌∷◌, ℕ, List, map, length, drop, IfOk, IfSome, IfNone};
-ghost use Rattle.wg_top.specs.SourceTokens.{tokens_from, start_of};
-ghost use Rattle.wg_top.specs.SourceForm.{IsFirstSource, head_tokens, access_from, place_at};
+ghost use Rattle.std.specs.Prelude.{◌≡◌, ◌<◌, ◌≤◌, ◌++◌, ◌∷◌, ℕ, List, map, length, drop, All, IfOk, IfSome, IfNone};
+ghost use Rattle.cl_token.specs.Cuts.{limit};
+ghost use Rattle.wg_top.specs.SourceForm.{AreFirstTokens, texts_of, head_tokens, access_from};
 ghost use Rattle.wg_top.specs.declared.source_form.Source.{Source};
 
 use super::names::free_name;
 use super::parts::{begins_with, read_operand, read_parts};
-use super::places::place_of;
-use super::tokens::{Token, read_tokens};
+use super::tokens::{Token, words_of};
 use super::{Operand, Part, Source};
+use crate::front::token_place;
+use cl_token::Token as SourceToken;
 use std::alloc::Global;
-use wg_num::{Memory, Place, Word};
+use wg_num::{Memory, Word};
 
 fn head_texts<'a>(name: &'a [u8], param: &'a [u8]) -> [&'a [u8]; 18]
     ensures { map (λ w. w.now) result ≡ head_tokens name.now param.now }
@@ -56,7 +57,7 @@ fn read_head<'a>(tokens: &[Token<'a>]) -> Option<(&'a [u8], &'a [u8])>
 }
 
 // The number of the token that begins the element whose access comes first.
-fn access_index(first: Operand, rest: &[Part]) -> usize
+fn access_index(first: Operand, rest: &[Part]) -> u32
     requires { length rest.now < 64 }
     ensures { result ≡ access_from 18 (first ∷ map (λ part. part.operand) rest.now) }
 {
@@ -73,19 +74,6 @@ fn access_index(first: Operand, rest: &[Part]) -> usize
     10
 }
 
-// The place of a token, by its number.
-fn token_place(bytes: &[u8], tokens: &[Token], number: usize) -> Place
-    requires short { length bytes.now ≤ 262144 }
-    requires tokens { map (λ t. (t.start, t.text.now)) tokens.now ≡ tokens_from 0 bytes.now }
-    ensures { result ≡ place_at bytes.now (start_of bytes.now number) }
-{
-    let start = match tokens.get(number) {
-        Some(token) => token.start,
-        None => 0,
-    };
-    place_of(bytes, start)
-}
-
 fn behind<'a, 'b>(tokens: &'b [Token<'a>], count: usize) -> &'b [Token<'a>]
     requires { count ≤ length tokens.now }
     ensures { result.now ≡ drop count tokens.now }
@@ -93,14 +81,20 @@ fn behind<'a, 'b>(tokens: &'b [Token<'a>], count: usize) -> &'b [Token<'a>]
     &tokens[count..]
 }
 
-// The source that these are the tokens of, where it is of the first form.
-fn read_form(alloc: Global, bytes: &[u8], tokens: &[Token]) -> Result<Option<Source>, Memory>
-    requires short { length bytes.now ≤ 262144 }
-    requires tokens { map (λ t. (t.start, t.text.now)) tokens.now ≡ tokens_from 0 bytes.now }
-    ensures some { IfOk result (λ o. IfSome o (IsFirstSource bytes.now)) }
-    ensures none { IfOk result (λ o. IfNone o ((s : Source) → IsFirstSource bytes.now s → ⊥)) }
+// The source that these are the words of, where it is of the first form.
+fn read_form(
+    alloc: Global,
+    bytes: &[u8],
+    tokens: &[SourceToken],
+    words: &[Token],
+) -> Result<Option<Source>, Memory>
+    requires short { length bytes.now ≤ limit }
+    requires inside { All (λ t. t.start ≤ length bytes.now) tokens.now }
+    requires words { map (λ t. t.text.now) words.now ≡ texts_of tokens.now }
+    ensures some { IfOk result (λ o. IfSome o (AreFirstTokens bytes.now tokens.now)) }
+    ensures none { IfOk result (λ o. IfNone o ((s : Source) → AreFirstTokens bytes.now tokens.now s → ⊥)) }
 {
-    let Some((name, param)) = read_head(tokens) else {
+    let Some((name, param)) = read_head(words) else {
         return Ok(None);
     };
     if !free_name(name) {
@@ -109,7 +103,7 @@ fn read_form(alloc: Global, bytes: &[u8], tokens: &[Token]) -> Result<Option<Sou
     if !free_name(param) {
         return Ok(None);
     }
-    let assigned = behind(tokens, 18);
+    let assigned = behind(words, 18);
     let Some((first, size)) = read_operand(param, assigned) else {
         return Ok(None);
     };
@@ -126,16 +120,17 @@ fn read_form(alloc: Global, bytes: &[u8], tokens: &[Token]) -> Result<Option<Sou
     }))
 }
 
-const LONGEST_SOURCE: usize = 262_144;
-
-/// The source, where the bytes are of the first form.
-pub(crate) fn read_source(alloc: Global, bytes: &[u8]) -> Result<Option<Source>, Memory>
-    ensures some { IfOk result (λ o. IfSome o (IsFirstSource bytes.now)) }
-    ensures none { IfOk result (λ o. IfNone o ((s : Source) → IsFirstSource bytes.now s → ⊥)) }
+/// The source, where its expanded tokens are of the first form.
+pub(crate) fn read_source(
+    alloc: Global,
+    bytes: &[u8],
+    tokens: &[SourceToken],
+) -> Result<Option<Source>, Memory>
+    requires short { length bytes.now ≤ limit }
+    requires inside { All (λ t. t.start ≤ length bytes.now) tokens.now }
+    ensures some { IfOk result (λ o. IfSome o (AreFirstTokens bytes.now tokens.now)) }
+    ensures none { IfOk result (λ o. IfNone o ((s : Source) → AreFirstTokens bytes.now tokens.now s → ⊥)) }
 {
-    if bytes.len() > LONGEST_SOURCE {
-        return Ok(None);
-    }
-    let tokens = read_tokens(alloc, bytes)?;
-    read_form(alloc, bytes, &tokens)
+    let words = words_of(alloc, tokens)?;
+    read_form(alloc, bytes, tokens, &words)
 }
