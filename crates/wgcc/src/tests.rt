@@ -285,6 +285,17 @@ fn repeated(alloc: Global, front: &str, piece: &str, times: u32) -> Result<Strin
     Ok(source)
 }
 
+// Whether the source is refused with this line.
+fn is_refused(alloc: Global, source: &str, err: &str) -> Result<bool, Fail> {
+    let ran = run(alloc, &done_row(source))?;
+    Ok(
+        ran.status == 3
+            && ran.store.file("a.out").is_none()
+            && ran.out.bytes().is_empty()
+            && ran.err.bytes() == err.as_bytes(),
+    )
+}
+
 #[test]
 fn large_sources_are_refused_at_their_place(rt: HostRuntime) -> Result<(), Fail> {
     let tokens = doubled(rt.alloc(), "#define A 1\n", 17)?;
@@ -292,23 +303,12 @@ fn large_sources_are_refused_at_their_place(rt: HostRuntime) -> Result<(), Fail>
     let most = doubled(rt.alloc(), "#define A 1\n", 16)?;
     let spaces = repeated(rt.alloc(), "", " ", 262145)?;
     let deep = repeated(rt.alloc(), NESTED, "(", 300)?;
-    let rows = [
-        (&tokens, "wgcc: k.cl:19:1: E206 too many tokens\n"),
-        (&names, "wgcc: k.cl:32:1: E206 too many tokens\n"),
-        (&most, "wgcc: k.cl:18:1: E301 syntax\n"),
-        (&spaces, "wgcc: k.cl:1:1: E105 source too long\n"),
-        (&deep, "wgcc: k.cl:1:294: E302 nested too deep\n"),
-    ];
-    for (source, err) in rows {
-        let row = Row {
-            status: 3,
-            saved: None,
-            out: "",
-            err,
-            ..done_row(source.as_str())
-        };
-        assert!(rt; leaves(rt.alloc(), &row)?, "{}", err);
-    }
+    let alloc = rt.alloc();
+    assert!(rt; is_refused(alloc, &tokens, "wgcc: k.cl:19:1: E206 too many tokens\n")?);
+    assert!(rt; is_refused(alloc, &names, "wgcc: k.cl:32:1: E206 too many tokens\n")?);
+    assert!(rt; is_refused(alloc, &most, "wgcc: k.cl:18:1: E301 syntax\n")?);
+    assert!(rt; is_refused(alloc, &spaces, "wgcc: k.cl:1:1: E105 source too long\n")?);
+    assert!(rt; is_refused(alloc, &deep, "wgcc: k.cl:1:294: E302 nested too deep\n")?);
     Ok(())
 }
 
