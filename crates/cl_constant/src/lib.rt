@@ -1,0 +1,4 @@
+//! Conversions of operands, and constant expressions.
+#![tactic(auto)]
+
+pub mod constant;
