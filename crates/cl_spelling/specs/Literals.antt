@@ -8,8 +8,8 @@ use Rattle.cl_spelling.specs.Pieces.{Row, looked_up}
 
 abbrev pub truths : List (Row ℤ)
 truths =
-    record { words = codes "true" ∷ []; value = pos 1 } ∷
-    record { words = codes "false" ∷ []; value = pos 0 } ∷
+    record { word = codes "true"; value = pos 1 } ∷
+    record { word = codes "false"; value = pos 0 } ∷
     []
 
 -- the value of a truth word

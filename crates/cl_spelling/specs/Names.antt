@@ -1,10 +1,8 @@
 -- Names that need no declaration (OpenCL 1.2, sections 6.12.1, 6.12.3, 6.12.8 and 6.12.9), and the words of declarations.
-use Rattle.std.specs.Prelude.{ℕ, Bool, true, false, List, [], ◌∷◌, Option, Some, None, nat_eq, codes}
+use Rattle.std.specs.Prelude.{ℕ, Bool, List, [], ◌∷◌, Option, nat_eq, codes}
 use Rattle.std.specs.List.{count_by}
 use lib.Pointwise.{pointwise}
-use Rattle.wg_num.specs.declared.types.Fun.{Fun}
 use Rattle.wg_num.specs.declared.types.Fun.TheVariants as fun
-use Rattle.cl_model.specs.declared.program.Query.{Query}
 use Rattle.cl_model.specs.declared.program.Query.TheVariants as query
 use Rattle.cl_tree.specs.Words.{is_among}
 use Rattle.cl_spelling.specs.declared.names.Intrinsic.{Intrinsic}
@@ -15,29 +13,31 @@ use Rattle.cl_spelling.specs.Pieces.{pieces, Row, looked_up}
 
 abbrev pub intrinsics : List (Row Intrinsic)
 intrinsics =
-    record { words = codes "abs" ∷ []; value = intrinsic.Function fun.Abs } ∷
-    record { words = codes "abs_diff" ∷ []; value = intrinsic.Function fun.AbsDiff } ∷
-    record { words = codes "min" ∷ []; value = intrinsic.Function fun.Min } ∷
-    record { words = codes "max" ∷ []; value = intrinsic.Function fun.Max } ∷
-    record { words = codes "clamp" ∷ []; value = intrinsic.Function fun.Clamp } ∷
-    record { words = codes "add_sat" ∷ []; value = intrinsic.Function fun.AddSat } ∷
-    record { words = codes "sub_sat" ∷ []; value = intrinsic.Function fun.SubSat } ∷
-    record { words = codes "hadd" ∷ []; value = intrinsic.Function fun.Hadd } ∷
-    record { words = codes "rhadd" ∷ []; value = intrinsic.Function fun.Rhadd } ∷
-    record { words = codes "mul_hi" ∷ []; value = intrinsic.Function fun.MulHi } ∷
-    record { words = codes "rotate" ∷ []; value = intrinsic.Function fun.Rotate } ∷
-    record { words = codes "clz" ∷ []; value = intrinsic.Function fun.Clz } ∷
-    record { words = codes "popcount" ∷ []; value = intrinsic.Function fun.Popcount } ∷
-    record { words = codes "get_work_dim" ∷ []; value = intrinsic.Query query.WorkDim } ∷
-    record { words = codes "get_global_id" ∷ []; value = intrinsic.Query query.GlobalId } ∷
-    record { words = codes "get_local_id" ∷ []; value = intrinsic.Query query.LocalId } ∷
-    record { words = codes "get_group_id" ∷ []; value = intrinsic.Query query.GroupId } ∷
-    record { words = codes "get_global_size" ∷ []; value = intrinsic.Query query.GlobalSize } ∷
-    record { words = codes "get_local_size" ∷ []; value = intrinsic.Query query.LocalSize } ∷
-    record { words = codes "get_num_groups" ∷ []; value = intrinsic.Query query.NumGroups } ∷
-    record { words = codes "get_global_offset" ∷ []; value = intrinsic.Query query.GlobalOffset } ∷
-    record { words = codes "barrier" ∷ []; value = intrinsic.Barrier } ∷
-    record { words = codes "mem_fence" ∷ codes "read_mem_fence" ∷ codes "write_mem_fence" ∷ []; value = intrinsic.Fence } ∷
+    record { word = codes "abs"; value = intrinsic.Function fun.Abs } ∷
+    record { word = codes "abs_diff"; value = intrinsic.Function fun.AbsDiff } ∷
+    record { word = codes "min"; value = intrinsic.Function fun.Min } ∷
+    record { word = codes "max"; value = intrinsic.Function fun.Max } ∷
+    record { word = codes "clamp"; value = intrinsic.Function fun.Clamp } ∷
+    record { word = codes "add_sat"; value = intrinsic.Function fun.AddSat } ∷
+    record { word = codes "sub_sat"; value = intrinsic.Function fun.SubSat } ∷
+    record { word = codes "hadd"; value = intrinsic.Function fun.Hadd } ∷
+    record { word = codes "rhadd"; value = intrinsic.Function fun.Rhadd } ∷
+    record { word = codes "mul_hi"; value = intrinsic.Function fun.MulHi } ∷
+    record { word = codes "rotate"; value = intrinsic.Function fun.Rotate } ∷
+    record { word = codes "clz"; value = intrinsic.Function fun.Clz } ∷
+    record { word = codes "popcount"; value = intrinsic.Function fun.Popcount } ∷
+    record { word = codes "get_work_dim"; value = intrinsic.Query query.WorkDim } ∷
+    record { word = codes "get_global_id"; value = intrinsic.Query query.GlobalId } ∷
+    record { word = codes "get_local_id"; value = intrinsic.Query query.LocalId } ∷
+    record { word = codes "get_group_id"; value = intrinsic.Query query.GroupId } ∷
+    record { word = codes "get_global_size"; value = intrinsic.Query query.GlobalSize } ∷
+    record { word = codes "get_local_size"; value = intrinsic.Query query.LocalSize } ∷
+    record { word = codes "get_num_groups"; value = intrinsic.Query query.NumGroups } ∷
+    record { word = codes "get_global_offset"; value = intrinsic.Query query.GlobalOffset } ∷
+    record { word = codes "barrier"; value = intrinsic.Barrier } ∷
+    record { word = codes "mem_fence"; value = intrinsic.Fence } ∷
+    record { word = codes "read_mem_fence"; value = intrinsic.Fence } ∷
+    record { word = codes "write_mem_fence"; value = intrinsic.Fence } ∷
     []
 
 -- what a name means without a declaration
@@ -46,8 +46,8 @@ intrinsic_in w = looked_up w intrinsics
 
 abbrev pub flags : List (Row Flag)
 flags =
-    record { words = codes "CLK_LOCAL_MEM_FENCE" ∷ []; value = flag.Local } ∷
-    record { words = codes "CLK_GLOBAL_MEM_FENCE" ∷ []; value = flag.Global } ∷
+    record { word = codes "CLK_LOCAL_MEM_FENCE"; value = flag.Local } ∷
+    record { word = codes "CLK_GLOBAL_MEM_FENCE"; value = flag.Global } ∷
     []
 
 -- the flag that a name is

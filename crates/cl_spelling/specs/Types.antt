@@ -1,9 +1,8 @@
 -- Types and address spaces (OpenCL 1.2, sections 6.1, 6.5 and 6.6; C99, section 6.7.2).
-use Rattle.std.specs.Prelude.{ℕ, List, [], ◌∷◌, Option, Some, None, not, ◌||◌, if◌then◌else◌, nat_eq, codes, map}
+use Rattle.std.specs.Prelude.{ℕ, List, [], ◌∷◌, Option, Some, None, not, ◌||◌, if◌then◌else◌, nat_eq, codes}
 use Rattle.std.specs.Prelude.{Bool as Test, true, false}
 use Rattle.std.specs.List.{filter, list_any}
 use lib.Pointwise.{pointwise}
-use Rattle.wg_num.specs.declared.types.IntType.{IntType}
 use Rattle.wg_num.specs.declared.types.IntType.TheVariants.{Bool, Char, Uchar, Short, Ushort, Int, Uint, Long, Ulong}
 use Rattle.cl_model.specs.declared.program.Space.{Space}
 use Rattle.cl_model.specs.declared.program.Space.TheVariants.{Global, Constant, Local, Private}
@@ -23,28 +22,44 @@ is_qualifier p = is_among p (codes "const" ∷ codes "volatile" ∷ [])
 abbrev pub bare : List ℕ → List (List ℕ)
 bare w = filter (λ p. not (is_qualifier p)) (pieces w)
 
--- the word is one of these texts, qualifiers aside
-abbrev pub spells : List ℕ → List (List ℕ) → Test
-spells w texts = list_any (λ t. pointwise (pointwise nat_eq) (bare w) (pieces t)) texts
+-- the word is this text, qualifiers aside
+abbrev pub spells : List ℕ → List ℕ → Test
+spells w text = pointwise (pointwise nat_eq) (bare w) (pieces text)
 
 -- the spellings of the integer types
 abbrev pub integers : List (Row Base)
 integers =
-    record { words = codes "bool" ∷ []; value = Integer Bool false } ∷
-    record { words = codes "char" ∷ codes "signed char" ∷ []; value = Integer Char false } ∷
-    record { words = codes "uchar" ∷ codes "unsigned char" ∷ []; value = Integer Uchar false } ∷
-    record { words = codes "short" ∷ codes "short int" ∷ codes "signed short" ∷ codes "signed short int" ∷ []; value = Integer Short false } ∷
-    record { words = codes "ushort" ∷ codes "unsigned short" ∷ codes "unsigned short int" ∷ []; value = Integer Ushort false } ∷
-    record { words = codes "int" ∷ codes "signed int" ∷ codes "signed" ∷ []; value = Integer Int false } ∷
-    record { words = codes "uint" ∷ codes "unsigned int" ∷ codes "unsigned" ∷ []; value = Integer Uint false } ∷
-    record { words = codes "long" ∷ codes "long int" ∷ codes "signed long" ∷ codes "signed long int" ∷ []; value = Integer Long false } ∷
-    record { words = codes "ulong" ∷ codes "unsigned long" ∷ codes "unsigned long int" ∷ []; value = Integer Ulong false } ∷
-    record { words = codes "size_t" ∷ []; value = Integer Ulong true } ∷
+    record { word = codes "bool"; value = Integer Bool false } ∷
+    record { word = codes "char"; value = Integer Char false } ∷
+    record { word = codes "signed char"; value = Integer Char false } ∷
+    record { word = codes "uchar"; value = Integer Uchar false } ∷
+    record { word = codes "unsigned char"; value = Integer Uchar false } ∷
+    record { word = codes "short"; value = Integer Short false } ∷
+    record { word = codes "short int"; value = Integer Short false } ∷
+    record { word = codes "signed short"; value = Integer Short false } ∷
+    record { word = codes "signed short int"; value = Integer Short false } ∷
+    record { word = codes "ushort"; value = Integer Ushort false } ∷
+    record { word = codes "unsigned short"; value = Integer Ushort false } ∷
+    record { word = codes "unsigned short int"; value = Integer Ushort false } ∷
+    record { word = codes "int"; value = Integer Int false } ∷
+    record { word = codes "signed int"; value = Integer Int false } ∷
+    record { word = codes "signed"; value = Integer Int false } ∷
+    record { word = codes "uint"; value = Integer Uint false } ∷
+    record { word = codes "unsigned int"; value = Integer Uint false } ∷
+    record { word = codes "unsigned"; value = Integer Uint false } ∷
+    record { word = codes "long"; value = Integer Long false } ∷
+    record { word = codes "long int"; value = Integer Long false } ∷
+    record { word = codes "signed long"; value = Integer Long false } ∷
+    record { word = codes "signed long int"; value = Integer Long false } ∷
+    record { word = codes "ulong"; value = Integer Ulong false } ∷
+    record { word = codes "unsigned long"; value = Integer Ulong false } ∷
+    record { word = codes "unsigned long int"; value = Integer Ulong false } ∷
+    record { word = codes "size_t"; value = Integer Ulong true } ∷
     []
 
 -- whether the word names a type outside the profile: one of floating point, a vector, an image, an event or the like
 unfoldable pub names_outside : List ℕ → Test
-names_outside w = list_any (λ (r : words.Row). spells w r.words) outside_words || list_any (λ (r : words.Row). spells w r.words) vector_words
+names_outside w = list_any (λ (r : words.Row). list_any (spells w) r.words) outside_words || list_any (λ (r : words.Row). list_any (spells w) r.words) vector_words
 
 -- the base type of a type's word
 unfoldable pub base_in : List ℕ → Option Base
@@ -56,10 +71,14 @@ is_const w = is_among (codes "const") (pieces w)
 
 abbrev pub spaces : List (Row Space)
 spaces =
-    record { words = codes "__global" ∷ codes "global" ∷ []; value = Global } ∷
-    record { words = codes "__constant" ∷ codes "constant" ∷ []; value = Constant } ∷
-    record { words = codes "__local" ∷ codes "local" ∷ []; value = Local } ∷
-    record { words = codes "__private" ∷ codes "private" ∷ []; value = Private } ∷
+    record { word = codes "__global"; value = Global } ∷
+    record { word = codes "global"; value = Global } ∷
+    record { word = codes "__constant"; value = Constant } ∷
+    record { word = codes "constant"; value = Constant } ∷
+    record { word = codes "__local"; value = Local } ∷
+    record { word = codes "local"; value = Local } ∷
+    record { word = codes "__private"; value = Private } ∷
+    record { word = codes "private"; value = Private } ∷
     []
 
 -- the space of an address space's word
