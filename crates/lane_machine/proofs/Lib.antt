@@ -1,0 +1,16 @@
+pub mod AccessLaws
+pub mod AskLaws
+pub mod ClearLaws
+pub mod KeepLaws
+pub mod MaskLaws
+pub mod NestedLaws
+pub mod ObjectLaws
+pub mod OwnLaws
+pub mod ReadyLaws
+pub mod RegionLaws
+pub mod RoomLaws
+pub mod RunLaws
+pub mod SizeLaws
+pub mod VoteLaws
+pub mod WindowLaws
+pub mod ZeroLaws

@@ -1,0 +1,14 @@
+use Rattle.std.proofs.Common.{slice_index_or, arith}
+use Rattle.lane_machine.proofs.SizeLaws.{two_le, product_some}
+use Rattle.lane_machine.proofs.queries.whole.Goals as goal
+
+pub overflow_mul-result : goal.overflow_mul-result
+overflow_mul-result c =
+    let s = c.args.sizes.now in
+    let most = two_le (slice_index_or s 0 0) (slice_index_or s 1 0) (slice_index_or s 2 0) c.requires in
+    record { fits = omega (arith, most) }
+
+pub returns-clause-some : goal.returns-clause-some
+returns-clause-some c =
+    let s = c.args.sizes.now in
+    product_some (slice_index_or s 0 0) (slice_index_or s 1 0) (slice_index_or s 2 0) c.requires

@@ -1,0 +1,7 @@
+use Rattle.std.proofs.Common.{◌≡◌, ◌+◌, drop}
+use Rattle.lane_code.specs.Groups.{with_window}
+use Rattle.lane_machine.proofs.windows.put_truths.Given as goal
+
+-- what is still to be written completes the list
+abbrev pub invariant-loop-i : goal.invariant-loop-i
+invariant-loop-i g l = with_window l.list (l.first + l.i) (drop l.i l.lanes) ≡ with_window l.fn.list l.first l.lanes

@@ -1,0 +1,154 @@
+//! Work-item functions and kernel arguments, in lanes.
+ghost use Rattle.std.specs.Prelude.{◌≡◌, ◌≢◌, ◌<◌, ◌≤◌, ◌^◌, length, replicate, slice_get};
+ghost use Rattle.wg_num.specs.declared.types.IntType.TheVariants.{Uint};
+ghost use Rattle.wg_num.specs.Wrap.{value_of};
+ghost use Rattle.cl_model.specs.Sizes.{answer_of};
+ghost use Rattle.cl_model.specs.View.{launch_of};
+ghost use Rattle.lane_values.specs.Lanes.{lane};
+ghost use Rattle.lane_code.specs.Registers.{written, lanes_of, bits_in, lane_count};
+ghost use Rattle.lane_code.specs.Acts.{answers, bound_value};
+ghost use Rattle.lane_code.specs.declared.step.Bank.TheVariants.{Narrow, Wide, Mask, Scalar};
+ghost use Rattle.lane_machine.specs.Sizes.{HasSizes};
+ghost use Rattle.lane_machine.specs.State.{IsIn, FitsAsk};
+
+use crate::queries::answer;
+use crate::registers::Registers;
+use cl_model::{Bound, Launch, Query};
+use lane_code::{Bank, Reg};
+use lane_kernels::{blend32, blend64, lane_of32, lane_of64};
+use std::simd::prelude::*;
+
+/// What a work-item function gives an item, as a lane.
+fn answer32(launch: &Launch, item: u64, what: Query, d: u64) -> u32
+    requires { HasSizes (launch_of launch.now) }
+    ensures { result ≡ lane 32 (answer_of (launch_of launch.now) item what (value_of Uint d)) }
+{
+    lane_of32(answer(launch, item, what, (d % 0x1_0000_0000) as u32) as i128)
+}
+
+fn answer64(launch: &Launch, item: u64, what: Query, d: u64) -> u64
+    requires { HasSizes (launch_of launch.now) }
+    ensures { result ≡ lane 64 (answer_of (launch_of launch.now) item what (value_of Uint d)) }
+{
+    lane_of64(answer(launch, item, what, (d % 0x1_0000_0000) as u32) as i128)
+}
+
+/// What it gives the items of a vector, the first of which has this number in the launch.
+fn answers32<const W: usize>(
+    launch: &Launch,
+    item: u64,
+    what: Query,
+    dims: Simd<u32, W>,
+) -> Simd<u32, W>
+    requires lanes { W ≤ 64 }
+    requires sizes { HasSizes (launch_of launch.now) }
+    requires item { item < 2 ^ 32 }
+    ensures { result ≡ answers 32 (launch_of launch.now) item what dims.entry }
+{
+    let places = dims.to_array();
+    let mut lanes = [0u32; W];
+    for i in 0..W {
+        lanes[i] = answer32(launch, item + i as u64, what, places[i] as u64);
+    }
+    Simd::from_array(lanes)
+}
+
+fn answers64<const W: usize>(
+    launch: &Launch,
+    item: u64,
+    what: Query,
+    dims: Simd<u32, W>,
+) -> Simd<u64, W>
+    requires lanes { W ≤ 64 }
+    requires sizes { HasSizes (launch_of launch.now) }
+    requires item { item < 2 ^ 32 }
+    ensures { result ≡ answers 64 (launch_of launch.now) item what dims.entry }
+{
+    let places = dims.to_array();
+    let mut lanes = [0u64; W];
+    for i in 0..W {
+        lanes[i] = answer64(launch, item + i as u64, what, places[i] as u64);
+    }
+    Simd::from_array(lanes)
+}
+
+/// A work-item function in lanes or in a scalar.
+pub(crate) fn ask_step<const W: usize>(
+    r: &mut Registers<W>,
+    what: Query,
+    to: Reg,
+    dim: Reg,
+    mask: Reg,
+    launch: &Launch,
+    item: u64,
+)
+    requires lanes { W ≤ 64 }
+    requires fits { FitsAsk to.bank dim.bank }
+    requires to { IsIn r.old.plain to }
+    requires dim { IsIn r.old.plain dim }
+    requires mask { mask.number < length r.old.plain.masks }
+    requires sizes { HasSizes (launch_of launch.now) }
+    requires item { item < 2 ^ 32 }
+    ensures written { r.new.plain ≡ written r.old.plain to mask (answers (bits_in to.bank) (launch_of launch.now) item what (lanes_of r.old.plain dim)) }
+    ensures room { r.new.room ≡ r.old.room }
+{
+    match to.bank {
+        Bank::Narrow => {
+            let new = answers32(launch, item, what, r.narrow[dim.number as usize]);
+            let old = r.narrow[to.number as usize];
+            r.narrow[to.number as usize] = blend32(r.masks[mask.number as usize], new, old);
+        }
+        Bank::Wide => {
+            let new = answers64(launch, item, what, r.narrow[dim.number as usize]);
+            let old = r.wide[to.number as usize];
+            r.wide[to.number as usize] = blend64(r.masks[mask.number as usize], new, old);
+        }
+        Bank::Scalar => {
+            let one = answer64(launch, item, what, r.scalars[dim.number as usize]);
+            r.scalars[to.number as usize] = one;
+        }
+        Bank::Mask => {}
+    }
+}
+
+/// The value that is bound to a parameter, 0 for a pointer.
+fn value_bound(args: &Vec<Bound>, number: u32) -> i128
+    ensures { result ≡ bound_value (slice_get args.now.items number) }
+{
+    match args.get(number as usize) {
+        Some(Bound::Value(value)) => *value,
+        Some(Bound::Buffer(_)) | Some(Bound::Local(_)) | None => 0,
+    }
+}
+
+/// The value of a kernel parameter in lanes or in a scalar.
+pub(crate) fn argument_step<const W: usize>(
+    r: &mut Registers<W>,
+    number: u32,
+    to: Reg,
+    mask: Reg,
+    args: &Vec<Bound>,
+)
+    requires lanes { W ≤ 64 }
+    requires to { IsIn r.old.plain to }
+    requires bank { to.bank ≢ Mask }
+    requires mask { mask.number < length r.old.plain.masks }
+    ensures written { r.new.plain ≡ written r.old.plain to mask (replicate (lane_count W to.bank) (lane (bits_in to.bank) (bound_value (slice_get args.now.items number)))) }
+    ensures room { r.new.room ≡ r.old.room }
+{
+    let value = value_bound(args, number);
+    match to.bank {
+        Bank::Narrow => {
+            let old = r.narrow[to.number as usize];
+            let new = Simd::splat(lane_of32(value));
+            r.narrow[to.number as usize] = blend32(r.masks[mask.number as usize], new, old);
+        }
+        Bank::Wide => {
+            let old = r.wide[to.number as usize];
+            let new = Simd::splat(lane_of64(value));
+            r.wide[to.number as usize] = blend64(r.masks[mask.number as usize], new, old);
+        }
+        Bank::Scalar => r.scalars[to.number as usize] = lane_of64(value),
+        Bank::Mask => {}
+    }
+}

@@ -1,0 +1,140 @@
+//! The machine, with room for the codes of one program.
+ghost use Rattle.std.specs.Prelude.{◌≡◌, ◌<◌, true, sum, IfOk};
+ghost use Rattle.cl_model.specs.Sizes.{group_count};
+ghost use Rattle.cl_model.specs.View.{buffers_of, launch_of};
+ghost use Rattle.lane_code.specs.View.{plain_of};
+ghost use Rattle.lane_code.specs.Program.{names_of};
+ghost use Rattle.lane_code.specs.Fits.{code_fits, LaunchFits};
+ghost use Rattle.lane_code.specs.Meaning.{region_end};
+ghost use Rattle.lane_code.specs.Run.{chunk_at, chunk_count};
+ghost use Rattle.lane_machine.specs.Zeroed.{IsGroupOf};
+ghost use Rattle.lane_machine.specs.Room.{HasRoom, HasRoomFor, IsNoLess};
+ghost use Rattle.lane_machine.specs.Machinery.{room_at};
+
+use crate::kept::Group;
+use crate::region::region_at;
+use crate::registers::Registers;
+use crate::room::{counts_at, most_in, no_registers};
+use cl_model::{Buffers, Launch};
+use lane_code::{Code, GroupProgram, RegionEnd};
+use lane_kernels::Tally;
+use std::alloc::Global;
+use std::marker::Model;
+use wg_num::{Memory, Width};
+
+/// The registers of a chunk, at the width of the program that it was made for, and a count of the
+/// vector operations that were called.
+#[derive(Drop)]
+pub struct Machine {
+    pub tally: Tally,
+    one: Registers<1>,
+    four: Registers<4>,
+    eight: Registers<8>,
+    sixteen: Registers<16>,
+}
+
+impl Model for Machine {
+    ghost use Rattle.lane_machine.specs.Machinery.{Machinery};
+
+    ghost Value = { Machinery };
+
+    ghost view = { λ m. record { tally = m.tally; one = m.one.room; four = m.four.room; eight = m.eight.room; sixteen = m.sixteen.room } };
+}
+
+impl Machine {
+    /// A machine with room for every code of the program, whose tally stands at 0; `Memory` where
+    /// there is none for it.
+    pub fn new(alloc: Global, program: &GroupProgram) -> Result<Machine, Memory>
+        ensures tally { IfOk result (λ m. m.tally ≡ 0) }
+        ensures room { IfOk result (λ m. HasRoomFor (room_at program.now.width m) (plain_of program.now).top) }
+    {
+        let counts = most_in(&program.top, no_registers());
+        let width = program.width;
+        let one = Registers::with_room(alloc, counts_at(width, Width::W1, counts))?;
+        let four = Registers::with_room(alloc, counts_at(width, Width::W4, counts))?;
+        let eight = Registers::with_room(alloc, counts_at(width, Width::W8, counts))?;
+        let sixteen = Registers::with_room(alloc, counts_at(width, Width::W16, counts))?;
+        Ok(Machine {
+            tally: Tally::new(),
+            one,
+            four,
+            eight,
+            sixteen,
+        })
+    }
+
+    /// Does a code of the program on one chunk of a group, exactly as the code means, and takes no
+    /// memory.
+    pub fn region(
+        &mut self,
+        code: &Code,
+        program: &GroupProgram,
+        launch: &Launch,
+        buffers: &mut Buffers,
+        group: &mut Group,
+        chunk: u32,
+        turns: &mut u64,
+    ) -> RegionEnd
+        requires code { code_fits (names_of (plain_of program.now)) code.now.counts code.now.steps.items ≡ true }
+        requires launch { LaunchFits (plain_of program.now).params (sum (plain_of program.now).locals) (launch_of launch.now) }
+        requires chunk { chunk < chunk_count (plain_of program.now) (launch_of launch.now) }
+        requires number { group.old.number < group_count (launch_of launch.now) }
+        requires made { IsGroupOf (plain_of program.now) (launch_of launch.now) group.old.kept }
+        requires room { HasRoom code.now.counts (room_at program.now.width self.old) }
+        ensures end { (region_end (chunk_at (plain_of program.now) (launch_of launch.now) group.old.number chunk) code.now.steps.items code.now.counts turns.old group.old.kept (buffers_of buffers.old)).end ≡ result }
+        ensures turns { (region_end (chunk_at (plain_of program.now) (launch_of launch.now) group.old.number chunk) code.now.steps.items code.now.counts turns.old group.old.kept (buffers_of buffers.old)).turns ≡ turns.new }
+        ensures group { (region_end (chunk_at (plain_of program.now) (launch_of launch.now) group.old.number chunk) code.now.steps.items code.now.counts turns.old group.old.kept (buffers_of buffers.old)).state.group ≡ group.new.kept }
+        ensures buffers { (region_end (chunk_at (plain_of program.now) (launch_of launch.now) group.old.number chunk) code.now.steps.items code.now.counts turns.old group.old.kept (buffers_of buffers.old)).state.buffers ≡ buffers_of buffers.new }
+        ensures made { IsGroupOf (plain_of program.now) (launch_of launch.now) group.new.kept }
+        ensures number { group.new.number ≡ group.old.number }
+        ensures room { IsNoLess (room_at program.now.width self.old) (room_at program.now.width self.new) }
+    {
+        let tally = &mut self.tally;
+        match program.width {
+            Width::W1 => region_at(
+                &mut self.one,
+                code,
+                program,
+                launch,
+                buffers,
+                group,
+                chunk,
+                turns,
+                tally,
+            ),
+            Width::W4 => region_at(
+                &mut self.four,
+                code,
+                program,
+                launch,
+                buffers,
+                group,
+                chunk,
+                turns,
+                tally,
+            ),
+            Width::W8 => region_at(
+                &mut self.eight,
+                code,
+                program,
+                launch,
+                buffers,
+                group,
+                chunk,
+                turns,
+                tally,
+            ),
+            Width::W16 => region_at(
+                &mut self.sixteen,
+                code,
+                program,
+                launch,
+                buffers,
+                group,
+                chunk,
+                turns,
+                tally,
+            ),
+        }
+    }
+}

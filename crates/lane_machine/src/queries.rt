@@ -1,0 +1,155 @@
+//! What the work-item functions give an item (OpenCL 1.2, section 6.12.1).
+ghost use Rattle.std.specs.Prelude.{◌≡◌, ◌<◌, ◌≤◌, ◌*◌, ◌^◌, pos, take, List, ℕ, slice_index};
+ghost use Rattle.cl_model.specs.Sizes.{product, size_at, offset_at, group_size, groups_of, groups_at, local_id, group_id, global_id, answer_within, answer_outside, answer_of};
+ghost use Rattle.cl_model.specs.View.{launch_of, three_of};
+ghost use Rattle.lane_machine.specs.Sizes.{HasSizes, AreSizes};
+
+use cl_model::{Launch, Query};
+
+/// The product of three sizes.
+pub(crate) fn whole(sizes: &[u64; 3]) -> u64
+    requires { AreSizes (three_of sizes.now) }
+    ensures value { result ≡ product (three_of sizes.now) }
+    ensures some { 0 < result }
+{
+    sizes[0] * (sizes[1] * sizes[2])
+}
+
+/// The product of the sizes of the dimensions before one.
+fn before(sizes: &[u64; 3], d: u32) -> u64
+    requires sizes { AreSizes (three_of sizes.now) }
+    requires dimension { d < 3 }
+    ensures value { result ≡ product (take d (three_of sizes.now)) }
+    ensures some { 0 < result }
+{
+    match d {
+        0 => 1,
+        1 => sizes[0],
+        _ => sizes[0] * sizes[1],
+    }
+}
+
+/// The number of groups in each dimension.
+fn groups(launch: &Launch) -> [u64; 3]
+    requires { HasSizes (launch_of launch.now) }
+    ensures counts { three_of result ≡ groups_of (launch_of launch.now) }
+    ensures sizes { AreSizes (three_of result) }
+{
+    [
+        launch.global[0] / launch.local[0],
+        launch.global[1] / launch.local[1],
+        launch.global[2] / launch.local[2],
+    ]
+}
+
+/// The size in a dimension.
+fn size_in(sizes: &[u64; 3], d: u32) -> u64
+    requires sizes { AreSizes (three_of sizes.now) }
+    requires dimension { d < 3 }
+    ensures value { result ≡ size_at (three_of sizes.now) d }
+    ensures some { 0 < result }
+{
+    match d {
+        0 => sizes[0],
+        1 => sizes[1],
+        _ => sizes[2],
+    }
+}
+
+/// The offset in a dimension.
+fn offset_in(offsets: &[u64; 3], d: u32) -> u64
+    requires dimension { d < 3 }
+    ensures value { result ≡ offset_at (three_of offsets.now) d }
+{
+    match d {
+        0 => offsets[0],
+        1 => offsets[1],
+        _ => offsets[2],
+    }
+}
+
+/// The number of groups in a dimension.
+fn groups_in(launch: &Launch, d: u32) -> u64
+    requires sizes { HasSizes (launch_of launch.now) }
+    requires dimension { d < 3 }
+    ensures value { result ≡ groups_at (launch_of launch.now) d }
+    ensures some { 0 < result }
+{
+    match d {
+        0 => groups(launch)[0],
+        1 => groups(launch)[1],
+        _ => groups(launch)[2],
+    }
+}
+
+/// The item's number in its group, in a dimension.
+fn local_in(launch: &Launch, item: u64, d: u32) -> u64
+    requires sizes { HasSizes (launch_of launch.now) }
+    requires dimension { d < 3 }
+    ensures value { result ≡ local_id (launch_of launch.now) item d }
+    ensures below { result < size_at (launch_of launch.now).local d }
+{
+    item % whole(&launch.local) / before(&launch.local, d) % size_in(&launch.local, d)
+}
+
+/// The number of the item's group, in a dimension.
+fn group_in(launch: &Launch, item: u64, d: u32) -> u64
+    requires sizes { HasSizes (launch_of launch.now) }
+    requires dimension { d < 3 }
+    ensures value { result ≡ group_id (launch_of launch.now) item d }
+    ensures below { result < groups_at (launch_of launch.now) d }
+{
+    item / whole(&launch.local) / before(&groups(launch), d) % groups_in(launch, d)
+}
+
+/// The item's number in the launch, in a dimension, from the offset on.
+fn global_in(launch: &Launch, item: u64, d: u32) -> u64
+    requires sizes { HasSizes (launch_of launch.now) }
+    requires dimension { d < 3 }
+    ensures { result ≡ global_id (launch_of launch.now) item d }
+{
+    let local = local_in(launch, item, d);
+    let group = group_in(launch, item, d);
+    offset_in(&launch.offset, d) + group * size_in(&launch.local, d) + local
+}
+
+/// What a work-item function gives an item in a dimension below 3.
+fn answer_inside(launch: &Launch, item: u64, what: Query, d: u32) -> u64
+    requires sizes { HasSizes (launch_of launch.now) }
+    requires dimension { d < 3 }
+    ensures { result ≡ answer_within (launch_of launch.now) item what d }
+{
+    match what {
+        Query::WorkDim => launch.dims as u64,
+        Query::GlobalId => global_in(launch, item, d),
+        Query::LocalId => local_in(launch, item, d),
+        Query::GroupId => group_in(launch, item, d),
+        Query::GlobalSize => size_in(&launch.global, d),
+        Query::LocalSize => size_in(&launch.local, d),
+        Query::NumGroups => groups_in(launch, d),
+        Query::GlobalOffset => offset_in(&launch.offset, d),
+    }
+}
+
+/// And in any other.
+fn answer_beyond(launch: &Launch, what: Query) -> u64
+    ensures { result ≡ answer_outside (launch_of launch.now) what }
+{
+    match what {
+        Query::WorkDim => launch.dims as u64,
+        Query::GlobalSize | Query::LocalSize | Query::NumGroups => 1,
+        Query::GlobalId | Query::LocalId | Query::GroupId | Query::GlobalOffset => 0,
+    }
+}
+
+/// What a work-item function gives an item for an argument.
+pub(crate) fn answer(launch: &Launch, item: u64, what: Query, d: u32) -> u64
+    requires { HasSizes (launch_of launch.now) }
+    ensures { pos result ≡ answer_of (launch_of launch.now) item what (pos d) }
+{
+    if d < 3 {
+        answer_inside(launch, item, what, d)
+    } else {
+        answer_beyond(launch, what)
+    }
+}

@@ -1,0 +1,89 @@
+//! A region on one chunk, at a width.
+ghost use Rattle.std.specs.Prelude.{◌≡◌, ◌<◌, ◌≤◌, ◌+◌, ◌-◌, ◌*◌, ◌/◌, ◌^◌, true};
+ghost use Rattle.cl_model.specs.Sizes.{group_count};
+ghost use Rattle.cl_model.specs.View.{buffers_of, launch_of};
+ghost use Rattle.lane_code.specs.View.{plain_of};
+ghost use Rattle.lane_code.specs.Program.{names_of};
+ghost use Rattle.lane_code.specs.Fits.{code_fits};
+ghost use Rattle.lane_code.specs.Meaning.{region_end};
+ghost use Rattle.lane_code.specs.Run.{chunk_at, chunk_count};
+ghost use Rattle.lane_machine.specs.Sizes.{HasSizes};
+ghost use Rattle.lane_machine.specs.Standing.{HasNames};
+ghost use Rattle.lane_machine.specs.Room.{HasRoom, IsNoLess};
+ghost use Rattle.lane_machine.specs.Zeroed.{zeroed};
+
+use crate::kept::Group;
+use crate::queries::whole;
+use crate::registers::Registers;
+use crate::running::run;
+use cl_model::{Buffers, Launch};
+use lane_code::{Code, GroupProgram, RegionEnd};
+use lane_kernels::Tally;
+
+/// The number in its group of the first item of a chunk.
+fn first_in<const W: usize>(size: u64, chunk: u32) -> usize
+    requires lanes { 1 ≤ W }
+    requires chunk { chunk < (size + (W - 1)) / W }
+    requires few { size ≤ 2 ^ 24 }
+    ensures value { result ≡ chunk * W }
+    ensures below { result < size }
+{
+    chunk as usize * W
+}
+
+/// The number in the launch of an item of a group.
+fn item_in(group: &Group, size: u64, first: usize) -> u64
+    requires { group.now.number * size + first < 2 ^ 32 }
+    ensures { result ≡ group.now.number * size + first }
+{
+    group.number * size + first as u64
+}
+
+/// A code on one chunk, in registers of the program's width.
+pub(crate) fn region_at<const W: usize>(
+    r: &mut Registers<W>,
+    code: &Code,
+    program: &GroupProgram,
+    launch: &Launch,
+    buffers: &mut Buffers,
+    group: &mut Group,
+    chunk: u32,
+    turns: &mut u64,
+    tally: &mut Tally,
+) -> RegionEnd
+    requires lanes { W ≤ 64 }
+    requires some { 1 ≤ W }
+    requires width { (plain_of program.now).width ≡ W }
+    requires code { code_fits (names_of (plain_of program.now)) code.now.counts code.now.steps.items ≡ true }
+    requires sizes { HasSizes (launch_of launch.now) }
+    requires chunk { chunk < chunk_count (plain_of program.now) (launch_of launch.now) }
+    requires number { group.old.number < group_count (launch_of launch.now) }
+    requires names { HasNames (names_of (plain_of program.now)) group.old.kept }
+    requires room { HasRoom code.now.counts r.old.room }
+    ensures end { (region_end (chunk_at (plain_of program.now) (launch_of launch.now) group.old.number chunk) code.now.steps.items code.now.counts turns.old group.old.kept (buffers_of buffers.old)).end ≡ result }
+    ensures turns { (region_end (chunk_at (plain_of program.now) (launch_of launch.now) group.old.number chunk) code.now.steps.items code.now.counts turns.old group.old.kept (buffers_of buffers.old)).turns ≡ turns.new }
+    ensures group { (region_end (chunk_at (plain_of program.now) (launch_of launch.now) group.old.number chunk) code.now.steps.items code.now.counts turns.old group.old.kept (buffers_of buffers.old)).state.group ≡ group.new.kept }
+    ensures buffers { (region_end (chunk_at (plain_of program.now) (launch_of launch.now) group.old.number chunk) code.now.steps.items code.now.counts turns.old group.old.kept (buffers_of buffers.old)).state.buffers ≡ buffers_of buffers.new }
+    ensures names { HasNames (names_of (plain_of program.now)) group.new.kept }
+    ensures zeroed { zeroed group.new.kept ≡ zeroed group.old.kept }
+    ensures number { group.new.number ≡ group.old.number }
+    ensures room { IsNoLess r.old.room r.new.room }
+{
+    let size = whole(&launch.local);
+    let first = first_in::<W>(size, chunk);
+    let item = item_in(group, size, first);
+    r.restart(code.counts, size as usize, first);
+    run(
+        &code.steps,
+        code.counts,
+        r,
+        group,
+        buffers,
+        program,
+        launch,
+        first,
+        item,
+        turns,
+        tally,
+    )
+}

@@ -1,0 +1,50 @@
+//! The registers at the start of a code.
+ghost use Rattle.std.specs.Prelude.{◌≡◌, ◌<◌, ◌≤◌, ◌^◌, false, replicate};
+ghost use Rattle.std.specs.Vec.{vec_capacity};
+ghost use Rattle.lane_code.specs.Registers.{existing, start_registers};
+ghost use Rattle.lane_machine.specs.Room.{HasRoom, IsNoLess};
+
+use crate::registers::Registers;
+use lane_code::Counts;
+use std::simd::prelude::*;
+
+/// So many copies of a value in place of what the list has; there is room for them.
+fn refill<T: Copy + Drop>(list: &mut Vec<T>, n: usize, x: T)
+    requires { n ≤ vec_capacity list.old }
+    ensures items { list.new.items ≡ replicate n x }
+    ensures capacity { vec_capacity list.old ≤ vec_capacity list.new }
+{
+    list.clear();
+    let _ = list.resize(n, x);
+}
+
+/// The lanes whose items exist.
+fn existing_lanes<const W: usize>(size: usize, first: usize) -> [bool; W]
+    requires lanes { W ≤ 64 }
+    requires first { first < 2 ^ 32 }
+    ensures { result ≡ existing size W first }
+{
+    let mut lanes = [false; W];
+    for i in 0..W {
+        lanes[i] = first + i < size;
+    }
+    lanes
+}
+
+impl<const W: usize> Registers<W> {
+    /// As many registers as a code counts, all zero but mask 0, which is the existing lanes.
+    pub(crate) fn restart(&mut self, counts: Counts, size: usize, first: usize)
+        requires lanes { W ≤ 64 }
+        requires first { first < 2 ^ 32 }
+        requires mask { 0 < counts.masks }
+        requires room { HasRoom counts self.old.room }
+        ensures written { self.new.plain ≡ start_registers counts.narrow counts.wide counts.masks counts.scalars W size first }
+        ensures room { IsNoLess self.old.room self.new.room }
+    {
+        refill(&mut self.narrow, counts.narrow as usize, Simd::splat(0));
+        refill(&mut self.wide, counts.wide as usize, Simd::splat(0));
+        refill(&mut self.masks, counts.masks as usize, [false; W]);
+        refill(&mut self.scalars, counts.scalars as usize, 0);
+        self.masks[0] = existing_lanes(size, first);
+    }
+}
