@@ -1,7 +1,1 @@
-pub mod Gives
-pub mod Members
 pub mod Parsing
-pub mod Places
-pub mod Reading
-pub mod Sets
-pub mod Starts

@@ -3,18 +3,18 @@
 ghost use Rattle.std.specs.Prelude.{◌≡◌, true};
 ghost use Rattle.cl_tree.specs.Syntax.{view, views};
 ghost use Rattle.cl_tree.specs.declared.terminal.Terminal.TheVariants as terminals;
-ghost use Rattle.cl_parse.specs.Gives.{Gives, spot_of};
-ghost use Rattle.cl_parse.specs.Members.{members};
-ghost use Rattle.cl_parse.specs.Reading.{is, readers, all_of, behind_comma, if_begun, unless, dimension_of, init_of, declared, declare_rest, element_of};
+ghost use Rattle.cl_read.specs.Gives.{Gives, spot_of};
+ghost use Rattle.cl_read.specs.Members.{members};
+ghost use Rattle.cl_read.specs.Reading.{is, readers, all_of, behind_comma, if_begun, unless, dimension_of, init_of, declared, declare_rest, element_of};
 
-use crate::cursor::{Fail, next_is, no_tree, take};
 use crate::expression::{assignment, conditional};
-use crate::members::{Members, concat, extend, nothing, of_token, of_token_and_tree};
-use crate::node::{
+use crate::types::{star, type_name};
+use cl_read::cursor::{Fail, next_is, no_tree, take};
+use cl_read::members::{Members, concat, extend, nothing, of_token, of_token_and_tree};
+use cl_read::node::{
     Node, Nodes, append, first_token, first_token_in, last_of_own, last_token, make, one, two,
 };
-use crate::set::Set;
-use crate::types::{star, type_name};
+use cl_read::set::Set;
 use cl_tree::{Form, Leaf, Terminal};
 use std::alloc::Global;
 
@@ -40,7 +40,7 @@ fn length_of(alloc: Global, room: u32, items: &[Leaf]) -> Result<(Nodes, &[Leaf]
     Ok((one(alloc, length)?, rest))
 }
 
-#[tactic(auto, unfolding(crate::specs::Reading::dimension_of))]
+#[tactic(auto, unfolding(cl_read::specs::Reading::dimension_of))]
 fn dimension(alloc: Global, room: u32, items: &[Leaf]) -> Result<(Members<'_>, &[Leaf]), Fail>
     ensures { Gives (λ x. ((true, members x.0), x.1.now)) result (dimension_of (readers room) items.now) }
 {
@@ -52,7 +52,7 @@ fn dimension(alloc: Global, room: u32, items: &[Leaf]) -> Result<(Members<'_>, &
 }
 
 /// The dimensions of an array.
-#[tactic(auto, using(crate::proofs::Loops::front_empty, crate::proofs::Loops::list_stops))]
+#[tactic(auto, using(cl_read::proofs::Loops::front_empty, cl_read::proofs::Loops::list_stops))]
 fn dimensions(alloc: Global, room: u32, items: &[Leaf]) -> Result<(Members<'_>, &[Leaf]), Fail>
     ensures { Gives (λ x. (members x.0, x.1.now)) result (all_of (is terminals.OpenBracket) (dimension_of (readers room)) items.now) }
 {
@@ -67,7 +67,7 @@ fn dimensions(alloc: Global, room: u32, items: &[Leaf]) -> Result<(Members<'_>, 
 }
 
 /// What a variable is initialised with.
-#[tactic(auto, unfolding(crate::specs::Reading::init_of))]
+#[tactic(auto, unfolding(cl_read::specs::Reading::init_of))]
 fn initial(alloc: Global, room: u32, items: &[Leaf]) -> Result<(Node, &[Leaf]), Fail>
     ensures { Gives (λ x. (view x.0.tree, x.1.now)) result (init_of (readers room) items.now) }
 {
@@ -78,7 +78,7 @@ fn initial(alloc: Global, room: u32, items: &[Leaf]) -> Result<(Node, &[Leaf]), 
 }
 
 /// A declarator, behind its name.
-#[tactic(auto, unfolding(crate::specs::Reading::declared))]
+#[tactic(auto, unfolding(cl_read::specs::Reading::declared))]
 pub(crate) fn declared<'a>(
     alloc: Global,
     room: u32,
@@ -112,7 +112,7 @@ pub(crate) fn declared<'a>(
     ))
 }
 
-#[tactic(auto, using(crate::proofs::Equations::equations), unfolding(crate::specs::Reading::declarator_of))]
+#[tactic(auto, using(cl_read::proofs::Equations::equations), unfolding(cl_read::specs::Reading::declarator_of))]
 pub(crate) fn declarator(
     alloc: Global,
     budget: u32,
@@ -141,7 +141,7 @@ fn further_declarator(
 }
 
 /// The declarators behind the first one.
-#[tactic(auto, using(crate::proofs::Loops::front_empty, crate::proofs::Loops::list_stops))]
+#[tactic(auto, using(cl_read::proofs::Loops::front_empty, cl_read::proofs::Loops::list_stops))]
 fn declarators(alloc: Global, room: u32, items: &[Leaf]) -> Result<(Members<'_>, &[Leaf]), Fail>
     ensures { Gives (λ x. (members x.0, x.1.now)) result (all_of (is terminals.Comma) (behind_comma (readers room).declarator) items.now) }
 {
@@ -156,7 +156,7 @@ fn declarators(alloc: Global, room: u32, items: &[Leaf]) -> Result<(Members<'_>,
 }
 
 /// A declaration, behind its first declarator.
-#[tactic(auto, unfolding(crate::specs::Reading::declare_rest))]
+#[tactic(auto, unfolding(cl_read::specs::Reading::declare_rest))]
 pub(crate) fn declaration_behind(
     alloc: Global,
     room: u32,
@@ -177,7 +177,7 @@ pub(crate) fn declaration_behind(
     ))
 }
 
-#[tactic(auto, using(crate::proofs::Equations::equations), unfolding(crate::specs::Reading::declare_of))]
+#[tactic(auto, using(cl_read::proofs::Equations::equations), unfolding(cl_read::specs::Reading::declare_of))]
 pub(crate) fn declaration(
     alloc: Global,
     budget: u32,
@@ -194,7 +194,7 @@ pub(crate) fn declaration(
 }
 
 /// A comma and an initialiser, or the comma that ends a list; and whether the list may go on.
-#[tactic(auto, unfolding(crate::specs::Reading::element_of))]
+#[tactic(auto, unfolding(cl_read::specs::Reading::element_of))]
 fn element(alloc: Global, room: u32, items: &[Leaf]) -> Result<((bool, Members<'_>), &[Leaf]), Fail>
     ensures { Gives (λ x. ((x.0.0, members x.0.1), x.1.now)) result (element_of (readers room) items.now) }
 {
@@ -207,7 +207,7 @@ fn element(alloc: Global, room: u32, items: &[Leaf]) -> Result<((bool, Members<'
 }
 
 /// The elements of a list behind the first one.
-#[tactic(auto, using(crate::proofs::Loops::front_empty, crate::proofs::Loops::list_stops))]
+#[tactic(auto, using(cl_read::proofs::Loops::front_empty, cl_read::proofs::Loops::list_stops))]
 fn elements(alloc: Global, room: u32, items: &[Leaf]) -> Result<(Members<'_>, &[Leaf]), Fail>
     ensures { Gives (λ x. (members x.0, x.1.now)) result (all_of (is terminals.Comma) (element_of (readers room)) items.now) }
 {
@@ -225,7 +225,7 @@ fn elements(alloc: Global, room: u32, items: &[Leaf]) -> Result<(Members<'_>, &[
 }
 
 /// A list of initialisers between braces.
-#[tactic(auto, using(crate::proofs::Equations::equations), unfolding(crate::specs::Reading::initializers_of))]
+#[tactic(auto, using(cl_read::proofs::Equations::equations), unfolding(cl_read::specs::Reading::initializers_of))]
 fn initializers(alloc: Global, budget: u32, items: &[Leaf]) -> Result<(Node, &[Leaf]), Fail>
     ensures { Gives (λ x. (view x.0.tree, x.1.now)) result ((readers budget).initializers items.now) }
 {

@@ -5,19 +5,19 @@ ghost use Rattle.cl_tree.specs.Syntax.{view};
 ghost use Rattle.cl_tree.specs.Nodes.{prefix_node};
 ghost use Rattle.cl_tree.specs.Precedence.{joins, form_of};
 ghost use Rattle.cl_tree.specs.declared.terminal.Terminal.TheVariants as terminals;
-ghost use Rattle.cl_parse.specs.Starts.{postfixes};
-ghost use Rattle.cl_parse.specs.Gives.{Gives, spot_of};
-ghost use Rattle.cl_parse.specs.Members.{members};
-ghost use Rattle.cl_parse.specs.Reading.{is, readers, chain, all_of, behind_comma, level_step, expr_step, postfix_step, postfixed, paren_of, opened, sizeof_of, operand_of, primary_of, call_of};
+ghost use Rattle.cl_read.specs.Starts.{postfixes};
+ghost use Rattle.cl_read.specs.Gives.{Gives, spot_of};
+ghost use Rattle.cl_read.specs.Members.{members};
+ghost use Rattle.cl_read.specs.Reading.{is, readers, chain, all_of, behind_comma, level_step, expr_step, postfix_step, postfixed, paren_of, opened, sizeof_of, operand_of, primary_of, call_of};
 
-use crate::cursor::{Fail, next_in, next_is, no_tree, take, take_in};
-use crate::members::{Members, concat, extend, nothing, of_token_and_tree};
-use crate::node::{
+use crate::types::type_name;
+use cl_read::cursor::{Fail, next_in, next_is, no_tree, take, take_in};
+use cl_read::members::{Members, concat, extend, nothing, of_token_and_tree};
+use cl_read::node::{
     Node, Nodes, append, first_token, fits, is_unary_node, last_token, make, of_word, one, pair,
     three, two,
 };
-use crate::set::Set;
-use crate::types::type_name;
+use cl_read::set::Set;
 use cl_tree::{Form, Leaf, Terminal};
 use std::alloc::{AllocError, Global};
 
@@ -42,7 +42,7 @@ fn level_form(number: u32) -> Form
 
 /// Assignments, with commas between them.
 #[cycle(expression)]
-#[tactic(auto, using(crate::proofs::Equations::equations))]
+#[tactic(auto, using(cl_read::proofs::Equations::equations))]
 pub(crate) fn expression(
     alloc: Global,
     budget: u32,
@@ -58,7 +58,7 @@ pub(crate) fn expression(
 }
 
 #[cycle(expression)]
-#[tactic(auto, using(crate::proofs::Chains::chain_stops, crate::proofs::Chains::chain_ends, crate::proofs::Chains::chain_full, crate::proofs::Chains::chain_goes), unfolding(crate::specs::Reading::expr_step))]
+#[tactic(auto, using(cl_read::proofs::Chains::chain_stops, cl_read::proofs::Chains::chain_ends, cl_read::proofs::Chains::chain_full, cl_read::proofs::Chains::chain_goes), unfolding(cl_read::specs::Reading::expr_step))]
 fn expression_chain(
     alloc: Global,
     room: u32,
@@ -88,7 +88,7 @@ fn expression_chain(
 }
 
 #[cycle(expression)]
-#[tactic(auto, using(crate::proofs::Equations::equations), unfolding(crate::specs::Reading::assign_of))]
+#[tactic(auto, using(cl_read::proofs::Equations::equations), unfolding(cl_read::specs::Reading::assign_of))]
 pub(crate) fn assignment(
     alloc: Global,
     budget: u32,
@@ -112,7 +112,7 @@ pub(crate) fn assignment(
 }
 
 #[cycle(expression)]
-#[tactic(auto, using(crate::proofs::Equations::none_cond, crate::proofs::Equations::open_cond, crate::proofs::Equations::level_top), unfolding(crate::specs::Reading::cond_of))]
+#[tactic(auto, using(cl_read::proofs::Equations::none_cond, cl_read::proofs::Equations::open_cond, cl_read::proofs::Equations::level_top), unfolding(cl_read::specs::Reading::cond_of))]
 pub(crate) fn conditional(
     alloc: Global,
     budget: u32,
@@ -147,7 +147,7 @@ pub(crate) fn conditional(
 
 /// The operators of the levels below that number, from `*` to `||`.
 #[cycle(expression)]
-#[tactic(auto, using(crate::proofs::Equations::equations))]
+#[tactic(auto, using(cl_read::proofs::Equations::equations))]
 fn level(alloc: Global, budget: u32, number: u32, items: &[Leaf]) -> Result<(Node, &[Leaf]), Fail>
     requires { number ≤ 10 }
     ensures { Gives (λ x. (view x.0.tree, x.1.now)) result ((readers budget).level number items.now) }
@@ -163,7 +163,7 @@ fn level(alloc: Global, budget: u32, number: u32, items: &[Leaf]) -> Result<(Nod
 }
 
 #[cycle(expression)]
-#[tactic(auto, using(crate::proofs::Chains::chain_stops, crate::proofs::Chains::chain_ends, crate::proofs::Chains::chain_full, crate::proofs::Chains::chain_goes), unfolding(crate::specs::Reading::level_step))]
+#[tactic(auto, using(cl_read::proofs::Chains::chain_stops, cl_read::proofs::Chains::chain_ends, cl_read::proofs::Chains::chain_full, cl_read::proofs::Chains::chain_goes), unfolding(cl_read::specs::Reading::level_step))]
 fn level_chain(
     alloc: Global,
     room: u32,
@@ -195,7 +195,7 @@ fn level_chain(
 }
 
 #[cycle(expression)]
-#[tactic(auto, using(crate::proofs::Equations::equations), unfolding(crate::specs::Reading::cast_of))]
+#[tactic(auto, using(cl_read::proofs::Equations::equations), unfolding(cl_read::specs::Reading::cast_of))]
 fn cast(alloc: Global, budget: u32, items: &[Leaf]) -> Result<(Node, &[Leaf]), Fail>
     ensures { Gives (λ x. (view x.0.tree, x.1.now)) result ((readers budget).cast items.now) }
 {
@@ -211,7 +211,7 @@ fn cast(alloc: Global, budget: u32, items: &[Leaf]) -> Result<(Node, &[Leaf]), F
 
 /// A cast or a parenthesis, and what follows it, behind its opening.
 #[cycle(expression)]
-#[tactic(auto, unfolding(crate::specs::Reading::opened))]
+#[tactic(auto, unfolding(cl_read::specs::Reading::opened))]
 fn cast_behind_open<'a>(
     alloc: Global,
     room: u32,
@@ -242,7 +242,7 @@ fn cast_behind_open<'a>(
 
 /// A parenthesis, and what follows it, behind its opening.
 #[cycle(expression)]
-#[tactic(auto, unfolding(crate::specs::Reading::paren_of))]
+#[tactic(auto, unfolding(cl_read::specs::Reading::paren_of))]
 fn parenthesis<'a>(
     alloc: Global,
     room: u32,
@@ -267,7 +267,7 @@ fn parenthesis<'a>(
 }
 
 #[cycle(expression)]
-#[tactic(auto, using(crate::proofs::Equations::equations), unfolding(crate::specs::Reading::unary_of))]
+#[tactic(auto, using(cl_read::proofs::Equations::equations), unfolding(cl_read::specs::Reading::unary_of))]
 fn unary(alloc: Global, budget: u32, items: &[Leaf]) -> Result<(Node, &[Leaf]), Fail>
     ensures { Gives (λ x. (view x.0.tree, x.1.now)) result ((readers budget).unary items.now) }
 {
@@ -283,7 +283,7 @@ fn unary(alloc: Global, budget: u32, items: &[Leaf]) -> Result<(Node, &[Leaf]), 
 
 /// A unary that begins with no parenthesis.
 #[cycle(expression)]
-#[tactic(auto, unfolding(crate::specs::Reading::operand_of))]
+#[tactic(auto, unfolding(cl_read::specs::Reading::operand_of))]
 fn operand(alloc: Global, room: u32, items: &[Leaf]) -> Result<(Node, &[Leaf]), Fail>
     requires { room < 2 ^ 32 - 1 }
     ensures { Gives (λ x. (view x.0.tree, x.1.now)) result (operand_of room (readers room) items.now) }
@@ -321,7 +321,7 @@ fn prefixed(alloc: Global, operator: &Leaf, inner: Node) -> Result<Node, AllocEr
     )
 }
 
-#[tactic(auto, unfolding(crate::specs::Reading::sizeof_of))]
+#[tactic(auto, unfolding(cl_read::specs::Reading::sizeof_of))]
 fn size_of(alloc: Global, room: u32, items: &[Leaf]) -> Result<(Node, &[Leaf]), Fail>
     ensures { Gives (λ x. (view x.0.tree, x.1.now)) result (sizeof_of room (readers room) items.now) }
 {
@@ -344,7 +344,7 @@ fn size_of(alloc: Global, room: u32, items: &[Leaf]) -> Result<(Node, &[Leaf]), 
 
 /// The indexes and steps behind an operand.
 #[cycle(expression)]
-#[tactic(auto, using(crate::proofs::Chains::chain_stops, crate::proofs::Chains::chain_ends, crate::proofs::Chains::chain_full, crate::proofs::Chains::chain_goes), unfolding(crate::specs::Reading::postfixed))]
+#[tactic(auto, using(cl_read::proofs::Chains::chain_stops, cl_read::proofs::Chains::chain_ends, cl_read::proofs::Chains::chain_full, cl_read::proofs::Chains::chain_goes), unfolding(cl_read::specs::Reading::postfixed))]
 fn postfix_parts(
     alloc: Global,
     room: u32,
@@ -374,7 +374,7 @@ fn postfix_parts(
 
 /// One index or step behind an operand.
 #[cycle(expression)]
-#[tactic(auto, unfolding(crate::specs::Reading::postfix_step))]
+#[tactic(auto, unfolding(cl_read::specs::Reading::postfix_step))]
 fn postfix_part(
     alloc: Global,
     room: u32,
@@ -401,7 +401,7 @@ fn postfix_part(
 
 /// A number, a truth word, a variable or a call.
 #[cycle(expression)]
-#[tactic(auto, unfolding(crate::specs::Reading::primary_of))]
+#[tactic(auto, unfolding(cl_read::specs::Reading::primary_of))]
 fn primary(alloc: Global, room: u32, items: &[Leaf]) -> Result<(Node, &[Leaf]), Fail>
     ensures { Gives (λ x. (view x.0.tree, x.1.now)) result (primary_of room (readers room) items.now) }
 {
@@ -423,7 +423,7 @@ fn primary(alloc: Global, room: u32, items: &[Leaf]) -> Result<(Node, &[Leaf]), 
 
 /// A call, behind its opening.
 #[cycle(expression)]
-#[tactic(auto, unfolding(crate::specs::Reading::call_of))]
+#[tactic(auto, unfolding(cl_read::specs::Reading::call_of))]
 fn call<'a>(
     alloc: Global,
     room: u32,
@@ -459,7 +459,7 @@ fn call<'a>(
 
 /// The arguments of a call behind the first one.
 #[cycle(expression)]
-#[tactic(auto, using(crate::proofs::Loops::front_empty, crate::proofs::Loops::list_stops))]
+#[tactic(auto, using(cl_read::proofs::Loops::front_empty, cl_read::proofs::Loops::list_stops))]
 fn arguments(alloc: Global, room: u32, items: &[Leaf]) -> Result<(Members<'_>, &[Leaf]), Fail>
     ensures { Gives (λ x. (members x.0, x.1.now)) result (all_of (is terminals.Comma) (behind_comma (readers room).assign) items.now) }
 {

@@ -3,12 +3,12 @@
 ghost use Rattle.std.specs.Prelude.{◌≡◌, ◌<◌, ◌≤◌, ◌-◌, ◌^◌, length, IfOk, ℕ};
 ghost use Rattle.cl_tree.specs.Syntax.{Syntax, view, nesting};
 ghost use Rattle.cl_tree.specs.Grammar.{SpellsUnit};
-ghost use Rattle.cl_parse.specs.Places.{NoUnit, NoUnitWithin, SomeUnit, DeeperUnit};
+ghost use Rattle.cl_tree.specs.Places.{NoUnit, NoUnitWithin, SomeUnit, DeeperUnit};
 ghost use Rattle.cl_parse.specs.Parsing.{Answers, IfSyntax, IfNesting};
 
-use crate::cursor::Fail;
-use crate::node::fits;
 use crate::unit::unit;
+use cl_read::cursor::Fail;
+use cl_read::node::fits;
 use cl_token::Token;
 use cl_tree::{Tree, leaves};
 use std::alloc::Global;
@@ -72,8 +72,8 @@ pub fn parse(alloc: Global, tokens: &[Token]) -> Result<Tree, ParseError>
         Err(Fail::Syntax { left }) => Err(ParseError::Syntax {
             token: (count - left) as u32,
         }),
-        Err(Fail::Nesting { left }) => Err(ParseError::Nesting {
-            token: (count - left) as u32,
+        Err(Fail::Nesting { left: behind }) => Err(ParseError::Nesting {
+            token: (count - behind) as u32,
         }),
     }
 }

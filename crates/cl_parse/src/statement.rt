@@ -3,17 +3,17 @@
 ghost use Rattle.std.specs.Prelude.{◌≡◌, true, not};
 ghost use Rattle.cl_tree.specs.Syntax.{view, views};
 ghost use Rattle.cl_tree.specs.declared.terminal.Terminal.TheVariants as terminals;
-ghost use Rattle.cl_parse.specs.Starts.{same};
-ghost use Rattle.cl_parse.specs.Gives.{Gives};
-ghost use Rattle.cl_parse.specs.Members.{members};
-ghost use Rattle.cl_parse.specs.Reading.{is, readers, all_of, each, unless, line_of, block_of, if_of, while_of, do_of, start_of, for_of, switch_of, case_of, default_of, leave_of, return_of, leaving, labelled, simple_of};
+ghost use Rattle.cl_read.specs.Starts.{same};
+ghost use Rattle.cl_read.specs.Gives.{Gives};
+ghost use Rattle.cl_read.specs.Members.{members};
+ghost use Rattle.cl_read.specs.Reading.{is, readers, all_of, each, unless, line_of, block_of, if_of, while_of, do_of, start_of, for_of, switch_of, case_of, default_of, leave_of, return_of, leaving, labelled, simple_of};
 
-use crate::cursor::{Fail, next_differs, next_in, next_is, no_tree, take};
 use crate::declaration::declaration;
 use crate::expression::{conditional, expression};
-use crate::members::{Members, extend, nothing, of_tree};
-use crate::node::{Node, Nodes, append, first_token_in, last_token, make, one, three, two};
-use crate::set::Set;
+use cl_read::cursor::{Fail, next_differs, next_in, next_is, no_tree, take};
+use cl_read::members::{Members, extend, nothing, of_tree};
+use cl_read::node::{Node, Nodes, append, first_token_in, last_token, make, one, three, two};
+use cl_read::set::Set;
 use cl_tree::{Form, Leaf, Terminal};
 use std::alloc::Global;
 
@@ -34,7 +34,7 @@ fn expression_before(
 }
 
 /// An expression as a statement, or none.
-#[tactic(auto, unfolding(crate::specs::Reading::simple_of))]
+#[tactic(auto, unfolding(cl_read::specs::Reading::simple_of))]
 fn plain(alloc: Global, room: u32, items: &[Leaf]) -> Result<(Node, &[Leaf]), Fail>
     ensures { Gives (λ x. (view x.0.tree, x.1.now)) result (simple_of (readers room) items.now) }
 {
@@ -47,7 +47,7 @@ fn plain(alloc: Global, room: u32, items: &[Leaf]) -> Result<(Node, &[Leaf]), Fa
     ))
 }
 
-#[tactic(auto, using(crate::proofs::Equations::equations))]
+#[tactic(auto, using(cl_read::proofs::Equations::equations))]
 fn simple(alloc: Global, budget: u32, items: &[Leaf]) -> Result<(Node, &[Leaf]), Fail>
     ensures { Gives (λ x. (view x.0.tree, x.1.now)) result ((readers budget).simple items.now) }
 {
@@ -58,7 +58,7 @@ fn simple(alloc: Global, budget: u32, items: &[Leaf]) -> Result<(Node, &[Leaf]),
 }
 
 /// `break` or `continue`.
-#[tactic(auto, unfolding(crate::specs::Reading::leave_of))]
+#[tactic(auto, unfolding(cl_read::specs::Reading::leave_of))]
 fn jump(
     alloc: Global,
     room: u32,
@@ -82,7 +82,7 @@ fn jump(
     Ok((node, rest))
 }
 
-#[tactic(auto, unfolding(crate::specs::Reading::return_of))]
+#[tactic(auto, unfolding(cl_read::specs::Reading::return_of))]
 fn return_statement(alloc: Global, room: u32, items: &[Leaf]) -> Result<(Node, &[Leaf]), Fail>
     ensures { Gives (λ x. (view x.0.tree, x.1.now)) result (return_of (readers room) items.now) }
 {
@@ -104,7 +104,7 @@ fn return_statement(alloc: Global, room: u32, items: &[Leaf]) -> Result<(Node, &
 }
 
 /// A statement without statements in it.
-#[tactic(auto, unfolding(crate::specs::Reading::leaving))]
+#[tactic(auto, unfolding(cl_read::specs::Reading::leaving))]
 fn single(alloc: Global, room: u32, items: &[Leaf]) -> Result<(Node, &[Leaf]), Fail>
     ensures { Gives (λ x. (view x.0.tree, x.1.now)) result (leaving (readers room) items.now) }
 {
@@ -121,7 +121,7 @@ fn single(alloc: Global, room: u32, items: &[Leaf]) -> Result<(Node, &[Leaf]), F
 }
 
 #[cycle(statement)]
-#[tactic(auto, using(crate::proofs::Equations::equations), unfolding(crate::specs::Reading::statement_of))]
+#[tactic(auto, using(cl_read::proofs::Equations::equations), unfolding(cl_read::specs::Reading::statement_of))]
 pub(crate) fn statement(alloc: Global, budget: u32, items: &[Leaf]) -> Result<(Node, &[Leaf]), Fail>
     ensures { Gives (λ x. (view x.0.tree, x.1.now)) result ((readers budget).statement items.now) }
 {
@@ -147,7 +147,7 @@ pub(crate) fn statement(alloc: Global, budget: u32, items: &[Leaf]) -> Result<(N
 }
 
 #[cycle(statement)]
-#[tactic(auto, unfolding(crate::specs::Reading::labelled))]
+#[tactic(auto, unfolding(cl_read::specs::Reading::labelled))]
 fn labelled_statement(alloc: Global, room: u32, items: &[Leaf]) -> Result<(Node, &[Leaf]), Fail>
     ensures { Gives (λ x. (view x.0.tree, x.1.now)) result (labelled (readers room) items.now) }
 {
@@ -165,7 +165,7 @@ fn labelled_statement(alloc: Global, room: u32, items: &[Leaf]) -> Result<(Node,
 
 /// A block.
 #[cycle(statement)]
-#[tactic(auto, unfolding(crate::specs::Reading::block_of))]
+#[tactic(auto, unfolding(cl_read::specs::Reading::block_of))]
 fn braces(alloc: Global, room: u32, items: &[Leaf]) -> Result<(Node, &[Leaf]), Fail>
     ensures { Gives (λ x. (view x.0.tree, x.1.now)) result (block_of (readers room) items.now) }
 {
@@ -184,7 +184,7 @@ fn braces(alloc: Global, room: u32, items: &[Leaf]) -> Result<(Node, &[Leaf]), F
     Ok((node, rest))
 }
 
-#[tactic(auto, using(crate::proofs::Equations::equations))]
+#[tactic(auto, using(cl_read::proofs::Equations::equations))]
 pub(crate) fn block(alloc: Global, budget: u32, items: &[Leaf]) -> Result<(Node, &[Leaf]), Fail>
     ensures { Gives (λ x. (view x.0.tree, x.1.now)) result ((readers budget).block items.now) }
 {
@@ -196,7 +196,7 @@ pub(crate) fn block(alloc: Global, budget: u32, items: &[Leaf]) -> Result<(Node,
 
 /// The declarations and statements of a block.
 #[cycle(statement)]
-#[tactic(auto, using(crate::proofs::Loops::front_empty, crate::proofs::Loops::list_stops))]
+#[tactic(auto, using(cl_read::proofs::Loops::front_empty, cl_read::proofs::Loops::list_stops))]
 fn lines(alloc: Global, room: u32, items: &[Leaf]) -> Result<(Members<'_>, &[Leaf]), Fail>
     ensures { Gives (λ x. (members x.0, x.1.now)) result (all_of (λ k. not (same k terminals.CloseBrace)) (each (line_of (readers room))) items.now) }
 {
@@ -211,7 +211,7 @@ fn lines(alloc: Global, room: u32, items: &[Leaf]) -> Result<(Members<'_>, &[Lea
 }
 
 #[cycle(statement)]
-#[tactic(auto, unfolding(crate::specs::Reading::line_of))]
+#[tactic(auto, unfolding(cl_read::specs::Reading::line_of))]
 fn line(alloc: Global, room: u32, items: &[Leaf]) -> Result<(Members<'_>, &[Leaf]), Fail>
     ensures { Gives (λ x. ((true, members x.0), x.1.now)) result (each (line_of (readers room)) items.now) }
 {
@@ -224,7 +224,7 @@ fn line(alloc: Global, room: u32, items: &[Leaf]) -> Result<(Members<'_>, &[Leaf
 }
 
 #[cycle(statement)]
-#[tactic(auto, unfolding(crate::specs::Reading::if_of))]
+#[tactic(auto, unfolding(cl_read::specs::Reading::if_of))]
 fn if_statement(alloc: Global, room: u32, items: &[Leaf]) -> Result<(Node, &[Leaf]), Fail>
     ensures { Gives (λ x. (view x.0.tree, x.1.now)) result (if_of (readers room) items.now) }
 {
@@ -263,7 +263,7 @@ fn if_statement(alloc: Global, room: u32, items: &[Leaf]) -> Result<(Node, &[Lea
 }
 
 #[cycle(statement)]
-#[tactic(auto, unfolding(crate::specs::Reading::while_of))]
+#[tactic(auto, unfolding(cl_read::specs::Reading::while_of))]
 fn while_statement(alloc: Global, room: u32, items: &[Leaf]) -> Result<(Node, &[Leaf]), Fail>
     ensures { Gives (λ x. (view x.0.tree, x.1.now)) result (while_of (readers room) items.now) }
 {
@@ -286,7 +286,7 @@ fn while_statement(alloc: Global, room: u32, items: &[Leaf]) -> Result<(Node, &[
 }
 
 #[cycle(statement)]
-#[tactic(auto, unfolding(crate::specs::Reading::do_of))]
+#[tactic(auto, unfolding(cl_read::specs::Reading::do_of))]
 fn do_statement(alloc: Global, room: u32, items: &[Leaf]) -> Result<(Node, &[Leaf]), Fail>
     ensures { Gives (λ x. (view x.0.tree, x.1.now)) result (do_of (readers room) items.now) }
 {
@@ -306,7 +306,7 @@ fn do_statement(alloc: Global, room: u32, items: &[Leaf]) -> Result<(Node, &[Lea
 }
 
 /// What a `for` begins with.
-#[tactic(auto, unfolding(crate::specs::Reading::start_of))]
+#[tactic(auto, unfolding(cl_read::specs::Reading::start_of))]
 fn start(alloc: Global, room: u32, items: &[Leaf]) -> Result<(Node, &[Leaf]), Fail>
     ensures { Gives (λ x. (view x.0.tree, x.1.now)) result (start_of (readers room) items.now) }
 {
@@ -317,7 +317,7 @@ fn start(alloc: Global, room: u32, items: &[Leaf]) -> Result<(Node, &[Leaf]), Fa
 }
 
 #[cycle(statement)]
-#[tactic(auto, unfolding(crate::specs::Reading::for_of))]
+#[tactic(auto, unfolding(cl_read::specs::Reading::for_of))]
 fn for_statement(alloc: Global, room: u32, items: &[Leaf]) -> Result<(Node, &[Leaf]), Fail>
     ensures { Gives (λ x. (view x.0.tree, x.1.now)) result (for_of (readers room) items.now) }
 {
@@ -341,7 +341,7 @@ fn for_statement(alloc: Global, room: u32, items: &[Leaf]) -> Result<(Node, &[Le
 }
 
 #[cycle(statement)]
-#[tactic(auto, unfolding(crate::specs::Reading::switch_of))]
+#[tactic(auto, unfolding(cl_read::specs::Reading::switch_of))]
 fn switch_statement(alloc: Global, room: u32, items: &[Leaf]) -> Result<(Node, &[Leaf]), Fail>
     ensures { Gives (λ x. (view x.0.tree, x.1.now)) result (switch_of (readers room) items.now) }
 {
@@ -369,7 +369,7 @@ fn switch_statement(alloc: Global, room: u32, items: &[Leaf]) -> Result<(Node, &
 
 /// The statements of a switch body.
 #[cycle(statement)]
-#[tactic(auto, using(crate::proofs::Loops::front_empty, crate::proofs::Loops::list_stops))]
+#[tactic(auto, using(cl_read::proofs::Loops::front_empty, cl_read::proofs::Loops::list_stops))]
 fn statements(alloc: Global, room: u32, items: &[Leaf]) -> Result<(Members<'_>, &[Leaf]), Fail>
     ensures { Gives (λ x. (members x.0, x.1.now)) result (all_of (λ k. not (same k terminals.CloseBrace)) (each (readers room).statement) items.now) }
 {
@@ -396,7 +396,7 @@ fn further_statement(
 }
 
 #[cycle(statement)]
-#[tactic(auto, unfolding(crate::specs::Reading::case_of))]
+#[tactic(auto, unfolding(cl_read::specs::Reading::case_of))]
 fn case_statement(alloc: Global, room: u32, items: &[Leaf]) -> Result<(Node, &[Leaf]), Fail>
     ensures { Gives (λ x. (view x.0.tree, x.1.now)) result (case_of (readers room) items.now) }
 {
@@ -420,7 +420,7 @@ fn case_statement(alloc: Global, room: u32, items: &[Leaf]) -> Result<(Node, &[L
 }
 
 #[cycle(statement)]
-#[tactic(auto, unfolding(crate::specs::Reading::default_of))]
+#[tactic(auto, unfolding(cl_read::specs::Reading::default_of))]
 fn default_statement(alloc: Global, room: u32, items: &[Leaf]) -> Result<(Node, &[Leaf]), Fail>
     ensures { Gives (λ x. (view x.0.tree, x.1.now)) result (default_of (readers room) items.now) }
 {

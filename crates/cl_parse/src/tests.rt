@@ -4,6 +4,7 @@ use cl_tree::Tree;
 use std::alloc::Global;
 use std::fmt::Write;
 use std::test::Fail;
+use std::time::{Duration, Instant};
 
 // What the parser says of a source: 0 where it is a unit, else the number of the fault, and the token.
 fn verdict(alloc: Global, source: &str) -> Result<(u32, u32), Fail> {
@@ -19,7 +20,7 @@ fn verdict(alloc: Global, source: &str) -> Result<(u32, u32), Fail> {
     }
 }
 
-const SOURCES: [&str; 30] = [
+const SOURCES: [&str; 41] = [
     "__kernel void inc(__global int *a) { a[get_global_id(0)] = a[get_global_id(0)] + 1; }",
     "__kernel void nop(__global int *a) { }",
     "__kernel void dv(__global int *x, __global int *y, __global int *q, __global int *r) { int i = get_global_id(0); q[i] = x[i] / y[i]; r[i] = x[i] % y[i]; }",
@@ -42,28 +43,37 @@ const SOURCES: [&str; 30] = [
     "int meet(__local int *t, int l) { t[l] = t[l] + 1; barrier(CLK_LOCAL_MEM_FENCE); return t[1 - l]; } __kernel void two(__global int *a) { __local int t[2]; int l = get_local_id(0); int x = meet(t, l); barrier(CLK_LOCAL_MEM_FENCE); int y = x == 1 && meet(t, l) == 2; a[l] = x * 10 + y; }",
     "__kernel void li(__global long *a) { a[0] = 2147483648; a[1] = 0xFFFFFFFF + 1; a[2] = -2147483648; }",
     "__kernel void sw(__global int *a) { int i = get_global_id(0); int s = 0; switch (i) { case 1: s += 1; case 2: s += 2; break; default: s = 9; } a[i] = s; }",
-    "__kernel void bi(__global int *a) { a[0] = add_sat(2147483647, 1); a[4] = rotate((uchar)0x81, (uchar)1); a[10] = clamp(9, 5, 3); }",
+    "__kernel void bi(__global int *a) { a[0] = add_sat(2147483647, 1); a[1] = hadd(-3, -4); a[2] = rhadd(-3, -4); a[3] = mul_hi(1 << 20, 1 << 20); a[4] = rotate((uchar)0x81, (uchar)1); a[5] = clz((uchar)1); a[6] = clz(0); a[7] = popcount(255); a[8] = abs(-5); a[9] = abs_diff(-5, 7); a[10] = clamp(9, 5, 3); }",
+    "__kernel void inc(__global int *a) { b[0] = 1; }",
+    "__kernel void inc(__global int *a) { int x = x; }",
+    "__kernel void all(__global int *a) { if (get_group_id(0) == 0) barrier(CLK_GLOBAL_MEM_FENCE); a[get_global_id(0)] = 1; }",
+    "__kernel void wl(__global int *a) { __local int t[2]; int l = get_local_id(0); int n = 0; while (meet(t, l) < 3) { n++; barrier(CLK_LOCAL_MEM_FENCE); } a[l] = n; }",
+    "__kernel void w(__global int *a) { int r = 0; while (1) { if (get_local_id(0) == r) break; r++; } barrier(CLK_LOCAL_MEM_FENCE); a[get_local_id(0)] = r; }",
+    "__kernel void sh2(__global int *a) {\n  int l = get_local_id(0);\n  { int x = l + 1; barrier(CLK_LOCAL_MEM_FENCE); a[l] = x; }\n  { int y = l * 2; barrier(CLK_LOCAL_MEM_FENCE); a[l] += y; }\n}\n",
+    "__kernel void ix(__global int *a) { int x = get_global_id(0); int y = get_global_id(1); a[y * 4 + x] = 100 * get_group_id(1) + 10 * get_local_id(0) + get_local_id(1); }",
+    "__kernel void col(__global int *a) {\n  if (get_global_id(0) == 1 && get_global_id(1) == 0) a[4] = 1;\n}\n",
+    "__kernel void inc(__global int *a) { a[get_global_id(0)] += 1; } __kernel void dbl(__global int *a) { a[get_global_id(0)] *= 2; }",
+    "__kernel void k(__global int *a) { a[get_global_id(0)] = 2 + 3 * 4; }",
+    "__kernel void z(__global int *a) { int u = 7 / 0; if (0) a[5] = 1; a[0] = u; }",
+    "__kernel void s2(__global uint *a) { __local uint t[256]; int l = get_local_id(0); t[l] = a[get_global_id(0)]; barrier(CLK_LOCAL_MEM_FENCE); for (int d = 128; d > 0; d /= 2) { if (l < d) t[l] = max(t[l], t[l + d]); barrier(CLK_LOCAL_MEM_FENCE); } a[get_global_id(0)] = t[0]; }",
     "",
     "__kernel __attribute__((reqd_work_group_size(1, 2 + 3, (4)))) void f(void);",
     "static const unsigned long int volatile g(unsigned a, short int b, global const char * restrict const c);",
     "__constant int t[] = { 1, 2, 3, }, u[2][2], *p = t;",
     "void f(void) { int c = a ? b, c : d ? e : f; do x--; while (++y, 1); for (int i = 0; ; i++) ; for (;;) { continue; } }",
     "void f(void) { if (a) if (b) c; else d; else e; x = y <<= sizeof(int) * -~!z[0]++[1]; }",
-    "int2 __global short16 ; int x, y;",
 ];
 
-// A unit of every kind of production but the one that has two base types, which is refused at the second.
 #[test]
 fn takes_the_worked_sources(rt: HostRuntime) -> Result<(), Fail> {
-    for (i, source) in SOURCES.iter().enumerate() {
-        let wanted = if i == 29 { (301, 2) } else { (0, 0) };
-        assert_eq!(rt; verdict(rt.alloc(), source)?, wanted, "at {source}");
+    for source in SOURCES {
+        assert_eq!(rt; verdict(rt.alloc(), source)?, (0, 0), "at {source}");
     }
     Ok(())
 }
 
 // Each source, and the number of the token at which it stops being one.
-const REFUSED: [(&str, u32); 24] = [
+const REFUSED: [(&str, u32); 25] = [
     ("__kernel void m(__global int *a) {\n  a[0] = 1\n}", 16),
     ("x", 0),
     ("int", 1),
@@ -88,6 +98,7 @@ const REFUSED: [(&str, u32); 24] = [
     ("void f() { f(a,); }", 9),
     ("void f() { struct s; }", 5),
     ("void f() { switch (a) { int b; } }", 10),
+    ("int2 __global short16 ; int x, y;", 2),
 ];
 
 #[test]
@@ -187,6 +198,63 @@ fn makes_the_tree_of_the_grammar(rt: HostRuntime) -> Result<(), Fail> {
         let mut text = String::new(rt.alloc());
         outline(&tree, 20, &mut text)?;
         assert_eq!(rt; text.as_str(), wanted);
+    }
+    Ok(())
+}
+
+// The piece, so many times.
+fn add(text: &mut String, piece: &str, times: u32) -> Result<(), Fail> {
+    for _ in 0..times {
+        text.push_str(piece)?;
+    }
+    Ok(())
+}
+
+// 65,536 tokens, as many as macros may leave: short declarations.
+fn many_items(alloc: Global) -> Result<String, Fail> {
+    let mut text = String::new(alloc);
+    add(&mut text, "int x;", 21_844)?;
+    text.push_str("int *x;")?;
+    Ok(text)
+}
+
+// As many: one block of statements that nest 256 deep.
+fn many_deep_statements(alloc: Global) -> Result<String, Fail> {
+    let mut text = String::from_str(alloc, "void f() {")?;
+    for _ in 0..130 {
+        add(&mut text, "(", 251)?;
+        text.push_str("1")?;
+        add(&mut text, ")", 251)?;
+        text.push_str(";")?;
+    }
+    add(&mut text, "1;", 5)?;
+    text.push_str("}")?;
+    Ok(text)
+}
+
+// As many: one list of initialisers.
+fn many_elements(alloc: Global) -> Result<String, Fail> {
+    let mut text = String::from_str(alloc, "int x[] = { 1")?;
+    add(&mut text, ", 1", 32_763)?;
+    text.push_str(",};")?;
+    Ok(text)
+}
+
+#[test]
+fn reads_as_many_tokens_as_there_may_be_in_less_than_a_second(rt: HostRuntime) -> Result<(), Fail> {
+    let alloc = rt.alloc();
+    let sources = [
+        many_items(alloc)?,
+        many_deep_statements(alloc)?,
+        many_elements(alloc)?,
+    ];
+    for source in &sources {
+        let all = tokens(alloc, source.as_bytes())?;
+        assert_eq!(rt; all.len(), 65_536);
+        let start = Instant::now(&rt)?;
+        let tree = parse(alloc, &all)?;
+        assert!(rt; start.elapsed(&rt)? < Duration::from_secs(1));
+        assert!(rt; tree.last == 65_535);
     }
     Ok(())
 }

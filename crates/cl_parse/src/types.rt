@@ -2,20 +2,20 @@
 
 ghost use Rattle.std.specs.Prelude.{◌≡◌, true};
 ghost use Rattle.cl_tree.specs.Syntax.{view};
-ghost use Rattle.cl_parse.specs.Gives.{Gives, spots};
-ghost use Rattle.cl_parse.specs.Members.{members};
-ghost use Rattle.cl_parse.specs.Reading.{readers, qualifiers, qualifier_of, core_of, base_of, front_of, behind_of};
+ghost use Rattle.cl_read.specs.Gives.{Gives, spots};
+ghost use Rattle.cl_read.specs.Members.{members};
+ghost use Rattle.cl_read.specs.Reading.{readers, qualifiers, qualifier_of, core_of, base_of, front_of, behind_of};
 
-use crate::cursor::{Fail, next_in, next_is, no_tree, take, take_in};
-use crate::members::{Members, concat, extend, nothing, of_token};
-use crate::node::{
+use cl_read::cursor::{Fail, next_in, next_is, no_tree, take, take_in};
+use cl_read::members::{Members, concat, extend, nothing, of_token};
+use cl_read::node::{
     Node, Nodes, first_of_own, first_token, last_of_own, last_token, make, of_word, one,
 };
-use crate::set::Set;
+use cl_read::set::Set;
 use cl_tree::{Form, Leaf, Terminal};
 use std::alloc::Global;
 
-#[tactic(auto, unfolding(crate::specs::Reading::qualifier_of))]
+#[tactic(auto, unfolding(cl_read::specs::Reading::qualifier_of))]
 fn qualifier(
     alloc: Global,
     behind_star: bool,
@@ -28,7 +28,7 @@ fn qualifier(
 }
 
 /// The words that are no address space, behind a star or around a base type.
-#[tactic(auto, using(crate::proofs::Loops::front_empty, crate::proofs::Loops::list_stops))]
+#[tactic(auto, using(cl_read::proofs::Loops::front_empty, cl_read::proofs::Loops::list_stops))]
 fn qualifiers(
     alloc: Global,
     behind_star: bool,
@@ -47,7 +47,7 @@ fn qualifiers(
 }
 
 /// The words of a base type behind its sign.
-#[tactic(auto, unfolding(crate::specs::Reading::core_of))]
+#[tactic(auto, unfolding(cl_read::specs::Reading::core_of))]
 fn core(alloc: Global, items: &[Leaf]) -> Result<(Vec<&Leaf>, &[Leaf]), Fail>
     ensures { Gives (λ x. (spots x.0.items, x.1.now)) result (core_of items.now) }
 {
@@ -68,7 +68,7 @@ fn core(alloc: Global, items: &[Leaf]) -> Result<(Vec<&Leaf>, &[Leaf]), Fail>
 }
 
 /// The words of a base type.
-#[tactic(auto, unfolding(crate::specs::Reading::base_of))]
+#[tactic(auto, unfolding(cl_read::specs::Reading::base_of))]
 fn base(alloc: Global, items: &[Leaf]) -> Result<(Vec<&Leaf>, &[Leaf]), Fail>
     ensures { Gives (λ x. (spots x.0.items, x.1.now)) result (base_of items.now) }
 {
@@ -89,7 +89,7 @@ fn base(alloc: Global, items: &[Leaf]) -> Result<(Vec<&Leaf>, &[Leaf]), Fail>
 }
 
 /// An address space.
-#[tactic(auto, using(crate::proofs::Equations::equations), unfolding(crate::specs::Reading::space_of))]
+#[tactic(auto, using(cl_read::proofs::Equations::equations), unfolding(cl_read::specs::Reading::space_of))]
 fn space(alloc: Global, budget: u32, items: &[Leaf]) -> Result<(Node, &[Leaf]), Fail>
     ensures { Gives (λ x. (view x.0.tree, x.1.now)) result ((readers budget).space items.now) }
 {
@@ -101,7 +101,7 @@ fn space(alloc: Global, budget: u32, items: &[Leaf]) -> Result<(Node, &[Leaf]), 
 }
 
 /// The star of a pointer.
-#[tactic(auto, using(crate::proofs::Equations::equations), unfolding(crate::specs::Reading::star_of))]
+#[tactic(auto, using(cl_read::proofs::Equations::equations), unfolding(cl_read::specs::Reading::star_of))]
 pub(crate) fn star(alloc: Global, budget: u32, items: &[Leaf]) -> Result<(Node, &[Leaf]), Fail>
     ensures { Gives (λ x. (view x.0.tree, x.1.now)) result ((readers budget).star items.now) }
 {
@@ -124,7 +124,7 @@ pub(crate) fn star(alloc: Global, budget: u32, items: &[Leaf]) -> Result<(Node, 
 }
 
 /// A type with its address space before its base, behind the words before that.
-#[tactic(auto, unfolding(crate::specs::Reading::front_of))]
+#[tactic(auto, unfolding(cl_read::specs::Reading::front_of))]
 fn type_front<'a>(
     alloc: Global,
     room: u32,
@@ -150,7 +150,7 @@ fn type_front<'a>(
 }
 
 /// A type with its address space behind its base, or with none, behind the words before its base.
-#[tactic(auto, unfolding(crate::specs::Reading::behind_of))]
+#[tactic(auto, unfolding(cl_read::specs::Reading::behind_of))]
 fn type_behind<'a>(
     alloc: Global,
     room: u32,
@@ -191,7 +191,7 @@ fn type_behind<'a>(
 }
 
 /// A type.
-#[tactic(auto, using(crate::proofs::Equations::equations), unfolding(crate::specs::Reading::type_of))]
+#[tactic(auto, using(cl_read::proofs::Equations::equations), unfolding(cl_read::specs::Reading::type_of))]
 pub(crate) fn type_name(alloc: Global, budget: u32, items: &[Leaf]) -> Result<(Node, &[Leaf]), Fail>
     ensures { Gives (λ x. (view x.0.tree, x.1.now)) result ((readers budget).type' items.now) }
 {

@@ -4,22 +4,22 @@ ghost use Rattle.std.specs.Prelude.{◌≡◌, true, IfOk};
 ghost use Rattle.cl_tree.specs.Syntax.{view, views};
 ghost use Rattle.cl_tree.specs.declared.terminal.Terminal.TheVariants as terminals;
 ghost use Rattle.cl_tree.specs.Nodes.{alone_node, params_node};
-ghost use Rattle.cl_parse.specs.Starts.{starts_head};
-ghost use Rattle.cl_parse.specs.Gives.{Gives, spots, spot_of};
-ghost use Rattle.cl_parse.specs.Members.{members};
-ghost use Rattle.cl_parse.specs.Reading.{begins, is, readers, all_of, each, behind_comma, attribute_of, head_of, param_of, params_of, callable, named, result_of, typed, headed, item_of, unit_of};
+ghost use Rattle.cl_read.specs.Starts.{starts_head};
+ghost use Rattle.cl_read.specs.Gives.{Gives, spots, spot_of};
+ghost use Rattle.cl_read.specs.Members.{members};
+ghost use Rattle.cl_read.specs.Reading.{begins, is, readers, all_of, each, behind_comma, attribute_of, head_of, param_of, params_of, callable, named, result_of, typed, headed, item_of, unit_of};
 
-use crate::cursor::{Fail, next_in, next_is, take};
 use crate::declaration::{declaration_behind, declarator, declared, stars};
 use crate::expression::conditional;
-use crate::members::{Members, extend, nothing, of_token, of_token_and_tree, of_tree};
-use crate::node::{
+use crate::statement::block;
+use crate::types::type_name;
+use cl_read::cursor::{Fail, next_in, next_is, take};
+use cl_read::members::{Members, extend, nothing, of_token, of_token_and_tree, of_tree};
+use cl_read::node::{
     Node, Nodes, append, first_of_own, first_token, first_token_in, last_of_own, last_token,
     last_token_in, make, of_word, one, three, two,
 };
-use crate::set::Set;
-use crate::statement::block;
-use crate::types::type_name;
+use cl_read::set::Set;
 use cl_tree::{Form, Leaf, Terminal};
 use std::alloc::{AllocError, Global};
 
@@ -30,7 +30,7 @@ const RESULT_ROOM: u32 = 253;
 /// How deep the parts of a function or a declaration may nest.
 const PART_ROOM: u32 = 254;
 
-#[tactic(auto, unfolding(crate::specs::Reading::attribute_of))]
+#[tactic(auto, unfolding(cl_read::specs::Reading::attribute_of))]
 fn attribute(alloc: Global, items: &[Leaf]) -> Result<(Node, &[Leaf]), Fail>
     ensures { Gives (λ x. (view x.0.tree, x.1.now)) result (attribute_of (readers 252) (readers 253) (readers 254) items.now) }
 {
@@ -81,7 +81,7 @@ fn alone(alloc: Global, form: Form, part: Node) -> Result<Node, AllocError>
     make(alloc, form, &[], first, last, parts)
 }
 
-#[tactic(auto, unfolding(crate::specs::Reading::head_of))]
+#[tactic(auto, unfolding(cl_read::specs::Reading::head_of))]
 fn head(alloc: Global, items: &[Leaf]) -> Result<(Node, &[Leaf]), Fail>
     ensures { Gives (λ x. (view x.0.tree, x.1.now)) result (head_of (readers 252) (readers 253) (readers 254) items.now) }
 {
@@ -101,7 +101,7 @@ fn further_head(alloc: Global, items: &[Leaf]) -> Result<(Members<'_>, &[Leaf]),
 }
 
 /// The heads of a function.
-#[tactic(auto, using(crate::proofs::Loops::front_empty, crate::proofs::Loops::list_stops))]
+#[tactic(auto, using(cl_read::proofs::Loops::front_empty, cl_read::proofs::Loops::list_stops))]
 fn heads(alloc: Global, items: &[Leaf]) -> Result<(Members<'_>, &[Leaf]), Fail>
     ensures { Gives (λ x. (members x.0, x.1.now)) result (all_of starts_head (each (head_of (readers 252) (readers 253) (readers 254))) items.now) }
 {
@@ -115,7 +115,7 @@ fn heads(alloc: Global, items: &[Leaf]) -> Result<(Members<'_>, &[Leaf]), Fail>
     Ok((list, rest))
 }
 
-#[tactic(auto, unfolding(crate::specs::Reading::param_of))]
+#[tactic(auto, unfolding(cl_read::specs::Reading::param_of))]
 fn parameter(alloc: Global, items: &[Leaf]) -> Result<(Node, &[Leaf]), Fail>
     ensures { Gives (λ x. (view x.0.tree, x.1.now)) result (param_of (readers 252) (readers 253) (readers 254) items.now) }
 {
@@ -137,7 +137,7 @@ fn further_parameter(alloc: Global, items: &[Leaf]) -> Result<(Members<'_>, &[Le
 }
 
 /// The parameters behind the first one.
-#[tactic(auto, using(crate::proofs::Loops::front_empty, crate::proofs::Loops::list_stops))]
+#[tactic(auto, using(cl_read::proofs::Loops::front_empty, cl_read::proofs::Loops::list_stops))]
 fn further_parameters(alloc: Global, items: &[Leaf]) -> Result<(Members<'_>, &[Leaf]), Fail>
     ensures { Gives (λ x. (members x.0, x.1.now)) result (all_of (is terminals.Comma) (behind_comma (param_of (readers 252) (readers 253) (readers 254))) items.now) }
 {
@@ -151,7 +151,7 @@ fn further_parameters(alloc: Global, items: &[Leaf]) -> Result<(Members<'_>, &[L
     Ok((list, rest))
 }
 
-#[tactic(auto, unfolding(crate::specs::Reading::params_of))]
+#[tactic(auto, unfolding(cl_read::specs::Reading::params_of))]
 fn parameters(alloc: Global, items: &[Leaf]) -> Result<(Members<'_>, &[Leaf]), Fail>
     ensures { Gives (λ x. (members x.0, x.1.now)) result (params_of (readers 252) (readers 253) (readers 254) items.now) }
 {
@@ -181,7 +181,7 @@ fn parameters_node(alloc: Global, list: Members<'_>, close: &Leaf) -> Result<Nod
 }
 
 /// A function or a prototype, behind the parenthesis that opens its parameters.
-#[tactic(auto, unfolding(crate::specs::Reading::callable))]
+#[tactic(auto, unfolding(cl_read::specs::Reading::callable))]
 fn callable<'a>(
     alloc: Global,
     front: Nodes,
@@ -214,7 +214,7 @@ fn callable<'a>(
 }
 
 /// A function or a prototype, behind its result.
-#[tactic(auto, unfolding(crate::specs::Reading::named))]
+#[tactic(auto, unfolding(cl_read::specs::Reading::named))]
 fn named(
     alloc: Global,
     front: Nodes,
@@ -228,7 +228,7 @@ fn named(
     callable(alloc, front, outcome, name, mark, rest)
 }
 
-#[tactic(auto, unfolding(crate::specs::Reading::result_of))]
+#[tactic(auto, unfolding(cl_read::specs::Reading::result_of))]
 fn result_type(alloc: Global, items: &[Leaf]) -> Result<(Node, &[Leaf]), Fail>
     ensures { Gives (λ x. (view x.0.tree, x.1.now)) result (result_of (readers 252) (readers 253) (readers 254) items.now) }
 {
@@ -241,7 +241,7 @@ fn result_type(alloc: Global, items: &[Leaf]) -> Result<(Node, &[Leaf]), Fail>
 }
 
 /// An item without heads, behind its type.
-#[tactic(auto, unfolding(crate::specs::Reading::typed))]
+#[tactic(auto, unfolding(cl_read::specs::Reading::typed))]
 fn typed(alloc: Global, target: Node, items: &[Leaf]) -> Result<(Node, &[Leaf]), Fail>
     ensures { Gives (λ x. (view x.0.tree, x.1.now)) result (typed (readers 252) (readers 253) (readers 254) (view target.tree) items.now) }
 {
@@ -260,7 +260,7 @@ fn typed(alloc: Global, target: Node, items: &[Leaf]) -> Result<(Node, &[Leaf]),
 }
 
 /// A function or a prototype with heads.
-#[tactic(auto, unfolding(crate::specs::Reading::headed))]
+#[tactic(auto, unfolding(cl_read::specs::Reading::headed))]
 fn headed(alloc: Global, items: &[Leaf]) -> Result<(Node, &[Leaf]), Fail>
     ensures { Gives (λ x. (view x.0.tree, x.1.now)) result (headed (readers 252) (readers 253) (readers 254) items.now) }
 {
@@ -270,7 +270,7 @@ fn headed(alloc: Global, items: &[Leaf]) -> Result<(Node, &[Leaf]), Fail>
 }
 
 /// A function, a prototype or a declaration.
-#[tactic(auto, unfolding(crate::specs::Reading::item_of))]
+#[tactic(auto, unfolding(cl_read::specs::Reading::item_of))]
 fn item(alloc: Global, items: &[Leaf]) -> Result<(Node, &[Leaf]), Fail>
     ensures { Gives (λ x. (view x.0.tree, x.1.now)) result (item_of (readers 252) (readers 253) (readers 254) items.now) }
 {
@@ -300,7 +300,7 @@ fn is_any_left(items: &[Leaf]) -> bool
 }
 
 /// The items of a unit, through the end of the tokens.
-#[tactic(auto, using(crate::proofs::Loops::front_empty, crate::proofs::Loops::list_stops))]
+#[tactic(auto, using(cl_read::proofs::Loops::front_empty, cl_read::proofs::Loops::list_stops))]
 fn list_items(alloc: Global, items: &[Leaf]) -> Result<(Members<'_>, &[Leaf]), Fail>
     ensures { Gives (λ x. (members x.0, x.1.now)) result (all_of (λ j. true) (each (item_of (readers 252) (readers 253) (readers 254))) items.now) }
 {
@@ -315,7 +315,7 @@ fn list_items(alloc: Global, items: &[Leaf]) -> Result<(Members<'_>, &[Leaf]), F
 }
 
 /// All of the tokens, as a unit.
-#[tactic(auto, unfolding(crate::specs::Reading::unit_of))]
+#[tactic(auto, unfolding(cl_read::specs::Reading::unit_of))]
 pub(crate) fn unit(alloc: Global, items: &[Leaf]) -> Result<(Node, &[Leaf]), Fail>
     ensures { Gives (λ x. (view x.0.tree, x.1.now)) result (unit_of 251 items.now) }
 {

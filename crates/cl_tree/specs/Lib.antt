@@ -1,6 +1,7 @@
 pub mod Grammar
 pub mod Leaves
 pub mod Nodes
+pub mod Places
 pub mod Precedence
 pub mod Syntax
 pub mod Words

@@ -23,7 +23,7 @@ use Rattle.cl_prep.specs.Progress.{IsRefusedOrMemory as IsUnexpandedOrMemory}
 use Rattle.cl_prep.proofs.Unique.{one_out, ends_or_fails}
 use Rattle.cl_tree.specs.Syntax.{Syntax, nesting}
 use Rattle.cl_tree.specs.Grammar.{SpellsUnit}
-use Rattle.cl_parse.specs.Places.{Continues, NoUnit, NoUnitWithin, SomeUnit, DeeperUnit}
+use Rattle.cl_tree.specs.Places.{Continues, NoUnit, NoUnitWithin, SomeUnit, DeeperUnit}
 use Rattle.wg_top.specs.Front.{Reads, IsUnitOf, HasUnit, place_of_token, number_of_lexical, offset_of_lexical, number_of_expansion, token_of_expansion, StandsAt, uncut, unexpanded, no_unit, too_deep}
 
 -- ---- how many tokens a source has, and where an error of them stands

@@ -12,7 +12,7 @@ use Rattle.cl_prep.specs.declared.prep.PrepError.TheVariants as prep
 use Rattle.cl_prep.specs.Expands.{Expands, IsRefused as IsUnexpanded}
 use Rattle.cl_tree.specs.Syntax.{Syntax, nesting}
 use Rattle.cl_tree.specs.Grammar.{SpellsUnit}
-use Rattle.cl_parse.specs.Places.{NoUnit, NoUnitWithin, SomeUnit, DeeperUnit}
+use Rattle.cl_tree.specs.Places.{NoUnit, NoUnitWithin, SomeUnit, DeeperUnit}
 use Rattle.wg_top.specs.declared.front.SourceError.{SourceError}
 use Rattle.wg_top.specs.declared.front.SourceError.TheVariants as errors
 

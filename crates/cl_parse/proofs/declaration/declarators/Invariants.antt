@@ -1,8 +1,8 @@
 use Rattle.std.proofs.Common.{◌≡◌, length}
 use Rattle.cl_tree.specs.declared.terminal.Terminal.TheVariants as terminals
-use Rattle.cl_parse.specs.Gives.{with_front}
-use Rattle.cl_parse.specs.Members.{members}
-use Rattle.cl_parse.specs.Reading.{is, readers, all_of, behind_comma}
+use Rattle.cl_read.specs.Gives.{with_front}
+use Rattle.cl_read.specs.Members.{members}
+use Rattle.cl_read.specs.Reading.{is, readers, all_of, behind_comma}
 use Rattle.cl_parse.proofs.declaration.declarators.Given as goal
 
 abbrev pub invariant-members : goal.invariant-members

@@ -1,11 +1,11 @@
 use Rattle.std.proofs.Common.{◌<◌, length, rules, sym, ◌∙◌}
 use Rattle.cl_tree.specs.declared.terminal.Terminal.TheVariants as terminals
-use Rattle.cl_parse.specs.Gives.{Fails}
-use Rattle.cl_parse.specs.Members.{members}
-use Rattle.cl_parse.specs.Reading.{is, readers, all_of, dimension_of}
-use Rattle.cl_parse.proofs.Sound.{dimensions_shrink}
-use Rattle.cl_parse.proofs.SoundStatements.{all_good}
-use Rattle.cl_parse.proofs.Loops.{list_fails, list_keeps}
+use Rattle.cl_read.specs.Gives.{Fails}
+use Rattle.cl_read.specs.Members.{members}
+use Rattle.cl_read.specs.Reading.{is, readers, all_of, dimension_of}
+use Rattle.cl_read.proofs.Sound.{dimensions_shrink}
+use Rattle.cl_read.proofs.SoundStatements.{all_good}
+use Rattle.cl_read.proofs.Loops.{list_fails, list_keeps}
 use Rattle.cl_parse.proofs.declaration.dimensions.Goals as goal
 
 pub returns-in_err-member : goal.returns-in_err-member

@@ -1,11 +1,11 @@
 use Rattle.std.proofs.Common.{◌<◌, Bool, length, rules, sym, ap, ◌∙◌}
 use Rattle.cl_tree.specs.declared.terminal.Terminal.TheVariants as terminals
-use Rattle.cl_parse.specs.Gives.{Fails}
-use Rattle.cl_parse.specs.Members.{members}
-use Rattle.cl_parse.specs.Reading.{Got, is, readers, all_of, element_of}
-use Rattle.cl_parse.proofs.Sound.{elements_shrink}
-use Rattle.cl_parse.proofs.SoundStatements.{all_good}
-use Rattle.cl_parse.proofs.Loops.{list_fails, list_keeps, list_ends}
+use Rattle.cl_read.specs.Gives.{Fails}
+use Rattle.cl_read.specs.Members.{members}
+use Rattle.cl_read.specs.Reading.{Got, is, readers, all_of, element_of}
+use Rattle.cl_read.proofs.Sound.{elements_shrink}
+use Rattle.cl_read.proofs.SoundStatements.{all_good}
+use Rattle.cl_read.proofs.Loops.{list_fails, list_keeps, list_ends}
 use Rattle.cl_parse.proofs.declaration.elements.Goals as goal
 
 pub returns-in_err-goes_on : goal.returns-in_err-goes_on

@@ -2,10 +2,10 @@ use Rattle.std.proofs.Common.{◌≡◌, ◌+◌, ◌*◌, length}
 use Rattle.cl_tree.specs.declared.terminal.Terminal.TheVariants as terminals
 use Rattle.cl_tree.specs.Precedence.{joins}
 use Rattle.cl_tree.specs.Syntax.{view}
-use Rattle.cl_parse.specs.Starts.{postfixes}
-use Rattle.cl_parse.specs.Gives.{with_front}
-use Rattle.cl_parse.specs.Members.{members}
-use Rattle.cl_parse.specs.Reading.{is, readers, chain, all_of, behind_comma, level_step, expr_step, postfix_step}
+use Rattle.cl_read.specs.Starts.{postfixes}
+use Rattle.cl_read.specs.Gives.{with_front}
+use Rattle.cl_read.specs.Members.{members}
+use Rattle.cl_read.specs.Reading.{is, readers, chain, all_of, behind_comma, level_step, expr_step, postfix_step}
 use Rattle.cl_parse.proofs.expression.+expression.Given as goal
 
 abbrev pub decreases-expression : goal.decreases-expression

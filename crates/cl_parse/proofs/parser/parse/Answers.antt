@@ -6,12 +6,12 @@ use Rattle.cl_tree.specs.declared.terminal.Leaf.{Leaf}
 use Rattle.cl_tree.specs.Leaves.{leaves_of}
 use Rattle.cl_tree.specs.Syntax.{Syntax, view, nesting}
 use Rattle.cl_tree.specs.Grammar.{SpellsUnit}
-use Rattle.cl_parse.specs.declared.cursor.Fail.{Fail}
-use Rattle.cl_parse.specs.declared.cursor.Fail.TheVariants as fails
-use Rattle.cl_parse.specs.Gives.{Fails}
-use Rattle.cl_parse.specs.Reading.{Out, unit_of, Got, Wrong, Deep}
-use Rattle.cl_parse.proofs.CompleteUnit.{unit_reads}
-use Rattle.cl_parse.proofs.WholeUnit.{found, no_unit, no_unit_within, least_place, wrong_left, deep_left, too_deep, deeper_unit, too_deep_unit}
+use Rattle.cl_read.specs.declared.cursor.Fail.{Fail}
+use Rattle.cl_read.specs.declared.cursor.Fail.TheVariants as fails
+use Rattle.cl_read.specs.Gives.{Fails}
+use Rattle.cl_read.specs.Reading.{Out, unit_of, Got, Wrong, Deep}
+use Rattle.cl_read.proofs.CompleteUnit.{unit_reads}
+use Rattle.cl_read.proofs.WholeUnit.{found, no_unit, no_unit_within, least_place, wrong_left, deep_left, too_deep, deeper_unit, too_deep_unit}
 use Rattle.cl_parse.proofs.parser.parse.Goals as goal
 
 -- what the unit is, at the tokens themselves
@@ -44,7 +44,7 @@ pub overflow_sub-result : goal.overflow_sub-result
 overflow_sub-result c = wrong_left 251 c.args.tokens.now c.in-Err-Syntax.left (wrong_at c.in_ok-items.items.items c.deref.result.now c.args.tokens.now c.in-Err-Syntax.field-0 c.in-Err-Syntax.left c.in-Err-Syntax.field-0-is c.in-Err-Syntax.ensures c.deref.ensures.value c.in_ok-items.ensures)
 
 pub overflow_sub-result-in-Err-Nesting : goal.overflow_sub-result-in-Err-Nesting
-overflow_sub-result-in-Err-Nesting c = deep_left 251 c.args.tokens.now c.in-Err-Nesting.left (deep_at c.in_ok-items.items.items c.deref.result.now c.args.tokens.now c.in-Err-Nesting.field-0 c.in-Err-Nesting.left c.in-Err-Nesting.field-0-is c.in-Err-Nesting.ensures c.deref.ensures.value c.in_ok-items.ensures)
+overflow_sub-result-in-Err-Nesting c = deep_left 251 c.args.tokens.now c.in-Err-Nesting.behind (deep_at c.in_ok-items.items.items c.deref.result.now c.args.tokens.now c.in-Err-Nesting.field-0 c.in-Err-Nesting.behind c.in-Err-Nesting.field-0-is c.in-Err-Nesting.ensures c.deref.ensures.value c.in_ok-items.ensures)
 
 pub returns-then-not-fits-clause-only : goal.returns-then-not-fits-clause-only
 returns-then-not-fits-clause-only c t h d =
@@ -84,13 +84,13 @@ returns-in-Err-Syntax-clause-least c =
     least_place 251 c.args.tokens.now (length c.args.tokens.now - c.in-Err-Syntax.left) c.in-Err-Syntax.left w (omega arith)
 
 pub returns-clause-only : goal.returns-clause-only
-returns-clause-only c t h d = not_deep c.args.tokens.now c.in-Err-Nesting.left (deep_at c.in_ok-items.items.items c.deref.result.now c.args.tokens.now c.in-Err-Nesting.field-0 c.in-Err-Nesting.left c.in-Err-Nesting.field-0-is c.in-Err-Nesting.ensures c.deref.ensures.value c.in_ok-items.ensures) t h d
+returns-clause-only c t h d = not_deep c.args.tokens.now c.in-Err-Nesting.behind (deep_at c.in_ok-items.items.items c.deref.result.now c.args.tokens.now c.in-Err-Nesting.field-0 c.in-Err-Nesting.behind c.in-Err-Nesting.field-0-is c.in-Err-Nesting.ensures c.deref.ensures.value c.in_ok-items.ensures) t h d
 
 pub returns-clause-nesting : goal.returns-clause-nesting
 returns-clause-nesting c =
-    let w = deep_at c.in_ok-items.items.items c.deref.result.now c.args.tokens.now c.in-Err-Nesting.field-0 c.in-Err-Nesting.left c.in-Err-Nesting.field-0-is c.in-Err-Nesting.ensures c.deref.ensures.value c.in_ok-items.ensures in
-    let le : c.in-Err-Nesting.left ≤ length c.args.tokens.now = deep_left 251 c.args.tokens.now c.in-Err-Nesting.left w in
-    no_unit_within 251 c.args.tokens.now (length c.args.tokens.now - c.in-Err-Nesting.left) c.in-Err-Nesting.left w (omega arith)
+    let w = deep_at c.in_ok-items.items.items c.deref.result.now c.args.tokens.now c.in-Err-Nesting.field-0 c.in-Err-Nesting.behind c.in-Err-Nesting.field-0-is c.in-Err-Nesting.ensures c.deref.ensures.value c.in_ok-items.ensures in
+    let le : c.in-Err-Nesting.behind ≤ length c.args.tokens.now = deep_left 251 c.args.tokens.now c.in-Err-Nesting.behind w in
+    no_unit_within 251 c.args.tokens.now (length c.args.tokens.now - c.in-Err-Nesting.behind) c.in-Err-Nesting.behind w (omega arith)
 
 pub returns-then-not-fits-clause-deeper : goal.returns-then-not-fits-clause-deeper
 returns-then-not-fits-clause-deeper c =
@@ -99,6 +99,6 @@ returns-then-not-fits-clause-deeper c =
 
 pub returns-clause-deeper : goal.returns-clause-deeper
 returns-clause-deeper c =
-    let w = deep_at c.in_ok-items.items.items c.deref.result.now c.args.tokens.now c.in-Err-Nesting.field-0 c.in-Err-Nesting.left c.in-Err-Nesting.field-0-is c.in-Err-Nesting.ensures c.deref.ensures.value c.in_ok-items.ensures in
-    let le : c.in-Err-Nesting.left ≤ length c.args.tokens.now = deep_left 251 c.args.tokens.now c.in-Err-Nesting.left w in
-    deeper_unit 251 c.args.tokens.now (length c.args.tokens.now - c.in-Err-Nesting.left) c.in-Err-Nesting.left w (omega arith)
+    let w = deep_at c.in_ok-items.items.items c.deref.result.now c.args.tokens.now c.in-Err-Nesting.field-0 c.in-Err-Nesting.behind c.in-Err-Nesting.field-0-is c.in-Err-Nesting.ensures c.deref.ensures.value c.in_ok-items.ensures in
+    let le : c.in-Err-Nesting.behind ≤ length c.args.tokens.now = deep_left 251 c.args.tokens.now c.in-Err-Nesting.behind w in
+    deeper_unit 251 c.args.tokens.now (length c.args.tokens.now - c.in-Err-Nesting.behind) c.in-Err-Nesting.behind w (omega arith)

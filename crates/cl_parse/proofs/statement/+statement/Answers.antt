@@ -1,12 +1,12 @@
 use Rattle.std.proofs.Common.{◌<◌, length, rules, sym, ◌∙◌}
 use Rattle.cl_tree.specs.declared.terminal.Terminal.TheVariants as terminals
-use Rattle.cl_parse.specs.Gives.{Fails}
-use Rattle.cl_parse.specs.Members.{members}
+use Rattle.cl_read.specs.Gives.{Fails}
+use Rattle.cl_read.specs.Members.{members}
 use Rattle.std.specs.Prelude.{not}
-use Rattle.cl_parse.specs.Starts.{same}
-use Rattle.cl_parse.specs.Reading.{readers, all_of, each, line_of}
-use Rattle.cl_parse.proofs.SoundStatements.{all_good, lines_shrink, statements_shrink}
-use Rattle.cl_parse.proofs.Loops.{list_fails, list_keeps}
+use Rattle.cl_read.specs.Starts.{same}
+use Rattle.cl_read.specs.Reading.{readers, all_of, each, line_of}
+use Rattle.cl_read.proofs.SoundStatements.{all_good, lines_shrink, statements_shrink}
+use Rattle.cl_read.proofs.Loops.{list_fails, list_keeps}
 use Rattle.cl_parse.proofs.statement.+statement.Goals as goal
 
 pub lines-returns-in_err-member : goal.lines-returns-in_err-member

@@ -1,10 +1,10 @@
 use Rattle.std.proofs.Common.{◌≡◌, ◌+◌, ◌*◌, length}
 use Rattle.std.specs.Prelude.{not}
 use Rattle.cl_tree.specs.declared.terminal.Terminal.TheVariants as terminals
-use Rattle.cl_parse.specs.Starts.{same}
-use Rattle.cl_parse.specs.Gives.{with_front}
-use Rattle.cl_parse.specs.Members.{members}
-use Rattle.cl_parse.specs.Reading.{readers, all_of, each, line_of}
+use Rattle.cl_read.specs.Starts.{same}
+use Rattle.cl_read.specs.Gives.{with_front}
+use Rattle.cl_read.specs.Members.{members}
+use Rattle.cl_read.specs.Reading.{readers, all_of, each, line_of}
 use Rattle.cl_parse.proofs.statement.+statement.Given as goal
 
 abbrev pub decreases-statement : goal.decreases-statement

@@ -1,10 +1,10 @@
 use Rattle.std.proofs.Common.{◌<◌, length, rules, sym, ◌∙◌}
-use Rattle.cl_parse.specs.Gives.{Fails}
-use Rattle.cl_parse.specs.Members.{members}
+use Rattle.cl_read.specs.Gives.{Fails}
+use Rattle.cl_read.specs.Members.{members}
 use Rattle.cl_tree.specs.Precedence.{qualifies}
-use Rattle.cl_parse.specs.Reading.{qualifiers, qualifier_of}
-use Rattle.cl_parse.proofs.Sound.{qualifiers_shrink}
-use Rattle.cl_parse.proofs.Loops.{list_fails, list_keeps}
+use Rattle.cl_read.specs.Reading.{qualifiers, qualifier_of}
+use Rattle.cl_read.proofs.Sound.{qualifiers_shrink}
+use Rattle.cl_read.proofs.Loops.{list_fails, list_keeps}
 use Rattle.cl_parse.proofs.types.qualifiers.Goals as goal
 
 pub returns-in_err-member : goal.returns-in_err-member

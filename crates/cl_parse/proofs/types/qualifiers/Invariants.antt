@@ -1,7 +1,7 @@
 use Rattle.std.proofs.Common.{◌≡◌, length}
-use Rattle.cl_parse.specs.Gives.{with_front}
-use Rattle.cl_parse.specs.Members.{members}
-use Rattle.cl_parse.specs.Reading.{qualifiers}
+use Rattle.cl_read.specs.Gives.{with_front}
+use Rattle.cl_read.specs.Members.{members}
+use Rattle.cl_read.specs.Reading.{qualifiers}
 use Rattle.cl_parse.proofs.types.qualifiers.Given as goal
 
 abbrev pub invariant-members : goal.invariant-members

@@ -1,11 +1,11 @@
 use Rattle.std.proofs.Common.{◌<◌, length, rules, sym, ◌∙◌}
 use Rattle.cl_tree.specs.declared.terminal.Terminal.TheVariants as terminals
-use Rattle.cl_parse.specs.Gives.{Fails}
-use Rattle.cl_parse.specs.Members.{members}
-use Rattle.cl_parse.specs.Reading.{is, readers, all_of, behind_comma, param_of}
-use Rattle.cl_parse.proofs.SoundUnit.{params_shrink}
-use Rattle.cl_parse.proofs.SoundStatements.{all_good}
-use Rattle.cl_parse.proofs.Loops.{list_fails, list_keeps}
+use Rattle.cl_read.specs.Gives.{Fails}
+use Rattle.cl_read.specs.Members.{members}
+use Rattle.cl_read.specs.Reading.{is, readers, all_of, behind_comma, param_of}
+use Rattle.cl_read.proofs.SoundUnit.{params_shrink}
+use Rattle.cl_read.proofs.SoundStatements.{all_good}
+use Rattle.cl_read.proofs.Loops.{list_fails, list_keeps}
 use Rattle.cl_parse.proofs.unit.further_parameters.Goals as goal
 
 pub returns-in_err-member : goal.returns-in_err-member

@@ -1,11 +1,11 @@
 use Rattle.std.proofs.Common.{◌<◌, length, rules, sym, ◌∙◌}
-use Rattle.cl_parse.specs.Gives.{Fails}
-use Rattle.cl_parse.specs.Members.{members}
+use Rattle.cl_read.specs.Gives.{Fails}
+use Rattle.cl_read.specs.Members.{members}
 use Rattle.std.proofs.Common.{true}
-use Rattle.cl_parse.specs.Reading.{readers, all_of, each, item_of}
-use Rattle.cl_parse.proofs.SoundUnit.{items_shrink}
-use Rattle.cl_parse.proofs.SoundStatements.{all_good}
-use Rattle.cl_parse.proofs.Loops.{list_fails, list_keeps}
+use Rattle.cl_read.specs.Reading.{readers, all_of, each, item_of}
+use Rattle.cl_read.proofs.SoundUnit.{items_shrink}
+use Rattle.cl_read.proofs.SoundStatements.{all_good}
+use Rattle.cl_read.proofs.Loops.{list_fails, list_keeps}
 use Rattle.cl_parse.proofs.unit.list_items.Goals as goal
 
 pub returns-in_err-member : goal.returns-in_err-member

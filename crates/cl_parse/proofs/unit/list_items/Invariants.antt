@@ -1,8 +1,8 @@
 use Rattle.std.proofs.Common.{◌≡◌, length}
-use Rattle.cl_parse.specs.Gives.{with_front}
-use Rattle.cl_parse.specs.Members.{members}
+use Rattle.cl_read.specs.Gives.{with_front}
+use Rattle.cl_read.specs.Members.{members}
 use Rattle.std.proofs.Common.{true}
-use Rattle.cl_parse.specs.Reading.{readers, all_of, each, item_of}
+use Rattle.cl_read.specs.Reading.{readers, all_of, each, item_of}
 use Rattle.cl_parse.proofs.unit.list_items.Given as goal
 
 abbrev pub invariant-members : goal.invariant-members

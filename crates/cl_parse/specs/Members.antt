@@ -1,8 +1,0 @@
--- Lists of parts that are being read, as reading sees them.
-use Rattle.cl_tree.specs.Syntax.{views}
-use Rattle.cl_parse.specs.declared.members.Members.{Members}
-use Rattle.cl_parse.specs.Gives.{spots}
-use Rattle.cl_parse.specs.Reading.{Listing}
-
-abbrev pub members : Members → Listing
-members m = record { own = spots m.own.items; parts = views m.parts.trees.items }

@@ -1,0 +1,5 @@
+pub mod Gives
+pub mod Members
+pub mod Reading
+pub mod Sets
+pub mod Starts
