@@ -2,3 +2,11 @@
 #![tactic(auto)]
 
 pub mod constant;
+pub mod conversions;
+#[cfg(test)]
+mod tests;
+
+pub use constant::{Constant, constant_of};
+pub use conversions::{
+    binary_type, common, is_comparison, operand_type, promoted, right_type, size_of, unary_type,
+};

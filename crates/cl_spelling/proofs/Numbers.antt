@@ -6,8 +6,13 @@ use Rattle.std.specs.List.{find}
 use Rattle.wg_num.specs.declared.types.IntType.{IntType}
 use Rattle.wg_num.specs.declared.types.IntType.TheVariants as types
 use Rattle.wg_num.specs.Wrap.{IsValue, half, modulus}
+use Rattle.std.proofs.Common.{Ok, Err, subst}
+use Rattle.std.specs.Prelude.{Result}
+use Rattle.cl_token.specs.declared.number.Literal.{Literal}
+use Rattle.cl_token.specs.declared.number.LiteralError.{LiteralError}
+use Rattle.cl_token.specs.NumberReading.{outcome_of}
 use Rattle.cl_token.specs.Number.{IsLiteral, IsMalformed, IsTooLarge, holds, types_in}
-use Rattle.cl_token.proofs.Literals.{literal_complete, malformed_complete, large_complete}
+use Rattle.cl_token.proofs.Literals.{literal_sound, literal_complete, malformed_complete, large_complete}
 use Rattle.cl_spelling.specs.Literals.{literal_from, literal_in}
 
 pub literal_is : (w : List ℕ) (t : IntType) (v : ℕ) → IsLiteral w t v → literal_in w ≡ Some (t, v)
@@ -47,5 +52,14 @@ is_value types.Ulong v h = grind (arith, nat_tests)
 
 pub literal_value : (w : List ℕ) (t : IntType) (v : ℕ) → IsLiteral w t v → IsValue t (pos v)
 literal_value w t v h = is_value t v (found_passes v (types_in h.form.base h.form.unsigned h.form.long) t h.typed)
+
+-- what is a literal is a value of its type
+pub literal_in_value : (w : List ℕ) (l : IntType × ℕ) → literal_in w ≡ Some l → IsValue l.0 (pos l.1)
+unfolding literal_in
+literal_in_value w l e = found (outcome_of w) refl e
+  where
+    found : (r : Result Literal LiteralError) → outcome_of w ≡ r → literal_from r ≡ Some l → IsValue l.0 (pos l.1)
+    found (Ok a) k h = (let same : (a.of, a.value) ≡ l = cc in subst (λ (x : IntType × ℕ). IsValue x.0 (pos x.1)) same (literal_value w a.of a.value (literal_sound w a k)))
+    found (Err e) k h = absurd cc
 
 pub ruleset numbers = (literal_is, malformed_none, large_none, literal_value)
