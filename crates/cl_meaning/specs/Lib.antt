@@ -1,0 +1,10 @@
+pub mod Numbers
+pub mod Environment
+pub mod Kinds
+pub mod Declarations
+pub mod Visible
+pub mod Faults
+pub mod Typed
+pub mod Expressions
+pub mod Statements
+pub mod Meant

@@ -1,0 +1,11 @@
+pub mod Neutral
+pub mod Shapes
+pub mod Typing
+pub mod Assigning
+pub mod Elements
+pub mod Calls
+pub mod Plain
+pub mod Cases
+pub mod Expressing
+pub mod Typed
+pub mod Expressions

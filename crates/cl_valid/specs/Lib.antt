@@ -1,0 +1,4 @@
+pub mod Shape
+pub mod Sound
+pub mod Fits
+pub mod Law
