@@ -60,7 +60,8 @@ impl Group {
     /// Makes local memory, private arrays, columns, once slots and votes zero, and gives the group
     /// its number among the groups of the launch. It takes no memory.
     pub fn clear(&mut self, number: u64)
-        ensures { self.new ≡ record { number = number; kept = zeroed self.old.kept } }
+        ensures cleared { self.new ≡ record { number = number; kept = zeroed self.old.kept } }
+        ensures zeroed { zeroed self.new.kept ≡ zeroed self.old.kept }
     {
         self.number = number;
         clear_objects(&mut self.locals);
