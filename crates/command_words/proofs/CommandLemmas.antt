@@ -1,6 +1,6 @@
 -- A command by its definition.
-use Rattle.std.proofs.Common.{◌≡◌, true, false, refl, ◌∙◌, ap, ap₂, rules}
-use Rattle.clap.specs.Words.{AddsSubcommand, App, app_of, is_simple, is_simple_and_free, with_subcommand}
+use Rattle.std.proofs.Common.{◌≡◌, true, refl, ◌∙◌, ap, ap₂}
+use Rattle.clap.specs.Words.{AddsSubcommand, App, is_simple_and_free, with_subcommand}
 use Rattle.clap.specs.declared.builder.command.Command.{Command}
 use Rattle.clap.proofs.OnLiterals.{clap_on_literals}
 use Rattle.command_words.specs.Command.{IsCommandOf, wgcc_app}

@@ -1,6 +1,6 @@
 -- The command that `clap` reads.
-use Rattle.std.specs.Prelude.{◌≡◌, ◌^◌, ◌-◌, ℕ, List, [], ◌∷◌, ◌++◌, Option, Some, None, true, false, pos, codes}
-use Rattle.clap.specs.Words.{App, Row, Rule, Text, all_of, app_of, fault_of, first_of, matched_of, new_app, new_rule, one_of, one_text, with_rule, with_subcommand}
+use Rattle.std.specs.Prelude.{◌≡◌, ℕ, List, [], Option, Some, None, true, false, pos, codes}
+use Rattle.clap.specs.Words.{App, Row, Rule, Text, all_of, app_of, fault_of, first_of, matched_of, new_app, new_rule, one_of, one_text, subcommand_of, with_rule, with_subcommand}
 use Rattle.std.specs.Str.Parse.{IsNumeral, without_leading_plus, digits_value}
 use Rattle.clap.specs.declared.parser.matches.Found.{Found}
 use Rattle.command_words.specs.declared.FileWords.{FileWords}
@@ -74,21 +74,50 @@ abbrev pub IsNumberAt : Text → List Row → Option ℕ → Type 0
 IsNumberAt id rows None = all_of id rows ≡ None
 IsNumberAt id rows (Some n) = (text : Text) × (one_of id rows ≡ Some text) × IsNumeral 10 (without_leading_plus text) × (digits_value 10 (without_leading_plus text) ≡ n)
 
+-- the names of the source and of the launch file, and the numbers of the options that are given
+pub record Files : Type 0 where
+  pub source : Text
+  pub launch : Text
+  pub lanes : Option ℕ
+  pub turns : Option ℕ
+
+-- what is asked for
+pub data Request : Type 0 where
+  run : (files : Files) → Request
+  plan : (files : Files) → Request
+  code : (files : Files) → Request
+  sample : (number : ℕ) → Request
+
+-- the plain view of the files
+abbrev pub files_of : FileWords → Files
+files_of w = record { source = w.source.now; launch = w.launch.now; lanes = w.lanes; turns = w.turns }
+
+-- the plain view of what is asked for
+abbrev pub request_of : Words → Request
+request_of (Run files) = run (files_of files)
+request_of (Plan files) = plan (files_of files)
+request_of (Code files) = code (files_of files)
+request_of (Sample n) = sample n
+
 -- the rows name these files and give these numbers
-pub record NamesFiles (rows : List Row) (files : FileWords) : Type 0 where
-  pub source : first_of (codes "SOURCE") rows ≡ Some files.source.now
-  pub launch : first_of (codes "LAUNCH") rows ≡ Some files.launch.now
+pub record NamesFiles (rows : List Row) (files : Files) : Type 0 where
+  pub source : first_of (codes "SOURCE") rows ≡ Some files.source
+  pub launch : first_of (codes "LAUNCH") rows ≡ Some files.launch
   pub lanes : IsNumberAt (codes "lanes") rows files.lanes
   pub turns : IsNumberAt (codes "turns") rows files.turns
 
 -- a command by its name and its rows
-abbrev pub IsAsked : Text → List Row → Words → Type 0
-IsAsked name rows (Run files) = (name ≡ codes "run") × NamesFiles rows files
-IsAsked name rows (Plan files) = (name ≡ codes "plan") × NamesFiles rows files
-IsAsked name rows (Code files) = (name ≡ codes "code") × NamesFiles rows files
-IsAsked name rows (Sample n) = (name ≡ codes "sample") × IsNumberAt (codes "NUMBER") rows (Some n)
+abbrev pub IsAsked : Text → List Row → Request → Type 0
+IsAsked name rows (run files) = (name ≡ codes "run") × NamesFiles rows files
+IsAsked name rows (plan files) = (name ≡ codes "plan") × NamesFiles rows files
+IsAsked name rows (code files) = (name ≡ codes "code") × NamesFiles rows files
+IsAsked name rows (sample n) = (name ≡ codes "sample") × IsNumberAt (codes "NUMBER") rows (Some n)
 
 -- a command was named, and it is this one
-abbrev pub Asks : Option (Text × List Row) → Words → Type 0
-Asks None words = ⊥
-Asks (Some command) words = IsAsked command.0 command.1 words
+abbrev pub Asks : Option (Text × List Row) → Request → Type 0
+Asks None request = ⊥
+Asks (Some command) request = IsAsked command.0 command.1 request
+
+-- the words ask for this
+abbrev pub AskFor : List Text → Request → Type 0
+AskFor words request = Asks (subcommand_of wgcc_app words) request

@@ -3,7 +3,7 @@
 
 ghost use Rattle.std.specs.Prelude.{◌≡◌, ◌∷◌, [], ℕ, List, map, codes, false, string_bytes, Err, Some, IfOk, IfSome, option_map};
 ghost use Rattle.clap.specs.Words.{rule_of, subcommand_of, subcommand_rows_of, first_of, rows_of, found_of};
-ghost use Rattle.command_words.specs.Command.{argument, option, number, run_app, plan_app, code_app, sample_app, bare_app, wgcc_app, IsCommandOf, TakesWords, IsNumberFound, IsNumberAt, NamesFiles, IsAsked, Asks};
+ghost use Rattle.command_words.specs.Command.{argument, option, number, run_app, plan_app, code_app, sample_app, bare_app, wgcc_app, IsCommandOf, TakesWords, IsNumberFound, IsNumberAt, NamesFiles, IsAsked, Asks, AskFor, files_of, request_of};
 
 use clap::error::ErrorKind;
 use clap::{Arg, ArgAction, ArgMatches, Command, value_parser};
@@ -196,7 +196,7 @@ fn text_at<'a>(matches: &ArgMatches<'a>, id: &str) -> Option<&'a str>
 }
 
 fn file_words<'a>(matches: &ArgMatches<'a>) -> Option<FileWords<'a>>
-    ensures { IfSome result (NamesFiles (rows_of (found_of matches.now))) }
+    ensures { IfSome result (λ w. NamesFiles (rows_of (found_of matches.now)) (files_of w)) }
 {
     let source = text_at(matches, "SOURCE")?;
     let launch = text_at(matches, "LAUNCH")?;
@@ -211,7 +211,7 @@ fn file_words<'a>(matches: &ArgMatches<'a>) -> Option<FileWords<'a>>
 }
 
 fn command_of<'a>(name: &str, matches: &ArgMatches<'a>) -> Option<Words<'a>>
-    ensures { IfSome result (IsAsked name.now (rows_of (found_of matches.now))) }
+    ensures { IfSome result (λ w. IsAsked name.now (rows_of (found_of matches.now)) (request_of w)) }
 {
     if name == "run" {
         return match file_words(matches) {
@@ -241,7 +241,7 @@ fn command_of<'a>(name: &str, matches: &ArgMatches<'a>) -> Option<Words<'a>>
 }
 
 fn words_of<'a>(matches: &ArgMatches<'a>) -> Option<Words<'a>>
-    ensures { IfSome result (Asks (subcommand_rows_of matches.now)) }
+    ensures { IfSome result (λ w. Asks (subcommand_rows_of matches.now) (request_of w)) }
 {
     match matches.subcommand() {
         Some((name, found)) => command_of(name, found),
@@ -254,7 +254,7 @@ fn words_of<'a>(matches: &ArgMatches<'a>) -> Option<Words<'a>>
 pub fn read_words<'a>(alloc: Global, words: &'a [String]) -> Result<Words<'a>, WordsError>
     ensures usage { result ≡ Err WordsError.Usage → TakesWords (map string_bytes words.now) → ⊥ }
     ensures taken { IfOk result (λ _. TakesWords (map string_bytes words.now)) }
-    ensures asked { IfOk result (Asks (subcommand_of wgcc_app (map string_bytes words.now))) }
+    ensures asked { IfOk result (λ w. AskFor (map string_bytes words.now) (request_of w)) }
 {
     match matches_of(alloc, words) {
         Ok(matches) => match words_of(&matches) {

@@ -1,1 +1,5 @@
 pub mod Pushed
+pub mod Unique
+pub mod Accepted
+pub mod Limits
+pub mod Order

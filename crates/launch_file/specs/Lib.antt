@@ -3,3 +3,5 @@ pub mod Texts
 pub mod Values
 pub mod Refusals
 pub mod ValueViews
+pub mod Binding
+pub mod NeedsView

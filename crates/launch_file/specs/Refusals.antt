@@ -150,6 +150,7 @@ pub record Says (lanes turns : Option ℕ) (values : Values) (text : Text) : Typ
   pub same_lanes : pos text.lanes ≡ chosen_lanes lanes values
   pub same_turns : pos text.turns ≡ chosen_turns turns values
   pub same_buffers : text.buffers ≡ values.buffers
+  pub same_several : text.several ≡ values.several
   pub same_list : text.list ≡ values.list
 
 -- no condition stands on the document, and the text is its values

@@ -1,5 +1,5 @@
 -- What a launch file says, as plain values.
-use Rattle.std.specs.Prelude.{ℕ, ℤ, List, map}
+use Rattle.std.specs.Prelude.{Bool, ℕ, ℤ, List, map}
 use Rattle.wg_num.specs.Operators.{lanes_of}
 use Rattle.cl_prep.specs.declared.prep.Define.{Define}
 use Rattle.launch_file.specs.declared.text.BufferText.{BufferText}
@@ -21,6 +21,8 @@ pub record Text : Type 0 where
   pub lanes : ℕ
   pub turns : ℕ
   pub buffers : List BufferText
+  -- the file lists its launches, as one of format 3 does
+  pub several : Bool
   pub list : List Part
 
 -- the plain values of a launch
@@ -29,4 +31,4 @@ part_of p = record { kernel = p.kernel; global = p.global.items; local = p.local
 
 -- the plain values of a launch file
 abbrev pub text_of : LaunchText → Text
-text_of t = record { defines = t.defines.list.items; lanes = lanes_of t.lanes; turns = t.turns; buffers = t.buffers.items; list = map part_of t.list.items }
+text_of t = record { defines = t.defines.list.items; lanes = lanes_of t.lanes; turns = t.turns; buffers = t.buffers.items; several = t.several; list = map part_of t.list.items }

@@ -1,5 +1,5 @@
 -- The values of a launch file by its table of keys; none where a needed key is missing or a value is of another kind.
-use Rattle.std.specs.Prelude.{◌&&◌, ◌==◌, Bool, false, nat_le, ℕ, ℤ, pos, negsuc, List, [], ◌∷◌, length, replicate, Option, Some, None, option_and_then, option_map, codes, if◌then◌else◌}
+use Rattle.std.specs.Prelude.{◌≡◌, ◌&&◌, ◌==◌, Bool, true, false, nat_le, ℕ, ℤ, pos, negsuc, List, [], ◌∷◌, length, replicate, Option, Some, None, option_and_then, option_map, codes, IfSome, IsUtf8, if◌then◌else◌}
 use Rattle.std.specs.List.{list_all}
 use Rattle.toml.specs.Data.{Data, Items, Members, no_items, item, no_members, member, as_array, as_integer, as_str, as_table, get_member}
 use Rattle.cl_token.specs.Bytes.{is_name_start, is_name_byte}
@@ -130,12 +130,27 @@ launches_in One members = option_map (λ part. part ∷ []) (part_in One members
 launches_in Two members = option_map (λ part. part ∷ []) (part_in Two members)
 launches_in Three members = given (given (get_member (codes "launch") members) as_array) parts_of
 
+-- a file of the format lists its launches
+abbrev pub has_several : Format → Bool
+has_several One = false
+has_several Two = false
+has_several Three = true
+
+-- the sizes and the offset of a launch have one length from 1 to 3
+abbrev pub HasOneLength : Part → Type 0
+HasOneLength part = have_one_length part.global part.local part.offset ≡ true
+
+-- the names of a buffer's files are texts
+abbrev pub HasTexts : BufferText → Type 0
+HasTexts buffer = IfSome buffer.load IsUtf8 × IfSome buffer.save IsUtf8
+
 -- the values of a file
 pub record Values : Type 0 where
   pub lanes : Option ℤ
   pub turns : Option ℤ
   pub defines : List Define
   pub buffers : List BufferText
+  pub several : Bool
   pub list : List Part
 
 -- the values of a table
@@ -147,4 +162,4 @@ values_in members =
     given (optional_defines (get_member (codes "defines") members)) (λ defines.
     given (optional_buffers (get_member (codes "buffer") members)) (λ buffers.
     given (launches_in format members) (λ list.
-    Some (record { lanes = lanes; turns = turns; defines = defines; buffers = buffers; list = list })))))))
+    Some (record { lanes = lanes; turns = turns; defines = defines; buffers = buffers; several = has_several format; list = list })))))))

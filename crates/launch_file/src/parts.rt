@@ -1,5 +1,5 @@
 //! The launches of a launch file, and all of its values.
-ghost use Rattle.std.specs.Prelude.{◌≡◌, IfOk, option_map, codes, replicate, pos, map, ◌∷◌, []};
+ghost use Rattle.std.specs.Prelude.{◌≡◌, IfOk, IfSome, All, option_map, codes, replicate, pos, map, ◌∷◌, []};
 ghost use Rattle.toml.specs.View.{view, table_view, items_view};
 ghost use Rattle.toml.specs.Data.{as_table, get_member};
 ghost use Rattle.launch_file.specs.Keys.{given};
@@ -23,6 +23,7 @@ pub(crate) struct Values {
     pub(crate) turns: Option<i64>,
     pub(crate) defines: Vec<Define>,
     pub(crate) buffers: Vec<BufferText>,
+    pub(crate) several: bool,
     pub(crate) list: Vec<LaunchPart>,
 }
 
@@ -116,7 +117,8 @@ fn have_one_length(global: &[i64], local: &[i64], offset: &[i64]) -> bool
 
 /// The launch that a table says.
 fn part_in(alloc: Global, format: Format, table: &Table) -> Result<Option<LaunchPart>, Memory>
-    ensures { IfOk result (λ o. option_map part_of o ≡ spec.part_in format (table_view table.now)) }
+    ensures same { IfOk result (λ o. option_map part_of o ≡ spec.part_in format (table_view table.now)) }
+    ensures length { IfOk result (λ o. IfSome o (λ p. spec.HasOneLength (part_of p))) }
 {
     let Some(kernel) = string_at(table, "kernel") else {
         return Ok(None);
@@ -147,7 +149,8 @@ fn part_in(alloc: Global, format: Format, table: &Table) -> Result<Option<Launch
 }
 
 fn part_item(alloc: Global, value: &Value) -> Result<Option<LaunchPart>, Memory>
-    ensures { IfOk result (λ o. option_map part_of o ≡ given (as_table (view value.now)) (spec.part_in Format.Three)) }
+    ensures same { IfOk result (λ o. option_map part_of o ≡ given (as_table (view value.now)) (spec.part_in Format.Three)) }
+    ensures length { IfOk result (λ o. IfSome o (λ p. spec.HasOneLength (part_of p))) }
 {
     match value.as_table() {
         Some(table) => part_in(alloc, Format::Three, table),
@@ -156,7 +159,8 @@ fn part_item(alloc: Global, value: &Value) -> Result<Option<LaunchPart>, Memory>
 }
 
 fn parts_of(alloc: Global, items: &[Value]) -> Result<Option<Vec<LaunchPart>>, Memory>
-    ensures { IfOk result (λ o. option_map (λ v. map part_of v.items) o ≡ spec.parts_of (items_view items.now)) }
+    ensures same { IfOk result (λ o. option_map (λ v. map part_of v.items) o ≡ spec.parts_of (items_view items.now)) }
+    ensures lengths { IfOk result (λ o. IfSome o (λ v. All (λ p. spec.HasOneLength (part_of p)) v.items)) }
 {
     let mut list = Vec::new(alloc);
     for value in items {
@@ -175,7 +179,8 @@ fn one_launch(
     format: Format,
     table: &Table,
 ) -> Result<Option<Vec<LaunchPart>>, Memory>
-    ensures { IfOk result (λ o. option_map (λ v. map part_of v.items) o ≡ option_map (λ part. part ∷ []) (spec.part_in format (table_view table.now))) }
+    ensures same { IfOk result (λ o. option_map (λ v. map part_of v.items) o ≡ option_map (λ part. part ∷ []) (spec.part_in format (table_view table.now))) }
+    ensures lengths { IfOk result (λ o. IfSome o (λ v. All (λ p. spec.HasOneLength (part_of p)) v.items)) }
 {
     let Some(part) = part_in(alloc, format, table)? else {
         return Ok(None);
@@ -192,7 +197,8 @@ fn launches_in(
     format: Format,
     table: &Table,
 ) -> Result<Option<Vec<LaunchPart>>, Memory>
-    ensures { IfOk result (λ o. option_map (λ v. map part_of v.items) o ≡ spec.launches_in format (table_view table.now)) }
+    ensures same { IfOk result (λ o. option_map (λ v. map part_of v.items) o ≡ spec.launches_in format (table_view table.now)) }
+    ensures lengths { IfOk result (λ o. IfSome o (λ v. All (λ p. spec.HasOneLength (part_of p)) v.items)) }
 {
     if format != Format::Three {
         return one_launch(alloc, format, table);
@@ -208,7 +214,9 @@ fn launches_in(
 
 /// The values of a table; `None` where a needed key is missing or a value is of another kind.
 pub(crate) fn values_in(alloc: Global, table: &Table) -> Result<Option<Values>, Memory>
-    ensures { IfOk result (λ o. option_map values_of o ≡ spec.values_in (table_view table.now)) }
+    ensures same { IfOk result (λ o. option_map values_of o ≡ spec.values_in (table_view table.now)) }
+    ensures texts { IfOk result (λ o. IfSome o (λ v. All spec.HasTexts v.buffers.items)) }
+    ensures lengths { IfOk result (λ o. IfSome o (λ v. All (λ p. spec.HasOneLength (part_of p)) v.list.items)) }
 {
     let Some(format) = format_of(table) else {
         return Ok(None);
@@ -233,6 +241,7 @@ pub(crate) fn values_in(alloc: Global, table: &Table) -> Result<Option<Values>, 
         turns,
         defines,
         buffers,
+        several: format == Format::Three,
         list,
     }))
 }

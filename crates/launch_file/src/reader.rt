@@ -1,10 +1,11 @@
 //! Reading a launch file.
-ghost use Rattle.std.specs.Prelude.{◌≡◌, ℕ, IfOk, Err, Some, codes};
+ghost use Rattle.std.specs.Prelude.{◌≡◌, ◌≤◌, ℕ, All, false, length, IfOk, Err, Some, codes};
 ghost use Rattle.toml.specs.View.{view, table_view, items_view};
 ghost use Rattle.toml.specs.Data.{as_table, get_member};
 ghost use Rattle.launch_file.specs.Keys.{has_only as has_only_keys, passes, each_passes, tables_pass};
 ghost use Rattle.launch_file.specs.Refusals as spec;
-ghost use Rattle.launch_file.specs.Texts.{text_of};
+ghost use Rattle.launch_file.specs.Texts.{part_of, text_of};
+ghost use Rattle.launch_file.specs.Values.{HasTexts, HasOneLength};
 ghost use Rattle.launch_file.specs.declared.text.LaunchError.TheVariants.{Fault};
 
 use crate::document::{DocumentError, document};
@@ -115,6 +116,11 @@ fn read_table(
     turns: Option<u64>,
 ) -> Result<LaunchText, LaunchError>
     ensures read { IfOk result (λ t. spec.IsRead (table_view table.now) lanes turns (text_of t)) }
+    ensures texts { IfOk result (λ t. All HasTexts t.buffers.items) }
+    ensures lengths { IfOk result (λ t. All (λ p. HasOneLength (part_of p)) t.list.items) }
+    ensures some { IfOk result (λ t. 1 ≤ length t.list.items) }
+    ensures few { IfOk result (λ t. length t.list.items ≤ 16) }
+    ensures apart { IfOk result (λ t. spec.saved_twice t.buffers.items ≡ false) }
     ensures refused { (number : ℕ) → result ≡ Err (Fault number) → spec.refusal_of (table_view table.now) lanes turns ≡ Some number }
 {
     if has_unknown_key(table) {
@@ -141,6 +147,11 @@ pub fn read(
     turns: Option<u64>,
 ) -> Result<LaunchText, LaunchError>
     ensures read { IfOk result (λ t. spec.Reads bytes.now lanes turns (text_of t)) }
+    ensures texts { IfOk result (λ t. All HasTexts t.buffers.items) }
+    ensures lengths { IfOk result (λ t. All (λ p. HasOneLength (part_of p)) t.list.items) }
+    ensures some { IfOk result (λ t. 1 ≤ length t.list.items) }
+    ensures few { IfOk result (λ t. length t.list.items ≤ 16) }
+    ensures apart { IfOk result (λ t. spec.saved_twice t.buffers.items ≡ false) }
     ensures refused { (number : ℕ) → result ≡ Err (Fault number) → spec.IsRefused bytes.now lanes turns number }
 {
     match document(alloc, bytes) {

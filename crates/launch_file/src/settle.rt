@@ -1,9 +1,10 @@
 //! The conditions on the values of a launch file, and its text.
-ghost use Rattle.std.specs.Prelude.{◌≡◌, IfOk, IfErr, None, Some, MatchOption, true, false, pos};
+ghost use Rattle.std.specs.Prelude.{◌≡◌, ◌≤◌, All, length, IfOk, IfErr, None, Some, MatchOption, true, false, pos};
 ghost use Rattle.std.specs.List.{list_any};
 ghost use Rattle.wg_num.specs.Operators.{lanes_of};
 ghost use Rattle.launch_file.specs.Refusals as spec;
-ghost use Rattle.launch_file.specs.Texts.{text_of};
+ghost use Rattle.launch_file.specs.Texts.{part_of, text_of};
+ghost use Rattle.launch_file.specs.Values.{HasTexts, HasOneLength};
 ghost use Rattle.launch_file.specs.ValueViews.{values_of};
 
 use crate::parts::Values;
@@ -11,13 +12,13 @@ use crate::text::{BufferText, LaunchError, LaunchText};
 use cl_prep::Defines;
 use wg_num::{Width, Word};
 
-fn is_named(name: &[u8], buffer: &BufferText) -> bool
+pub(crate) fn is_named(name: &[u8], buffer: &BufferText) -> bool
     ensures { result ≡ spec.is_named name.now buffer.now }
 {
     buffer.name.bytes() == name
 }
 
-fn has_name(name: &[u8], buffers: &[BufferText]) -> bool
+pub(crate) fn has_name(name: &[u8], buffers: &[BufferText]) -> bool
     ensures { result ≡ list_any (spec.is_named name.now) buffers.now }
 {
     for buffer in buffers {
@@ -126,7 +127,14 @@ pub(crate) fn settle(
     lanes: Option<u64>,
     turns: Option<u64>,
 ) -> Result<LaunchText, u16>
+    requires texts { All HasTexts values.buffers.items }
+    requires lengths { All (λ p. HasOneLength (part_of p)) values.list.items }
     ensures ok { IfOk result (λ t. spec.Says lanes turns (values_of values) (text_of t)) }
+    ensures texts { IfOk result (λ t. All HasTexts t.buffers.items) }
+    ensures lengths { IfOk result (λ t. All (λ p. HasOneLength (part_of p)) t.list.items) }
+    ensures some { IfOk result (λ t. 1 ≤ length t.list.items) }
+    ensures few { IfOk result (λ t. length t.list.items ≤ 16) }
+    ensures apart { IfOk result (λ t. spec.saved_twice t.buffers.items ≡ false) }
     ensures accepted { IfOk result (λ _. spec.first_of (spec.value_conditions lanes turns (values_of values)) ≡ None) }
     ensures refused { IfErr result (λ n. spec.first_of (spec.value_conditions lanes turns (values_of values)) ≡ Some n) }
 {
@@ -152,6 +160,7 @@ pub(crate) fn settle(
         lanes: width,
         turns: count,
         buffers: values.buffers,
+        several: values.several,
         list: values.list,
     })
 }

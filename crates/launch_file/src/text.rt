@@ -34,13 +34,14 @@ pub struct LaunchPart {
 }
 
 /// A launch file. `turns` is the most loop iterations that the work-items of a launch may begin
-/// together. A file of format 1 or 2 has one launch in `list`.
+/// together. A file of format 3 has `several` launches in `list`, and one of format 1 or 2 has one.
 #[derive(Drop)]
 pub struct LaunchText {
     pub defines: Defines,
     pub lanes: Width,
     pub turns: u64,
     pub buffers: Vec<BufferText>,
+    pub several: bool,
     pub list: Vec<LaunchPart>,
 }
 

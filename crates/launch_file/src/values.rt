@@ -1,5 +1,5 @@
 //! The values of a launch file: the parts that stand alone.
-ghost use Rattle.std.specs.Prelude.{◌≡◌, IfOk, option_map, option_and_then, codes};
+ghost use Rattle.std.specs.Prelude.{◌≡◌, IfOk, IfSome, IsUtf8, All, option_map, option_and_then, codes};
 ghost use Rattle.std.specs.List.{list_all};
 ghost use Rattle.cl_token.specs.Bytes as class;
 ghost use Rattle.toml.specs.View.{view, table_view, items_view};
@@ -54,7 +54,8 @@ fn is_identifier(text: &[u8]) -> bool
 }
 
 fn copied(alloc: Global, text: Option<&str>) -> Result<Option<Word>, Memory>
-    ensures { IfOk result (λ word. word ≡ option_map (λ s. s.now) text.entry) }
+    ensures same { IfOk result (λ word. word ≡ option_map (λ s. s.now) text.entry) }
+    ensures text { IfOk result (λ word. IfSome word IsUtf8) }
 {
     match text {
         Some(text) => {
@@ -66,7 +67,8 @@ fn copied(alloc: Global, text: Option<&str>) -> Result<Option<Word>, Memory>
 }
 
 fn buffer_of(alloc: Global, table: &Table) -> Result<Option<BufferText>, Memory>
-    ensures { IfOk result (λ o. o ≡ spec.buffer_of (table_view table.now)) }
+    ensures same { IfOk result (λ o. o ≡ spec.buffer_of (table_view table.now)) }
+    ensures texts { IfOk result (λ o. IfSome o spec.HasTexts) }
 {
     let Some(name) = string_at(table, "name") else {
         return Ok(None);
@@ -92,7 +94,8 @@ fn buffer_of(alloc: Global, table: &Table) -> Result<Option<BufferText>, Memory>
 }
 
 fn buffer_item(alloc: Global, value: &Value) -> Result<Option<BufferText>, Memory>
-    ensures { IfOk result (λ o. o ≡ given (as_table (view value.now)) spec.buffer_of) }
+    ensures same { IfOk result (λ o. o ≡ given (as_table (view value.now)) spec.buffer_of) }
+    ensures texts { IfOk result (λ o. IfSome o spec.HasTexts) }
 {
     match value.as_table() {
         Some(table) => buffer_of(alloc, table),
@@ -101,7 +104,8 @@ fn buffer_item(alloc: Global, value: &Value) -> Result<Option<BufferText>, Memor
 }
 
 fn buffers_of(alloc: Global, items: &[Value]) -> Result<Option<Vec<BufferText>>, Memory>
-    ensures { IfOk result (λ o. option_map (λ v. v.items) o ≡ spec.buffers_of (items_view items.now)) }
+    ensures same { IfOk result (λ o. option_map (λ v. v.items) o ≡ spec.buffers_of (items_view items.now)) }
+    ensures texts { IfOk result (λ o. IfSome o (λ v. All spec.HasTexts v.items)) }
 {
     let mut list = Vec::new(alloc);
     for value in items {
@@ -117,7 +121,8 @@ fn buffers_of(alloc: Global, items: &[Value]) -> Result<Option<Vec<BufferText>>,
 
 /// The buffers of a file; none where it has no such key.
 pub(crate) fn buffers_in(alloc: Global, table: &Table) -> Result<Option<Vec<BufferText>>, Memory>
-    ensures { IfOk result (λ o. option_map (λ v. v.items) o ≡ spec.optional_buffers (get_member (codes "buffer") (table_view table.now))) }
+    ensures same { IfOk result (λ o. option_map (λ v. v.items) o ≡ spec.optional_buffers (get_member (codes "buffer") (table_view table.now))) }
+    ensures texts { IfOk result (λ o. IfSome o (λ v. All spec.HasTexts v.items)) }
 {
     match value_at(table, "buffer") {
         Some(value) => match value.as_array() {

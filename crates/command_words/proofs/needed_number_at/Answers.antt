@@ -1,4 +1,4 @@
-use Rattle.std.proofs.Common.{Option, Some, ℕ}
+use Rattle.std.proofs.Common.{Some}
 use Rattle.clap.specs.Words.{found_of, rows_of}
 use Rattle.command_words.specs.Command.{IsNumberFound, IsNumberAt}
 use Rattle.command_words.proofs.RowLemmas.{number_by_rows, if_some}

@@ -1,4 +1,3 @@
-use Rattle.std.proofs.Common.{Option, ℕ}
 use Rattle.clap.specs.Words.{found_of, rows_of}
 use Rattle.command_words.specs.Command.{IsNumberFound, IsNumberAt}
 use Rattle.command_words.proofs.RowLemmas.{number_by_rows, if_some}

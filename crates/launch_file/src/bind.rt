@@ -1,0 +1,132 @@
+//! The launches of a launch file for a kernel.
+ghost use Rattle.std.specs.Prelude.{◌≡◌, ◌<◌, ◌≤◌, ℕ, All, IfOk, Err, Some, None, IfNone, IfSome, length, slice_index_or};
+ghost use Rattle.launch_file.specs.Binding as spec;
+ghost use Rattle.launch_file.specs.Values.{HasOneLength};
+ghost use Rattle.launch_file.specs.NeedsView.{needs_of};
+ghost use Rattle.launch_file.specs.Texts.{part_of, text_of};
+ghost use Rattle.launch_file.specs.declared.text.LaunchError.TheVariants.{Fault};
+
+use crate::arguments::{
+    local_wrong, some_kind_wrong, some_shared, some_unlisted, some_value_wrong,
+};
+use crate::lengths::{all_bound, buffers_wrong, lengths_of, loads_of, saves_of};
+use crate::sizes::{is_another_size, sizes_wrong, three_offsets, three_sizes};
+use crate::text::{BufferText, LaunchError, LaunchPart, LaunchText};
+use cl_model::{Launch, VarKind};
+use std::alloc::Global;
+use wg_num::Memory;
+
+/// What a kernel asks of its launches: the kinds of its parameters, the bytes of local memory that
+/// it declares, and the work-group size that it requires, if it does (OpenCL 1.2, section 6.7.2).
+/// More than 2^64 - 1 bytes are told as so many.
+#[derive(Drop)]
+pub struct KernelNeeds {
+    pub kinds: Vec<VarKind>,
+    pub local_bytes: u64,
+    pub required: Option<[u64; 3]>,
+}
+
+// The number of the first condition on the arguments that stands.
+fn arguments_refused(needs: &KernelNeeds, buffers: &[BufferText], part: &LaunchPart) -> Option<u16>
+    ensures none { IfNone result (spec.arguments_refusal (needs_of needs.now) buffers.now (part_of part.now) ≡ None) }
+    ensures some { IfSome result (λ n. spec.arguments_refusal (needs_of needs.now) buffers.now (part_of part.now) ≡ Some n) }
+{
+    let kinds = needs.kinds.as_slice();
+    let args = part.args.as_slice();
+    if args.len() != kinds.len() {
+        return Some(5);
+    }
+    if some_kind_wrong(kinds, args) {
+        return Some(6);
+    }
+    if some_value_wrong(kinds, args) {
+        return Some(7);
+    }
+    if some_unlisted(buffers, args) {
+        return Some(8);
+    }
+    if some_shared(kinds, args) {
+        return Some(11);
+    }
+    None
+}
+
+// The number of the first condition on the launch that stands.
+fn launch_refused(needs: &KernelNeeds, buffers: &[BufferText], part: &LaunchPart) -> Option<u16>
+    ensures none { IfNone result (spec.launch_refusal (needs_of needs.now) buffers.now (part_of part.now) ≡ None) }
+    ensures some { IfSome result (λ n. spec.launch_refusal (needs_of needs.now) buffers.now (part_of part.now) ≡ Some n) }
+{
+    if sizes_wrong(part) {
+        return Some(4);
+    }
+    if let Some(number) = arguments_refused(needs, buffers, part) {
+        return Some(number);
+    }
+    if is_another_size(three_sizes(&part.local), needs.required) {
+        return Some(12);
+    }
+    if local_wrong(needs.local_bytes, &part.args) {
+        return Some(13);
+    }
+    if buffers_wrong(buffers) {
+        return Some(14);
+    }
+    None
+}
+
+// The launch that a part says, over buffers whose number is within its limit.
+fn launch_of(
+    alloc: Global,
+    turns: u64,
+    buffers: &[BufferText],
+    part: &LaunchPart,
+) -> Result<Launch, Memory>
+    requires few { length buffers.now ≤ 64 }
+    requires one_length { HasOneLength (part_of part.now) }
+    ensures is_its { IfOk result (λ l. spec.IsLaunchOf turns buffers.now (part_of part.now) l) }
+    ensures offsets { IfOk result (λ l. spec.AreOffsets l.offset) }
+{
+    let args = all_bound(alloc, buffers, &part.args)?;
+    let lengths = lengths_of(alloc, buffers)?;
+    let loads = loads_of(alloc, buffers)?;
+    let saves = saves_of(alloc, buffers)?;
+    Ok(Launch {
+        dims: part.global.len() as u32,
+        global: three_sizes(&part.global),
+        local: three_sizes(&part.local),
+        offset: three_offsets(&part.offset),
+        turns,
+        args,
+        lengths,
+        loads,
+        saves,
+    })
+}
+
+/// The launch that a part of a launch file says for a kernel with these needs, or the number of the
+/// first condition that stands: L4 (sizes), L5 (argument count), L6 (argument kind), L7 (value out
+/// of range), L8 (unknown buffer), L11 (constant buffer shared), L12 (required size), L13 (local
+/// memory), L14 (buffers). `which` is the number of the launch, counted from 0; the sizes and the
+/// offset of a launch have one length from 1 to 3, as `read` gives them.
+pub fn bind_kernel(
+    alloc: Global,
+    needs: &KernelNeeds,
+    text: &LaunchText,
+    which: usize,
+) -> Result<Launch, LaunchError>
+    requires within { which < length text.now.list.items }
+    requires lengths { All (λ p. HasOneLength (part_of p)) text.now.list.items }
+    ensures bound { IfOk result (spec.Binds (needs_of needs.now) (text_of text.now) (spec.part_at (text_of text.now) which)) }
+    ensures offsets { IfOk result (λ l. spec.AreOffsets l.offset) }
+    ensures refused { (number : ℕ) → result ≡ Err (Fault number) → spec.launch_refusal (needs_of needs.now) (text_of text.now).buffers (spec.part_at (text_of text.now) which) ≡ Some number }
+{
+    let part = &text.list[which];
+    let buffers = text.buffers.as_slice();
+    if let Some(number) = launch_refused(needs, buffers, part) {
+        return Err(LaunchError::Fault { number });
+    }
+    match launch_of(alloc, text.turns, buffers, part) {
+        Ok(launch) => Ok(launch),
+        Err(Memory) => Err(LaunchError::Memory),
+    }
+}
