@@ -4,3 +4,6 @@
 mod example;
 
 pub use example::Example;
+
+#[cfg(test)]
+mod tests;

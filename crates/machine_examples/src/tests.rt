@@ -1,0 +1,190 @@
+//! The tally and votes, on small codes.
+ghost use Rattle.std.specs.Prelude.{◌≡◌, IfOk};
+ghost use Rattle.machine_examples.specs.Examples.{IsReady};
+
+use crate::Example;
+use cl_model::{Buffers, Query, Root};
+use lane_code::{Bank, Reg, RegionEnd, Step};
+use lane_machine::Answers;
+use std::alloc::Global;
+use std::test::Fail;
+use wg_num::{Bin, IntType, Width};
+
+const V0: Reg = Reg {
+    bank: Bank::Narrow,
+    number: 0,
+};
+
+const V1: Reg = Reg {
+    bank: Bank::Narrow,
+    number: 1,
+};
+
+const W0: Reg = Reg {
+    bank: Bank::Wide,
+    number: 0,
+};
+
+const M0: Reg = Reg {
+    bank: Bank::Mask,
+    number: 0,
+};
+
+const M1: Reg = Reg {
+    bank: Bank::Mask,
+    number: 1,
+};
+
+/// One buffer of so many ints, each of this value.
+fn ints(alloc: Global, count: usize, value: u8) -> Result<Buffers, Fail> {
+    let mut bytes = Vec::new(alloc);
+    for _ in 0..count {
+        bytes.push(value)?;
+        bytes.push(0)?;
+        bytes.push(0)?;
+        bytes.push(0)?;
+    }
+    let mut list = Vec::new(alloc);
+    list.push(bytes)?;
+    Ok(Buffers { list })
+}
+
+/// The lowest byte of an int of the buffer.
+fn int_at(buffers: &Buffers, item: usize) -> u8 {
+    let Some(place) = item.checked_mul(4) else {
+        return 0;
+    };
+    match buffers.list.get(0) {
+        Some(bytes) => match bytes.get(place) {
+            Some(byte) => *byte,
+            None => 0,
+        },
+        None => 0,
+    }
+}
+
+/// Sets the lowest byte of an int of the buffer.
+fn set_int(buffers: &mut Buffers, item: usize, value: u8) {
+    let Some(place) = item.checked_mul(4) else {
+        return;
+    };
+    if let Some(bytes) = buffers.list.get_mut(0) {
+        if let Some(byte) = bytes.get_mut(place) {
+            *byte = value;
+        }
+    }
+}
+
+/// Loads, doubles and stores the ints of all items.
+const DOUBLING: [Step; 5] = [
+    Step::Const {
+        to: V0,
+        of: IntType::Uint,
+        value: 0,
+    },
+    Step::Ask {
+        what: Query::GlobalId,
+        to: W0,
+        dim: V0,
+        mask: M0,
+    },
+    Step::Load {
+        site: 0,
+        of: IntType::Int,
+        root: Root::Param(0),
+        index: W0,
+        to: V1,
+        mask: M0,
+    },
+    Step::Binary {
+        op: Bin::Add,
+        of: IntType::Int,
+        to: V1,
+        a: V1,
+        b: V1,
+        mask: M0,
+    },
+    Step::Store {
+        site: 1,
+        of: IntType::Int,
+        root: Root::Param(0),
+        index: W0,
+        from: V1,
+        mask: M0,
+    },
+];
+
+fn doubling(alloc: Global) -> Result<Example, Fail>
+    ensures { IfOk result (λ e. IsReady e.program e.launch e.machine e.group) }
+{
+    Ok(Example::new(alloc, Width::W8, DOUBLING.to_vec(alloc)?)?)
+}
+
+#[test]
+fn the_tally_counts_the_calls_on_vectors(rt: HostRuntime) -> Result<(), Fail> {
+    let mut example = doubling(rt.alloc())?;
+    let mut turns = 0;
+    let mut buffers = ints(rt.alloc(), 20, 7)?;
+    let before = example.machine.tally.count();
+    let end = example.first_chunk(&mut buffers, &mut turns);
+    let after = example.machine.tally.count();
+    assert_eq!(rt; (before, end, after), (0, RegionEnd::Done, 3));
+    assert_eq!(rt; (int_at(&buffers, 7), int_at(&buffers, 8)), (14, 7));
+    Ok(())
+}
+
+/// Votes yes in the items whose int is not 0.
+const VOTING: [Step; 5] = [
+    Step::Const {
+        to: V0,
+        of: IntType::Uint,
+        value: 0,
+    },
+    Step::Ask {
+        what: Query::GlobalId,
+        to: W0,
+        dim: V0,
+        mask: M0,
+    },
+    Step::Load {
+        site: 0,
+        of: IntType::Int,
+        root: Root::Param(0),
+        index: W0,
+        to: V1,
+        mask: M0,
+    },
+    Step::Test {
+        to: M1,
+        from: V1,
+        mask: M0,
+    },
+    Step::VotePut { from: M1, mask: M0 },
+];
+
+fn voting(alloc: Global) -> Result<Example, Fail>
+    ensures { IfOk result (λ e. IsReady e.program e.launch e.machine e.group) }
+{
+    Ok(Example::new(alloc, Width::W16, VOTING.to_vec(alloc)?)?)
+}
+
+/// The answers of a group whose items have these ints.
+fn answers_to(alloc: Global, buffers: &mut Buffers) -> Result<Answers, Fail> {
+    let mut example = voting(alloc)?;
+    let mut turns = 0;
+    let _ = example.chunks(buffers, &mut turns);
+    Ok(example.group.answers())
+}
+
+#[test]
+fn votes_of_all_items_come_together(rt: HostRuntime) -> Result<(), Fail> {
+    let mut buffers = ints(rt.alloc(), 20, 0)?;
+    let none = answers_to(rt.alloc(), &mut buffers)?;
+    set_int(&mut buffers, 19, 1);
+    let one = answers_to(rt.alloc(), &mut buffers)?;
+    let mut full = ints(rt.alloc(), 20, 1)?;
+    let all = answers_to(rt.alloc(), &mut full)?;
+    let wanted = (Answers::No, Answers::Mixed, Answers::Yes);
+    assert_eq!(rt; (none, one, all), wanted);
+    Ok(())
+}
