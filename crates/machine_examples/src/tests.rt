@@ -1,4 +1,4 @@
-//! The tally and votes, on small codes.
+//! Ends, the tally and votes, on small codes.
 ghost use Rattle.std.specs.Prelude.{◌≡◌, IfOk};
 ghost use Rattle.machine_examples.specs.Examples.{IsReady};
 
@@ -23,6 +23,16 @@ const V1: Reg = Reg {
 const W0: Reg = Reg {
     bank: Bank::Wide,
     number: 0,
+};
+
+const W1: Reg = Reg {
+    bank: Bank::Wide,
+    number: 1,
+};
+
+const W2: Reg = Reg {
+    bank: Bank::Wide,
+    number: 2,
 };
 
 const M0: Reg = Reg {
@@ -130,6 +140,91 @@ fn the_tally_counts_the_calls_on_vectors(rt: HostRuntime) -> Result<(), Fail> {
     let after = example.machine.tally.count();
     assert_eq!(rt; (before, end, after), (0, RegionEnd::Done, 3));
     assert_eq!(rt; (int_at(&buffers, 7), int_at(&buffers, 8)), (14, 7));
+    Ok(())
+}
+
+#[test]
+fn the_lowest_lane_out_of_range_is_the_end(rt: HostRuntime) -> Result<(), Fail> {
+    let mut example = doubling(rt.alloc())?;
+    let mut turns = 0;
+    let mut few = ints(rt.alloc(), 3, 7)?;
+    let end = example.first_chunk(&mut few, &mut turns);
+    assert_eq!(rt; end, RegionEnd::Range { lane: 3, site: 0 });
+    assert_eq!(rt; int_at(&few, 2), 7);
+    Ok(())
+}
+
+/// Stores 9 in the ints of all items, and ends at a mark in those that are not below 2.
+const MARKING: [Step; 9] = [
+    Step::Const {
+        to: V0,
+        of: IntType::Uint,
+        value: 0,
+    },
+    Step::Ask {
+        what: Query::GlobalId,
+        to: W0,
+        dim: V0,
+        mask: M0,
+    },
+    Step::Const {
+        to: W1,
+        of: IntType::Ulong,
+        value: 2,
+    },
+    Step::Binary {
+        op: Bin::Lt,
+        of: IntType::Ulong,
+        to: W2,
+        a: W0,
+        b: W1,
+        mask: M0,
+    },
+    Step::Test {
+        to: M1,
+        from: W2,
+        mask: M0,
+    },
+    Step::Const {
+        to: V1,
+        of: IntType::Int,
+        value: 9,
+    },
+    Step::Store {
+        site: 1,
+        of: IntType::Int,
+        root: Root::Param(0),
+        index: W0,
+        from: V1,
+        mask: M0,
+    },
+    Step::MaskLess {
+        to: M1,
+        a: M0,
+        b: M1,
+    },
+    Step::Mark { site: 0, mask: M1 },
+];
+
+fn marking(alloc: Global) -> Result<Example, Fail>
+    ensures { IfOk result (λ e. IsReady e.program e.launch e.machine e.group) }
+{
+    Ok(Example::new(alloc, Width::W4, MARKING.to_vec(alloc)?)?)
+}
+
+#[test]
+fn stores_below_the_first_fault_are_done_and_a_mark_names_its_lowest_lane(
+    rt: HostRuntime,
+) -> Result<(), Fail> {
+    let mut example = marking(rt.alloc())?;
+    let mut turns = 0;
+    let mut few = ints(rt.alloc(), 3, 7)?;
+    let end = example.first_chunk(&mut few, &mut turns);
+    assert_eq!(rt; end, RegionEnd::Range { lane: 3, site: 1 });
+    assert_eq!(rt; int_at(&few, 2), 9);
+    let mut buffers = ints(rt.alloc(), 20, 7)?;
+    let end = example.first_chunk(&mut buffers, &mut turns);
+    assert_eq!(rt; end, RegionEnd::AtBarrier { lane: 2, site: 0 });
     Ok(())
 }
 
