@@ -1,0 +1,4 @@
+pub mod Reaching
+pub mod LeastFaults
+pub mod PlacesAside
+pub mod Spreading

@@ -1,0 +1,4 @@
+pub mod View
+pub mod Called
+pub mod Reach
+pub mod Least

@@ -1,0 +1,26 @@
+//! The faults of a node of a unit: which of them stands, from what is visible at the node and the kinds of its
+//! parts.
+#![tactic(auto)]
+
+pub mod callees;
+mod calls;
+mod declarators;
+pub mod fault;
+mod labels;
+pub mod looked;
+mod misfits;
+mod names;
+mod operands;
+pub mod reach;
+mod signatures;
+pub mod spread;
+mod targets;
+#[cfg(test)]
+mod tests;
+
+pub use callees::{arity_fits, call_fits, call_kind, call_result};
+pub use fault::fault_at;
+pub use looked::{Asked, Call, Looked};
+pub use operands::kind_of;
+pub use reach::leads_back;
+pub use spread::{Rows, rows_of};

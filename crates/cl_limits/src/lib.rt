@@ -1,0 +1,19 @@
+//! The limits of a kernel with all that it calls: its weight, its private and local memory, and how deep its
+//! barriers stand.
+#![tactic(auto)]
+
+pub mod barriers;
+pub mod limit;
+pub mod memory;
+pub mod nodes;
+pub mod points;
+pub mod sums;
+#[cfg(test)]
+mod tests;
+
+pub use barriers::heights;
+pub use limit::limit_of;
+pub use memory::{local_bytes, private_bytes};
+pub use nodes::count_nodes;
+pub use points::{Point, points_of};
+pub use sums::{Call, totals};
