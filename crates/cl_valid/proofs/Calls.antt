@@ -137,7 +137,7 @@ types_are P f (p ∷ ps) (k ∷ ks) h = ap (λ j. counted (type_in j) ∷ types_
 types_are P f [] (k ∷ ks) h = absurd h
 types_are P f (p ∷ ps) [] h = absurd h
 
-number_parts : (P : Program) (f : Function) (p : Piece) (k : Kind) (to : IntType) → is_number k ≡ true → p.kind ≡ Some k → KindFits P f k p.what → HasType P f (operand to p) to
+pub number_parts : (P : Program) (f : Function) (p : Piece) (k : Kind) (to : IntType) → is_number k ≡ true → p.kind ≡ Some k → KindFits P f k p.what → HasType P f (operand to p) to
 number_parts P f p (kinds.Number t q) to h e x = operand_typed P f to t q p e x.0
 number_parts P f p _ to h e x = absurd (false≢true h)
 

@@ -26,7 +26,7 @@ node_piece env inner form w f parts ms = record { kind = kind_step env form w pa
 abbrev pub node_looked : Env → Role → Form → List ℕ → ℕ → Forest → List Piece → Looked
 node_looked env role form w f parts ps = record { env = env; role = role; form = form; word = w; first = f; parts = parts; kinds' = kinds_in ps }
 
-kind_meant : (env : Env) (sites : List Place) (t : Syntax) → (meant env sites t).piece.kind ≡ kind_of env t
+pub kind_meant : (env : Env) (sites : List Place) (t : Syntax) → (meant env sites t).piece.kind ≡ kind_of env t
 unfolding kind_of meant
 kind_meant env sites (node form w f l parts) = refl
 
@@ -35,7 +35,7 @@ kinds_here_are env sites none = refl
 kinds_here_are env sites (more p ps) =
     ap (λ k. k ∷ kinds_here env ps) (sym (kind_meant env sites p)) ∙ ap (λ ks. (meant env sites p).piece.kind ∷ ks) (kinds_here_are env (meant env sites p).sites ps)
 
-kinds_are : (env : Env) (sites : List Place) (form : Form) (w : List ℕ) (parts : Forest) → is_expression form ≡ true → AreOperands parts →
+pub kinds_are : (env : Env) (sites : List Place) (form : Form) (w : List ℕ) (parts : Forest) → is_expression form ≡ true → AreOperands parts →
     kinds_of (inside env form w) form true parts ≡ kinds_in (parts_here (inside env form w) sites parts).pieces
 kinds_are env sites form w parts e h = kinds_plain form e (inside env form w) true parts h ∙ kinds_here_are (inside env form w) sites parts
 

@@ -47,7 +47,7 @@ node_fits P g env sites form w f l parts h x =
     let o = of_expressions (node form w f l parts) h in subst (PieceFits P g) (sym (piece_is env sites form w f l parts o.0 o.1)) x
 
 -- the kinds of arguments
-arguments_known : (P : Program) (g : Function) (ps : List Piece) → (ks : List Kind) → AllFit P g ps ks → all_known (kinds_in ps) ≡ Some ks
+pub arguments_known : (P : Program) (g : Function) (ps : List Piece) → (ks : List Kind) → AllFit P g ps ks → all_known (kinds_in ps) ≡ Some ks
 arguments_known P g [] [] h = refl
 arguments_known P g (p ∷ ps) (k ∷ ks) h = ap (λ z. on_both z (all_known (kinds_in ps)) (λ a as'. Some (a ∷ as'))) h.0 ∙ ap (λ z. on_both (Some k) z (λ a as'. Some (a ∷ as'))) (arguments_known P g ps ks h.2)
 arguments_known P g [] (k ∷ ks) h = absurd h

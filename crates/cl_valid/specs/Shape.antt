@@ -153,3 +153,65 @@ abbrev mutual
   pub AreLines : Forest → Type 0
   AreLines none = Unit {0}
   AreLines (more p ps) = (IsDeclaration p ⊎ IsStatement p) × AreLines ps
+
+-- ---- functions and units
+
+abbrev pub IsBlock : Syntax → Type 0
+IsBlock (node forms.BlockNode w f l parts) = AreLines parts
+IsBlock t = ⊥
+
+-- a word in front of a function, or an attribute of three expressions
+abbrev pub IsHead : Syntax → Type 0
+IsHead (node forms.HeadNode w f l none) = Unit {0}
+IsHead (node forms.HeadNode w f l (more (node forms.AttributeNode w' f' l' parts) none)) = AreExpressions parts
+IsHead t = ⊥
+
+-- `void`, or a type
+abbrev pub IsResult : Syntax → Type 0
+IsResult (node forms.ResultNode w f l none) = Unit {0}
+IsResult (node forms.ResultNode w f l (more t none)) = IsType t
+IsResult t = ⊥
+
+abbrev pub IsParam : Syntax → Type 0
+IsParam (node forms.ParamNode w f l (more t none)) = IsType t
+IsParam (node forms.ParamNode w f l (more t (more (node forms.StarNode w' f' l' none) none))) = IsType t
+IsParam t = ⊥
+
+abbrev pub AreParams : Forest → Type 0
+AreParams none = Unit {0}
+AreParams (more p ps) = IsParam p × AreParams ps
+
+abbrev pub IsParams : Syntax → Type 0
+IsParams (node forms.ParamsNode w f l ps) = AreParams ps
+IsParams t = ⊥
+
+-- behind the heads of a function, and of a prototype
+abbrev pub IsDefinition : Forest → Type 0
+IsDefinition (more r (more p (more b none))) = IsResult r × IsParams p × IsBlock b
+IsDefinition parts = ⊥
+
+abbrev pub IsAnnouncement : Forest → Type 0
+IsAnnouncement (more r (more p none)) = IsResult r × IsParams p
+IsAnnouncement parts = ⊥
+
+-- heads, and other parts behind them
+abbrev pub BehindHeads : (Forest → Type 0) → Forest → Type 0
+BehindHeads P none = ⊥
+BehindHeads P (more (node form w f l parts) ps) = (IsHead (node form w f l parts) × BehindHeads P ps) ⊎ P (more (node form w f l parts) ps)
+
+abbrev pub IsFunction : Syntax → Type 0
+IsFunction (node forms.FunctionNode w f l parts) = BehindHeads IsDefinition parts
+IsFunction t = ⊥
+
+abbrev pub IsPrototype : Syntax → Type 0
+IsPrototype (node forms.PrototypeNode w f l parts) = BehindHeads IsAnnouncement parts
+IsPrototype t = ⊥
+
+abbrev pub AreItems : Forest → Type 0
+AreItems none = Unit {0}
+AreItems (more p ps) = (IsFunction p ⊎ (IsPrototype p ⊎ IsDeclaration p)) × AreItems ps
+
+-- a unit as it is parsed
+abbrev pub IsUnit : Syntax → Type 0
+IsUnit (node forms.UnitNode w f l items) = AreItems items
+IsUnit t = ⊥

@@ -1,10 +1,19 @@
-//! A unit without faults has a valid typed program: so far, what its expressions stand for has the types that they have.
+//! A unit without faults has a valid typed program: what its expressions stand for has the types that they have, and
+//! the typed unit is a program as the model asks for.
 #![tactic(auto)]
 
-ghost use Rattle.cl_valid.specs.Law.{ExpressionsFit};
+ghost use Rattle.cl_valid.specs.Law.{ExpressionsFit, UnitsValid};
 
 /// Expressions in which no node is at fault have a kind, and the pieces of the typed program for which they
 /// stand have the types that the validity of programs asks (OpenCL 1.2, section 6.2; C99, section 6.5).
 pub fn expression_law()
     ensures { ExpressionsFit }
+{}
+
+/// A unit in which no node is at fault, and whose kernel keeps the limits, stands for a valid program: its types
+/// fit, each variable is declared once and named behind its declaration alone, `break` and `continue` stand in
+/// loops and switches, no two operations have one site, calls end, tables have their bytes, and what the kernel
+/// runs is no larger than a program may be (OpenCL 1.2, chapter 6; C99, sections 6.5 to 6.9).
+pub fn valid_law()
+    ensures { UnitsValid }
 {}
