@@ -42,3 +42,7 @@ pub mod Ends
 pub mod Collected
 pub mod Instances
 pub mod Accepted
+pub mod WordFacts
+pub mod TypeFacts
+pub mod Grammatical
+pub mod Spelled

@@ -1,9 +1,13 @@
--- The laws: on expressions, and on units.
+-- The laws: on expressions, on units, and on what the grammar spells.
 use Rattle.std.specs.Prelude.{◌≡◌, ℕ, false, List, []}
 use Rattle.wg_num.specs.declared.types.Place.{Place}
+use Rattle.cl_token.specs.declared.token.Token.{Token}
+use Rattle.cl_token.specs.Spelling.{HasValue}
 use Rattle.cl_model.specs.Tree.{Function, Program}
+use Rattle.cl_model.specs.Lists.{Each}
 use Rattle.cl_model.specs.Valid.{IsValid}
 use Rattle.cl_tree.specs.Syntax.{Syntax}
+use Rattle.cl_tree.specs.Grammar.{SpellsUnit}
 use Rattle.cl_limits.specs.Kernel.{Sized, weights_of, at_limit}
 use Rattle.cl_meaning.specs.declared.fault.Fault.{Fault}
 use Rattle.cl_meaning.specs.declared.kind.Role.{Role}
@@ -49,3 +53,13 @@ pub record Accepted (places : List Place) (kernel : List ℕ) (unit : Syntax) : 
 -- The typed unit for which an accepted unit stands is a valid program.
 abbrev pub UnitsValid : Type 0
 UnitsValid = (places : List Place) (kernel : List ℕ) (unit : Syntax) → IsUnit unit → Accepted places kernel unit → IsValid (program_of (unit_meant places kernel unit))
+
+-- ---- what the grammar spells
+
+-- each number among the tokens has a type and a value
+abbrev pub NumbersRead : List Token → Type 0
+NumbersRead tokens = Each (λ (t : Token). HasValue t.kind t.word) tokens
+
+-- A tree that tokens spell has the shape of a unit.
+abbrev pub UnitsShaped : Type 0
+UnitsShaped = (unit : Syntax) (tokens : List Token) → SpellsUnit unit tokens → NumbersRead tokens → IsUnit unit
