@@ -1,17 +1,23 @@
 -- A run whose files are there and accepted, where no fault rises, is done, or wants memory.
-use Rattle.std.proofs.Common.{◌≡◌, ℕ, List, [], take, get_or, Option, Some, None, inl, inr, sym, ◌∙◌, ap, subst, arith}
+use Rattle.std.proofs.Common.{◌≡◌, ℕ, List, [], ◌∷◌, ◌++◌, take, Option, Some, None, inl, inr, sym, ◌∙◌, ap, subst, arith}
 use Rattle.std.specs.Prelude.{◌⊎◌}
 use Rattle.wg_outside.specs.Counts.{Rose}
 use Rattle.wg_outside.specs.Files.{FileMap, HasFileStart, LacksFile, told_file}
+use Rattle.buffer_io.specs.Loads.{LacksOneFile}
+use Rattle.command_words.specs.Command.{Files}
+use Rattle.cl_model.specs.Sizes.{Launch as ModelLaunch}
+use Rattle.launch_file.specs.Binding.{loads_of}
+use Rattle.launch_file.specs.Refusals.{Reads}
+use Rattle.launch_file.specs.Texts.{Text}
+use Rattle.launch_file.proofs.Unique.{one_text, read_or_refused}
 use Rattle.wg_top.specs.declared.RunError.{RunError}
 use Rattle.wg_top.specs.declared.RunError.TheVariants.{Failed, Absent, Source, Launch, Range, Memory}
-use Rattle.wg_top.specs.declared.launch_form.LaunchForm.{LaunchForm}
 use Rattle.wg_top.specs.declared.source_form.Source.{Source as FirstSource}
-use Rattle.wg_top.specs.Numbers.{IsNumber, decimal_from}
-use Rattle.wg_top.specs.LaunchForm.{IsFirstLaunch}
 use Rattle.wg_top.specs.SourceForm.{IsFirstSource}
 use Rattle.wg_top.specs.Front.{HasUnit}
-use Rattle.wg_top.specs.Causes.{Standing, Cause, Accepted, LacksName}
+use Rattle.wg_top.specs.Kernels.{form_refusal}
+use Rattle.wg_top.specs.Launches.{launches_in, IsWithin, AreWithin, GoesOutside}
+use Rattle.wg_top.specs.Causes.{Standing, Cause, Accepted, LacksName, IsSourceFault, AreOfKernel}
 use Rattle.wg_top.specs.Lines.{status_of}
 use Rattle.wg_top.specs.Ends.{Outside, Ends}
 use Rattle.wg_top.proofs.FrontLemmas.{refused_or_unit}
@@ -24,67 +30,78 @@ start_is files name most bytes held told h = let e : Some (take most held) ≡ S
 not_lacked : (files : Option FileMap) (name held : List ℕ) → told_file files name ≡ Some (Some held) → LacksFile files name → ⊥
 not_lacked files name held told h = let e : Some held ≡ None = rw told at h in cc
 
--- two numbers of one text
-same_number : (digits others : List ℕ) (n m : ℕ) → digits ≡ others → IsNumber digits n → IsNumber others m → n ≡ m
-same_number digits others n m e a b = sym a.value ∙ (ap (decimal_from 0) e ∙ b.value)
+-- two readings of one launch file
+pub same_text : (bytes others : List ℕ) (ask : Files) (a b : Text) → bytes ≡ others → Reads bytes ask.lanes ask.turns a → Reads others ask.lanes ask.turns b → a ≡ b
+same_text bytes others ask a b same x y = one_text bytes ask.lanes ask.turns a b x (subst (λ (bs : List ℕ). Reads bs ask.lanes ask.turns b) (sym same) y)
 
--- what two readings of one launch file agree on
-pub record SameForm (f g : LaunchForm) : Type 0 where
-  pub kernel : f.kernel ≡ g.kernel
-  pub load : f.load ≡ g.load
-  pub global : f.global ≡ g.global
-  pub size : f.size ≡ g.size
+-- a source of the first form with the launches' kernel is not at fault
+pub no_fault : (bytes others : List ℕ) (text other : Text) (s : FirstSource) (number : ℕ) (place : _) → bytes ≡ others → text ≡ other → IsSourceFault bytes text number place → HasUnit others other.defines → IsFirstSource others other.defines s → AreOfKernel other s → ⊥
+no_fault bytes others text other s number place same_bytes same fault unit is kernels =
+    let u : HasUnit bytes text.defines = subst (λ (t : Text). HasUnit bytes t.defines) (sym same) (subst (λ (b : List ℕ). HasUnit b other.defines) (sym same_bytes) unit) in
+    let f : IsFirstSource bytes text.defines s = subst (λ (t : Text). IsFirstSource bytes t.defines s) (sym same) (subst (λ (b : List ℕ). IsFirstSource b other.defines s) (sym same_bytes) is) in
+    let k : AreOfKernel text s = subst (λ (t : Text). AreOfKernel t s) (sym same) kernels in
+    elim fault [
+      | inl stands ↦ refused_or_unit bytes text.defines number place stands u
+      | inr more ↦ more.no_form s f k
+    ]
 
-pub same_form : (bytes others : List ℕ) (f g : LaunchForm) → bytes ≡ others → IsFirstLaunch bytes f → IsFirstLaunch others g → SameForm f g
-same_form bytes others f g e a b =
-    let fields : a.fields ≡ b.fields = cc (a.read, b.read, e) in
-    let at : (i : ℕ) → get_or a.fields i [] ≡ get_or b.fields i [] = λ i. ap (λ (fs : List (List ℕ)). get_or fs i []) fields in
-    record {
-      kernel = sym a.kernel_is ∙ (at 0 ∙ b.kernel_is);
-      load = sym a.load_is ∙ (at 6 ∙ b.load_is);
-      global = same_number _ _ f.global g.global (at 1) a.global_is b.global_is;
-      size = same_number _ _ f.size g.size (at 5) a.size_is b.size_is;
-    }
+-- one of the launches is within its buffer
+within_at : (before : List ModelLaunch) (launch : ModelLaunch) (after : List ModelLaunch) → AreWithin (before ++ (launch ∷ after)) → IsWithin launch
+within_at [] launch after are = are.0
+within_at (first ∷ before) launch after are = within_at before launch after are.1
+
+-- launches within their buffers do not go outside
+pub no_outside : (launches before : List ModelLaunch) (launch : ModelLaunch) (after : List ModelLaunch) (item : ℕ) → GoesOutside launches before launch after item → AreWithin launches → ⊥
+no_outside launches before launch after item goes are =
+    let within : IsWithin launch = within_at before launch after (subst (λ (ls : List ModelLaunch). AreWithin ls) goes.are are) in
+    let here = within item goes.outside.within in
+    let out = goes.outside.outside in
+    omega arith
 
 -- the launch file that was loaded is the one that is there
-read_form : (files : Option FileMap) (source launch : List ℕ) (form read : LaunchForm) (s : FirstSource) (bytes : List ℕ) → Accepted files source launch form s → HasFileStart files launch 1048577 bytes → IsFirstLaunch bytes read → SameForm read form
-read_form files source launch form read s bytes all loaded is =
-    same_form bytes (take 1048577 all.launch_bytes) read form (start_is files launch 1048577 bytes all.launch_bytes all.launch_told loaded) is all.is_launch
+read_text : (files : Option FileMap) (ask : Files) (text read : Text) (s : FirstSource) (bytes : List ℕ) → Accepted files ask text s → HasFileStart files ask.launch 1048577 bytes → Reads bytes ask.lanes ask.turns read → read ≡ text
+read_text files ask text read s bytes all loaded is =
+    same_text bytes (take 1048577 all.launch_bytes) ask read text (start_is files ask.launch 1048577 bytes all.launch_bytes all.launch_told loaded) is all.reads
 
-none_lacked : (files : Option FileMap) (source launch : List ℕ) (form : LaunchForm) (s : FirstSource) → Accepted files source launch form s → LacksName files source launch → ⊥
-none_lacked files source launch form s all lacks = elim lacks [
-  | inl first ↦ not_lacked files source all.source_bytes all.source_told first
+none_lacked : (files : Option FileMap) (ask : Files) (text : Text) (s : FirstSource) → Accepted files ask text s → LacksName files ask → ⊥
+none_lacked files ask text s all lacks = elim lacks [
+  | inl first ↦ not_lacked files ask.source all.source_bytes all.source_told first
   | inr more ↦ elim more [
-    | inl second ↦ not_lacked files launch all.launch_bytes all.launch_told second.2
-    | inr third ↦ not_lacked files form.load all.buffer_bytes all.buffer_told (subst (λ (n : List ℕ). LacksFile files n) (read_form files source launch form third.0 s third.2.launch_bytes all third.2.launch_loaded third.2.is_launch).load third.3)
+    | inl second ↦ not_lacked files ask.launch all.launch_bytes all.launch_told second.2
+    | inr third ↦
+        let same : third.0 ≡ text = read_text files ask text third.0 s third.2.read.launch_bytes all third.2.read.launch_loaded third.2.read.reads in
+        let one : LacksOneFile files (loads_of text.buffers) = subst (λ (t : Text). LacksOneFile files (loads_of t.buffers)) same third.3 in
+        let told = all.buffers_told one.name one.is_load in
+        not_lacked files one.name told.0 told.1 one.lacks
   ]
 ]
 
-pub complete : (old new : Standing) (source launch : List ℕ) (form : LaunchForm) (s : FirstSource) (e : RunError) (n : ℕ) → Accepted old.files source launch form s → (Rose old.faults new.faults → ⊥) → n ≡ status_of e → Cause old new source launch e → (n ≡ 0) ⊎ (n ≡ 8)
-complete old new source launch form s Failed n all quiet is cause = absurd (quiet cause)
-complete old new source launch form s Absent n all quiet is cause = absurd (none_lacked old.files source launch form s all cause.1)
-complete old new source launch form s (Source number place) n all quiet is cause =
-    let refused = cause in
-    let same = read_form old.files source launch form refused.form s refused.launch_bytes all refused.launch_loaded refused.is_launch in
-    let bytes : refused.source_bytes ≡ take 262145 all.source_bytes = start_is old.files source 262145 refused.source_bytes all.source_bytes all.source_told refused.source_loaded in
-    absurd (elim refused.fault [
-      | inl stands ↦ refused_or_unit refused.source_bytes [] number place stands (subst (λ (b : List ℕ). HasUnit b []) (sym bytes) all.unit)
-      | inr other ↦ other.no_form s (subst (λ (b : List ℕ). IsFirstSource b s) (sym bytes) all.is_source) (all.kernel ∙ sym same.kernel)
-    ])
-complete old new source launch form s (Launch number) n all quiet is cause =
-    let refused = cause.1 in
-    let bytes : refused.launch_bytes ≡ take 1048577 all.launch_bytes = start_is old.files launch 1048577 refused.launch_bytes all.launch_bytes all.launch_told refused.launch_loaded in
-    absurd (refused.no_form form (subst (λ (b : List ℕ). IsFirstLaunch b form) (sym bytes) all.is_launch))
-complete old new source launch form s (Range group item place) n all quiet is cause =
-    let same = read_form old.files source launch form cause.form s cause.read.launch_bytes all cause.read.launch_loaded cause.read.is_launch in
-    absurd (omega (arith, same.global, same.size, cause.item_in, cause.outside.outside, all.in_range))
-complete old new source launch form s Memory n all quiet is cause = inr is
+pub complete : (old new : Standing) (ask : Files) (text : Text) (s : FirstSource) (e : RunError) (n : ℕ) → Accepted old.files ask text s → (Rose old.faults new.faults → ⊥) → n ≡ status_of e → Cause old new ask e → (n ≡ 0) ⊎ (n ≡ 8)
+complete old new ask text s Failed n all quiet is cause = absurd (quiet cause)
+complete old new ask text s Absent n all quiet is cause = absurd (none_lacked old.files ask text s all cause.1)
+complete old new ask text s (Source number place) n all quiet is cause =
+    let same = read_text old.files ask text cause.text s cause.launch_bytes all cause.launch_loaded cause.reads in
+    let bytes : cause.source_bytes ≡ take 262145 all.source_bytes = start_is old.files ask.source 262145 cause.source_bytes all.source_bytes all.source_told cause.source_loaded in
+    absurd (no_fault cause.source_bytes (take 262145 all.source_bytes) cause.text text s number place bytes same cause.fault all.unit all.is_source all.kernels)
+complete old new ask text s (Launch number) n all quiet is cause = absurd (elim cause [
+  | inl unread ↦
+      let bytes : take 1048577 all.launch_bytes ≡ unread.launch_bytes = sym (start_is old.files ask.launch 1048577 unread.launch_bytes all.launch_bytes all.launch_told unread.launch_loaded) in
+      read_or_refused unread.launch_bytes ask.lanes ask.turns text number (subst (λ (b : List ℕ). Reads b ask.lanes ask.turns text) bytes all.reads) unread.refused
+  | inr unbound ↦
+      let same = read_text old.files ask text unbound.text s unbound.read.launch_bytes all unbound.read.launch_loaded unbound.read.reads in
+      let e : Some number ≡ None = sym unbound.refused ∙ (ap form_refusal same ∙ all.accepted) in
+      let never : ⊥ = cc e in never
+])
+complete old new ask text s (Range launch several group item place) n all quiet is cause =
+    let same = read_text old.files ask text cause.text s cause.read.read.launch_bytes all cause.read.read.launch_loaded cause.read.read.reads in
+    absurd (no_outside (launches_in cause.text) cause.earlier cause.launch cause.later item cause.goes (subst (λ (t : Text). AreWithin (launches_in t)) (sym same) all.in_range))
+complete old new ask text s Memory n all quiet is cause = inr is
 
-pub ends_complete : (old new : Outside) (source launch : List ℕ) (form : LaunchForm) (s : FirstSource) (n : ℕ) → Ends old new source launch n → Accepted old.store.files source launch form s → (Rose old.store.faults new.store.faults → ⊥) → (Rose old.out.faults new.out.faults → ⊥) → (n ≡ 0) ⊎ (n ≡ 8)
-ends_complete old new source launch form s n ends all quiet out_quiet = elim ends [
+pub ends_complete : (old new : Outside) (ask : Files) (text : Text) (s : FirstSource) (n : ℕ) → Ends old new ask n → Accepted old.store.files ask text s → (Rose old.store.faults new.store.faults → ⊥) → (Rose old.out.faults new.out.faults → ⊥) → (n ≡ 0) ⊎ (n ≡ 8)
+ends_complete old new ask text s n ends all quiet out_quiet = elim ends [
   | inl done ↦ inl done.status_is
   | inr more ↦ elim more [
     | inl unsaid ↦ absurd (out_quiet unsaid.failed)
-    | inr refused ↦ complete old.store new.store source launch form s refused.error n all quiet refused.status_is refused.cause
+    | inr refused ↦ complete old.store new.store ask text s refused.error n all quiet refused.status_is refused.cause
   ]
 ]

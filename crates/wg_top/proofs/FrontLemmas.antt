@@ -1,6 +1,6 @@
 -- From a source to its unit: what is refused, and that nothing is both.
-use Rattle.std.proofs.Common.{◌≡◌, ℕ, ◌+◌, ◌<◌, ◌≤◌, Bool, List, [], ◌∷◌, ◌++◌, length, take, drop, Option, Some, None, inl, inr, refl, sym, ◌∙◌, subst, arith, length-append}
-use Rattle.std.specs.Prelude.{◌⊎◌, IfErr, Result, Ok, Err}
+use Rattle.std.proofs.Common.{◌≡◌, ℕ, ◌+◌, ◌<◌, ◌≤◌, Bool, List, [], ◌∷◌, ◌++◌, length, drop, Option, Some, None, inl, inr, refl, sym, ◌∙◌, subst, arith, length-append}
+use Rattle.std.specs.Prelude.{Err}
 use Rattle.std.proofs.lemmas.Bool.{cases_lt}
 use Rattle.std.proofs.lemmas.List.{take-append-drop}
 use Rattle.wg_num.specs.declared.types.Place.{Place}
@@ -17,7 +17,6 @@ use Rattle.cl_prep.specs.declared.prep.Define.{Define}
 use Rattle.cl_prep.specs.declared.prep.PrepError.{PrepError}
 use Rattle.cl_prep.specs.declared.prep.PrepError.TheVariants as prep
 use Rattle.cl_prep.specs.Names.{Names}
-use Rattle.cl_prep.specs.Start.{start_names, with_defines}
 use Rattle.cl_prep.specs.Expands.{Expands, Ends, defined_twice, fails, start_state, IsRefused as IsUnexpanded}
 use Rattle.cl_prep.specs.Progress.{IsRefusedOrMemory as IsUnexpandedOrMemory}
 use Rattle.cl_prep.proofs.Unique.{one_out, ends_or_fails}

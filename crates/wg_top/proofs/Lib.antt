@@ -1,10 +1,14 @@
-pub mod NumberLemmas
 pub mod LineLemmas
 pub mod CauseLemmas
 pub mod EndLemmas
 pub mod FrontLemmas
 pub mod CompleteLemmas
 pub mod ItemLemmas
+pub mod ShapeLemmas
+pub mod LaunchLemmas
+pub mod BoundLemmas
+pub mod WordLemmas
+pub mod RunLemmas
 pub mod ValueLemmas
 pub mod NameLemmas
 pub mod LiteralLemmas

@@ -1,18 +1,23 @@
 -- Why a run ends as it does.
-use Rattle.std.specs.Prelude.{◌≡◌, ◌*◌, ◌/◌, ◌<◌, ◌≤◌, ◌⊎◌, ⊤, ℕ, List, [], take, Option, Some}
+use Rattle.std.specs.Prelude.{◌≡◌, ◌+◌, ◌/◌, ◌≤◌, ◌⊎◌, ⊤, ℕ, Bool, All, List, length, take, Option, Some, None, Contains}
 use Rattle.wg_num.specs.declared.types.Place.{Place}
 use Rattle.wg_outside.specs.Counts.{Rose}
-use Rattle.wg_outside.specs.Files.{FileMap, HasFileStart, LacksFile, HasSaved, KeepsOthers, told_file}
-use Rattle.buffer_io.specs.Loads.{StartsAs}
+use Rattle.wg_outside.specs.Files.{FileMap, HasFileStart, LacksFile, told_file}
+use Rattle.buffer_io.specs.Loads.{AllStartAs, LacksOneFile}
+use Rattle.buffer_io.specs.Saves.{AllSavedAs, KeepsAllBut, StopsAt}
+use Rattle.cl_model.specs.Sizes.{Launch as ModelLaunch, group_size}
+use Rattle.command_words.specs.Command.{Files}
+use Rattle.launch_file.specs.Refusals.{Reads, IsRefused}
+use Rattle.launch_file.specs.Binding.{loads_of, saves_of, lengths_of}
+use Rattle.launch_file.specs.Texts.{Text}
 use Rattle.wg_top.specs.declared.RunError.{RunError}
 use Rattle.wg_top.specs.declared.RunError.TheVariants.{Failed, Absent, Source, Launch, Range, Memory}
 use Rattle.wg_top.specs.declared.Summary.{Summary}
-use Rattle.wg_top.specs.declared.launch_form.LaunchForm.{LaunchForm}
 use Rattle.wg_top.specs.declared.source_form.Source.{Source as FirstSource}
-use Rattle.wg_top.specs.LaunchForm.{IsFirstLaunch}
 use Rattle.wg_top.specs.SourceForm.{IsFirstSource}
 use Rattle.wg_top.specs.Front.{HasUnit, StandsAt}
-use Rattle.wg_top.specs.Items.{ItemsRan, IsFirstOutside}
+use Rattle.wg_top.specs.Kernels.{form_refusal}
+use Rattle.wg_top.specs.Launches.{launches_in, LaunchesRan, AreWithin, GoesOutside, all_groups, all_items}
 
 -- a store at one moment
 pub record Standing : Type 0 where
@@ -37,131 +42,151 @@ SourceLoaded files source bytes = HasFileStart files source 262145 bytes
 abbrev pub LaunchLoaded : Option FileMap → List ℕ → List ℕ → Type 0
 LaunchLoaded files launch bytes = HasFileStart files launch 1048577 bytes
 
--- the source and the launch file were loaded, and the launch file says this
-pub record LaunchRead (files : Option FileMap) (source launch : List ℕ) (form : LaunchForm) : Type 0 where
-  pub source_bytes : List ℕ
-  pub source_loaded : SourceLoaded files source source_bytes
-  pub launch_bytes : List ℕ
-  pub launch_loaded : LaunchLoaded files launch launch_bytes
-  pub is_launch : IsFirstLaunch launch_bytes form
+-- each launch is of the source's kernel
+abbrev pub AreOfKernel : Text → FirstSource → Type 0
+AreOfKernel text s = All (λ part. part.kernel ≡ s.name) text.list
 
--- besides, the source has a unit, and is this, with the kernel of the launch
-pub record RunRead (files : Option FileMap) (source launch : List ℕ) (form : LaunchForm) (s : FirstSource) : Type 0 where
+-- the source and the launch file were loaded, the launch file with the options says this, and the source has a unit and is this, with the kernel of each launch
+pub record RunRead (files : Option FileMap) (ask : Files) (text : Text) (s : FirstSource) : Type 0 where
   pub source_bytes : List ℕ
-  pub source_loaded : SourceLoaded files source source_bytes
+  pub source_loaded : SourceLoaded files ask.source source_bytes
   pub launch_bytes : List ℕ
-  pub launch_loaded : LaunchLoaded files launch launch_bytes
-  pub is_launch : IsFirstLaunch launch_bytes form
-  pub unit : HasUnit source_bytes []
-  pub is_source : IsFirstSource source_bytes s
-  pub kernel : s.name ≡ form.kernel
+  pub launch_loaded : LaunchLoaded files ask.launch launch_bytes
+  pub reads : Reads launch_bytes ask.lanes ask.turns text
+  pub unit : HasUnit source_bytes text.defines
+  pub is_source : IsFirstSource source_bytes text.defines s
+  pub kernels : AreOfKernel text s
 
--- the source and the launch file were loaded, and the launch file is not of the first form
-pub record LaunchRefused (files : Option FileMap) (source launch : List ℕ) : Type 0 where
+-- besides, no condition stands on its launches
+pub record RunBound (files : Option FileMap) (ask : Files) (text : Text) (s : FirstSource) : Type 0 where
+  pub read : RunRead files ask text s
+  pub accepted : form_refusal text ≡ None
+
+-- the source and the launch file were loaded, and the condition of that number is the first that stands on the launch file
+pub record TextRefused (files : Option FileMap) (ask : Files) (number : ℕ) : Type 0 where
   pub source_bytes : List ℕ
-  pub source_loaded : SourceLoaded files source source_bytes
+  pub source_loaded : SourceLoaded files ask.source source_bytes
   pub launch_bytes : List ℕ
-  pub launch_loaded : LaunchLoaded files launch launch_bytes
-  pub no_form : (form : LaunchForm) → IsFirstLaunch launch_bytes form → ⊥
+  pub launch_loaded : LaunchLoaded files ask.launch launch_bytes
+  pub refused : IsRefused launch_bytes ask.lanes ask.turns number
 
--- the source has a unit, and is not of the first form with that kernel
-pub record NotBuilt (bytes kernel : List ℕ) (number : ℕ) (place : Place) : Type 0 where
+-- all was read, and the condition of that number is the first that stands on the launches
+pub record BindRefused (files : Option FileMap) (ask : Files) (number : ℕ) : Type 0 where
+  pub text : Text
+  pub s : FirstSource
+  pub read : RunRead files ask text s
+  pub refused : form_refusal text ≡ Some number
+
+-- the source has a unit, and is not of the first form with the kernel of each launch
+pub record NotBuilt (bytes : List ℕ) (text : Text) (number : ℕ) (place : Place) : Type 0 where
   pub number_is : number ≡ 0
   pub place_is : place ≡ record { line = 1; column = 1 }
-  pub unit : HasUnit bytes []
-  pub no_form : (s : FirstSource) → IsFirstSource bytes s → s.name ≡ kernel → ⊥
+  pub unit : HasUnit bytes text.defines
+  pub no_form : (s : FirstSource) → IsFirstSource bytes text.defines s → AreOfKernel text s → ⊥
 
 -- the condition of that number stands of the source at that place; a source without a unit comes first
-abbrev pub IsSourceFault : List ℕ → List ℕ → ℕ → Place → Type 0
-IsSourceFault bytes kernel number place = StandsAt bytes [] number place ⊎ NotBuilt bytes kernel number place
+abbrev pub IsSourceFault : List ℕ → Text → ℕ → Place → Type 0
+IsSourceFault bytes text number place = StandsAt bytes text.defines number place ⊎ NotBuilt bytes text number place
 
 -- the launch file was read, and the condition of that number stands of the source at that place
-pub record SourceRefused (files : Option FileMap) (source launch : List ℕ) (number : ℕ) (place : Place) : Type 0 where
-  pub form : LaunchForm
+pub record SourceRefused (files : Option FileMap) (ask : Files) (number : ℕ) (place : Place) : Type 0 where
+  pub text : Text
   pub source_bytes : List ℕ
-  pub source_loaded : SourceLoaded files source source_bytes
+  pub source_loaded : SourceLoaded files ask.source source_bytes
   pub launch_bytes : List ℕ
-  pub launch_loaded : LaunchLoaded files launch launch_bytes
-  pub is_launch : IsFirstLaunch launch_bytes form
-  pub fault : IsSourceFault source_bytes form.kernel number place
+  pub launch_loaded : LaunchLoaded files ask.launch launch_bytes
+  pub reads : Reads launch_bytes ask.lanes ask.turns text
+  pub fault : IsSourceFault source_bytes text number place
 
--- where files are told, the first name that was to be loaded and is not among them is the source, or the launch file, or the buffer's file
-abbrev pub LacksName : Option FileMap → List ℕ → List ℕ → Type 0
-LacksName files source launch =
-    LacksFile files source
-    ⊎ ((bytes : List ℕ) × SourceLoaded files source bytes × LacksFile files launch)
-    ⊎ ((form : LaunchForm) × (s : FirstSource) × RunRead files source launch form s × LacksFile files form.load)
+-- where files are told, a name that was to be loaded is not among them: the source, or the launch file where the source is there, or a buffer's file where all was read
+abbrev pub LacksName : Option FileMap → Files → Type 0
+LacksName files ask =
+    LacksFile files ask.source
+    ⊎ ((bytes : List ℕ) × SourceLoaded files ask.source bytes × LacksFile files ask.launch)
+    ⊎ ((text : Text) × (s : FirstSource) × RunBound files ask text s × LacksOneFile files (loads_of text.buffers))
 
--- all was read and the buffer was loaded, and an item came to an element that does not lie within it, at the place of the first access
-pub record IsOutOfRange (files : Option FileMap) (source launch : List ℕ) (group item : ℕ) (place : Place) : Type 0 where
-  pub form : LaunchForm
+-- the buffers of the launch file were loaded: these
+abbrev pub BuffersLoaded : Option FileMap → Text → List (List ℕ) → Type 0
+BuffersLoaded files text before = AllStartAs files (lengths_of text.buffers) (loads_of text.buffers) before
+
+-- all was read and the buffers were loaded, and in the launch with that number an item came to an element that does not lie within the launch's buffer, at the place of the first access; launches count from 1
+pub record IsOutOfRange (files : Option FileMap) (ask : Files) (number : ℕ) (several : Bool) (group item : ℕ) (place : Place) : Type 0 where
+  pub text : Text
   pub s : FirstSource
-  pub read : RunRead files source launch form s
-  pub before : List ℕ
-  pub loaded : StartsAs files form.size (Some form.load) before
-  pub item_in : item < form.global
-  pub group_is : group ≡ item / form.local
-  pub outside : IsFirstOutside item form.size
+  pub read : RunBound files ask text s
+  pub before : List (List ℕ)
+  pub loaded : BuffersLoaded files text before
+  pub earlier : List ModelLaunch
+  pub launch : ModelLaunch
+  pub later : List ModelLaunch
+  pub goes : GoesOutside (launches_in text) earlier launch later item
+  pub number_is : number ≡ length earlier + 1
+  pub several_is : several ≡ text.several
+  pub group_is : group ≡ item / group_size launch
   pub place_is : place ≡ s.place
 
 -- the cause of a refusal that the files decide, without faults and want of memory
-abbrev pub Finds : Option FileMap → List ℕ → List ℕ → RunError → Type 0
-Finds files source launch Failed = ⊥
-Finds files source launch Absent = LacksName files source launch
-Finds files source launch (Source number place) = SourceRefused files source launch number place
-Finds files source launch (Launch number) = (number ≡ 0) × LaunchRefused files source launch
-Finds files source launch (Range group item place) = IsOutOfRange files source launch group item place
-Finds files source launch Memory = ⊥
+abbrev pub Finds : Option FileMap → Files → RunError → Type 0
+Finds files ask Failed = ⊥
+Finds files ask Absent = LacksName files ask
+Finds files ask (Source number place) = SourceRefused files ask number place
+Finds files ask (Launch number) = TextRefused files ask number ⊎ BindRefused files ask number
+Finds files ask (Range launch several group item place) = IsOutOfRange files ask launch several group item place
+Finds files ask Memory = ⊥
 
 -- the cause of each refusal
-abbrev pub Cause : Standing → Standing → List ℕ → List ℕ → RunError → Type 0
-Cause old new source launch Failed = Rose old.faults new.faults
-Cause old new source launch Absent = Rose old.misses new.misses × Finds old.files source launch Absent
-Cause old new source launch (Source number place) = Finds old.files source launch (Source number place)
-Cause old new source launch (Launch number) = Finds old.files source launch (Launch number)
-Cause old new source launch (Range group item place) = Finds old.files source launch (Range group item place)
-Cause old new source launch Memory = ⊤
+abbrev pub Cause : Standing → Standing → Files → RunError → Type 0
+Cause old new ask Failed = Rose old.faults new.faults
+Cause old new ask Absent = Rose old.misses new.misses × Finds old.files ask Absent
+Cause old new ask (Source number place) = Finds old.files ask (Source number place)
+Cause old new ask (Launch number) = Finds old.files ask (Launch number)
+Cause old new ask (Range launch several group item place) = Finds old.files ask (Range launch several group item place)
+Cause old new ask Memory = ⊤
 
--- saving had begun: all was read, the buffer was loaded, each item was in range, and only the buffer's `save` may have changed
-pub record SaveFailed (old new : Option FileMap) (source launch : List ℕ) : Type 0 where
-  pub form : LaunchForm
+-- all was read and the buffers were loaded, each item of each launch was in range, and the launches ran
+pub record HasRun (files : Option FileMap) (text : Text) (s : FirstSource) (after : List (List ℕ)) : Type 0 where
+  pub before : List (List ℕ)
+  pub loaded : BuffersLoaded files text before
+  pub in_range : AreWithin (launches_in text)
+  pub ran : LaunchesRan s (launches_in text) before after
+
+-- saving had begun: the launches ran, the buffers before one are saved, and those behind it and all other names are as before
+pub record SaveFailed (old new : Option FileMap) (ask : Files) : Type 0 where
+  pub text : Text
   pub s : FirstSource
-  pub read : RunRead old source launch form s
-  pub before : List ℕ
-  pub loaded : StartsAs old form.size (Some form.load) before
-  pub in_range : 4 * form.global ≤ form.size
-  pub others : KeepsOthers old new form.save
+  pub read : RunBound old ask text s
+  pub after : List (List ℕ)
+  pub run : HasRun old text s after
+  pub stops : StopsAt old new (saves_of text.buffers) after
+  pub others : KeepsAllBut old new (saves_of text.buffers)
 
--- which files a refusal leaves: all, but for the launch's `save` where saving failed
-abbrev pub LeavesFiles : Standing → Standing → List ℕ → List ℕ → RunError → Type 0
-LeavesFiles old new source launch Failed = (new.files ≡ old.files) ⊎ SaveFailed old.files new.files source launch
-LeavesFiles old new source launch _ = new.files ≡ old.files
+-- which files a refusal leaves: all, but for those that the launch file saves where saving failed
+abbrev pub LeavesFiles : Standing → Standing → Files → RunError → Type 0
+LeavesFiles old new ask Failed = (new.files ≡ old.files) ⊎ SaveFailed old.files new.files ask
+LeavesFiles old new ask _ = new.files ≡ old.files
 
--- a run that is done: the buffer was loaded, the items ran, and it was saved
-pub record IsDone (old new : Option FileMap) (source launch : List ℕ) (summary : Summary) : Type 0 where
-  pub form : LaunchForm
+-- a run that is done: the launches ran, and the buffers were saved
+pub record IsDone (old new : Option FileMap) (ask : Files) (summary : Summary) : Type 0 where
+  pub text : Text
   pub s : FirstSource
-  pub read : RunRead old source launch form s
-  pub before : List ℕ
-  pub after : List ℕ
-  pub loaded : StartsAs old form.size (Some form.load) before
-  pub in_range : 4 * form.global ≤ form.size
-  pub ran : ItemsRan s form.global before after
-  pub saved : HasSaved old new form.save after
-  pub others : KeepsOthers old new form.save
-  pub items : summary.items ≡ form.global
-  pub groups : summary.groups ≡ form.global / form.local
+  pub read : RunBound old ask text s
+  pub after : List (List ℕ)
+  pub run : HasRun old text s after
+  pub saved : AllSavedAs old new (saves_of text.buffers) after
+  pub others : KeepsAllBut old new (saves_of text.buffers)
+  pub groups : summary.groups ≡ all_groups (launches_in text)
+  pub items : summary.items ≡ all_items (launches_in text)
 
--- the store tells its files, has those that the run loads, the source has a unit, and they are of the first forms, with a buffer that is long enough
-pub record Accepted (files : Option FileMap) (source launch : List ℕ) (form : LaunchForm) (s : FirstSource) : Type 0 where
+-- the store tells its files, has those that the run loads, the source has a unit and is of the first form, no condition stands on the launch file, and each item's element lies within its buffer
+pub record Accepted (files : Option FileMap) (ask : Files) (text : Text) (s : FirstSource) : Type 0 where
   pub source_bytes : List ℕ
   pub launch_bytes : List ℕ
-  pub buffer_bytes : List ℕ
-  pub source_told : told_file files source ≡ Some (Some source_bytes)
-  pub launch_told : told_file files launch ≡ Some (Some launch_bytes)
-  pub buffer_told : told_file files form.load ≡ Some (Some buffer_bytes)
-  pub unit : HasUnit (take 262145 source_bytes) []
-  pub is_source : IsFirstSource (take 262145 source_bytes) s
-  pub kernel : s.name ≡ form.kernel
-  pub is_launch : IsFirstLaunch (take 1048577 launch_bytes) form
-  pub in_range : 4 * form.global ≤ form.size
+  pub source_told : told_file files ask.source ≡ Some (Some source_bytes)
+  pub launch_told : told_file files ask.launch ≡ Some (Some launch_bytes)
+  pub buffers_told : (name : List ℕ) → Contains (loads_of text.buffers) (Some name) → (bytes : List ℕ) × (told_file files name ≡ Some (Some bytes))
+  pub reads : Reads (take 1048577 launch_bytes) ask.lanes ask.turns text
+  pub unit : HasUnit (take 262145 source_bytes) text.defines
+  pub is_source : IsFirstSource (take 262145 source_bytes) text.defines s
+  pub kernels : AreOfKernel text s
+  pub accepted : form_refusal text ≡ None
+  pub in_range : AreWithin (launches_in text)

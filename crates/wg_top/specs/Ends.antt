@@ -1,11 +1,12 @@
 -- How the call ends.
-use Rattle.std.specs.Prelude.{◌≡◌, ◌∷◌, [], ◌⊎◌, ℕ, List, Option, codes}
+use Rattle.std.specs.Prelude.{◌≡◌, ◌⊎◌, ℕ, List, Option, codes}
 use Rattle.std.specs.Io.KnownBytes.{Appends}
 use Rattle.wg_outside.specs.Counts.{Rose}
 use Rattle.wg_outside.specs.Files.{FileMap}
 use Rattle.wg_outside.specs.Bytes.{AppendsPrefix}
 use Rattle.wg_top.specs.declared.RunError.{RunError}
-use Rattle.wg_top.specs.declared.RunError.TheVariants.{Failed}
+use Rattle.wg_top.specs.declared.RunError.TheVariants.{Failed, Source, Memory}
+use Rattle.command_words.specs.Command.{Files, Request, run, plan, code, sample, TakesWords, AskFor}
 use Rattle.wg_top.specs.declared.Summary.{Summary}
 use Rattle.wg_top.specs.Causes.{Standing, standing, Cause, LeavesFiles, IsDone}
 use Rattle.wg_top.specs.Lines.{IsSaid, done_line, error_line, status_of}
@@ -19,9 +20,14 @@ pub record SinkStanding : Type 0 where
 abbrev pub sink_standing : {S : Type 0} → (S → Option (List ℕ)) → (S → ℕ) → S → SinkStanding
 sink_standing written faults sink = record { written = written sink; faults = faults sink }
 
--- the words that the program takes
-abbrev pub AreRunWords : List (List ℕ) → List ℕ → List ℕ → Type 0
-AreRunWords words source launch = words ≡ codes "run" ∷ source ∷ launch ∷ []
+-- a run that is asked for
+abbrev pub asked : List ℕ → List ℕ → Option ℕ → Option ℕ → Files
+asked source launch lanes turns = record { source = source; launch = launch; lanes = lanes; turns = turns }
+
+-- the command takes the words, and they ask for this
+pub record AreWords (words : List (List ℕ)) (request : Request) : Type 0 where
+  pub taken : TakesWords words
+  pub asks : AskFor words request
 
 -- a line went to a sink, whole or as a first part where its faults rose
 abbrev pub Says : SinkStanding → SinkStanding → List ℕ → Type 0
@@ -38,44 +44,60 @@ abbrev pub outside : {S O E : Type 0} → (S → Option FileMap) → (S → ℕ)
 outside files faults misses out_written out_faults err_written err_faults store out err = record { store = standing files faults misses store; out = sink_standing out_written out_faults out; err = sink_standing err_written err_faults err }
 
 -- the run is done, and its line is on `out`
-pub record EndsDone (old new : Outside) (source launch : List ℕ) (status : ℕ) : Type 0 where
+pub record EndsDone (old new : Outside) (ask : Files) (status : ℕ) : Type 0 where
   pub summary : Summary
   pub status_is : status ≡ 0
-  pub done : IsDone old.store.files new.store.files source launch summary
+  pub done : IsDone old.store.files new.store.files ask summary
   pub said : Appends old.out.written new.out.written (done_line summary.groups summary.items)
   pub err_stays : new.err ≡ old.err
 
 -- the run is done, and its line could not be put on `out`
-pub record EndsUnsaid (old new : Outside) (source launch : List ℕ) (status : ℕ) : Type 0 where
+pub record EndsUnsaid (old new : Outside) (ask : Files) (status : ℕ) : Type 0 where
   pub summary : Summary
   pub status_is : status ≡ 1
-  pub done : IsDone old.store.files new.store.files source launch summary
+  pub done : IsDone old.store.files new.store.files ask summary
   pub failed : Rose old.out.faults new.out.faults
   pub part : AppendsPrefix old.out.written new.out.written (done_line summary.groups summary.items)
-  pub said : Says old.err new.err (error_line source Failed)
+  pub said : Says old.err new.err (error_line ask.source Failed)
 
 -- the run is refused, with its cause, its status and its line
-pub record EndsRefused (old new : Outside) (source launch : List ℕ) (status : ℕ) : Type 0 where
+pub record EndsRefused (old new : Outside) (ask : Files) (status : ℕ) : Type 0 where
   pub error : RunError
   pub status_is : status ≡ status_of error
-  pub cause : Cause old.store new.store source launch error
-  pub leaves : LeavesFiles old.store new.store source launch error
-  pub said : Says old.err new.err (error_line source error)
+  pub cause : Cause old.store new.store ask error
+  pub leaves : LeavesFiles old.store new.store ask error
+  pub said : Says old.err new.err (error_line ask.source error)
   pub out_stays : new.out ≡ old.out
 
 -- one of the three
-abbrev pub Ends : Outside → Outside → List ℕ → List ℕ → ℕ → Type 0
-Ends old new source launch status = EndsDone old new source launch status ⊎ EndsUnsaid old new source launch status ⊎ EndsRefused old new source launch status
+abbrev pub Ends : Outside → Outside → Files → ℕ → Type 0
+Ends old new ask status = EndsDone old new ask status ⊎ EndsUnsaid old new ask status ⊎ EndsRefused old new ask status
 
--- these are no words of a run
-abbrev pub AreOtherWords : List (List ℕ) → Type 0
-AreOtherWords words = (source launch : List ℕ) → AreRunWords words source launch → ⊥
-
--- the words are refused: nothing but the line on `err` happens
-pub record EndsUnread (old new : Outside) : Type 0 where
+-- nothing but that line on `err` happens
+pub record EndsSaying (old new : Outside) (line : List ℕ) : Type 0 where
   pub store_stays : new.store ≡ old.store
   pub out_stays : new.out ≡ old.out
-  pub said : Says old.err new.err (codes "wgcc: usage\n")
+  pub said : Says old.err new.err line
+
+-- the line of words that are not taken
+abbrev pub usage_line : List ℕ
+usage_line = codes "wgcc: usage\n"
+
+-- the refusal of what is not built
+abbrev pub not_built : RunError
+not_built = Source 0 (record { line = 1; column = 1 })
+
+-- what is asked for is not built, and its line names this as the source; or memory ran out
+abbrev pub EndsUnbuilt : Outside → Outside → List ℕ → ℕ → Type 0
+EndsUnbuilt old new file status =
+    ((status ≡ 3) × EndsSaying old new (error_line file not_built)) ⊎ ((status ≡ 8) × EndsSaying old new (error_line file Memory))
+
+-- how a command ends: `run` as its launches do, and the others are not built
+abbrev pub EndsAsked : Outside → Outside → Request → ℕ → Type 0
+EndsAsked old new (run ask) status = Ends old new ask status
+EndsAsked old new (plan ask) status = EndsUnbuilt old new ask.source status
+EndsAsked old new (code ask) status = EndsUnbuilt old new ask.source status
+EndsAsked old new (sample number) status = EndsUnbuilt old new (codes "sample") status
 
 -- nothing went to `out` but a first part of a line, where its faults rose
 abbrev pub KeepsOut : SinkStanding → SinkStanding → Type 0

@@ -1,7 +1,8 @@
--- What the items of a launch do to the buffer.
-use Rattle.std.specs.Prelude.{◌≡◌, ◌*◌, ◌+◌, ◌<◌, ◌≤◌, ℕ, List, length, take, drop}
+-- What the items of a launch do to a buffer, where each changes the element that its global id in the first dimension names.
+use Rattle.std.specs.Prelude.{◌≡◌, ◌*◌, ◌+◌, ◌<◌, ◌≤◌, ◌==◌, ℕ, zero, suc, List, length, take, drop, if◌then◌else◌}
 use Rattle.wg_num.specs.declared.types.IntType.TheVariants.{Int}
 use Rattle.wg_num.specs.Bytes.{bytes_of, value_of_bytes}
+use Rattle.cl_model.specs.Sizes.{Launch, global_id, item_count}
 use Rattle.wg_top.specs.declared.source_form.Source.{Source}
 use Rattle.wg_top.specs.SourceForm.{element_after}
 
@@ -9,13 +10,35 @@ use Rattle.wg_top.specs.SourceForm.{element_after}
 abbrev pub element : ℕ → List ℕ → List ℕ
 element i bytes = take 4 (drop (4 * i) bytes)
 
--- the first items of a launch ran: each changed its own element, and the bytes behind are as before
-pub record ItemsRan (s : Source) (count : ℕ) (before after : List ℕ) : Type 0 where
-  pub same_size : length after ≡ length before
-  pub elements : (i : ℕ) → i < count → element i after ≡ bytes_of Int (element_after s (value_of_bytes Int (element i before)))
-  pub behind : drop (4 * count) after ≡ drop (4 * count) before
+-- the number of the element of an item
+abbrev pub own_element : Launch → ℕ → ℕ
+own_element launch item = global_id launch item 0
 
--- that item's element is the first that does not lie within the buffer
-pub record IsFirstOutside (item size : ℕ) : Type 0 where
-  pub earlier : 4 * item ≤ size
-  pub outside : size < 4 * (item + 1)
+-- how many of the first items have this element
+abbrev pub hits : Launch → ℕ → ℕ → ℕ
+hits launch zero e = 0
+hits launch (suc n) e = (if own_element launch n == e then 1 else 0) + hits launch n e
+
+-- what so many items leave of an element, one after the other
+abbrev pub element_times : Source → ℕ → List ℕ → List ℕ
+element_times s zero bytes = bytes
+element_times s (suc n) bytes = bytes_of Int (element_after s (value_of_bytes Int (element_times s n bytes)))
+
+-- the first items of a launch ran: each element was changed as often as it is the element of one of them
+pub record ItemsRan (s : Source) (launch : Launch) (count : ℕ) (before after : List ℕ) : Type 0 where
+  pub same_size : length after ≡ length before
+  pub elements : (e : ℕ) → element e after ≡ element_times s (hits launch count e) (element e before)
+
+-- the element lies within so many bytes
+abbrev pub IsInside : ℕ → ℕ → Type 0
+IsInside e size = 4 * (e + 1) ≤ size
+
+-- the elements of the first items lie within so many bytes
+abbrev pub AreInside : Launch → ℕ → ℕ → Type 0
+AreInside launch count size = (i : ℕ) → i < count → IsInside (own_element launch i) size
+
+-- that item's element is the first that does not lie within so many bytes
+pub record IsFirstOutside (launch : Launch) (item size : ℕ) : Type 0 where
+  pub within : item < item_count launch
+  pub earlier : AreInside launch item size
+  pub outside : size < 4 * (own_element launch item + 1)

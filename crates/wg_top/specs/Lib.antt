@@ -1,9 +1,9 @@
 pub mod Front
-pub mod Numbers
-pub mod Fields
-pub mod LaunchForm
 pub mod SourceForm
 pub mod Items
+pub mod Shapes
+pub mod Launches
+pub mod Kernels
 pub mod Lines
 pub mod Causes
 pub mod Stages

@@ -6,6 +6,7 @@ use Rattle.wg_num.specs.declared.types.Bin.TheVariants.{Add, Sub, Mul}
 use Rattle.wg_num.specs.declared.types.IntType.TheVariants.{Int}
 use Rattle.wg_num.specs.Operators.{binary_of}
 use Rattle.cl_token.specs.declared.token.Token.{Token}
+use Rattle.cl_prep.specs.declared.prep.Define.{Define}
 use Rattle.wg_top.specs.Front.{Reads, place_of_token}
 use Rattle.wg_top.specs.declared.source_form.Join.{Join}
 use Rattle.wg_top.specs.declared.source_form.Join.TheVariants.{Plus, Minus, Times}
@@ -94,11 +95,11 @@ pub record AreFirstTokens (bytes : List ℕ) (tokens : List Token) (s : Source) 
   pub literals : LiteralsFit s
   pub place : s.place ≡ place_of_token bytes tokens (access_token s)
 
--- a source of the first form: what its tokens expand to is
-pub record IsFirstSource (bytes : List ℕ) (s : Source) : Type 0 where
+-- a source of the first form: what its tokens expand to, with the given names, is
+pub record IsFirstSource (bytes : List ℕ) (defines : List Define) (s : Source) : Type 0 where
   pub tokens : List Token
   pub expanded : List Token
-  pub reads : Reads bytes [] tokens expanded
+  pub reads : Reads bytes defines tokens expanded
   pub form : AreFirstTokens bytes expanded s
 
 -- the value of an operand

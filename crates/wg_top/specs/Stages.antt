@@ -1,94 +1,96 @@
 -- Why one stage of a run ends as it does.
-use Rattle.std.specs.Prelude.{◌≡◌, ◌*◌, ◌/◌, ◌<◌, ◌≤◌, ◌⊎◌, ⊤, ℕ, List, [], ◌∷◌, Option, Some}
+use Rattle.std.specs.Prelude.{◌≡◌, ◌+◌, ◌/◌, ◌⊎◌, ⊤, ℕ, Bool, List, length, Option, Some, None}
 use Rattle.wg_num.specs.declared.types.Place.{Place}
 use Rattle.wg_outside.specs.Counts.{Rose}
-use Rattle.wg_outside.specs.Files.{FileMap, LacksFile, HasSaved, KeepsOthers}
-use Rattle.buffer_io.specs.Loads.{StartsAs}
-use Rattle.cl_model.specs.declared.launch.Launch.{Launch as ModelLaunch}
-use Rattle.cl_model.specs.declared.launch.Bound.TheVariants.{Buffer}
+use Rattle.wg_outside.specs.Files.{FileMap, LacksFile}
+use Rattle.buffer_io.specs.Loads.{LacksOneFile}
+use Rattle.buffer_io.specs.Saves.{AllSavedAs, KeepsAllBut, StopsAt}
+use Rattle.cl_model.specs.Sizes.{Launch as ModelLaunch, group_size}
+use Rattle.launch_file.specs.Refusals.{Reads, IsRefused}
+use Rattle.launch_file.specs.Binding.{loads_of, saves_of}
+use Rattle.launch_file.specs.Texts.{Text}
 use Rattle.wg_top.specs.declared.RunError.{RunError}
 use Rattle.wg_top.specs.declared.RunError.TheVariants.{Failed, Absent, Source, Launch, Range, Memory}
 use Rattle.wg_top.specs.declared.Summary.{Summary}
-use Rattle.wg_top.specs.declared.launch_form.LaunchForm.{LaunchForm}
 use Rattle.wg_top.specs.declared.source_form.Source.{Source as FirstSource}
-use Rattle.wg_top.specs.LaunchForm.{IsFirstLaunch}
-use Rattle.wg_top.specs.Items.{ItemsRan, IsFirstOutside}
-use Rattle.wg_top.specs.Causes.{Standing, LaunchLoaded, IsSourceFault}
+use Rattle.wg_top.specs.Kernels.{form_refusal}
+use Rattle.wg_top.specs.Launches.{launches_in, GoesOutside, all_groups, all_items}
+use Rattle.wg_top.specs.Causes.{Standing, LaunchLoaded, IsSourceFault, BuffersLoaded, HasRun}
 
--- the launch file was loaded, and says this
-pub record FormRead (files : Option FileMap) (launch : List ℕ) (form : LaunchForm) : Type 0 where
+-- the launch file was loaded, and says this with the options
+pub record TextRead (files : Option FileMap) (launch : List ℕ) (lanes turns : Option ℕ) (text : Text) : Type 0 where
   pub bytes : List ℕ
   pub loaded : LaunchLoaded files launch bytes
-  pub is_launch : IsFirstLaunch bytes form
+  pub reads : Reads bytes lanes turns text
 
--- the launch file was loaded, and is not of the first form
-pub record FormRefused (files : Option FileMap) (launch : List ℕ) : Type 0 where
+-- the launch file was loaded, and the condition of that number is the first that stands on it
+pub record TextUnread (files : Option FileMap) (launch : List ℕ) (lanes turns : Option ℕ) (number : ℕ) : Type 0 where
   pub bytes : List ℕ
   pub loaded : LaunchLoaded files launch bytes
-  pub no_form : (form : LaunchForm) → IsFirstLaunch bytes form → ⊥
+  pub refused : IsRefused bytes lanes turns number
 
 -- the cause of a refusal while the launch file is read
-abbrev pub LaunchCause : Standing → Standing → List ℕ → RunError → Type 0
-LaunchCause old new launch Failed = Rose old.faults new.faults
-LaunchCause old new launch Absent = Rose old.misses new.misses × LacksFile old.files launch
-LaunchCause old new launch (Launch number) = (number ≡ 0) × FormRefused old.files launch
-LaunchCause old new launch Memory = ⊤
-LaunchCause old new launch _ = ⊥
+abbrev pub LaunchCause : Standing → Standing → List ℕ → Option ℕ → Option ℕ → RunError → Type 0
+LaunchCause old new launch lanes turns Failed = Rose old.faults new.faults
+LaunchCause old new launch lanes turns Absent = Rose old.misses new.misses × LacksFile old.files launch
+LaunchCause old new launch lanes turns (Launch number) = TextUnread old.files launch lanes turns number
+LaunchCause old new launch lanes turns Memory = ⊤
+LaunchCause old new launch lanes turns _ = ⊥
 
 -- the cause of a refusal of the source's bytes
-abbrev pub ProgramCause : List ℕ → LaunchForm → RunError → Type 0
-ProgramCause bytes form (Source number place) = IsSourceFault bytes form.kernel number place
-ProgramCause bytes form Memory = ⊤
-ProgramCause bytes form _ = ⊥
+abbrev pub ProgramCause : List ℕ → Text → RunError → Type 0
+ProgramCause bytes text (Source number place) = IsSourceFault bytes text number place
+ProgramCause bytes text Memory = ⊤
+ProgramCause bytes text _ = ⊥
 
--- the buffer was loaded, and an item came to an element outside it
-pub record IsOutside (files : Option FileMap) (form : LaunchForm) (s : FirstSource) (group item : ℕ) (place : Place) : Type 0 where
-  pub before : List ℕ
-  pub loaded : StartsAs files form.size (Some form.load) before
-  pub item_in : item < form.global
-  pub group_is : group ≡ item / form.local
-  pub outside : IsFirstOutside item form.size
+-- the cause of a refusal of the launches
+abbrev pub BindCause : Text → RunError → Type 0
+BindCause text (Launch number) = form_refusal text ≡ Some number
+BindCause text Memory = ⊤
+BindCause text _ = ⊥
+
+-- the launches are accepted, the buffers were loaded, and in the launch with that number an item came to an element outside its buffer
+pub record IsOutside (files : Option FileMap) (text : Text) (s : FirstSource) (number : ℕ) (several : Bool) (group item : ℕ) (place : Place) : Type 0 where
+  pub accepted : form_refusal text ≡ None
+  pub before : List (List ℕ)
+  pub loaded : BuffersLoaded files text before
+  pub earlier : List ModelLaunch
+  pub launch : ModelLaunch
+  pub later : List ModelLaunch
+  pub goes : GoesOutside (launches_in text) earlier launch later item
+  pub number_is : number ≡ length earlier + 1
+  pub several_is : several ≡ text.several
+  pub group_is : group ≡ item / group_size launch
   pub place_is : place ≡ s.place
 
--- the cause of a refusal once the forms are read
-abbrev pub BackCause : Standing → Standing → LaunchForm → FirstSource → RunError → Type 0
-BackCause old new form s Failed = Rose old.faults new.faults
-BackCause old new form s Absent = Rose old.misses new.misses × LacksFile old.files form.load
-BackCause old new form s (Range group item place) = IsOutside old.files form s group item place
-BackCause old new form s Memory = ⊤
-BackCause old new form s _ = ⊥
+-- the cause of a refusal once all is read
+abbrev pub BackCause : Standing → Standing → Text → FirstSource → RunError → Type 0
+BackCause old new text s Failed = Rose old.faults new.faults
+BackCause old new text s Absent = Rose old.misses new.misses × (form_refusal text ≡ None) × LacksOneFile old.files (loads_of text.buffers)
+BackCause old new text s (Launch number) = form_refusal text ≡ Some number
+BackCause old new text s (Range launch several group item place) = IsOutside old.files text s launch several group item place
+BackCause old new text s Memory = ⊤
+BackCause old new text s _ = ⊥
 
 -- saving had begun
-pub record SaveStopped (old new : Option FileMap) (form : LaunchForm) : Type 0 where
-  pub before : List ℕ
-  pub loaded : StartsAs old form.size (Some form.load) before
-  pub in_range : 4 * form.global ≤ form.size
-  pub others : KeepsOthers old new form.save
+pub record SaveStopped (old new : Option FileMap) (text : Text) (s : FirstSource) : Type 0 where
+  pub accepted : form_refusal text ≡ None
+  pub after : List (List ℕ)
+  pub run : HasRun old text s after
+  pub stops : StopsAt old new (saves_of text.buffers) after
+  pub others : KeepsAllBut old new (saves_of text.buffers)
 
 -- which files it leaves
-abbrev pub LeavesOthers : Standing → Standing → LaunchForm → RunError → Type 0
-LeavesOthers old new form Failed = (new.files ≡ old.files) ⊎ SaveStopped old.files new.files form
-LeavesOthers old new form _ = new.files ≡ old.files
+abbrev pub LeavesOthers : Standing → Standing → Text → FirstSource → RunError → Type 0
+LeavesOthers old new text s Failed = (new.files ≡ old.files) ⊎ SaveStopped old.files new.files text s
+LeavesOthers old new text s _ = new.files ≡ old.files
 
--- the buffer was loaded, the items ran and it was saved
-pub record IsRun (old new : Option FileMap) (form : LaunchForm) (s : FirstSource) (summary : Summary) : Type 0 where
-  pub before : List ℕ
-  pub after : List ℕ
-  pub loaded : StartsAs old form.size (Some form.load) before
-  pub in_range : 4 * form.global ≤ form.size
-  pub ran : ItemsRan s form.global before after
-  pub saved : HasSaved old new form.save after
-  pub others : KeepsOthers old new form.save
-  pub items : summary.items ≡ form.global
-  pub groups : summary.groups ≡ form.global / form.local
-
--- the launch of that file
-pub record IsLaunchOf (form : LaunchForm) (launch : ModelLaunch) : Type 0 where
-  pub dims : launch.dims ≡ 1
-  pub global : launch.global ≡ form.global ∷ 1 ∷ 1 ∷ []
-  pub local : launch.local ≡ form.local ∷ 1 ∷ 1 ∷ []
-  pub offset : launch.offset ≡ 0 ∷ 0 ∷ 0 ∷ []
-  pub args : launch.args.items ≡ Buffer 0 ∷ []
-  pub lengths : launch.lengths.items ≡ form.size ∷ []
-  pub loads : launch.loads.items ≡ Some form.load ∷ []
-  pub saves : launch.saves.items ≡ Some form.save ∷ []
+-- the launches ran and the buffers were saved
+pub record IsRun (old new : Option FileMap) (text : Text) (s : FirstSource) (summary : Summary) : Type 0 where
+  pub accepted : form_refusal text ≡ None
+  pub after : List (List ℕ)
+  pub run : HasRun old text s after
+  pub saved : AllSavedAs old new (saves_of text.buffers) after
+  pub others : KeepsAllBut old new (saves_of text.buffers)
+  pub groups : summary.groups ≡ all_groups (launches_in text)
+  pub items : summary.items ≡ all_items (launches_in text)

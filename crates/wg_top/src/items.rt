@@ -1,11 +1,13 @@
 // The items of a launch, one after the other, in the order of their numbers.
 ghost use Rattle.std.specs.Prelude.{◌≡◌, ◌≤◌, ◌<◌, ◌*◌, ◌+◌, ◌^◌, ◌++◌, length, take, drop, pos, IfSome, IfNone};
+ghost use Rattle.cl_model.specs.Sizes.{Launch};
 ghost use Rattle.std.specs.Simd.Lanes.{number_l};
 ghost use Rattle.wg_num.specs.declared.types.IntType.TheVariants.{Int};
 ghost use Rattle.wg_num.specs.Wrap.{IsValue};
 ghost use Rattle.wg_num.specs.Bytes.{bytes_of, value_of_bytes};
 ghost use Rattle.wg_top.specs.SourceForm.{LiteralsFit, element_after};
-ghost use Rattle.wg_top.specs.Items.{ItemsRan, IsFirstOutside};
+ghost use Rattle.wg_top.specs.Items.{ItemsRan, IsFirstOutside, AreInside, own_element};
+ghost use Rattle.wg_top.specs.Shapes.{FitsShape, HasShape};
 
 use crate::source_form::{Source, pattern_after, value_of_pattern};
 use wg_num::{IntType, bits};
@@ -47,19 +49,44 @@ fn run_item(element: &mut [u8], source: &Source)
     element.copy_from_slice(&bytes);
 }
 
-/// Runs the items, and answers the first whose element does not lie within the buffer.
-pub(crate) fn run_items(bytes: &mut [u8], global: u64, source: &Source) -> Option<u64>
-    requires size { global ≤ 2 ^ 24 }
-    requires literals { LiteralsFit source.now }
-    ensures fault { IfSome result (λ i. (i < global) × IsFirstOutside i (length bytes.new)) }
-    ensures in_range { IfNone result (4 * global ≤ length bytes.new) }
-    ensures ran { IfNone result (ItemsRan source.now global bytes.old bytes.new) }
+/// How the items of a launch are counted: the offset, the groups and the items of a group in the
+/// first dimension, and all groups, the items of a group and all items.
+#[derive(Clone, Copy)]
+pub(crate) struct Shape {
+    pub(crate) offset: u64,
+    pub(crate) groups: u64,
+    pub(crate) local: u64,
+    pub(crate) all_groups: u64,
+    pub(crate) size: u64,
+    pub(crate) items: u64,
+}
+
+// The number of the element of an item: its global id in the first dimension (OpenCL 1.2, section
+// 6.12.1).
+fn own_element(shape: Shape, item: u64) -> u64
+    requires { FitsShape shape }
+    ensures { (launch : Launch) → HasShape launch shape → result ≡ own_element launch item }
 {
-    for i in 0..global {
-        let at = 4 * i as usize;
-        if bytes.len() - at < 4 {
+    let group = item / shape.size % shape.groups;
+    shape.offset + group * shape.local + item % shape.size % shape.local
+}
+
+/// Runs the items in the order of their numbers, and answers the first whose element does not lie
+/// within the buffer.
+pub(crate) fn run_items(bytes: &mut [u8], shape: Shape, source: &Source) -> Option<u64>
+    requires fits { FitsShape shape }
+    requires literals { LiteralsFit source.now }
+    ensures fault { IfSome result (λ i. (launch : Launch) → HasShape launch shape → IsFirstOutside launch i (length bytes.old)) }
+    ensures in_range { IfNone result ((launch : Launch) → HasShape launch shape → AreInside launch shape.items (length bytes.old)) }
+    ensures ran { IfNone result ((launch : Launch) → HasShape launch shape → ItemsRan source.now launch shape.items bytes.old bytes.new) }
+    ensures same_size { length bytes.new ≡ length bytes.old }
+{
+    for i in 0..shape.items {
+        let element = own_element(shape, i);
+        if element >= bytes.len() as u64 / 4 {
             return Some(i);
         }
+        let at = 4 * element as usize;
         run_item(&mut bytes[at..at + 4], source);
     }
     None

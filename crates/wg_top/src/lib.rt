@@ -1,26 +1,26 @@
-//! The top call: from words to a status, from files to files. Today it takes sources and launch
-//! files of their first forms, which `source_form` and `launch_form` recognise.
+//! The top call: from words to a status, from files to files. Today it runs sources of the first
+//! form, which `source_form` recognises, in launches of any launch file.
 #![tactic(auto)]
 
-ghost use Rattle.std.specs.Prelude.{◌≡◌, ◌≤◌, ◌⊎◌, ◌∷◌, [], ℕ, List, map, string_bytes, MatchOption, is_some, true};
+ghost use Rattle.std.specs.Prelude.{◌≡◌, ◌≤◌, ◌⊎◌, List, map, string_bytes, is_some, true, IfOk};
+ghost use Rattle.command_words.specs.Command.{Files, Request, run, TakesWords, files_of, request_of};
+ghost use Rattle.launch_file.specs.Texts.{Text};
 ghost use Rattle.wg_outside.specs.Counts.{Rose};
 ghost use Rattle.wg_top.specs.Causes.{Accepted, Finds};
 ghost use Rattle.wg_top.specs.declared.RunError.{RunError};
-ghost use Rattle.wg_top.specs.declared.launch_form.LaunchForm.{LaunchForm};
 ghost use Rattle.wg_top.specs.declared.source_form.Source.{Source};
-ghost use Rattle.wg_top.specs.Ends.{sink_standing, outside, AreRunWords, AreOtherWords, Ends, EndsUnread, KeepsOut, SaysLine};
+ghost use Rattle.wg_top.specs.Ends.{sink_standing, outside, AreWords, Ends, EndsUnbuilt, EndsAsked, EndsSaying, KeepsOut, SaysLine, usage_line};
 ghost use Rattle.wg_top.specs.Lines.{status_of};
 
+use command_words::{FileWords, Words, WordsError, read_words};
 use std::alloc::Global;
 use wg_num::Place;
 use wg_outside::{Failed, Sink, Store};
 
-mod fields;
 pub mod front;
 mod items;
-pub mod launch_form;
+mod launches;
 mod lines;
-mod numbers;
 mod run;
 pub mod source_form;
 
@@ -34,37 +34,39 @@ pub enum RunError {
     /// A file that the run loads is not there.
     Absent,
     /// The condition of that number stands at that place of the source.
-    Source { number: u16, place: Place },
+    Source {
+        number: u16,
+        place: Place,
+    },
     /// The condition of that number stands of the launch file.
-    Launch { number: u16 },
-    /// A work-item, by the number of its group and its own number in the launch, came to an element
-    /// outside the buffer, at the access of that place of the source.
-    Range { group: u64, item: u64, place: Place },
+    Launch {
+        number: u16,
+    },
+    /// In that launch, counted from 1, a work-item, by the number of its group and its own number
+    /// in the launch, came to an element outside the buffer, at the access of that place of the
+    /// source. `several` says whether the launch file lists its launches.
+    Range {
+        launch: u32,
+        several: bool,
+        group: u64,
+        item: u64,
+        place: Place,
+    },
     Memory,
 }
 
-/// The numbers of the groups and of the work-items of a launch that was run.
+/// The numbers of the groups and of the work-items of the launches that were run, over all of them.
 #[derive(Clone, Copy)]
 pub struct Summary {
     pub groups: u64,
     pub items: u64,
 }
 
-// The source's and the launch file's names, where the words are those of a run.
-fn run_words(words: &[String]) -> Option<(&str, &str)>
-    ensures { MatchOption result ((source launch : List ℕ) → AreRunWords (map string_bytes words.now) source launch → ⊥) (λ p. AreRunWords (map string_bytes words.now) p.0.now p.1.now) }
-{
-    match words {
-        [run, source, launch] => {
-            if run.as_str() == "run" {
-                Some((source.as_str(), launch.as_str()))
-            } else {
-                None
-            }
-        }
-        _ => None,
-    }
-}
+// The refusal of a command, or of a source, that does not run yet.
+pub(crate) const NOT_BUILT: RunError = RunError::Source {
+    number: 0,
+    place: Place { line: 1, column: 1 },
+};
 
 fn status(error: &RunError) -> u8
     ensures { result ≡ status_of error.now }
@@ -79,11 +81,10 @@ fn status(error: &RunError) -> u8
     }
 }
 
-// Runs the launch, and prints its line.
+// Runs the launches, and prints their line.
 fn run_and_say<S: Store, O: Sink, E: Sink>(
     alloc: Global,
-    source: &str,
-    launch: &str,
+    files: FileWords,
     store: &mut S,
     out: &mut O,
     err: &mut E,
@@ -91,30 +92,64 @@ fn run_and_say<S: Store, O: Sink, E: Sink>(
     ensures { Ends
         (outside S.files S.faults S.misses O.written O.faults E.written E.faults store.old out.old err.old)
         (outside S.files S.faults S.misses O.written O.faults E.written E.faults store.new out.new err.new)
-        source.now launch.now result }
+        (files_of files.entry) result }
 {
-    match run_source(alloc, store, source, launch) {
+    match run_source(
+        alloc,
+        store,
+        files.source,
+        files.launch,
+        files.lanes,
+        files.turns,
+    ) {
         Ok(summary) => match lines::say_done(out, summary.groups, summary.items) {
             Ok(()) => 0,
             Err(Failed) => {
-                lines::say_error(err, source, &RunError::Failed);
+                lines::say_error(err, files.source, &RunError::Failed);
                 1
             }
         },
         Err(error) => {
-            lines::say_error(err, source, &error);
+            lines::say_error(err, files.source, &error);
             status(&error)
         }
     }
 }
 
+// Does what is asked for; a command other than `run` is not built yet.
+fn do_words<S: Store, O: Sink, E: Sink>(
+    alloc: Global,
+    words: Words,
+    store: &mut S,
+    out: &mut O,
+    err: &mut E,
+) -> u8
+    ensures { EndsAsked
+        (outside S.files S.faults S.misses O.written O.faults E.written E.faults store.old out.old err.old)
+        (outside S.files S.faults S.misses O.written O.faults E.written E.faults store.new out.new err.new)
+        (request_of words.entry) result }
+{
+    match words {
+        Words::Run(files) => run_and_say(alloc, files, store, out, err),
+        Words::Plan(files) | Words::Code(files) => {
+            lines::say_error(err, files.source, &NOT_BUILT);
+            status(&NOT_BUILT)
+        }
+        Words::Sample(_) => {
+            lines::say_error(err, "sample", &NOT_BUILT);
+            status(&NOT_BUILT)
+        }
+    }
+}
+
 /// Does what the words say, and answers the program's status; `words` are those of the command
-/// line without the program's name. It takes `run SOURCE LAUNCH`: it loads the source, then the
-/// launch file, then the buffer, runs the launch, saves the buffer, and puts one line on `out`.
-/// Where a step is refused, that ends the call with its status and its line on `err`: 1 for a
-/// fault, 2 for other words, 3 and 4 for a source and a launch file that are not of the first form,
-/// 5 for an access out of range, 8 for want of memory, which may come at each step, and 9 for a
-/// file that is not there.
+/// line without the program's name. `run SOURCE LAUNCH [--lanes N] [--turns N]` loads the source,
+/// then the launch file, then the buffers, runs the launches in order, saves the buffers in order,
+/// and puts one line on `out`. Where a step is refused, that ends the call with its status and its
+/// line on `err`: 1 for a fault, 2 for words that the command does not take, 3 for a source, 4 for a
+/// launch file, 5 for an access out of range, 8 for want of memory, which may come at each step, and
+/// 9 for a file that is not there. `plan`, `code` and `sample` are taken as words, and refused with
+/// status 3, for they are not built yet.
 pub fn wgcc<S: Store, O: Sink, E: Sink>(
     alloc: Global,
     words: &[String],
@@ -122,18 +157,19 @@ pub fn wgcc<S: Store, O: Sink, E: Sink>(
     out: &mut O,
     err: &mut E,
 ) -> u8
-    // How a run ends, with its cause, its files and its lines.
-    ensures ends { (source launch : List ℕ) → AreRunWords (map string_bytes words.now) source launch → Ends
+    // How a command ends, with its cause, its files and its lines.
+    ensures ends { (request : Request) → AreWords (map string_bytes words.now) request → EndsAsked
         (outside S.files S.faults S.misses O.written O.faults E.written E.faults store.old out.old err.old)
         (outside S.files S.faults S.misses O.written O.faults E.written E.faults store.new out.new err.new)
-        source launch result }
+        request result }
 
-    // Other words.
-    ensures usage { AreOtherWords (map string_bytes words.now) → result ≡ 2 }
-    ensures usage_only { result ≡ 2 → AreOtherWords (map string_bytes words.now) }
-    ensures usage_line { result ≡ 2 → EndsUnread
+    // Words that the command does not take.
+    ensures usage { (TakesWords (map string_bytes words.now) → ⊥) → (result ≡ 2) ⊎ (result ≡ 8) }
+    ensures usage_only { result ≡ 2 → TakesWords (map string_bytes words.now) → ⊥ }
+    ensures usage_line { result ≡ 2 → EndsSaying
         (outside S.files S.faults S.misses O.written O.faults E.written E.faults store.old out.old err.old)
-        (outside S.files S.faults S.misses O.written O.faults E.written E.faults store.new out.new err.new) }
+        (outside S.files S.faults S.misses O.written O.faults E.written E.faults store.new out.new err.new)
+        usage_line }
 
     // What each status says.
     ensures failed { result ≡ 1 → Rose (S.faults store.old) (S.faults store.new) ⊎ Rose (O.faults out.old) (O.faults out.new) }
@@ -144,19 +180,23 @@ pub fn wgcc<S: Store, O: Sink, E: Sink>(
     ensures out { (result ≡ 0 → ⊥) → KeepsOut (sink_standing O.written O.faults out.old) (sink_standing O.written O.faults out.new) }
 
     // What must come where the store tells its files and no fault rises, want of memory aside.
-    ensures complete { (source launch : List ℕ) (form : LaunchForm) (s : Source) → AreRunWords (map string_bytes words.now) source launch →
-        Accepted (S.files store.old) source launch form s →
+    ensures complete { (ask : Files) (text : Text) (s : Source) → AreWords (map string_bytes words.now) (run ask) →
+        Accepted (S.files store.old) ask text s →
         (Rose (S.faults store.old) (S.faults store.new) → ⊥) → (Rose (O.faults out.old) (O.faults out.new) → ⊥) →
         (result ≡ 0) ⊎ (result ≡ 8) }
-    ensures exact { (source launch : List ℕ) (error : RunError) → AreRunWords (map string_bytes words.now) source launch →
-        is_some (S.files store.old) ≡ true → Finds (S.files store.old) source launch error →
+    ensures exact { (ask : Files) (error : RunError) → AreWords (map string_bytes words.now) (run ask) →
+        is_some (S.files store.old) ≡ true → Finds (S.files store.old) ask error →
         (Rose (S.faults store.old) (S.faults store.new) → ⊥) → (result ≡ status_of error) ⊎ (result ≡ 8) }
 {
-    match run_words(words) {
-        Some((source, launch)) => run_and_say(alloc, source, launch, store, out, err),
-        None => {
+    match read_words(alloc, words) {
+        Ok(asked) => do_words(alloc, asked, store, out, err),
+        Err(WordsError::Usage) => {
             lines::say_usage(err);
             2
+        }
+        Err(WordsError::Memory) => {
+            lines::say_error(err, "", &RunError::Memory);
+            8
         }
     }
 }

@@ -28,4 +28,6 @@ fn main(rt: HostRuntime) -> ExitCode {
 }
 
 #[cfg(test)]
+mod launch_tests;
+#[cfg(test)]
 mod tests;

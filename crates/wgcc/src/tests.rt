@@ -6,7 +6,7 @@ use wg_num::Word;
 use wg_outside::{MemorySink, MemoryStore};
 use wg_top::wgcc;
 
-const INC: &str =
+pub(crate) const INC: &str =
     "__kernel void inc(__global int *a) { a[get_global_id(0)] = a[get_global_id(0)] + 1; }";
 
 const EMPTY: &str = "__kernel void inc(__global int *a) { }";
@@ -19,9 +19,9 @@ const SHORT_LAUNCH: &str =
 
 const OTHER_LAUNCH: &str = "format = 1\nkernel = \"inc\"\n";
 
-const BEFORE: [u8; 16] = [1, 0, 0, 0, 2, 0, 0, 0, 3, 0, 0, 0, 4, 0, 0, 0];
+pub(crate) const BEFORE: [u8; 16] = [1, 0, 0, 0, 2, 0, 0, 0, 3, 0, 0, 0, 4, 0, 0, 0];
 
-const AFTER: [u8; 16] = [2, 0, 0, 0, 3, 0, 0, 0, 4, 0, 0, 0, 5, 0, 0, 0];
+pub(crate) const AFTER: [u8; 16] = [2, 0, 0, 0, 3, 0, 0, 0, 4, 0, 0, 0, 5, 0, 0, 0];
 
 const AFTER_SPREAD: [u8; 16] = [1, 0, 0, 0, 4, 0, 0, 0, 9, 0, 0, 0, 16, 0, 0, 0];
 
@@ -169,7 +169,7 @@ fn runs_leave_what_the_examples_say(rt: HostRuntime) -> Result<(), Fail> {
         Row {
             launch: OTHER_LAUNCH,
             status: 4,
-            err: "wgcc: L0 form not built\n",
+            err: "wgcc: L3 key missing or wrong\n",
             ..refused
         },
         Row {

@@ -1,9 +1,13 @@
-use Rattle.std.proofs.Common.{arith}
-use Rattle.wg_top.proofs.ItemLemmas.{one_more}
+use Rattle.std.proofs.Common.{◌∙◌, arith}
+use borrow.Rule.Slice.PartMut.{same_len_mid}
+use Rattle.wg_top.proofs.ItemLemmas.{one_more, one_inside}
 use Rattle.wg_top.proofs.items.run_items.Goals as goal
 
 pub loop-i-preserved : goal.loop-i-preserved
-loop-i-preserved c = record {
-  within = omega (arith, (one_more c.args.source.now c.loop-i.i _ c.args.bytes.now c.loop-i.bytes c.run_item.new.element (omega arith) (omega arith) c.loop-i.invariant.ran c.run_item.ensures c.run_item.auto.element).same_size, c.loop-i.auto.bytes);
-  ran = one_more c.args.source.now c.loop-i.i _ c.args.bytes.now c.loop-i.bytes c.run_item.new.element (omega arith) (omega arith) c.loop-i.invariant.ran c.run_item.ensures c.run_item.auto.element;
-}
+loop-i-preserved c =
+    let e = c.own_element-element.result in
+    record {
+      size = same_len_mid _ _ c.loop-i.bytes c.run_item.new.element c.run_item.auto.element ∙ c.loop-i.invariant.size;
+      inside = λ launch shape. one_inside launch c.loop-i.i e _ (c.own_element-element.ensures launch shape) (c.loop-i.invariant.inside launch shape) (omega (arith, c.loop-i.invariant.size));
+      ran = λ launch shape. one_more c.args.source.now launch c.loop-i.i e _ c.args.bytes.now c.loop-i.bytes c.run_item.new.element (c.own_element-element.ensures launch shape) (omega arith) (omega arith) (c.loop-i.invariant.ran launch shape) c.run_item.ensures c.run_item.auto.element;
+    }

@@ -1,9 +1,12 @@
-use Rattle.std.proofs.Common.{◌≤◌, ◌*◌, length}
-use Rattle.wg_top.specs.Items.{ItemsRan}
+use Rattle.std.proofs.Common.{◌≡◌, length}
+use Rattle.cl_model.specs.Sizes.{Launch}
+use Rattle.wg_top.specs.Items.{ItemsRan, AreInside}
+use Rattle.wg_top.specs.Shapes.{HasShape}
 use Rattle.wg_top.proofs.items.run_items.Given as goal
 
 abbrev pub invariant-loop-i : goal.invariant-loop-i
 invariant-loop-i l = record {
-  within : 4 * l.i ≤ length l.bytes;
-  ran : ItemsRan l.source l.i l.initial.bytes l.bytes;
+  size : length l.bytes ≡ length l.initial.bytes;
+  inside : (launch : Launch) → HasShape launch l.shape → AreInside launch l.i (length l.initial.bytes);
+  ran : (launch : Launch) → HasShape launch l.shape → ItemsRan l.source launch l.i l.initial.bytes l.bytes;
 }
