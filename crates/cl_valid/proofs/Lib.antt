@@ -46,3 +46,4 @@ pub mod WordFacts
 pub mod TypeFacts
 pub mod Grammatical
 pub mod Spelled
+pub mod Example
