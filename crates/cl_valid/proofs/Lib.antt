@@ -46,4 +46,5 @@ pub mod WordFacts
 pub mod TypeFacts
 pub mod Grammatical
 pub mod Spelled
+pub mod Expanded
 pub mod Example

@@ -2,7 +2,12 @@
 use Rattle.std.specs.Prelude.{◌≡◌, ℕ, false, List, []}
 use Rattle.wg_num.specs.declared.types.Place.{Place}
 use Rattle.cl_token.specs.declared.token.Token.{Token}
+use Rattle.std.specs.Fmt.{decimal}
+use Rattle.cl_token.specs.declared.token.Kind.TheVariants.{Number}
 use Rattle.cl_token.specs.Spelling.{HasValue}
+use Rattle.cl_token.specs.Cuts.{Cuts}
+use Rattle.cl_prep.specs.declared.prep.Define.{Define}
+use Rattle.cl_prep.specs.Expands.{Expands}
 use Rattle.cl_model.specs.Tree.{Function, Program}
 use Rattle.cl_model.specs.Lists.{Each}
 use Rattle.cl_model.specs.Valid.{IsValid}
@@ -63,3 +68,13 @@ NumbersRead tokens = Each (λ (t : Token). HasValue t.kind t.word) tokens
 -- A tree that tokens spell has the shape of a unit.
 abbrev pub UnitsShaped : Type 0
 UnitsShaped = (unit : Syntax) (tokens : List Token) → SpellsUnit unit tokens → NumbersRead tokens → IsUnit unit
+
+-- ---- what a source expands to
+
+-- each number that is given for a name has a type
+abbrev pub DefinesRead : List Define → Type 0
+DefinesRead defines = Each (λ (d : Define). HasValue Number (decimal d.value)) defines
+
+-- The tokens to which a source expands are such tokens.
+abbrev pub NumbersKept : Type 0
+NumbersKept = (source : List ℕ) (tokens out : List Token) (defines : List Define) → Cuts source tokens → DefinesRead defines → Expands tokens defines out → NumbersRead out

@@ -2,12 +2,18 @@
 //! the typed unit is a program as the model asks for.
 #![tactic(auto)]
 
-ghost use Rattle.cl_valid.specs.Law.{ExpressionsFit, UnitsShaped, UnitsValid};
+ghost use Rattle.cl_valid.specs.Law.{ExpressionsFit, NumbersKept, UnitsShaped, UnitsValid};
 
 /// Expressions in which no node is at fault have a kind, and the pieces of the typed program for which they
 /// stand have the types that the validity of programs asks (OpenCL 1.2, section 6.2; C99, section 6.5).
 pub fn expression_law()
     ensures { ExpressionsFit }
+{}
+
+/// Each number among the tokens to which a source expands has a value, where each number that is given for a name has
+/// one (C99, sections 6.4.4.1 and 6.10.3).
+pub fn numbers_law()
+    ensures { NumbersKept }
 {}
 
 /// A tree that tokens spell by the grammar has the shape of a unit, where each number among them has a value: each
