@@ -33,8 +33,9 @@ use Rattle.cl_prep.specs.declared.prep.PrepError.TheVariants as errors
 use Rattle.std.proofs.lemmas.Bool.{false≢true}
 use Rattle.cl_prep.specs.Expands as expanding
 use Rattle.cl_prep.specs.Expands.{placed, State, Step, Leads, Ends, start_state, Expands}
-use Rattle.cl_valid.specs.Law.{NumbersRead, DefinesRead, NumbersKept}
+use Rattle.cl_valid.specs.Law.{NumbersRead, DefinesFit, NumbersKept}
 use Rattle.cl_valid.proofs.Grown.{each_append}
+use Rattle.cl_valid.proofs.Decimals.{decimal_read}
 
 -- ---- cutting
 
@@ -287,13 +288,13 @@ start_read = entries_read _ unsigned_limits
     (alone _ int_high, (lowest_read _ int_high, (alone _ long_high, (lowest_read _ long_high, tt)))))
     (alone _ uchar_high, (alone _ ushort_high, (alone _ uint_high, (alone _ ulong_high, tt))))
 
-defines_read : (o : Option Names) (defines : List Define) (names : Names) → ((n : Names) → o ≡ Some n → NamesRead n) → DefinesRead defines → with_defines o defines ≡ Some names → NamesRead names
+defines_read : (o : Option Names) (defines : List Define) (names : Names) → ((n : Names) → o ≡ Some n → NamesRead n) → DefinesFit defines → with_defines o defines ≡ Some names → NamesRead names
 defines_read o [] names h d e = h names e
 defines_read o (x ∷ xs) names h d e = defines_read (with_define x o) xs names (by o h) d.1 e
   where
     by : (p : Option Names) → ((n : Names) → p ≡ Some n → NamesRead n) → (n : Names) → with_define x p ≡ Some n → NamesRead n
     by None k n q = absurd (none-some n q)
-    by (Some m) k n q = defined_read m n x.name (number (decimal x.value)) (k m refl) (d.0, tt) q
+    by (Some m) k n q = defined_read m n x.name (number (decimal x.value)) (k m refl) (decimal_read x.value d.0, tt) q
 
 pub expanded_read : NumbersKept
 expanded_read source tokens out defines c d e = ends_read tokens out e.names e.ends

@@ -46,5 +46,6 @@ pub mod WordFacts
 pub mod TypeFacts
 pub mod Grammatical
 pub mod Spelled
+pub mod Decimals
 pub mod Expanded
 pub mod Example

@@ -1,9 +1,7 @@
 -- The laws: on expressions, on units, and on what the grammar spells.
-use Rattle.std.specs.Prelude.{◌≡◌, ℕ, false, List, []}
+use Rattle.std.specs.Prelude.{◌≡◌, ◌<◌, ◌^◌, ℕ, false, List, []}
 use Rattle.wg_num.specs.declared.types.Place.{Place}
 use Rattle.cl_token.specs.declared.token.Token.{Token}
-use Rattle.std.specs.Fmt.{decimal}
-use Rattle.cl_token.specs.declared.token.Kind.TheVariants.{Number}
 use Rattle.cl_token.specs.Spelling.{HasValue}
 use Rattle.cl_token.specs.Cuts.{Cuts}
 use Rattle.cl_prep.specs.declared.prep.Define.{Define}
@@ -71,10 +69,10 @@ UnitsShaped = (unit : Syntax) (tokens : List Token) → SpellsUnit unit tokens �
 
 -- ---- what a source expands to
 
--- each number that is given for a name has a type
-abbrev pub DefinesRead : List Define → Type 0
-DefinesRead defines = Each (λ (d : Define). HasValue Number (decimal d.value)) defines
+-- each number that is given for a name fits a `long`, as those of launch files do
+abbrev pub DefinesFit : List Define → Type 0
+DefinesFit defines = Each (λ (d : Define). d.value < 2 ^ 63) defines
 
 -- The tokens to which a source expands are such tokens.
 abbrev pub NumbersKept : Type 0
-NumbersKept = (source : List ℕ) (tokens out : List Token) (defines : List Define) → Cuts source tokens → DefinesRead defines → Expands tokens defines out → NumbersRead out
+NumbersKept = (source : List ℕ) (tokens out : List Token) (defines : List Define) → Cuts source tokens → DefinesFit defines → Expands tokens defines out → NumbersRead out

@@ -10,8 +10,8 @@ pub fn expression_law()
     ensures { ExpressionsFit }
 {}
 
-/// Each number among the tokens to which a source expands has a value, where each number that is given for a name has
-/// one (C99, sections 6.4.4.1 and 6.10.3).
+/// Each number among the tokens to which a source expands has a type and a value, where each number that is given
+/// for a name is below 2 to the power 63 (C99, sections 6.4.4.1 and 6.10.3). A larger one has no type, being decimal.
 pub fn numbers_law()
     ensures { NumbersKept }
 {}
