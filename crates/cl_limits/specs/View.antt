@@ -1,4 +1,4 @@
--- What a contract sees of calls, points and typed functions.
+-- What a contract sees of points and typed functions.
 use Rattle.std.specs.Prelude.{List, [], ◌∷◌, map, Option}
 use Rattle.cl_model.specs.declared.program.Var as rust_var
 use Rattle.cl_model.specs.declared.program.Array as rust_array
@@ -9,12 +9,7 @@ use Rattle.cl_model.specs.declared.program.SwitchArm as rust_arm
 use Rattle.cl_model.specs.Tree.{Expressions, none, more, Statements, Arms, no_arm, arm}
 use Rattle.cl_model.specs.View.{root_of, argument_of, listed_statements}
 use Rattle.cl_meaning.specs.Environment.{Variable, Array}
-use Rattle.cl_meaning.specs.Faults.{Call}
 use Rattle.cl_meaning.specs.Typed.{Function}
-use Rattle.cl_limits.specs.declared.sums.Call as rust_call
-
-abbrev pub call_of : rust_call.Call → Call
-call_of c = record { caller = c.caller; called = c.called }
 
 abbrev pub variable_of : rust_var.Var → Variable
 variable_of v = record { name = v.name; kind = v.kind; place = v.place }

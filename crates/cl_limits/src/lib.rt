@@ -16,4 +16,4 @@ pub use limit::limit_of;
 pub use memory::{local_bytes, private_bytes};
 pub use nodes::count_nodes;
 pub use points::{Point, points_of};
-pub use sums::{Call, totals};
+pub use sums::totals;

@@ -3,17 +3,11 @@
 ghost use Rattle.std.specs.Prelude.{◌≡◌, ◌+◌, ℕ, ◌↔◌, IsTrue, IfOk, min, map, length, slice_index, replicate};
 ghost use Rattle.cl_limits.specs.Limits.{whole};
 ghost use Rattle.cl_limits.specs.Rounds as rounds;
-ghost use Rattle.cl_limits.specs.View.{call_of};
+ghost use Rattle.cl_faults.specs.View.{call_of};
 
+use cl_faults::Call;
 use std::alloc::Global;
 use wg_num::Memory;
-
-/// A call of a function of the unit: the number of the function in which it stands, and of the one that it calls.
-#[derive(Clone, Copy, PartialEq, Eq, Debug)]
-pub struct Call {
-    pub caller: u32,
-    pub called: u32,
-}
 
 /// The value of a function; 0 for one that is not there.
 pub(crate) fn value_at(values: &[u64], function: u32) -> u64

@@ -1,5 +1,5 @@
 -- What is visible at a node and what is around it.
-use Rattle.std.specs.Prelude.{ℕ, ℤ, Bool, true, false, List, [], ◌∷◌, slice_get, Option, None, Some, if◌then◌else◌}
+use Rattle.std.specs.Prelude.{ℕ, ℤ, Bool, true, false, List, [], ◌∷◌, slice_get, Option, None, Some, if◌then◌else◌, length}
 use Rattle.std.specs.Str.{bytes_eq}
 use Rattle.wg_num.specs.declared.types.IntType.{IntType}
 use Rattle.wg_num.specs.declared.types.Place.{Place}
@@ -150,8 +150,9 @@ at_outermost env = three_long env.scopes
     three_long (s ∷ r ∷ q ∷ []) = true
     three_long _ = false
 
-abbrev pub no_owner : Owner
-no_owner = record { number = 0; kernel = false; defining = false; result = yields.Nothing; sizes = None }
+-- outside every function of a unit, where the number is that of none of its functions
+abbrev pub no_owner : ℕ → Owner
+no_owner count = record { number = count; kernel = false; defining = false; result = yields.Nothing; sizes = None }
 
 -- what is visible at the unit: nothing but what is defined later
 abbrev pub at_start : List Place → List Signature → Env
@@ -162,7 +163,7 @@ at_start places functions = record {
   tables = [];
   variables = [];
   arrays = [];
-  owner = no_owner;
+  owner = no_owner (length functions);
   declared = None;
   flags = false;
   in_body = false;

@@ -1,16 +1,16 @@
 //! Out of a node: what it declares for what is behind it. And what is visible at a unit.
-ghost use Rattle.std.specs.Prelude.{◌≡◌, ◌∷◌, [], List, map, option_map, OnOk, IfOk};
+ghost use Rattle.std.specs.Prelude.{◌≡◌, ◌∷◌, [], List, length, map, option_map, OnOk, IfOk};
 ghost use Rattle.wg_num.specs.declared.types.Place.{Place};
 ghost use Rattle.cl_tree.specs.Syntax.{view};
 ghost use Rattle.cl_meaning.specs.Environment.{Env, empty_scope};
 ghost use Rattle.cl_meaning.specs.Meant.{start_of};
 ghost use Rattle.cl_meaning.specs.Visible as visible;
-ghost use Rattle.cl_scope.specs.View.{env_of, scope_of, labels_of};
+ghost use Rattle.cl_scope.specs.View.{env_of, scope_of, labels_of, signature_of};
 ghost use Rattle.cl_scope.specs.Walk as spec;
 
 use crate::declarator::declarator_in;
 use crate::declare::{add_declarator, add_parameter, last_kind};
-use crate::environment::{Environment, Labels, Names, Owner};
+use crate::environment::{Environment, Labels, Names, Owner, Signature};
 use crate::lookup::is_announced;
 use crate::scopes::declare;
 use crate::signature::definitions_in;
@@ -104,11 +104,22 @@ fn one_scope(alloc: Global) -> Result<Vec<Names>, Memory>
     }
 }
 
+/// The number that stands outside every function: that of none of these.
+fn number_outside(functions: &[Signature]) -> Result<u32, Memory>
+    ensures { IfOk result (λ n. n ≡ length (map signature_of functions.now)) }
+{
+    match u32::try_from(functions.len()) {
+        Ok(number) => Ok(number),
+        Err(_) => Err(Memory),
+    }
+}
+
 /// What is visible at a unit: nothing but what is defined later.
 pub fn start(alloc: Global, unit: &Tree) -> Result<Environment, Memory>
     ensures { IfOk result (λ e. (places : List Place) → env_of places e ≡ start_of places (view unit.now)) }
 {
     let functions = definitions_in(alloc, &unit.parts)?;
+    let number = number_outside(&functions)?;
     let scopes = one_scope(alloc)?;
     Ok(Environment {
         functions,
@@ -117,7 +128,7 @@ pub fn start(alloc: Global, unit: &Tree) -> Result<Environment, Memory>
         variables: Vec::new(alloc),
         arrays: Vec::new(alloc),
         owner: Owner {
-            number: 0,
+            number,
             kernel: false,
             defining: false,
             result: Yield::Nothing,

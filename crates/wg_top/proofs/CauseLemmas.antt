@@ -5,16 +5,17 @@ use Rattle.wg_outside.specs.Files.{FileMap, HasFileStart, LacksFile}
 use Rattle.wg_outside.specs.Counts.{Rose, last_count}
 use Rattle.buffer_io.specs.Loads.{LacksOneFile}
 use Rattle.buffer_io.specs.Saves.{AllSavedAs, KeepsAllBut, StopsAt}
+use Rattle.cl_prep.specs.declared.prep.Define.{Define}
 use Rattle.command_words.specs.Command.{Files}
 use Rattle.launch_file.specs.Binding.{loads_of, saves_of}
 use Rattle.launch_file.specs.Texts.{Text}
 use Rattle.wg_top.specs.declared.RunError.{RunError}
 use Rattle.wg_top.specs.declared.RunError.TheVariants.{Failed, Absent, Source, Launch, Range, Memory}
 use Rattle.wg_top.specs.declared.Summary.{Summary}
-use Rattle.wg_top.specs.declared.source_form.Source.{Source as FirstSource}
-use Rattle.wg_top.specs.SourceForm.{IsFirstSource}
-use Rattle.wg_top.specs.Front.{HasUnit}
-use Rattle.wg_top.specs.Causes.{Standing, Stands, SourceLoaded, RunRead, AreOfKernel, BuffersLoaded, HasRun, Cause, LeavesFiles, IsDone}
+use Rattle.cl_meaning.specs.Typed.{Unit'}
+use Rattle.wg_front.specs.Front.{HasUnit}
+use Rattle.wg_top.specs.Causes.{Standing, Stands, SourceLoaded, RunRead, RunBound, BuffersLoaded, HasRun, Cause, LeavesFiles, IsDone}
+use Rattle.wg_top.specs.Runnable.{AreCompiled}
 use Rattle.wg_top.specs.Stages.{TextRead, LaunchCause, ProgramCause, BackCause, LeavesOthers, IsRun}
 
 -- counts that stand over two calls
@@ -26,16 +27,15 @@ pub text_before : (files later : Option FileMap) (launch : List ℕ) (lanes turn
 text_before files later launch lanes turns text same read = subst (λ (f : Option FileMap). TextRead f launch lanes turns text) same read
 
 -- what was read
-pub run_read : (files : Option FileMap) (ask : Files) (bytes held : List ℕ) (text : Text) (s : FirstSource) → SourceLoaded files ask.source bytes → held ≡ bytes → TextRead files ask.launch ask.lanes ask.turns text → HasUnit held text.defines → IsFirstSource held text.defines s → AreOfKernel text s → RunRead files ask text s
-run_read files ask bytes held text s loaded same read unit is kernels = record {
+pub run_read : (files : Option FileMap) (ask : Files) (bytes held : List ℕ) (text : Text) (s : List Unit') → SourceLoaded files ask.source bytes → held ≡ bytes → TextRead files ask.launch ask.lanes ask.turns text → HasUnit held text.defines → AreCompiled held text.defines text.list s → RunRead files ask text s
+run_read files ask bytes held text s loaded same read unit are = record {
   source_bytes = bytes;
   source_loaded = loaded;
   launch_bytes = read.bytes;
   launch_loaded = read.loaded;
   reads = read.reads;
   unit = subst (λ (b : List ℕ). HasUnit b text.defines) same unit;
-  is_source = subst (λ (b : List ℕ). IsFirstSource b text.defines s) same is;
-  kernels = kernels;
+  compiled = subst (λ (b : List ℕ). AreCompiled b text.defines text.list s) same are;
 }
 
 -- a count that rose later rose over all
@@ -60,14 +60,14 @@ program_cause old new ask bytes text Memory read loaded c = tt
 program_cause old new ask bytes text _ read loaded c = absurd c
 
 -- a refusal once all is read
-pub back_cause : (old mid new : Standing) (ask : Files) (text : Text) (s : FirstSource) (e : RunError) → RunRead old.files ask text s → mid.files ≡ old.files → Stands old mid → Stands mid new → BackCause mid new text s e → Cause old new ask e
+pub back_cause : (old mid new : Standing) (ask : Files) (text : Text) (s : List Unit') (e : RunError) → RunRead old.files ask text s → mid.files ≡ old.files → Stands old mid → Stands mid new → BackCause mid new text s e → Cause old new ask e
 back_cause old mid new ask text s Failed read same before after c = rose_over old.faults mid.faults new.faults before.faults after.faults c
 back_cause old mid new ask text s Absent read same before after c =
     (rose_over old.misses mid.misses new.misses before.misses after.misses c.0, inr (inr (text, s, record { read = read; accepted = c.1 }, subst (λ (f : Option FileMap). LacksOneFile f (loads_of text.buffers)) same c.2)))
-back_cause old mid new ask text s (Launch number) read same before after c = inr (record { text = text; s = s; read = read; refused = c })
+back_cause old mid new ask text s (Launch number) read same before after c = inr (record { text = text; units = s; read = read; refused = c })
 back_cause old mid new ask text s (Range number several group item place) read same before after c = record {
   text = text;
-  s = s;
+  units = s;
   read = record { read = read; accepted = c.accepted };
   before = c.before;
   loaded = subst (λ (f : Option FileMap). BuffersLoaded f text c.before) same c.loaded;
@@ -84,16 +84,16 @@ back_cause old mid new ask text s Memory read same before after c = tt
 back_cause old mid new ask text s _ read same before after c = absurd c
 
 -- the launches ran on the files of before
-ran_before : (files later : Option FileMap) (text : Text) (s : FirstSource) (after : List (List ℕ)) → later ≡ files → HasRun later text s after → HasRun files text s after
+ran_before : (files later : Option FileMap) (text : Text) (s : List Unit') (after : List (List ℕ)) → later ≡ files → HasRun later text s after → HasRun files text s after
 ran_before files later text s after same run = subst (λ (f : Option FileMap). HasRun f text s after) same run
 
 -- which files a refusal leaves once all is read
-pub leaves_files : (old mid new : Standing) (ask : Files) (text : Text) (s : FirstSource) (e : RunError) → RunRead old.files ask text s → mid.files ≡ old.files → LeavesOthers mid new text s e → LeavesFiles old new ask e
+pub leaves_files : (old mid new : Standing) (ask : Files) (text : Text) (s : List Unit') (e : RunError) → RunRead old.files ask text s → mid.files ≡ old.files → LeavesOthers mid new text s e → LeavesFiles old new ask e
 leaves_files old mid new ask text s Failed read same left = elim left [
   | inl all ↦ inl (all ∙ same)
   | inr stopped ↦ inr (record {
     text = text;
-    s = s;
+    units = s;
     read = record { read = read; accepted = stopped.accepted };
     after = stopped.after;
     run = ran_before old.files mid.files text s stopped.after same stopped.run;
@@ -108,10 +108,10 @@ leaves_files old mid new ask text s (Range number several group item place) read
 leaves_files old mid new ask text s Memory read same left = left ∙ same
 
 -- a run that is done
-pub is_done : (old mid new : Option FileMap) (ask : Files) (text : Text) (s : FirstSource) (summary : Summary) → RunRead old ask text s → mid ≡ old → IsRun mid new text s summary → IsDone old new ask summary
+pub is_done : (old mid new : Option FileMap) (ask : Files) (text : Text) (s : List Unit') (summary : Summary) → RunRead old ask text s → mid ≡ old → IsRun mid new text s summary → IsDone old new ask summary
 is_done old mid new ask text s summary read same run = record {
   text = text;
-  s = s;
+  units = s;
   read = record { read = read; accepted = run.accepted };
   after = run.after;
   run = ran_before old mid text s run.after same run.run;

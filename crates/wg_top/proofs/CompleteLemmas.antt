@@ -1,6 +1,6 @@
 -- A run whose files are there and accepted, where no fault rises, is done, or wants memory.
-use Rattle.std.proofs.Common.{◌≡◌, ℕ, List, [], ◌∷◌, ◌++◌, take, Option, Some, None, inl, inr, sym, ◌∙◌, ap, subst, arith}
-use Rattle.std.specs.Prelude.{◌⊎◌}
+use Rattle.std.proofs.Common.{◌≡◌, ℕ, ◌+◌, ◌*◌, List, [], ◌∷◌, ◌++◌, take, Option, Some, None, inl, inr, sym, ◌∙◌, ap, ap₂, subst, arith}
+use Rattle.std.specs.Prelude.{◌⊎◌, Contains}
 use Rattle.wg_outside.specs.Counts.{Rose}
 use Rattle.wg_outside.specs.Files.{FileMap, HasFileStart, LacksFile, told_file}
 use Rattle.buffer_io.specs.Loads.{LacksOneFile}
@@ -12,15 +12,16 @@ use Rattle.launch_file.specs.Texts.{Text}
 use Rattle.launch_file.proofs.Unique.{one_text, read_or_refused}
 use Rattle.wg_top.specs.declared.RunError.{RunError}
 use Rattle.wg_top.specs.declared.RunError.TheVariants.{Failed, Absent, Source, Launch, Range, Memory}
-use Rattle.wg_top.specs.declared.source_form.Source.{Source as FirstSource}
-use Rattle.wg_top.specs.SourceForm.{IsFirstSource}
-use Rattle.wg_top.specs.Front.{HasUnit}
-use Rattle.wg_top.specs.Kernels.{form_refusal}
+use Rattle.cl_meaning.specs.Typed.{Unit'}
+use Rattle.wg_front.specs.Front.{HasUnit}
+use Rattle.wg_top.specs.Kernels.{bind_refusal}
 use Rattle.wg_top.specs.Launches.{launches_in, IsWithin, AreWithin, GoesOutside}
-use Rattle.wg_top.specs.Causes.{Standing, Cause, Accepted, LacksName, IsSourceFault, AreOfKernel}
+use Rattle.wg_top.specs.Causes.{Standing, Cause, Accepted, LacksName, IsSourceFault}
+use Rattle.wg_top.specs.Runnable.{AreCompiled}
 use Rattle.wg_top.specs.Lines.{status_of}
 use Rattle.wg_top.specs.Ends.{Outside, Ends}
-use Rattle.wg_top.proofs.FrontLemmas.{refused_or_unit}
+use Rattle.wg_front.proofs.FrontLemmas.{refused_or_unit}
+use Rattle.wg_top.proofs.ProgramLemmas.{one_units, no_refused}
 
 -- what is loaded of a file that is told
 start_is : (files : Option FileMap) (name : List ℕ) (most : ℕ) (bytes held : List ℕ) → told_file files name ≡ Some (Some held) → HasFileStart files name most bytes → bytes ≡ take most held
@@ -34,16 +35,20 @@ not_lacked files name held told h = let e : Some held ≡ None = rw told at h in
 pub same_text : (bytes others : List ℕ) (ask : Files) (a b : Text) → bytes ≡ others → Reads bytes ask.lanes ask.turns a → Reads others ask.lanes ask.turns b → a ≡ b
 same_text bytes others ask a b same x y = one_text bytes ask.lanes ask.turns a b x (subst (λ (bs : List ℕ). Reads bs ask.lanes ask.turns b) (sym same) y)
 
--- a source of the first form with the launches' kernel is not at fault
-pub no_fault : (bytes others : List ℕ) (text other : Text) (s : FirstSource) (number : ℕ) (place : _) → bytes ≡ others → text ≡ other → IsSourceFault bytes text number place → HasUnit others other.defines → IsFirstSource others other.defines s → AreOfKernel other s → ⊥
-no_fault bytes others text other s number place same_bytes same fault unit is kernels =
+-- a source that is compiled for each launch is not at fault
+pub no_fault : (bytes others : List ℕ) (text other : Text) (s : List Unit') (number : ℕ) (place : _) → bytes ≡ others → text ≡ other → IsSourceFault bytes text number place → HasUnit others other.defines → AreCompiled others other.defines other.list s → ⊥
+no_fault bytes others text other s number place same_bytes same fault unit are =
     let u : HasUnit bytes text.defines = subst (λ (t : Text). HasUnit bytes t.defines) (sym same) (subst (λ (b : List ℕ). HasUnit b other.defines) (sym same_bytes) unit) in
-    let f : IsFirstSource bytes text.defines s = subst (λ (t : Text). IsFirstSource bytes t.defines s) (sym same) (subst (λ (b : List ℕ). IsFirstSource b other.defines s) (sym same_bytes) is) in
-    let k : AreOfKernel text s = subst (λ (t : Text). AreOfKernel t s) (sym same) kernels in
+    let c : AreCompiled bytes text.defines text.list s = subst (λ (t : Text). AreCompiled bytes t.defines t.list s) (sym same) (subst (λ (b : List ℕ). AreCompiled b other.defines other.list s) (sym same_bytes) are) in
     elim fault [
       | inl stands ↦ refused_or_unit bytes text.defines number place stands u
-      | inr more ↦ more.no_form s f k
+      | inr first ↦ no_refused bytes text.defines text.list s number place first c
     ]
+
+-- two readings have the same typed units
+pub same_units : (bytes others : List ℕ) (text other : Text) (us vs : List Unit') → bytes ≡ others → text ≡ other → AreCompiled bytes text.defines text.list us → AreCompiled others other.defines other.list vs → us ≡ vs
+same_units bytes others text other us vs same_bytes same x y =
+    one_units bytes text.defines text.list us vs x (subst (λ (t : Text). AreCompiled bytes t.defines t.list vs) (sym same) (subst (λ (b : List ℕ). AreCompiled b other.defines other.list vs) (sym same_bytes) y))
 
 -- one of the launches is within its buffer
 within_at : (before : List ModelLaunch) (launch : ModelLaunch) (after : List ModelLaunch) → AreWithin (before ++ (launch ∷ after)) → IsWithin launch
@@ -59,11 +64,11 @@ no_outside launches before launch after item goes are =
     omega arith
 
 -- the launch file that was loaded is the one that is there
-read_text : (files : Option FileMap) (ask : Files) (text read : Text) (s : FirstSource) (bytes : List ℕ) → Accepted files ask text s → HasFileStart files ask.launch 1048577 bytes → Reads bytes ask.lanes ask.turns read → read ≡ text
+read_text : (files : Option FileMap) (ask : Files) (text read : Text) (s : List Unit') (bytes : List ℕ) → Accepted files ask text s → HasFileStart files ask.launch 1048577 bytes → Reads bytes ask.lanes ask.turns read → read ≡ text
 read_text files ask text read s bytes all loaded is =
     same_text bytes (take 1048577 all.launch_bytes) ask read text (start_is files ask.launch 1048577 bytes all.launch_bytes all.launch_told loaded) is all.reads
 
-none_lacked : (files : Option FileMap) (ask : Files) (text : Text) (s : FirstSource) → Accepted files ask text s → LacksName files ask → ⊥
+none_lacked : (files : Option FileMap) (ask : Files) (text : Text) (s : List Unit') → Accepted files ask text s → LacksName files ask → ⊥
 none_lacked files ask text s all lacks = elim lacks [
   | inl first ↦ not_lacked files ask.source all.source_bytes all.source_told first
   | inr more ↦ elim more [
@@ -76,20 +81,22 @@ none_lacked files ask text s all lacks = elim lacks [
   ]
 ]
 
-pub complete : (old new : Standing) (ask : Files) (text : Text) (s : FirstSource) (e : RunError) (n : ℕ) → Accepted old.files ask text s → (Rose old.faults new.faults → ⊥) → n ≡ status_of e → Cause old new ask e → (n ≡ 0) ⊎ (n ≡ 8)
+pub complete : (old new : Standing) (ask : Files) (text : Text) (s : List Unit') (e : RunError) (n : ℕ) → Accepted old.files ask text s → (Rose old.faults new.faults → ⊥) → n ≡ status_of e → Cause old new ask e → (n ≡ 0) ⊎ (n ≡ 8)
 complete old new ask text s Failed n all quiet is cause = absurd (quiet cause)
 complete old new ask text s Absent n all quiet is cause = absurd (none_lacked old.files ask text s all cause.1)
 complete old new ask text s (Source number place) n all quiet is cause =
     let same = read_text old.files ask text cause.text s cause.launch_bytes all cause.launch_loaded cause.reads in
     let bytes : cause.source_bytes ≡ take 262145 all.source_bytes = start_is old.files ask.source 262145 cause.source_bytes all.source_bytes all.source_told cause.source_loaded in
-    absurd (no_fault cause.source_bytes (take 262145 all.source_bytes) cause.text text s number place bytes same cause.fault all.unit all.is_source all.kernels)
+    absurd (no_fault cause.source_bytes (take 262145 all.source_bytes) cause.text text s number place bytes same cause.fault all.unit all.compiled)
 complete old new ask text s (Launch number) n all quiet is cause = absurd (elim cause [
   | inl unread ↦
       let bytes : take 1048577 all.launch_bytes ≡ unread.launch_bytes = sym (start_is old.files ask.launch 1048577 unread.launch_bytes all.launch_bytes all.launch_told unread.launch_loaded) in
       read_or_refused unread.launch_bytes ask.lanes ask.turns text number (subst (λ (b : List ℕ). Reads b ask.lanes ask.turns text) bytes all.reads) unread.refused
   | inr unbound ↦
       let same = read_text old.files ask text unbound.text s unbound.read.launch_bytes all unbound.read.launch_loaded unbound.read.reads in
-      let e : Some number ≡ None = sym unbound.refused ∙ (ap form_refusal same ∙ all.accepted) in
+      let bytes : unbound.read.source_bytes ≡ take 262145 all.source_bytes = start_is old.files ask.source 262145 unbound.read.source_bytes all.source_bytes all.source_told unbound.read.source_loaded in
+      let units : unbound.units ≡ s = same_units unbound.read.source_bytes (take 262145 all.source_bytes) unbound.text text unbound.units s bytes same unbound.read.compiled all.compiled in
+      let e : Some number ≡ None = sym unbound.refused ∙ (ap₂ bind_refusal same units ∙ all.accepted) in
       let never : ⊥ = cc e in never
 ])
 complete old new ask text s (Range launch several group item place) n all quiet is cause =
@@ -97,7 +104,7 @@ complete old new ask text s (Range launch several group item place) n all quiet 
     absurd (no_outside (launches_in cause.text) cause.earlier cause.launch cause.later item cause.goes (subst (λ (t : Text). AreWithin (launches_in t)) (sym same) all.in_range))
 complete old new ask text s Memory n all quiet is cause = inr is
 
-pub ends_complete : (old new : Outside) (ask : Files) (text : Text) (s : FirstSource) (n : ℕ) → Ends old new ask n → Accepted old.store.files ask text s → (Rose old.store.faults new.store.faults → ⊥) → (Rose old.out.faults new.out.faults → ⊥) → (n ≡ 0) ⊎ (n ≡ 8)
+pub ends_complete : (old new : Outside) (ask : Files) (text : Text) (s : List Unit') (n : ℕ) → Ends old new ask n → Accepted old.store.files ask text s → (Rose old.store.faults new.store.faults → ⊥) → (Rose old.out.faults new.out.faults → ⊥) → (n ≡ 0) ⊎ (n ≡ 8)
 ends_complete old new ask text s n ends all quiet out_quiet = elim ends [
   | inl done ↦ inl done.status_is
   | inr more ↦ elim more [

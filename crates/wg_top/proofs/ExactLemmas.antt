@@ -1,5 +1,5 @@
 -- Where files are told, they decide how a run ends.
-use Rattle.std.proofs.Common.{◌≡◌, ℕ, zero, suc, ◌<◌, Bool, List, [], ◌∷◌, length, get_or, take, true, Option, Some, None, option_map, inl, inr, refl, sym, ◌∙◌, ap, subst, arith}
+use Rattle.std.proofs.Common.{◌≡◌, ℕ, zero, suc, ◌<◌, Bool, List, [], ◌∷◌, length, get_or, take, true, Option, Some, None, option_map, inl, inr, refl, sym, ◌∙◌, ap, ap₂, subst, arith}
 use Rattle.std.specs.Prelude.{◌⊎◌, is_some, Contains}
 use Rattle.wg_num.specs.declared.types.Place.{Place}
 use Rattle.wg_outside.specs.Counts.{Rose}
@@ -13,13 +13,13 @@ use Rattle.launch_file.proofs.Unique.{read_or_refused}
 use Rattle.wg_top.specs.declared.RunError.{RunError}
 use Rattle.wg_top.specs.declared.RunError.TheVariants.{Failed, Absent, Source, Launch, Range, Memory}
 use Rattle.wg_top.specs.declared.Summary.{Summary}
-use Rattle.wg_top.specs.declared.source_form.Source.{Source as FirstSource}
-use Rattle.wg_top.specs.Kernels.{form_refusal}
+use Rattle.cl_meaning.specs.Typed.{Unit'}
+use Rattle.wg_top.specs.Kernels.{bind_refusal}
 use Rattle.wg_top.specs.Launches.{launches_in, AreWithin}
 use Rattle.wg_top.specs.Causes.{Standing, SourceLoaded, LaunchLoaded, RunRead, RunBound, BuffersLoaded, TextRefused, BindRefused, SourceRefused, IsOutOfRange, Finds, Cause, IsDone}
 use Rattle.wg_top.specs.Lines.{status_of}
 use Rattle.wg_top.specs.Ends.{Outside, Ends}
-use Rattle.wg_top.proofs.CompleteLemmas.{same_text, no_fault, no_outside}
+use Rattle.wg_top.proofs.CompleteLemmas.{same_text, same_units, no_fault, no_outside}
 use Rattle.wg_top.proofs.EndLemmas.{status_above}
 
 -- how far a run comes by its files
@@ -29,9 +29,9 @@ data Found (files : Option FileMap) (ask : Files) : Type 0 where
   bad_launch : (number : ℕ) → TextRefused files ask number → Found files ask
   bad_source : (number : ℕ) (place : Place) → SourceRefused files ask number place → Found files ask
   bad_bind : (number : ℕ) → BindRefused files ask number → Found files ask
-  no_buffer : (text : Text) (s : FirstSource) → RunBound files ask text s → LacksOneFile files (loads_of text.buffers) → Found files ask
+  no_buffer : (text : Text) (s : List Unit') → RunBound files ask text s → LacksOneFile files (loads_of text.buffers) → Found files ask
   outside : (launch : ℕ) (several : Bool) (group item : ℕ) (place : Place) → IsOutOfRange files ask launch several group item place → Found files ask
-  fits : (text : Text) (s : FirstSource) → RunBound files ask text s → (before : List (List ℕ)) → BuffersLoaded files text before → AreWithin (launches_in text) → Found files ask
+  fits : (text : Text) (s : List Unit') → RunBound files ask text s → (before : List (List ℕ)) → BuffersLoaded files text before → AreWithin (launches_in text) → Found files ask
 
 -- the status that it leads to
 status_at : (files : Option FileMap) (ask : Files) → Found files ask → ℕ
@@ -57,18 +57,21 @@ launch_differs fs ask number bytes text refused loaded reads =
     let same : bytes ≡ refused.launch_bytes = same_start fs ask.launch 1048577 bytes refused.launch_bytes loaded refused.launch_loaded in
     read_or_refused refused.launch_bytes ask.lanes ask.turns text number (subst (λ (b : List ℕ). Reads b ask.lanes ask.turns text) same reads) refused.refused
 
-source_differs : (fs : FileMap) (ask : Files) (number : ℕ) (place : Place) (text : Text) (s : FirstSource) → SourceRefused (Some fs) ask number place → RunRead (Some fs) ask text s → ⊥
+source_differs : (fs : FileMap) (ask : Files) (number : ℕ) (place : Place) (text : Text) (s : List Unit') → SourceRefused (Some fs) ask number place → RunRead (Some fs) ask text s → ⊥
 source_differs fs ask number place text s refused read =
     let same = same_text refused.launch_bytes read.launch_bytes ask refused.text text (same_start fs ask.launch 1048577 refused.launch_bytes read.launch_bytes refused.launch_loaded read.launch_loaded) refused.reads read.reads in
     let bytes = same_start fs ask.source 262145 refused.source_bytes read.source_bytes refused.source_loaded read.source_loaded in
-    no_fault refused.source_bytes read.source_bytes refused.text text s number place bytes same refused.fault read.unit read.is_source read.kernels
+    no_fault refused.source_bytes read.source_bytes refused.text text s number place bytes same refused.fault read.unit read.compiled
 
-two_texts : (fs : FileMap) (ask : Files) (text other : Text) (s t : FirstSource) → RunRead (Some fs) ask text s → RunRead (Some fs) ask other t → text ≡ other
+two_texts : (fs : FileMap) (ask : Files) (text other : Text) (s t : List Unit') → RunRead (Some fs) ask text s → RunRead (Some fs) ask other t → text ≡ other
 two_texts fs ask text other s t a b = same_text a.launch_bytes b.launch_bytes ask text other (same_start fs ask.launch 1048577 a.launch_bytes b.launch_bytes a.launch_loaded b.launch_loaded) a.reads b.reads
 
-bind_differs : (fs : FileMap) (ask : Files) (number : ℕ) (text : Text) (s : FirstSource) → BindRefused (Some fs) ask number → RunBound (Some fs) ask text s → ⊥
+two_units : (fs : FileMap) (ask : Files) (text other : Text) (s t : List Unit') → RunRead (Some fs) ask text s → RunRead (Some fs) ask other t → s ≡ t
+two_units fs ask text other s t a b = same_units a.source_bytes b.source_bytes text other s t (same_start fs ask.source 262145 a.source_bytes b.source_bytes a.source_loaded b.source_loaded) (two_texts fs ask text other s t a b) a.compiled b.compiled
+
+bind_differs : (fs : FileMap) (ask : Files) (number : ℕ) (text : Text) (s : List Unit') → BindRefused (Some fs) ask number → RunBound (Some fs) ask text s → ⊥
 bind_differs fs ask number text s refused bound =
-    let e : Some number ≡ None = sym refused.refused ∙ (ap form_refusal (two_texts fs ask refused.text text refused.s s refused.read bound.read) ∙ bound.accepted) in
+    let e : Some number ≡ None = sym refused.refused ∙ (ap₂ bind_refusal (two_texts fs ask refused.text text refused.units s refused.read bound.read) (two_units fs ask refused.text text refused.units s refused.read bound.read) ∙ bound.accepted) in
     let never : ⊥ = cc e in never
 
 -- a buffer that was loaded has its file
@@ -86,15 +89,15 @@ lacks_at fs _ _ _ name i started lt is lacks = absurd started
 lacks_started : (fs : FileMap) (sizes : List ℕ) (loads : List (Option (List ℕ))) (before : List (List ℕ)) (name : List ℕ) → AllStartAs (Some fs) sizes loads before → Contains loads (Some name) → LacksFile (Some fs) name → ⊥
 lacks_started fs sizes loads before name started among lacks = lacks_at fs sizes loads before name among.0 started among.1 among.2 lacks
 
-buffer_differs : (fs : FileMap) (ask : Files) (text other : Text) (s t : FirstSource) (before : List (List ℕ)) → RunBound (Some fs) ask text s → LacksOneFile (Some fs) (loads_of text.buffers) → RunBound (Some fs) ask other t → BuffersLoaded (Some fs) other before → ⊥
+buffer_differs : (fs : FileMap) (ask : Files) (text other : Text) (s t : List Unit') (before : List (List ℕ)) → RunBound (Some fs) ask text s → LacksOneFile (Some fs) (loads_of text.buffers) → RunBound (Some fs) ask other t → BuffersLoaded (Some fs) other before → ⊥
 buffer_differs fs ask text other s t before a lacks b started =
     let same = two_texts fs ask text other s t a.read b.read in
     let one : LacksOneFile (Some fs) (loads_of other.buffers) = subst (λ (x : Text). LacksOneFile (Some fs) (loads_of x.buffers)) same lacks in
     lacks_started fs (lengths_of other.buffers) (loads_of other.buffers) before one.name started one.is_load one.lacks
 
-range_differs : (fs : FileMap) (ask : Files) (number : ℕ) (several : Bool) (group item : ℕ) (place : Place) → IsOutOfRange (Some fs) ask number several group item place → (text : Text) (s : FirstSource) → RunBound (Some fs) ask text s → AreWithin (launches_in text) → ⊥
+range_differs : (fs : FileMap) (ask : Files) (number : ℕ) (several : Bool) (group item : ℕ) (place : Place) → IsOutOfRange (Some fs) ask number several group item place → (text : Text) (s : List Unit') → RunBound (Some fs) ask text s → AreWithin (launches_in text) → ⊥
 range_differs fs ask number several group item place out text s bound within =
-    let same = two_texts fs ask out.text text out.s s out.read.read bound.read in
+    let same = two_texts fs ask out.text text out.units s out.read.read bound.read in
     no_outside (launches_in out.text) out.earlier out.launch out.later item out.goes (subst (λ (x : Text). AreWithin (launches_in x)) (sym same) within)
 
 -- two ways to come as far have one status
@@ -187,7 +190,7 @@ found files ask Memory finds = absurd finds
 -- a run that is done comes to its end
 found_done : (files new : Option FileMap) (ask : Files) (summary : Summary) → IsDone files new ask summary → (f : Found files ask) × (status_at files ask f ≡ 0)
 unfolding status_at
-found_done files new ask summary done = (fits done.text done.s done.read done.run.before done.run.loaded done.run.in_range, refl)
+found_done files new ask summary done = (fits done.text done.units done.read done.run.before done.run.loaded done.run.in_range, refl)
 
 -- two findings have one status
 one_status : (fs : FileMap) (ask : Files) (e d : RunError) → Finds (Some fs) ask e → Finds (Some fs) ask d → status_of e ≡ status_of d

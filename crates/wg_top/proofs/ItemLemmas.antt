@@ -1,14 +1,12 @@
 -- One more item that ran.
-use Rattle.std.proofs.Common.{◌≡◌, ℕ, suc, ◌+◌, ◌*◌, ◌≤◌, ◌==◌, true, false, List, length, take, drop, inl, inr, refl, sym, ◌∙◌, ap, subst, arith}
+use Rattle.std.proofs.Common.{◌≡◌, ℕ, ℤ, suc, ◌+◌, ◌*◌, ◌/◌, ◌%◌, ◌<◌, ◌≤◌, ◌==◌, true, false, List, length, take, drop, inl, inr, refl, sym, ◌∙◌, ap, subst, arith}
 use Rattle.std.proofs.lemmas.Bool.{cases_lt, cases_Bool, eqb-true, eqb-false}
-use Rattle.std.proofs.lemmas.List.{drop-take, drop_at, length-take, length-drop}
+use Rattle.std.proofs.lemmas.List.{drop-take, drop-drop, drop_at, length-take, length-drop}
 use Rattle.std.proofs.lemmas.Slice.{take-put_mid_below, take-put_mid, drop-put_mid}
 use borrow.Rule.Slice.PartMut.{put_mid, mid_of, same_len_mid}
 use Rattle.wg_num.specs.declared.types.IntType.TheVariants.{Int}
 use Rattle.wg_num.specs.Bytes.{bytes_of, value_of_bytes}
 use Rattle.cl_model.specs.Sizes.{Launch}
-use Rattle.wg_top.specs.declared.source_form.Source.{Source}
-use Rattle.wg_top.specs.SourceForm.{element_after}
 use Rattle.wg_top.specs.Items.{element, own_element, hits, element_times, ItemsRan, IsInside, AreInside}
 
 -- one more item has the element, or another
@@ -42,7 +40,7 @@ element-other i j xs ys h long apart = elim (cases_lt j i) [
   ]
 ]
 
-four_more : (s : Source) (launch : Launch) (n i : ℕ) (before now ys : List ℕ) → i ≡ own_element launch n → 4 * i + 4 ≤ length now → ItemsRan s launch n before now → ys ≡ bytes_of Int (element_after s (value_of_bytes Int (element i now))) → length ys ≡ 4 → ItemsRan s launch (suc n) before (put_mid (4 * i) 4 now ys)
+four_more : (s : ℤ → ℤ) (launch : Launch) (n i : ℕ) (before now ys : List ℕ) → i ≡ own_element launch n → 4 * i + 4 ≤ length now → ItemsRan s launch n before now → ys ≡ bytes_of Int (s (value_of_bytes Int (element i now))) → length ys ≡ 4 → ItemsRan s launch (suc n) before (put_mid (4 * i) 4 now ys)
 four_more s launch n i before now ys own within ran is long =
     let held : length (put_mid (4 * i) 4 now ys) ≡ length now = same_len_mid (4 * i) 4 now ys (long ∙ sym (length-element i now within)) in
     record {
@@ -52,7 +50,7 @@ four_more s launch n i before now ys own within ran is long =
             let here : i ≡ j = own ∙ eqb-true (own_element launch n) j this in
             let there : element j (put_mid (4 * i) 4 now ys) ≡ ys = subst (λ (k : ℕ). element k (put_mid (4 * i) 4 now ys) ≡ ys) here (element-put i now ys within long) in
             let old : element i now ≡ element_times s (hits launch n j) (element j before) = ap (λ k. element k now) here ∙ ran.elements j in
-            there ∙ (is ∙ (ap (λ e. bytes_of Int (element_after s (value_of_bytes Int e))) old ∙ ap (λ k. element_times s k (element j before)) (sym (hits-same launch n j this))))
+            there ∙ (is ∙ (ap (λ e. bytes_of Int (s (value_of_bytes Int e))) old ∙ ap (λ k. element_times s k (element j before)) (sym (hits-same launch n j this))))
         | inr other ↦
             let apart : i ≡ j → ⊥ = λ same. eqb-false (own_element launch n) j other (sym own ∙ same) in
             element-other i j now ys within long apart ∙ (ran.elements j ∙ ap (λ k. element_times s k (element j before)) (sym (hits-other launch n j other)))
@@ -60,9 +58,9 @@ four_more s launch n i before now ys own within ran is long =
     }
 
 -- the same, for the part as the code writes it
-pub one_more : (s : Source) (launch : Launch) (n i k : ℕ) (before now ys : List ℕ) → i ≡ own_element launch n → k ≡ 4 → 4 * i + 4 ≤ length now → ItemsRan s launch n before now → ys ≡ bytes_of Int (element_after s (value_of_bytes Int (mid_of (4 * i) k now))) → length ys ≡ length (mid_of (4 * i) k now) → ItemsRan s launch (n + 1) before (put_mid (4 * i) k now ys)
+pub one_more : (s : ℤ → ℤ) (launch : Launch) (n i k : ℕ) (before now ys : List ℕ) → i ≡ own_element launch n → k ≡ 4 → 4 * i + 4 ≤ length now → ItemsRan s launch n before now → ys ≡ bytes_of Int (s (value_of_bytes Int (mid_of (4 * i) k now))) → length ys ≡ length (mid_of (4 * i) k now) → ItemsRan s launch (n + 1) before (put_mid (4 * i) k now ys)
 one_more s launch n i k before now ys own four within ran is long =
-    let is_four : ys ≡ bytes_of Int (element_after s (value_of_bytes Int (mid_of (4 * i) 4 now))) = subst (λ (m : ℕ). ys ≡ bytes_of Int (element_after s (value_of_bytes Int (mid_of (4 * i) m now)))) four is in
+    let is_four : ys ≡ bytes_of Int (s (value_of_bytes Int (mid_of (4 * i) 4 now))) = subst (λ (m : ℕ). ys ≡ bytes_of Int (s (value_of_bytes Int (mid_of (4 * i) m now)))) four is in
     let long_four : length ys ≡ length (mid_of (4 * i) 4 now) = subst (λ (m : ℕ). length ys ≡ length (mid_of (4 * i) m now)) four long in
     let next : suc n ≡ n + 1 = omega arith in
     subst (λ (m : ℕ). ItemsRan s launch m before (put_mid (4 * i) k now ys)) next

@@ -4,14 +4,20 @@ use Rattle.std.specs.Prelude.{All, IfNone}
 use Rattle.std.proofs.Math.Seq.{take-suc, drop-cons, map-set_same}
 use Rattle.std.proofs.lemmas.List.{take-append-drop, map-append, length-map, length-take-le, get_or-map, get_or_default, map-set}
 use Rattle.cl_model.specs.Sizes.{Launch, group_count, group_size, item_count}
-use Rattle.wg_top.specs.declared.source_form.Source.{Source}
-use Rattle.wg_top.specs.Launches.{LaunchRan, LaunchesRan, IsWithin, AreWithin, all_groups, all_items, StopsOutside, CanRun, target, target_size}
-use Rattle.wg_top.specs.Items.{IsFirstOutside, ItemsRan}
+use Rattle.cl_meaning.specs.Typed.{Unit'}
+use Rattle.element_kernel.specs.Kernels.{Change, value_after}
+use Rattle.wg_top.specs.Runnable.{change_in, changed_by, element_after}
+use Rattle.wg_top.specs.Launches.{LaunchRan, LaunchesRan, IsWithin, AreWithin, all_groups, all_items, GoesOutside, StopsOutside, CanRun, target, target_size}
+use Rattle.wg_top.specs.Items.{IsFirstOutside, AreInside, ItemsRan}
 
 -- what follows from what is said where there is no value
 pub none_then : {X : Type 0} (r : Option X) (P Q : Type 0) → IfNone r P → (P → Q) → IfNone r Q
 none_then None P Q p f = f p
 none_then (Some x) P Q p f = tt
+
+-- what a launch's kernel does, where it is known
+pub change_is : (u : Unit') (c : Change) → Some c ≡ change_in u → value_after c ≡ element_after u
+change_is u c e = ap changed_by e
 
 -- the buffer of a launch, in a list of things that have bytes
 module _ {A : Type 0} (view : A → List ℕ) (xs : List A) (i : ℕ) (x : A) (is : x ≡ get_or xs i x) where
@@ -34,19 +40,21 @@ module _ {A : Type 0} (view : A → List ℕ) (xs : List A) (i : ℕ) (x : A) (i
     target_size_is = size_is launch.lengths sizes there ∙ ap (λ k. get_or launch.lengths k 0) at
 
     -- the launch ran on it
-    pub launch_ran : (s : Source) (y : A) (bytes : List ℕ) → view y ≡ bytes → ItemsRan s launch (item_count launch) (view x) bytes → LaunchRan s launch (map view xs) (map view (set xs i y))
+    pub launch_ran : (s : Unit') (y : A) (bytes : List ℕ) → view y ≡ bytes → ItemsRan (element_after s) launch (item_count launch) (view x) bytes → LaunchRan s launch (map view xs) (map view (set xs i y))
     launch_ran s y bytes shown ran =
         let counted : length launch.lengths ≡ length xs = ap length (sym sizes) ∙ length-map xs (λ b. length (view b)) in
         record {
           bytes = bytes;
-          ran = subst (λ (before : List ℕ). ItemsRan s launch (item_count launch) before bytes) (bytes_are (omega arith) ∙ ap (λ k. get_or (map view xs) k []) at) ran;
+          ran = subst (λ (before : List ℕ). ItemsRan (element_after s) launch (item_count launch) before bytes) (bytes_are (omega arith) ∙ ap (λ k. get_or (map view xs) k []) at) ran;
           after_is = map-set view xs i y ∙ (ap (set (map view xs) i) shown ∙ ap (λ k. set (map view xs) k bytes) at);
         }
 
 -- one more launch behind others
-ran-snoc : (s : Source) (launches : List Launch) (launch : Launch) (before mid after : List (List ℕ)) → LaunchesRan s launches before mid → LaunchRan s launch mid after → LaunchesRan s (launches ++ launch ∷ []) before after
-ran-snoc s [] launch before mid after ran one = (after, subst (λ (b : List (List ℕ)). LaunchRan s launch b after) ran one, refl)
-ran-snoc s (first ∷ launches) launch before mid after ran one = (ran.0, ran.1, ran-snoc s launches launch ran.0 mid after ran.2 one)
+ran-snoc : (units : List Unit') (u : Unit') (launches : List Launch) (launch : Launch) (before mid after : List (List ℕ)) → LaunchesRan units launches before mid → LaunchRan u launch mid after → LaunchesRan (units ++ u ∷ []) (launches ++ launch ∷ []) before after
+ran-snoc [] u [] launch before mid after ran one = (after, subst (λ (b : List (List ℕ)). LaunchRan u launch b after) ran one, refl)
+ran-snoc (v ∷ units) u (first ∷ launches) launch before mid after ran one = (ran.0, ran.1, ran-snoc units u launches launch ran.0 mid after ran.2 one)
+ran-snoc [] u (first ∷ launches) launch before mid after ran one = absurd ran
+ran-snoc (v ∷ units) u [] launch before mid after ran one = absurd ran
 
 within-snoc : (launches : List Launch) (launch : Launch) → AreWithin launches → IsWithin launch → AreWithin (launches ++ launch ∷ [])
 within-snoc [] launch are is = (is, tt)
@@ -75,8 +83,10 @@ module _ {X : Type 0} (view : X → Launch) (xs : List X) (k : ℕ) (x : X) (lt 
       let next : k + 1 ≡ suc k = omega arith in
       ap (λ n. map view (take n xs)) next ∙ (ap (map view) (take-suc xs k x lt ∙ ap (λ y. take k xs ++ y ∷ []) (sym is)) ∙ map-append view (take k xs) (x ∷ []))
 
-  pub more_ran : (s : Source) (before mid after : List (List ℕ)) → LaunchesRan s (map view (take k xs)) before mid → LaunchRan s (view x) mid after → LaunchesRan s (map view (take (k + 1) xs)) before after
-  more_ran s before mid after ran one = subst (λ (ls : List Launch). LaunchesRan s ls before after) (sym more) (ran-snoc s (map view (take k xs)) (view x) before mid after ran one)
+  pub more_ran : (units next : List Unit') (u : Unit') → next ≡ units ++ u ∷ [] → (before mid after : List (List ℕ)) → LaunchesRan units (map view (take k xs)) before mid → LaunchRan u (view x) mid after → LaunchesRan next (map view (take (k + 1) xs)) before after
+  more_ran units next u are before mid after ran one =
+      subst (λ (us : List Unit'). LaunchesRan us (map view (take (k + 1) xs)) before after) (sym are)
+      (subst (λ (ls : List Launch). LaunchesRan (units ++ u ∷ []) ls before after) (sym more) (ran-snoc units u (map view (take k xs)) (view x) before mid after ran one))
 
   pub more_within : AreWithin (map view (take k xs)) → IsWithin (view x) → AreWithin (map view (take (k + 1) xs))
   more_within are one = subst (λ (ls : List Launch). AreWithin ls) (sym more) (within-snoc (map view (take k xs)) (view x) are one)

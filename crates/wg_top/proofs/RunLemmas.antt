@@ -5,6 +5,7 @@ use Rattle.std.specs.List.{list_any}
 use Rattle.std.proofs.lemmas.Bool.{or_parts}
 use Rattle.std.proofs.lemmas.List.{length-append, length-take, length-replicate, length-map}
 use Rattle.std.proofs.lemmas.List.Elements.{All-map, All-weaker}
+use Rattle.wg_num.specs.declared.types.Place.{Place}
 use Rattle.wg_outside.specs.Files.{FileMap}
 use Rattle.buffer_io.specs.Loads.{StartsAs, AllStartAs, fitted}
 use Rattle.buffer_io.specs.Saves.{AreApart, AllSavedAs, KeepsAllBut, StopsAt}
@@ -18,8 +19,9 @@ use Rattle.launch_file.specs.Texts.{Text}
 use Rattle.launch_file.specs.Refusals.{saved_again, saved_twice, is_this}
 use Rattle.launch_file.specs.Values.{HasTexts}
 use Rattle.wg_top.specs.declared.Summary.{Summary}
-use Rattle.wg_top.specs.declared.source_form.Source.{Source as FirstSource}
-use Rattle.wg_top.specs.Kernels.{form_refusal}
+use Rattle.cl_meaning.specs.Typed.{Unit'}
+use Rattle.wg_top.specs.Runnable.{launch_place}
+use Rattle.wg_top.specs.Kernels.{bind_refusal}
 use Rattle.wg_top.specs.Causes.{BuffersLoaded, HasRun}
 use Rattle.wg_top.specs.Stages.{IsOutside, SaveStopped, IsRun}
 use Rattle.wg_top.specs.Launches.{IsReady, CanRun, launches_in, LaunchesRan, AreWithin, StopsOutside, all_groups, all_items}
@@ -98,8 +100,8 @@ loaded_of files text first before ready loaded =
     subst (λ (ls : List (Option (List ℕ))). AllStartAs files (lengths_of text.buffers) ls before) ready.loads (subst (λ (ns : List ℕ). AllStartAs files ns first.loads.items before) ready.lengths loaded)
 
 -- an item that comes to an element outside its buffer
-pub is_outside : (files : Option FileMap) (text : Text) (s : FirstSource) (before : List (List ℕ)) (launches : List Launch) (number group item : ℕ) → form_refusal text ≡ None → BuffersLoaded files text before → launches ≡ launches_in text → StopsOutside launches number group item → IsOutside files text s (number + 1) text.several group item s.place
-is_outside files text s before launches number group item accepted loaded same stops =
+pub is_outside : (files : Option FileMap) (text : Text) (s : List Unit') (before : List (List ℕ)) (launches : List Launch) (number group item : ℕ) (place : Place) → place ≡ launch_place s number → bind_refusal text s ≡ None → BuffersLoaded files text before → launches ≡ launches_in text → StopsOutside launches number group item → IsOutside files text s (number + 1) text.several group item place
+is_outside files text s before launches number group item place placed accepted loaded same stops =
     let there = subst (λ (ls : List Launch). StopsOutside ls number group item) same stops in
     record {
       accepted = accepted;
@@ -112,11 +114,11 @@ is_outside files text s before launches number group item accepted loaded same s
       number_is = ap (λ n. n + 1) there.number_is;
       several_is = refl;
       group_is = there.group_is;
-      place_is = refl;
+      place_is = placed ∙ ap (launch_place s) there.number_is;
     }
 
 -- the launches ran
-pub has_run : (files : Option FileMap) (text : Text) (s : FirstSource) (before after : List (List ℕ)) (launches : List Launch) → BuffersLoaded files text before → launches ≡ launches_in text → AreWithin launches → LaunchesRan s launches before after → HasRun files text s after
+pub has_run : (files : Option FileMap) (text : Text) (s : List Unit') (before after : List (List ℕ)) (launches : List Launch) → BuffersLoaded files text before → launches ≡ launches_in text → AreWithin launches → LaunchesRan s launches before after → HasRun files text s after
 has_run files text s before after launches loaded same within ran = record {
   before = before;
   loaded = loaded;
@@ -125,7 +127,7 @@ has_run files text s before after launches loaded same within ran = record {
 }
 
 -- a save failed
-pub save_stopped : (old mid new : Option FileMap) (text : Text) (s : FirstSource) (saves : List (Option (List ℕ))) (after : List (List ℕ)) → form_refusal text ≡ None → mid ≡ old → saves ≡ saves_of text.buffers → HasRun old text s after → StopsAt mid new saves after → KeepsAllBut mid new saves → SaveStopped old new text s
+pub save_stopped : (old mid new : Option FileMap) (text : Text) (s : List Unit') (saves : List (Option (List ℕ))) (after : List (List ℕ)) → bind_refusal text s ≡ None → mid ≡ old → saves ≡ saves_of text.buffers → HasRun old text s after → StopsAt mid new saves after → KeepsAllBut mid new saves → SaveStopped old new text s
 save_stopped old mid new text s saves after accepted stays same run stops others = record {
   accepted = accepted;
   after = after;
@@ -135,7 +137,7 @@ save_stopped old mid new text s saves after accepted stays same run stops others
 }
 
 -- all was saved
-pub is_run : (old mid new : Option FileMap) (text : Text) (s : FirstSource) (saves : List (Option (List ℕ))) (after : List (List ℕ)) (summary : Summary) (launches : List Launch) → form_refusal text ≡ None → mid ≡ old → saves ≡ saves_of text.buffers → HasRun old text s after → AllSavedAs mid new saves after → KeepsAllBut mid new saves → launches ≡ launches_in text → summary.groups ≡ all_groups launches → summary.items ≡ all_items launches → IsRun old new text s summary
+pub is_run : (old mid new : Option FileMap) (text : Text) (s : List Unit') (saves : List (Option (List ℕ))) (after : List (List ℕ)) (summary : Summary) (launches : List Launch) → bind_refusal text s ≡ None → mid ≡ old → saves ≡ saves_of text.buffers → HasRun old text s after → AllSavedAs mid new saves after → KeepsAllBut mid new saves → launches ≡ launches_in text → summary.groups ≡ all_groups launches → summary.items ≡ all_items launches → IsRun old new text s summary
 is_run old mid new text s saves after summary launches accepted stays same run saved others are groups items = record {
   accepted = accepted;
   after = after;

@@ -1,22 +1,23 @@
 -- Why a run ends as it does.
-use Rattle.std.specs.Prelude.{◌≡◌, ◌+◌, ◌/◌, ◌≤◌, ◌⊎◌, ⊤, ℕ, Bool, All, List, length, take, Option, Some, None, Contains}
+use Rattle.std.specs.Prelude.{◌≡◌, ◌+◌, ◌/◌, ◌<◌, ◌≤◌, ◌⊎◌, ⊤, ℕ, Bool, All, List, [], ◌∷◌, length, map, take, Option, Some, None, Contains}
 use Rattle.wg_num.specs.declared.types.Place.{Place}
 use Rattle.wg_outside.specs.Counts.{Rose}
 use Rattle.wg_outside.specs.Files.{FileMap, HasFileStart, LacksFile, told_file}
 use Rattle.buffer_io.specs.Loads.{AllStartAs, LacksOneFile}
 use Rattle.buffer_io.specs.Saves.{AllSavedAs, KeepsAllBut, StopsAt}
+use Rattle.cl_prep.specs.declared.prep.Define.{Define}
 use Rattle.cl_model.specs.Sizes.{Launch as ModelLaunch, group_size}
 use Rattle.command_words.specs.Command.{Files}
 use Rattle.launch_file.specs.Refusals.{Reads, IsRefused}
 use Rattle.launch_file.specs.Binding.{loads_of, saves_of, lengths_of}
-use Rattle.launch_file.specs.Texts.{Text}
+use Rattle.launch_file.specs.Texts.{Text, Part}
 use Rattle.wg_top.specs.declared.RunError.{RunError}
 use Rattle.wg_top.specs.declared.RunError.TheVariants.{Failed, Absent, Source, Launch, Range, Memory}
 use Rattle.wg_top.specs.declared.Summary.{Summary}
-use Rattle.wg_top.specs.declared.source_form.Source.{Source as FirstSource}
-use Rattle.wg_top.specs.SourceForm.{IsFirstSource}
-use Rattle.wg_top.specs.Front.{HasUnit, StandsAt}
-use Rattle.wg_top.specs.Kernels.{form_refusal}
+use Rattle.cl_meaning.specs.Typed.{Unit'}
+use Rattle.wg_front.specs.Front.{HasUnit, StandsAt}
+use Rattle.wg_top.specs.Runnable.{AreCompiled, IsFirstRefused, launch_place}
+use Rattle.wg_top.specs.Kernels.{bind_refusal}
 use Rattle.wg_top.specs.Launches.{launches_in, LaunchesRan, AreWithin, GoesOutside, all_groups, all_items}
 
 -- a store at one moment
@@ -42,25 +43,20 @@ SourceLoaded files source bytes = HasFileStart files source 262145 bytes
 abbrev pub LaunchLoaded : Option FileMap → List ℕ → List ℕ → Type 0
 LaunchLoaded files launch bytes = HasFileStart files launch 1048577 bytes
 
--- each launch is of the source's kernel
-abbrev pub AreOfKernel : Text → FirstSource → Type 0
-AreOfKernel text s = All (λ part. part.kernel ≡ s.name) text.list
-
--- the source and the launch file were loaded, the launch file with the options says this, and the source has a unit and is this, with the kernel of each launch
-pub record RunRead (files : Option FileMap) (ask : Files) (text : Text) (s : FirstSource) : Type 0 where
+-- the source and the launch file were loaded, the launch file with the options says this, and the source has a unit, and these typed units with the kernels of the launches, which run today
+pub record RunRead (files : Option FileMap) (ask : Files) (text : Text) (units : List Unit') : Type 0 where
   pub source_bytes : List ℕ
   pub source_loaded : SourceLoaded files ask.source source_bytes
   pub launch_bytes : List ℕ
   pub launch_loaded : LaunchLoaded files ask.launch launch_bytes
   pub reads : Reads launch_bytes ask.lanes ask.turns text
   pub unit : HasUnit source_bytes text.defines
-  pub is_source : IsFirstSource source_bytes text.defines s
-  pub kernels : AreOfKernel text s
+  pub compiled : AreCompiled source_bytes text.defines text.list units
 
 -- besides, no condition stands on its launches
-pub record RunBound (files : Option FileMap) (ask : Files) (text : Text) (s : FirstSource) : Type 0 where
-  pub read : RunRead files ask text s
-  pub accepted : form_refusal text ≡ None
+pub record RunBound (files : Option FileMap) (ask : Files) (text : Text) (units : List Unit') : Type 0 where
+  pub read : RunRead files ask text units
+  pub accepted : bind_refusal text units ≡ None
 
 -- the source and the launch file were loaded, and the condition of that number is the first that stands on the launch file
 pub record TextRefused (files : Option FileMap) (ask : Files) (number : ℕ) : Type 0 where
@@ -73,20 +69,13 @@ pub record TextRefused (files : Option FileMap) (ask : Files) (number : ℕ) : T
 -- all was read, and the condition of that number is the first that stands on the launches
 pub record BindRefused (files : Option FileMap) (ask : Files) (number : ℕ) : Type 0 where
   pub text : Text
-  pub s : FirstSource
-  pub read : RunRead files ask text s
-  pub refused : form_refusal text ≡ Some number
+  pub units : List Unit'
+  pub read : RunRead files ask text units
+  pub refused : bind_refusal text units ≡ Some number
 
--- the source has a unit, and is not of the first form with the kernel of each launch
-pub record NotBuilt (bytes : List ℕ) (text : Text) (number : ℕ) (place : Place) : Type 0 where
-  pub number_is : number ≡ 0
-  pub place_is : place ≡ record { line = 1; column = 1 }
-  pub unit : HasUnit bytes text.defines
-  pub no_form : (s : FirstSource) → IsFirstSource bytes text.defines s → AreOfKernel text s → ⊥
-
--- the condition of that number stands of the source at that place; a source without a unit comes first
+-- the condition of that number stands of the source at that place: a source without a unit comes first, then the first launch whose kernel is at fault or does not run today
 abbrev pub IsSourceFault : List ℕ → Text → ℕ → Place → Type 0
-IsSourceFault bytes text number place = StandsAt bytes text.defines number place ⊎ NotBuilt bytes text number place
+IsSourceFault bytes text number place = StandsAt bytes text.defines number place ⊎ IsFirstRefused bytes text.defines text.list number place
 
 -- the launch file was read, and the condition of that number stands of the source at that place
 pub record SourceRefused (files : Option FileMap) (ask : Files) (number : ℕ) (place : Place) : Type 0 where
@@ -103,7 +92,7 @@ abbrev pub LacksName : Option FileMap → Files → Type 0
 LacksName files ask =
     LacksFile files ask.source
     ⊎ ((bytes : List ℕ) × SourceLoaded files ask.source bytes × LacksFile files ask.launch)
-    ⊎ ((text : Text) × (s : FirstSource) × RunBound files ask text s × LacksOneFile files (loads_of text.buffers))
+    ⊎ ((text : Text) × (units : List Unit') × RunBound files ask text units × LacksOneFile files (loads_of text.buffers))
 
 -- the buffers of the launch file were loaded: these
 abbrev pub BuffersLoaded : Option FileMap → Text → List (List ℕ) → Type 0
@@ -112,8 +101,8 @@ BuffersLoaded files text before = AllStartAs files (lengths_of text.buffers) (lo
 -- all was read and the buffers were loaded, and in the launch with that number an item came to an element that does not lie within the launch's buffer, at the place of the first access; launches count from 1
 pub record IsOutOfRange (files : Option FileMap) (ask : Files) (number : ℕ) (several : Bool) (group item : ℕ) (place : Place) : Type 0 where
   pub text : Text
-  pub s : FirstSource
-  pub read : RunBound files ask text s
+  pub units : List Unit'
+  pub read : RunBound files ask text units
   pub before : List (List ℕ)
   pub loaded : BuffersLoaded files text before
   pub earlier : List ModelLaunch
@@ -123,7 +112,7 @@ pub record IsOutOfRange (files : Option FileMap) (ask : Files) (number : ℕ) (s
   pub number_is : number ≡ length earlier + 1
   pub several_is : several ≡ text.several
   pub group_is : group ≡ item / group_size launch
-  pub place_is : place ≡ s.place
+  pub place_is : place ≡ launch_place units (length earlier)
 
 -- the cause of a refusal that the files decide, without faults and want of memory
 abbrev pub Finds : Option FileMap → Files → RunError → Type 0
@@ -144,19 +133,19 @@ Cause old new ask (Range launch several group item place) = Finds old.files ask 
 Cause old new ask Memory = ⊤
 
 -- all was read and the buffers were loaded, each item of each launch was in range, and the launches ran
-pub record HasRun (files : Option FileMap) (text : Text) (s : FirstSource) (after : List (List ℕ)) : Type 0 where
+pub record HasRun (files : Option FileMap) (text : Text) (units : List Unit') (after : List (List ℕ)) : Type 0 where
   pub before : List (List ℕ)
   pub loaded : BuffersLoaded files text before
   pub in_range : AreWithin (launches_in text)
-  pub ran : LaunchesRan s (launches_in text) before after
+  pub ran : LaunchesRan units (launches_in text) before after
 
 -- saving had begun: the launches ran, the buffers before one are saved, and those behind it and all other names are as before
 pub record SaveFailed (old new : Option FileMap) (ask : Files) : Type 0 where
   pub text : Text
-  pub s : FirstSource
-  pub read : RunBound old ask text s
+  pub units : List Unit'
+  pub read : RunBound old ask text units
   pub after : List (List ℕ)
-  pub run : HasRun old text s after
+  pub run : HasRun old text units after
   pub stops : StopsAt old new (saves_of text.buffers) after
   pub others : KeepsAllBut old new (saves_of text.buffers)
 
@@ -168,17 +157,17 @@ LeavesFiles old new ask _ = new.files ≡ old.files
 -- a run that is done: the launches ran, and the buffers were saved
 pub record IsDone (old new : Option FileMap) (ask : Files) (summary : Summary) : Type 0 where
   pub text : Text
-  pub s : FirstSource
-  pub read : RunBound old ask text s
+  pub units : List Unit'
+  pub read : RunBound old ask text units
   pub after : List (List ℕ)
-  pub run : HasRun old text s after
+  pub run : HasRun old text units after
   pub saved : AllSavedAs old new (saves_of text.buffers) after
   pub others : KeepsAllBut old new (saves_of text.buffers)
   pub groups : summary.groups ≡ all_groups (launches_in text)
   pub items : summary.items ≡ all_items (launches_in text)
 
--- the store tells its files, has those that the run loads, the source has a unit and is of the first form, no condition stands on the launch file, and each item's element lies within its buffer
-pub record Accepted (files : Option FileMap) (ask : Files) (text : Text) (s : FirstSource) : Type 0 where
+-- the store tells its files, has those that the run loads, the source has a unit and the launches' kernels run today, no condition stands on the launch file, and each item's element lies within its buffer
+pub record Accepted (files : Option FileMap) (ask : Files) (text : Text) (units : List Unit') : Type 0 where
   pub source_bytes : List ℕ
   pub launch_bytes : List ℕ
   pub source_told : told_file files ask.source ≡ Some (Some source_bytes)
@@ -186,7 +175,6 @@ pub record Accepted (files : Option FileMap) (ask : Files) (text : Text) (s : Fi
   pub buffers_told : (name : List ℕ) → Contains (loads_of text.buffers) (Some name) → (bytes : List ℕ) × (told_file files name ≡ Some (Some bytes))
   pub reads : Reads (take 1048577 launch_bytes) ask.lanes ask.turns text
   pub unit : HasUnit (take 262145 source_bytes) text.defines
-  pub is_source : IsFirstSource (take 262145 source_bytes) text.defines s
-  pub kernels : AreOfKernel text s
-  pub accepted : form_refusal text ≡ None
+  pub compiled : AreCompiled (take 262145 source_bytes) text.defines text.list units
+  pub accepted : bind_refusal text units ≡ None
   pub in_range : AreWithin (launches_in text)

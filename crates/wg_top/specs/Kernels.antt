@@ -1,27 +1,21 @@
--- What a kernel of the first form asks of its launches.
+-- Which launches are refused for what their kernels ask.
 use Rattle.std.specs.Prelude.{ℕ, List, [], ◌∷◌, Option, Some, None}
-use Rattle.wg_num.specs.declared.types.IntType.TheVariants.{Int}
-use Rattle.cl_model.specs.declared.program.Space.TheVariants.{Global}
-use Rattle.cl_model.specs.declared.program.Root.TheVariants.{Param}
-use Rattle.cl_model.specs.declared.program.VarKind.TheVariants.{Pointer}
+use Rattle.cl_meaning.specs.Typed.{Unit'}
 use Rattle.launch_file.specs.declared.text.BufferText.{BufferText}
-use Rattle.launch_file.specs.Binding.{Needs, launch_refusal}
+use Rattle.launch_file.specs.Binding.{launch_refusal}
 use Rattle.launch_file.specs.Texts.{Text, Part}
-
--- one pointer to global ints, no local memory, and any work-group size
-abbrev pub form_needs : Needs
-form_needs = record { kinds = Pointer Global Int (Param 0) ∷ []; local_bytes = 0; required = None }
+use Rattle.wg_top.specs.Runnable.{needs_in}
 
 -- what is there, or what comes later
 abbrev pub or_later : Option ℕ → Option ℕ → Option ℕ
 or_later None later = later
 or_later (Some n) later = Some n
 
--- the number of the first condition that stands on the launches, in order
-abbrev pub first_refusal : Needs → List BufferText → List Part → Option ℕ
-first_refusal needs buffers [] = None
-first_refusal needs buffers (part ∷ parts) = or_later (launch_refusal needs buffers part) (first_refusal needs buffers parts)
+-- the number of the first condition that stands on the launches, in order, each for its own kernel
+abbrev pub first_refusal : List BufferText → List Part → List Unit' → Option ℕ
+first_refusal buffers (part ∷ parts) (u ∷ us) = or_later (launch_refusal (needs_in u) buffers part) (first_refusal buffers parts us)
+first_refusal buffers _ _ = None
 
--- the same for a launch file and a kernel of the first form
-abbrev pub form_refusal : Text → Option ℕ
-form_refusal text = first_refusal form_needs text.buffers text.list
+-- the same for a launch file
+abbrev pub bind_refusal : Text → List Unit' → Option ℕ
+bind_refusal text units = first_refusal text.buffers text.list units

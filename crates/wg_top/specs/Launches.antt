@@ -8,7 +8,8 @@ use Rattle.cl_model.specs.View.{launch_of}
 use Rattle.launch_file.specs.declared.text.BufferText.{BufferText}
 use Rattle.launch_file.specs.Binding.{launch_in, lengths_of, loads_of, saves_of}
 use Rattle.launch_file.specs.Texts.{Text}
-use Rattle.wg_top.specs.declared.source_form.Source.{Source}
+use Rattle.cl_meaning.specs.Typed.{Unit'}
+use Rattle.wg_top.specs.Runnable.{element_after}
 use Rattle.wg_top.specs.Items.{ItemsRan, AreInside, IsFirstOutside}
 
 -- the launches that a launch file says
@@ -52,15 +53,16 @@ pub record IsReady (buffers : List BufferText) (launch : Bindings) : Type 0 wher
   pub saves : launch.saves.items ≡ saves_of buffers
 
 -- the items of a launch ran on its buffer, and the others are as before
-pub record LaunchRan (s : Source) (launch : Launch) (before after : List (List ℕ)) : Type 0 where
+pub record LaunchRan (u : Unit') (launch : Launch) (before after : List (List ℕ)) : Type 0 where
   pub bytes : List ℕ
-  pub ran : ItemsRan s launch (item_count launch) (slice_index_or before (target launch) []) bytes
+  pub ran : ItemsRan (element_after u) launch (item_count launch) (slice_index_or before (target launch) []) bytes
   pub after_is : after ≡ set before (target launch) bytes
 
--- the launches ran, each on the buffers that the one before it left
-abbrev pub LaunchesRan : Source → List Launch → List (List ℕ) → List (List ℕ) → Type 0
-LaunchesRan s [] before after = after ≡ before
-LaunchesRan s (launch ∷ launches) before after = (mid : List (List ℕ)) × LaunchRan s launch before mid × LaunchesRan s launches mid after
+-- the launches ran, each with its kernel, on the buffers that the one before it left
+abbrev pub LaunchesRan : List Unit' → List Launch → List (List ℕ) → List (List ℕ) → Type 0
+LaunchesRan [] [] before after = after ≡ before
+LaunchesRan (u ∷ us) (launch ∷ launches) before after = (mid : List (List ℕ)) × LaunchRan u launch before mid × LaunchesRan us launches mid after
+LaunchesRan _ _ before after = ⊥
 
 -- each item of the launch has its element within the launch's buffer
 abbrev pub IsWithin : Launch → Type 0

@@ -1,5 +1,4 @@
-pub mod Front
-pub mod SourceForm
+pub mod Runnable
 pub mod Items
 pub mod Shapes
 pub mod Launches

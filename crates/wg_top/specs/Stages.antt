@@ -8,12 +8,15 @@ use Rattle.buffer_io.specs.Saves.{AllSavedAs, KeepsAllBut, StopsAt}
 use Rattle.cl_model.specs.Sizes.{Launch as ModelLaunch, group_size}
 use Rattle.launch_file.specs.Refusals.{Reads, IsRefused}
 use Rattle.launch_file.specs.Binding.{loads_of, saves_of}
-use Rattle.launch_file.specs.Texts.{Text}
+use Rattle.cl_prep.specs.declared.prep.Define.{Define}
+use Rattle.wg_front.specs.Compiled.{IsFaulty}
+use Rattle.launch_file.specs.Texts.{Text, Part}
 use Rattle.wg_top.specs.declared.RunError.{RunError}
 use Rattle.wg_top.specs.declared.RunError.TheVariants.{Failed, Absent, Source, Launch, Range, Memory}
 use Rattle.wg_top.specs.declared.Summary.{Summary}
-use Rattle.wg_top.specs.declared.source_form.Source.{Source as FirstSource}
-use Rattle.wg_top.specs.Kernels.{form_refusal}
+use Rattle.cl_meaning.specs.Typed.{Unit'}
+use Rattle.wg_top.specs.Runnable.{IsNotBuilt, IsFirstRefused, launch_place}
+use Rattle.wg_top.specs.Kernels.{bind_refusal}
 use Rattle.wg_top.specs.Launches.{launches_in, GoesOutside, all_groups, all_items}
 use Rattle.wg_top.specs.Causes.{Standing, LaunchLoaded, IsSourceFault, BuffersLoaded, HasRun}
 
@@ -43,15 +46,27 @@ ProgramCause bytes text (Source number place) = IsSourceFault bytes text number 
 ProgramCause bytes text Memory = ⊤
 ProgramCause bytes text _ = ⊥
 
+-- the cause of a refusal of a launch's kernel, once the source has a unit
+abbrev pub KernelCause : List ℕ → List Define → (kernel : List ℕ) → RunError → Type 0
+KernelCause bytes defines kernel (Source number place) = IsFaulty bytes defines kernel number place ⊎ IsNotBuilt bytes defines kernel number place
+KernelCause bytes defines kernel Memory = ⊤
+KernelCause bytes defines kernel _ = ⊥
+
+-- the same of the launches' kernels
+abbrev pub KernelsCause : List ℕ → List Define → List Part → RunError → Type 0
+KernelsCause bytes defines parts (Source number place) = IsFirstRefused bytes defines parts number place
+KernelsCause bytes defines parts Memory = ⊤
+KernelsCause bytes defines parts _ = ⊥
+
 -- the cause of a refusal of the launches
-abbrev pub BindCause : Text → RunError → Type 0
-BindCause text (Launch number) = form_refusal text ≡ Some number
-BindCause text Memory = ⊤
-BindCause text _ = ⊥
+abbrev pub BindCause : Text → List Unit' → RunError → Type 0
+BindCause text units (Launch number) = bind_refusal text units ≡ Some number
+BindCause text units Memory = ⊤
+BindCause text units _ = ⊥
 
 -- the launches are accepted, the buffers were loaded, and in the launch with that number an item came to an element outside its buffer
-pub record IsOutside (files : Option FileMap) (text : Text) (s : FirstSource) (number : ℕ) (several : Bool) (group item : ℕ) (place : Place) : Type 0 where
-  pub accepted : form_refusal text ≡ None
+pub record IsOutside (files : Option FileMap) (text : Text) (units : List Unit') (number : ℕ) (several : Bool) (group item : ℕ) (place : Place) : Type 0 where
+  pub accepted : bind_refusal text units ≡ None
   pub before : List (List ℕ)
   pub loaded : BuffersLoaded files text before
   pub earlier : List ModelLaunch
@@ -61,35 +76,35 @@ pub record IsOutside (files : Option FileMap) (text : Text) (s : FirstSource) (n
   pub number_is : number ≡ length earlier + 1
   pub several_is : several ≡ text.several
   pub group_is : group ≡ item / group_size launch
-  pub place_is : place ≡ s.place
+  pub place_is : place ≡ launch_place units (length earlier)
 
 -- the cause of a refusal once all is read
-abbrev pub BackCause : Standing → Standing → Text → FirstSource → RunError → Type 0
-BackCause old new text s Failed = Rose old.faults new.faults
-BackCause old new text s Absent = Rose old.misses new.misses × (form_refusal text ≡ None) × LacksOneFile old.files (loads_of text.buffers)
-BackCause old new text s (Launch number) = form_refusal text ≡ Some number
-BackCause old new text s (Range launch several group item place) = IsOutside old.files text s launch several group item place
-BackCause old new text s Memory = ⊤
-BackCause old new text s _ = ⊥
+abbrev pub BackCause : Standing → Standing → Text → List Unit' → RunError → Type 0
+BackCause old new text units Failed = Rose old.faults new.faults
+BackCause old new text units Absent = Rose old.misses new.misses × (bind_refusal text units ≡ None) × LacksOneFile old.files (loads_of text.buffers)
+BackCause old new text units (Launch number) = bind_refusal text units ≡ Some number
+BackCause old new text units (Range launch several group item place) = IsOutside old.files text units launch several group item place
+BackCause old new text units Memory = ⊤
+BackCause old new text units _ = ⊥
 
 -- saving had begun
-pub record SaveStopped (old new : Option FileMap) (text : Text) (s : FirstSource) : Type 0 where
-  pub accepted : form_refusal text ≡ None
+pub record SaveStopped (old new : Option FileMap) (text : Text) (units : List Unit') : Type 0 where
+  pub accepted : bind_refusal text units ≡ None
   pub after : List (List ℕ)
-  pub run : HasRun old text s after
+  pub run : HasRun old text units after
   pub stops : StopsAt old new (saves_of text.buffers) after
   pub others : KeepsAllBut old new (saves_of text.buffers)
 
 -- which files it leaves
-abbrev pub LeavesOthers : Standing → Standing → Text → FirstSource → RunError → Type 0
-LeavesOthers old new text s Failed = (new.files ≡ old.files) ⊎ SaveStopped old.files new.files text s
-LeavesOthers old new text s _ = new.files ≡ old.files
+abbrev pub LeavesOthers : Standing → Standing → Text → List Unit' → RunError → Type 0
+LeavesOthers old new text units Failed = (new.files ≡ old.files) ⊎ SaveStopped old.files new.files text units
+LeavesOthers old new text units _ = new.files ≡ old.files
 
 -- the launches ran and the buffers were saved
-pub record IsRun (old new : Option FileMap) (text : Text) (s : FirstSource) (summary : Summary) : Type 0 where
-  pub accepted : form_refusal text ≡ None
+pub record IsRun (old new : Option FileMap) (text : Text) (units : List Unit') (summary : Summary) : Type 0 where
+  pub accepted : bind_refusal text units ≡ None
   pub after : List (List ℕ)
-  pub run : HasRun old text s after
+  pub run : HasRun old text units after
   pub saved : AllSavedAs old new (saves_of text.buffers) after
   pub others : KeepsAllBut old new (saves_of text.buffers)
   pub groups : summary.groups ≡ all_groups (launches_in text)

@@ -5,12 +5,13 @@ ghost use Rattle.std.specs.Simd.Lanes.{number_l};
 ghost use Rattle.wg_num.specs.declared.types.IntType.TheVariants.{Int};
 ghost use Rattle.wg_num.specs.Wrap.{IsValue};
 ghost use Rattle.wg_num.specs.Bytes.{bytes_of, value_of_bytes};
-ghost use Rattle.wg_top.specs.SourceForm.{LiteralsFit, element_after};
+ghost use Rattle.element_kernel.specs.Kernels.{value_after as value_after_spec};
+ghost use Rattle.element_kernel.specs.View.{change_view};
 ghost use Rattle.wg_top.specs.Items.{ItemsRan, IsFirstOutside, AreInside, own_element};
 ghost use Rattle.wg_top.specs.Shapes.{FitsShape, HasShape};
 
-use crate::source_form::{Source, pattern_after, value_of_pattern};
-use wg_num::{IntType, bits};
+use element_kernel::{Change, value_after};
+use wg_num::{IntType, bits, wrap};
 
 // The number that four bytes spell, lowest byte first.
 fn pattern_of(element: &[u8]) -> u32
@@ -38,14 +39,22 @@ fn bytes_of_value(v: i128) -> [u8; 4]
     ]
 }
 
-// One item changes its element.
-fn run_item(element: &mut [u8], source: &Source)
-    requires size { length element.old ≡ 4 }
-    requires literals { LiteralsFit source.now }
-    ensures { element.new ≡ bytes_of Int (element_after source.now (value_of_bytes Int element.old)) }
+// The value of an element.
+fn value_of_element(element: &[u8]) -> i128
+    requires { length element.now ≡ 4 }
+    ensures same { result ≡ value_of_bytes Int element.now }
+    ensures value { IsValue Int result }
 {
-    let after = pattern_after(source, pattern_of(element));
-    let bytes = bytes_of_value(value_of_pattern(after));
+    wrap(IntType::Int, i128::from(pattern_of(element)))
+}
+
+// One item changes its element.
+fn run_item(element: &mut [u8], change: Change<'_>)
+    requires size { length element.old ≡ 4 }
+    ensures { element.new ≡ bytes_of Int (value_after_spec (change_view change.entry) (value_of_bytes Int element.old)) }
+{
+    let old = value_of_element(element);
+    let bytes = bytes_of_value(value_after(change, old));
     element.copy_from_slice(&bytes);
 }
 
@@ -73,12 +82,11 @@ fn own_element(shape: Shape, item: u64) -> u64
 
 /// Runs the items in the order of their numbers, and answers the first whose element does not lie
 /// within the buffer.
-pub(crate) fn run_items(bytes: &mut [u8], shape: Shape, source: &Source) -> Option<u64>
+pub(crate) fn run_items(bytes: &mut [u8], shape: Shape, change: Change<'_>) -> Option<u64>
     requires fits { FitsShape shape }
-    requires literals { LiteralsFit source.now }
     ensures fault { IfSome result (λ i. (launch : Launch) → HasShape launch shape → IsFirstOutside launch i (length bytes.old)) }
     ensures in_range { IfNone result ((launch : Launch) → HasShape launch shape → AreInside launch shape.items (length bytes.old)) }
-    ensures ran { IfNone result ((launch : Launch) → HasShape launch shape → ItemsRan source.now launch shape.items bytes.old bytes.new) }
+    ensures ran { IfNone result ((launch : Launch) → HasShape launch shape → ItemsRan (value_after_spec (change_view change.entry)) launch shape.items bytes.old bytes.new) }
     ensures same_size { length bytes.new ≡ length bytes.old }
 {
     for i in 0..shape.items {
@@ -87,7 +95,7 @@ pub(crate) fn run_items(bytes: &mut [u8], shape: Shape, source: &Source) -> Opti
             return Some(i);
         }
         let at = 4 * element as usize;
-        run_item(&mut bytes[at..at + 4], source);
+        run_item(&mut bytes[at..at + 4], change);
     }
     None
 }

@@ -1,15 +1,16 @@
 // The launches of a launch file, one after the other, over its buffers.
 ghost use Rattle.std.specs.Prelude.{◌≡◌, ◌≤◌, ◌<◌, All, map, length, IfOk, IfErr, IfSome, IfNone};
 ghost use Rattle.cl_model.specs.View.{launch_of};
-ghost use Rattle.wg_top.specs.SourceForm.{LiteralsFit};
+ghost use Rattle.cl_piece.specs.View.{unit_of};
+ghost use Rattle.wg_top.specs.Runnable.{IsBuilt};
 ghost use Rattle.wg_top.specs.Items.{IsFirstOutside};
 ghost use Rattle.wg_top.specs.Shapes.{FitsShape, HasShape};
 ghost use Rattle.wg_top.specs.Launches.{LaunchRan, LaunchesRan, IsWithin, AreWithin, StopsOutside, CanRun, target, target_size, all_groups, all_items};
 
 use crate::Summary;
 use crate::items::{Shape, run_items};
-use crate::source_form::Source;
-use cl_model::{Bound, Launch};
+use cl_model::{Bound, Launch, Program};
+use element_kernel::change_of;
 
 /// Where a run left its buffers: the number of a launch, counted from 0, and those of an item and
 /// its group in it.
@@ -57,36 +58,40 @@ fn run_launch(
     list: &mut Vec<Vec<u8>>,
     launch: &Launch,
     shape: Shape,
-    source: &Source,
+    program: &Program,
 ) -> Option<u64>
     requires can { CanRun (launch_of launch.now) }
     requires fits { FitsShape shape }
     requires same { HasShape (launch_of launch.now) shape }
     requires sizes { map (λ b. length b.items) list.old.items ≡ launch.now.lengths.items }
-    requires literals { LiteralsFit source.now }
+    requires built { IsBuilt (unit_of program.now) }
     ensures sizes { map (λ b. length b.items) list.new.items ≡ map (λ b. length b.items) list.old.items }
     ensures outside { IfSome result (λ i. IsFirstOutside (launch_of launch.now) i (target_size (launch_of launch.now))) }
     ensures within { IfNone result (IsWithin (launch_of launch.now)) }
-    ensures ran { IfNone result (LaunchRan source.now (launch_of launch.now) (map (λ b. b.items) list.old.items) (map (λ b. b.items) list.new.items)) }
+    ensures ran { IfNone result (LaunchRan (unit_of program.now) (launch_of launch.now) (map (λ b. b.items) list.old.items) (map (λ b. b.items) list.new.items)) }
 {
     let number = target_of(launch);
-    run_items(&mut list[number], shape, source)
+    match change_of(program) {
+        Some(change) => run_items(&mut list[number], shape, change),
+        None => unreachable!(),
+    }
 }
 
-/// Runs the launches in order, each on the buffers that the one before it left, and answers how
+/// Runs the launches in order, each with its kernel, on the buffers that the one before it left, and answers how
 /// many groups and items they have, or the first item whose element lies outside its buffer.
 pub(crate) fn run_launches(
     list: &mut Vec<Vec<u8>>,
     launches: &[Launch],
-    source: &Source,
+    programs: &[Program],
 ) -> Result<Summary, Outside>
     requires can { All (λ l. CanRun (launch_of l)) launches.now }
     requires sizes { All (λ l. map (λ b. length b.items) list.old.items ≡ l.lengths.items) launches.now }
     requires few { length launches.now ≤ 16 }
-    requires literals { LiteralsFit source.now }
+    requires as_many { length programs.now ≡ length launches.now }
+    requires built { All (λ p. IsBuilt (unit_of p)) programs.now }
     ensures sizes { map (λ b. length b.items) list.new.items ≡ map (λ b. length b.items) list.old.items }
     ensures within { IfOk result (λ s. AreWithin (map launch_of launches.now)) }
-    ensures ran { IfOk result (λ s. LaunchesRan source.now (map launch_of launches.now) (map (λ b. b.items) list.old.items) (map (λ b. b.items) list.new.items)) }
+    ensures ran { IfOk result (λ s. LaunchesRan (map unit_of programs.now) (map launch_of launches.now) (map (λ b. b.items) list.old.items) (map (λ b. b.items) list.new.items)) }
     ensures groups { IfOk result (λ s. s.groups ≡ all_groups (map launch_of launches.now)) }
     ensures items { IfOk result (λ s. s.items ≡ all_items (map launch_of launches.now)) }
     ensures outside { IfErr result (λ o. StopsOutside (map launch_of launches.now) o.launch o.group o.item) }
@@ -95,7 +100,7 @@ pub(crate) fn run_launches(
     let mut items = 0u64;
     for k in 0..launches.len() {
         let shape = shape_of(&launches[k]);
-        if let Some(item) = run_launch(list, &launches[k], shape, source) {
+        if let Some(item) = run_launch(list, &launches[k], shape, &programs[k]) {
             return Err(Outside {
                 launch: k,
                 group: item / shape.size,

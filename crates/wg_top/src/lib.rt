@@ -1,5 +1,5 @@
-//! The top call: from words to a status, from files to files. Today it runs sources of the first
-//! form, which `source_form` recognises, in launches of any launch file.
+//! The top call: from words to a status, from files to files. Today it runs the kernels that set
+//! each work-item's own element of one buffer, in launches of any launch file.
 #![tactic(auto)]
 
 ghost use Rattle.std.specs.Prelude.{◌≡◌, ◌≤◌, ◌⊎◌, List, map, string_bytes, is_some, true, IfOk};
@@ -8,7 +8,7 @@ ghost use Rattle.launch_file.specs.Texts.{Text};
 ghost use Rattle.wg_outside.specs.Counts.{Rose};
 ghost use Rattle.wg_top.specs.Causes.{Accepted, Finds};
 ghost use Rattle.wg_top.specs.declared.RunError.{RunError};
-ghost use Rattle.wg_top.specs.declared.source_form.Source.{Source};
+ghost use Rattle.cl_meaning.specs.Typed.{Unit'};
 ghost use Rattle.wg_top.specs.Ends.{sink_standing, outside, AreWords, Ends, EndsUnbuilt, EndsAsked, EndsSaying, KeepsOut, SaysLine, usage_line};
 ghost use Rattle.wg_top.specs.Lines.{status_of};
 
@@ -17,12 +17,11 @@ use std::alloc::Global;
 use wg_num::Place;
 use wg_outside::{Failed, Sink, Store};
 
-pub mod front;
 mod items;
 mod launches;
 mod lines;
+mod programs;
 mod run;
-pub mod source_form;
 
 pub use run::run_source;
 
@@ -180,8 +179,8 @@ pub fn wgcc<S: Store, O: Sink, E: Sink>(
     ensures out { (result ≡ 0 → ⊥) → KeepsOut (sink_standing O.written O.faults out.old) (sink_standing O.written O.faults out.new) }
 
     // What must come where the store tells its files and no fault rises, want of memory aside.
-    ensures complete { (ask : Files) (text : Text) (s : Source) → AreWords (map string_bytes words.now) (run ask) →
-        Accepted (S.files store.old) ask text s →
+    ensures complete { (ask : Files) (text : Text) (units : List Unit') → AreWords (map string_bytes words.now) (run ask) →
+        Accepted (S.files store.old) ask text units →
         (Rose (S.faults store.old) (S.faults store.new) → ⊥) → (Rose (O.faults out.old) (O.faults out.new) → ⊥) →
         (result ≡ 0) ⊎ (result ≡ 8) }
     ensures exact { (ask : Files) (error : RunError) → AreWords (map string_bytes words.now) (run ask) →

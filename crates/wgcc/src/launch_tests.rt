@@ -225,8 +225,8 @@ fn launch_files_are_refused_by_their_first_fault(rt: HostRuntime) -> Result<(), 
         )?
     );
     let other = "format = 1\nkernel = \"other\"\nglobal = 4\nlocal = 2\n";
-    let unbuilt = refused(3, "wgcc: k.cl:1:1: E000 form not built\n");
-    assert!(rt; launches(alloc, &[other, BUFFER, ARG], unbuilt)?);
+    let none = refused(3, "wgcc: k.cl:1:86: E422 no such kernel\n");
+    assert!(rt; launches(alloc, &[other, BUFFER, ARG], none)?);
     Ok(())
 }
 

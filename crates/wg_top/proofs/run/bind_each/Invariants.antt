@@ -1,9 +1,10 @@
 use Rattle.std.proofs.Common.{◌≡◌, map, drop, take}
 use Rattle.std.specs.Prelude.{All}
 use Rattle.cl_model.specs.View.{launch_of}
+use Rattle.cl_piece.specs.View.{unit_of}
 use Rattle.launch_file.specs.Binding.{launch_in}
 use Rattle.launch_file.specs.Texts.{part_of}
-use Rattle.wg_top.specs.Kernels.{form_needs, first_refusal}
+use Rattle.wg_top.specs.Kernels.{first_refusal}
 use Rattle.wg_top.specs.Launches.{IsReady}
 use Rattle.wg_top.proofs.run.bind_each.Given as goal
 
@@ -11,5 +12,5 @@ abbrev pub invariant-loop-which : goal.invariant-loop-which
 invariant-loop-which l = record {
   launches : map launch_of l.list.items ≡ map (launch_in l.text.turns l.text.buffers.items) (take l.which (map part_of l.text.list.items));
   ready : All (IsReady l.text.buffers.items) l.list.items;
-  accepted : first_refusal form_needs l.text.buffers.items (map part_of l.text.list.items) ≡ first_refusal form_needs l.text.buffers.items (drop l.which (map part_of l.text.list.items));
+  accepted : first_refusal l.text.buffers.items (map part_of l.text.list.items) (map unit_of l.programs) ≡ first_refusal l.text.buffers.items (drop l.which (map part_of l.text.list.items)) (drop l.which (map unit_of l.programs));
 }

@@ -1,7 +1,8 @@
-use Rattle.std.proofs.Common.{◌≡◌, Option, List, ℕ, map, length, inr, sym, subst, arith}
+use Rattle.std.proofs.Common.{◌≡◌, ◌<◌, Option, List, ℕ, map, length, inr, sym, subst, arith}
 use Rattle.std.specs.Prelude.{All, IfSome, IsUtf8}
 use Rattle.buffer_io.specs.Saves.{AreApart}
 use Rattle.cl_model.specs.View.{launch_of}
+use Rattle.cl_piece.specs.View.{unit_of}
 use Rattle.launch_file.specs.Texts.{text_of}
 use Rattle.wg_top.specs.Launches.{IsReady}
 use Rattle.wg_top.proofs.RunLemmas.{ready_first, load_texts, save_texts, started_lengths, can_run, sizes_of_each, as_many, stops_within, loaded_of, is_outside, has_run, save_stopped, is_run, apart}
@@ -30,7 +31,7 @@ overflow_add-result g c = omega (arith, c.requires.few, stops_within launch_of c
 pub returns-in-Err-clause-err : goal.returns-in-Err-clause-err
 returns-in-Err-clause-err g c =
     let ready : IsReady c.args.text.now.buffers.items c.index-launches-0.result = ready_first c.args.text.now.buffers.items c.args.launches.now c.index-launches-0.result c.requires.ready c.requires.some c.index-launches-0.is in
-    is_outside (g.S.Store.files c.args.store.now) (text_of c.args.text.now) c.args.source.now (map (λ b. b.items) c.in-Ok.buffers.list.items) (map launch_of c.args.launches.now) c.in-Err.outside.launch c.in-Err.outside.group c.in-Err.outside.item c.requires.accepted (loaded_of (g.S.Store.files c.args.store.now) (text_of c.args.text.now) c.index-launches-0.result (map (λ b. b.items) c.in-Ok.buffers.list.items) ready c.in-Ok.ensures.content) c.requires.launches c.in-Err.ensures.outside
+    is_outside (g.S.Store.files c.args.store.now) (text_of c.args.text.now) (map unit_of c.args.programs.now) (map (λ b. b.items) c.in-Ok.buffers.list.items) (map launch_of c.args.launches.now) c.in-Err.outside.launch c.in-Err.outside.group c.in-Err.outside.item c.launch_place.result c.launch_place.ensures c.requires.accepted (loaded_of (g.S.Store.files c.args.store.now) (text_of c.args.text.now) c.index-launches-0.result (map (λ b. b.items) c.in-Ok.buffers.list.items) ready c.in-Ok.ensures.content) c.requires.launches c.in-Err.ensures.outside
 
 pub save_all-requires-clause-same : goal.save_all-requires-clause-same
 save_all-requires-clause-same g c =
@@ -52,9 +53,9 @@ save_all-requires-clause-apart g c =
 pub returns-in-Ok-save_all-clause-ok : goal.returns-in-Ok-save_all-clause-ok
 returns-in-Ok-save_all-clause-ok g c =
     let ready : IsReady c.args.text.now.buffers.items c.index-launches-0.result = ready_first c.args.text.now.buffers.items c.args.launches.now c.index-launches-0.result c.requires.ready c.requires.some c.index-launches-0.is in
-    is_run (g.S.Store.files c.args.store.now) (g.S.Store.files c.load_all.new.store) _ (text_of c.args.text.now) c.args.source.now c.index-launches-0.result.saves.items (map (λ b. b.items) c.run_launches.new.list.items) c.in-Ok-run_launches.summary (map launch_of c.args.launches.now) c.requires.accepted c.load_all.ensures.files_stay ready.saves (has_run (g.S.Store.files c.args.store.now) (text_of c.args.text.now) c.args.source.now (map (λ b. b.items) c.in-Ok.buffers.list.items) (map (λ b. b.items) c.run_launches.new.list.items) (map launch_of c.args.launches.now) (loaded_of (g.S.Store.files c.args.store.now) (text_of c.args.text.now) c.index-launches-0.result (map (λ b. b.items) c.in-Ok.buffers.list.items) ready c.in-Ok.ensures.content) c.requires.launches c.in-Ok-run_launches.ensures.within c.in-Ok-run_launches.ensures.ran) c.in-Ok-save_all.ensures.saved c.in-Ok-save_all.ensures.others c.requires.launches c.in-Ok-run_launches.ensures.groups c.in-Ok-run_launches.ensures.items
+    is_run (g.S.Store.files c.args.store.now) (g.S.Store.files c.load_all.new.store) _ (text_of c.args.text.now) (map unit_of c.args.programs.now) c.index-launches-0.result.saves.items (map (λ b. b.items) c.run_launches.new.list.items) c.in-Ok-run_launches.summary (map launch_of c.args.launches.now) c.requires.accepted c.load_all.ensures.files_stay ready.saves (has_run (g.S.Store.files c.args.store.now) (text_of c.args.text.now) (map unit_of c.args.programs.now) (map (λ b. b.items) c.in-Ok.buffers.list.items) (map (λ b. b.items) c.run_launches.new.list.items) (map launch_of c.args.launches.now) (loaded_of (g.S.Store.files c.args.store.now) (text_of c.args.text.now) c.index-launches-0.result (map (λ b. b.items) c.in-Ok.buffers.list.items) ready c.in-Ok.ensures.content) c.requires.launches c.in-Ok-run_launches.ensures.within c.in-Ok-run_launches.ensures.ran) c.in-Ok-save_all.ensures.saved c.in-Ok-save_all.ensures.others c.requires.launches c.in-Ok-run_launches.ensures.groups c.in-Ok-run_launches.ensures.items
 
 pub returns-clause-left : goal.returns-clause-left
 returns-clause-left g c =
     let ready : IsReady c.args.text.now.buffers.items c.index-launches-0.result = ready_first c.args.text.now.buffers.items c.args.launches.now c.index-launches-0.result c.requires.ready c.requires.some c.index-launches-0.is in
-    inr (save_stopped (g.S.Store.files c.args.store.now) (g.S.Store.files c.load_all.new.store) _ (text_of c.args.text.now) c.args.source.now c.index-launches-0.result.saves.items (map (λ b. b.items) c.run_launches.new.list.items) c.requires.accepted c.load_all.ensures.files_stay ready.saves (has_run (g.S.Store.files c.args.store.now) (text_of c.args.text.now) c.args.source.now (map (λ b. b.items) c.in-Ok.buffers.list.items) (map (λ b. b.items) c.run_launches.new.list.items) (map launch_of c.args.launches.now) (loaded_of (g.S.Store.files c.args.store.now) (text_of c.args.text.now) c.index-launches-0.result (map (λ b. b.items) c.in-Ok.buffers.list.items) ready c.in-Ok.ensures.content) c.requires.launches c.in-Ok-run_launches.ensures.within c.in-Ok-run_launches.ensures.ran) c.in-Err-save_all.ensures.stops c.in-Err-save_all.ensures.others)
+    inr (save_stopped (g.S.Store.files c.args.store.now) (g.S.Store.files c.load_all.new.store) _ (text_of c.args.text.now) (map unit_of c.args.programs.now) c.index-launches-0.result.saves.items (map (λ b. b.items) c.run_launches.new.list.items) c.requires.accepted c.load_all.ensures.files_stay ready.saves (has_run (g.S.Store.files c.args.store.now) (text_of c.args.text.now) (map unit_of c.args.programs.now) (map (λ b. b.items) c.in-Ok.buffers.list.items) (map (λ b. b.items) c.run_launches.new.list.items) (map launch_of c.args.launches.now) (loaded_of (g.S.Store.files c.args.store.now) (text_of c.args.text.now) c.index-launches-0.result (map (λ b. b.items) c.in-Ok.buffers.list.items) ready c.in-Ok.ensures.content) c.requires.launches c.in-Ok-run_launches.ensures.within c.in-Ok-run_launches.ensures.ran) c.in-Err-save_all.ensures.stops c.in-Err-save_all.ensures.others)

@@ -1,0 +1,25 @@
+//! The pieces of a typed program: what each node of a syntax tree stands for, made from the pieces of its parts.
+#![tactic(auto)]
+
+mod assignments;
+mod calls;
+mod context;
+mod declarators;
+mod elements;
+mod functions;
+mod growth;
+mod leaves;
+mod lines;
+pub mod make;
+mod operators;
+mod parts;
+pub mod piece;
+mod sites;
+mod statements;
+mod switches;
+#[cfg(test)]
+mod tests;
+mod types;
+mod values;
+
+pub use piece::{Piece, What};

@@ -1,0 +1,7 @@
+use Rattle.std.proofs.Common.{◌≡◌, Some, subst}
+use Rattle.launch_file.specs.Binding.{Needs, launch_refusal, part_at}
+use Rattle.launch_file.specs.Texts.{text_of}
+use Rattle.launch_bind.proofs.bind.Goals as goal
+
+pub returns-in-Ok-clause-refused : goal.returns-in-Ok-clause-refused
+returns-in-Ok-clause-refused c = λ number is. subst (λ (n : Needs). launch_refusal n (text_of c.args.text.now).buffers (part_at (text_of c.args.text.now) c.args.which) ≡ Some number) c.in-Ok.ensures (c.bind_kernel.ensures.refused number is)

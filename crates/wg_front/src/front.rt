@@ -1,0 +1,209 @@
+//! From the bytes of a source to its unit.
+ghost use Rattle.std.specs.Prelude.{◌≡◌, ◌≤◌, List, length, All, IfOk, IfErr};
+ghost use Rattle.cl_token.specs.declared.token.Token.{Token as AnyToken};
+ghost use Rattle.cl_token.specs.Answers.{IsRefusedOrMemory as IsUncutOrMemory};
+ghost use Rattle.cl_token.specs.Cuts.{Cuts, limit};
+ghost use Rattle.cl_prep.specs.declared.prep.Define.{Define};
+ghost use Rattle.cl_prep.specs.Expands.{token_limit};
+ghost use Rattle.cl_prep.specs.Progress.{IsRefusedOrMemory as IsUnexpandedOrMemory};
+ghost use Rattle.cl_tree.specs.Syntax.{view, nesting};
+ghost use Rattle.cl_tree.specs.Grammar.{SpellsUnit};
+ghost use Rattle.wg_front.specs.Front.{Reads, AreExpanded, IsRefusal, place_of_token, number_of_lexical, offset_of_lexical, number_of_expansion, token_of_expansion};
+
+use cl_parse::{ParseError, parse};
+use cl_prep::{Defines, PrepError, expand};
+use cl_token::{LexError, Token, place_of, tokens};
+use cl_tree::Tree;
+use std::alloc::Global;
+use wg_num::Place;
+
+/// Why a source is refused.
+#[derive(Clone, Copy)]
+pub enum SourceError {
+    /// The condition of that number stands at that place.
+    Fault { number: u16, place: Place },
+    Memory,
+}
+
+// The place of the token with that number, or of the end of the source.
+pub(crate) fn token_place(source: &[u8], tokens: &[Token], number: u32) -> Place
+    requires short { length source.now ≤ limit }
+    requires inside { All (λ t. t.start ≤ length source.now) tokens.now }
+    ensures { result ≡ place_of_token source.now tokens.now number }
+{
+    match tokens.get(number as usize) {
+        Some(token) => place_of(source, token.start),
+        None => place_of(source, source.len() as u32),
+    }
+}
+
+// The number of an error of the tokens.
+fn lexical_number(error: LexError) -> u16
+    ensures { result ≡ number_of_lexical error }
+{
+    match error {
+        LexError::NoToken { .. } => 101,
+        LexError::OpenComment { .. } => 102,
+        LexError::BadNumber { .. } => 103,
+        LexError::LargeNumber { .. } => 104,
+        LexError::TooLong => 105,
+        LexError::Memory => 0,
+    }
+}
+
+// The offset at which it stands.
+fn lexical_offset(error: LexError) -> u32
+    ensures { result ≡ offset_of_lexical error }
+{
+    match error {
+        LexError::NoToken { at } => at,
+        LexError::OpenComment { at } => at,
+        LexError::BadNumber { at } => at,
+        LexError::LargeNumber { at } => at,
+        LexError::TooLong => 0,
+        LexError::Memory => 0,
+    }
+}
+
+// The refusal of a source that is not cut into tokens.
+fn uncut(source: &[u8], error: LexError) -> SourceError
+    requires { IsUncutOrMemory source.now error }
+    ensures { (defines : List Define) → IsRefusal source.now defines result }
+{
+    let number = lexical_number(error);
+    if number == 0 {
+        return SourceError::Memory;
+    }
+    SourceError::Fault {
+        number,
+        place: place_of(source, lexical_offset(error)),
+    }
+}
+
+// The tokens of a source.
+fn cut_source(alloc: Global, source: &[u8]) -> Result<Vec<Token>, SourceError>
+    ensures short { IfOk result (λ ts. length source.now ≤ limit) }
+    ensures cuts { IfOk result (λ ts. Cuts source.now ts.items) }
+    ensures inside { IfOk result (λ ts. All (λ t. t.start ≤ length source.now) ts.items) }
+    ensures err { IfErr result (λ e. (defines : List Define) → IsRefusal source.now defines e) }
+{
+    match tokens(alloc, source) {
+        Ok(tokens) => Ok(tokens),
+        Err(error) => Err(uncut(source, error)),
+    }
+}
+
+// The number of an error of the expansion.
+fn expansion_number(error: PrepError) -> u16
+    ensures { result ≡ number_of_expansion error }
+{
+    match error {
+        PrepError::BadDirective { .. } => 201,
+        PrepError::NoName { .. } => 202,
+        PrepError::Redefined { .. } => 203,
+        PrepError::NoOpening { .. } => 204,
+        PrepError::NotClosed { .. } => 205,
+        PrepError::TooMany { .. } => 206,
+        PrepError::Memory => 0,
+    }
+}
+
+// The number of the token at which it stands.
+fn expansion_token(error: PrepError) -> u32
+    ensures { result ≡ token_of_expansion error }
+{
+    match error {
+        PrepError::BadDirective { token } => token,
+        PrepError::NoName { token } => token,
+        PrepError::Redefined { token } => token,
+        PrepError::NoOpening { token } => token,
+        PrepError::NotClosed { token } => token,
+        PrepError::TooMany { token } => token,
+        PrepError::Memory => 0,
+    }
+}
+
+// The refusal of tokens that are not expanded.
+fn unexpanded(source: &[u8], defines: &Defines, tokens: &[Token], error: PrepError) -> SourceError
+    requires short { length source.now ≤ limit }
+    requires cuts { Cuts source.now tokens.now }
+    requires inside { All (λ t. t.start ≤ length source.now) tokens.now }
+    requires refused { IsUnexpandedOrMemory tokens.now defines.now.list.items error }
+    ensures { IsRefusal source.now defines.now.list.items result }
+{
+    let number = expansion_number(error);
+    if number == 0 {
+        return SourceError::Memory;
+    }
+    SourceError::Fault {
+        number,
+        place: token_place(source, tokens, expansion_token(error)),
+    }
+}
+
+// What the tokens of a source expand to.
+fn expand_tokens(
+    alloc: Global,
+    source: &[u8],
+    defines: &Defines,
+    tokens: &[Token],
+) -> Result<Vec<Token>, SourceError>
+    requires short { length source.now ≤ limit }
+    requires cuts { Cuts source.now tokens.now }
+    requires inside { All (λ t. t.start ≤ length source.now) tokens.now }
+    ensures reads { IfOk result (λ ts. Reads source.now defines.now.list.items tokens.now ts.items) }
+    ensures inside { IfOk result (λ ts. All (λ t. t.start ≤ length source.now) ts.items) }
+    ensures few { IfOk result (λ ts. length ts.items ≤ token_limit) }
+    ensures err { IfErr result (λ e. IsRefusal source.now defines.now.list.items e) }
+{
+    match expand(alloc, tokens, defines) {
+        Ok(expanded) => Ok(expanded),
+        Err(error) => Err(unexpanded(source, defines, tokens, error)),
+    }
+}
+
+/// The tokens of a source after directives, conditionals and the replacement of names (C99, sections
+/// 6.4 and 6.10), with these given names.
+///
+/// A source is refused by its bytes first (E101 to E105), and then by its tokens (E201 to E206), at
+/// the place that the condition names.
+pub fn read_tokens(
+    alloc: Global,
+    source: &[u8],
+    defines: &Defines,
+) -> Result<Vec<Token>, SourceError>
+    ensures expanded { IfOk result (λ ts. AreExpanded source.now defines.now.list.items ts.items) }
+    ensures short { IfOk result (λ ts. length source.now ≤ limit) }
+    ensures inside { IfOk result (λ ts. All (λ t. t.start ≤ length source.now) ts.items) }
+    ensures few { IfOk result (λ ts. length ts.items ≤ token_limit) }
+    ensures err { IfErr result (λ e. IsRefusal source.now defines.now.list.items e) }
+{
+    let tokens = match cut_source(alloc, source) {
+        Ok(tokens) => tokens,
+        Err(error) => return Err(error),
+    };
+    expand_tokens(alloc, source, defines, &tokens)
+}
+
+/// The unit that the expanded tokens of a source spell (OpenCL 1.2, chapter 6; C99, sections 6.5 to
+/// 6.9), or its refusal (E301 and E302) at the place that the condition names.
+pub fn read_unit(alloc: Global, source: &[u8], expanded: &[Token]) -> Result<Tree, SourceError>
+    requires short { length source.now ≤ limit }
+    requires inside { All (λ t. t.start ≤ length source.now) expanded.now }
+    requires few { length expanded.now ≤ token_limit }
+    ensures ok { IfOk result (λ t. SpellsUnit (view t) expanded.now × (nesting (view t) ≤ 256)) }
+    ensures err { IfErr result (λ e. (defines : List Define) (tokens : List AnyToken) → Reads source.now defines tokens expanded.now → IsRefusal source.now defines e) }
+{
+    match parse(alloc, expanded) {
+        Ok(unit) => Ok(unit),
+        Err(ParseError::Syntax { token }) => Err(SourceError::Fault {
+            number: 301,
+            place: token_place(source, expanded, token),
+        }),
+        Err(ParseError::Nesting { token }) => Err(SourceError::Fault {
+            number: 302,
+            place: token_place(source, expanded, token),
+        }),
+        Err(ParseError::Memory) => Err(SourceError::Memory),
+    }
+}

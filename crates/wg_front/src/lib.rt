@@ -1,0 +1,10 @@
+//! From the bytes of a source to its typed program.
+#![tactic(auto)]
+
+pub mod front;
+#[cfg(test)]
+mod tests;
+pub mod typing;
+
+pub use front::{SourceError, read_tokens, read_unit};
+pub use typing::{Source, compile, compile_kernel, read_source};

@@ -1,5 +1,0 @@
-use Rattle.std.proofs.Common.{inl}
-use Rattle.wg_top.proofs.run.refused.Goals as goal
-
-pub returns-in-Fault : goal.returns-in-Fault
-returns-in-Fault c = λ bytes text stands. inl (rw c.in-Fault.is at stands)
