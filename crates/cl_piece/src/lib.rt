@@ -17,8 +17,6 @@ pub mod piece;
 mod sites;
 mod statements;
 mod switches;
-#[cfg(test)]
-mod tests;
 mod types;
 mod values;
 
