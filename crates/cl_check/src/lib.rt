@@ -3,8 +3,6 @@
 
 mod error;
 mod gather;
-#[cfg(test)]
-mod tests;
 mod unit;
 mod walk;
 

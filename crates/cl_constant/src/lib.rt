@@ -3,8 +3,6 @@
 
 pub mod constant;
 pub mod conversions;
-#[cfg(test)]
-mod tests;
 
 pub use constant::{Constant, constant_of};
 pub use conversions::{

@@ -15,8 +15,6 @@ pub mod reach;
 mod signatures;
 pub mod spread;
 mod targets;
-#[cfg(test)]
-mod tests;
 
 pub use callees::{arity_fits, call_fits, call_kind, call_result};
 pub use fault::fault_at;

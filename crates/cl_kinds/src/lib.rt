@@ -9,8 +9,6 @@ pub mod misfits;
 pub mod operators;
 pub mod parts;
 pub mod settings;
-#[cfg(test)]
-mod tests;
 
 pub use calls::{
     all_numbers, are_known, argument_fits, arguments_fit, builtin_type, intrinsic_arity,

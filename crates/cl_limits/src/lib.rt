@@ -8,8 +8,6 @@ pub mod memory;
 pub mod nodes;
 pub mod points;
 pub mod sums;
-#[cfg(test)]
-mod tests;
 
 pub use barriers::heights;
 pub use limit::limit_of;

@@ -5,8 +5,6 @@ mod declaration;
 mod expression;
 mod parser;
 mod statement;
-#[cfg(test)]
-mod tests;
 mod types;
 mod unit;
 

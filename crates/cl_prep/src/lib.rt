@@ -8,8 +8,6 @@ pub mod prep;
 mod replace;
 mod scope;
 mod start;
-#[cfg(test)]
-mod tests;
 
 pub use expansion::expand;
 pub use prep::{Define, Defines, PrepError};

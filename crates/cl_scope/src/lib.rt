@@ -11,8 +11,6 @@ pub mod lookup;
 mod scopes;
 pub mod signature;
 pub mod table;
-#[cfg(test)]
-mod tests;
 pub mod walk;
 
 pub use between::later;

@@ -6,8 +6,6 @@ pub mod names;
 pub mod operators;
 mod pieces;
 mod table;
-#[cfg(test)]
-mod tests;
 pub mod types;
 
 pub use literals::{literal, truth_of};

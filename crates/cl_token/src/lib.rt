@@ -6,8 +6,6 @@ pub mod lexer;
 pub mod number;
 mod piece;
 pub mod place;
-#[cfg(test)]
-mod tests;
 pub mod token;
 
 pub use lexer::{SOURCE_LIMIT, tokens};

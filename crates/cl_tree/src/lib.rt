@@ -2,8 +2,6 @@
 #![tactic(auto)]
 
 pub mod terminal;
-#[cfg(test)]
-mod tests;
 pub mod tree;
 mod words;
 

@@ -10,8 +10,6 @@ use clap::{Arg, ArgAction, ArgMatches, Command, value_parser};
 use std::alloc::{AllocError, Global};
 use thiserror::Error;
 
-#[cfg(test)]
-mod tests;
 
 // A required argument.
 fn argument<'a>(alloc: Global, name: &'a str) -> Arg<'a>

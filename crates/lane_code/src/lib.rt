@@ -7,8 +7,6 @@ pub mod field;
 pub mod listings;
 pub mod program;
 pub mod step;
-#[cfg(test)]
-mod tests;
 pub mod text;
 
 pub use code::{Code, Counts, Node};

@@ -12,8 +12,6 @@ pub mod lanes32;
 pub mod lanes64;
 pub mod masks;
 pub mod tally;
-#[cfg(test)]
-mod tests;
 
 pub use access32::{gather32, scatter32};
 pub use access64::{gather64, scatter64};

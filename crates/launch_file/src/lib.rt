@@ -3,8 +3,6 @@
 
 mod arguments;
 pub mod bind;
-#[cfg(test)]
-mod bind_tests;
 mod document;
 mod format;
 mod keys;
@@ -13,8 +11,6 @@ mod parts;
 mod reader;
 mod settle;
 mod sizes;
-#[cfg(test)]
-mod tests;
 pub mod text;
 mod values;
 

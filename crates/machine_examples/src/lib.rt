@@ -1,4 +1,4 @@
-//! Examples of codes on the lane machine, each on one group of 20 work-items.
+//! Examples of codes on the lane machine, each on one group of 20 work-items; of listings, and of vectors.
 #![tactic(auto)]
 
 mod example;
@@ -6,4 +6,8 @@ mod example;
 pub use example::Example;
 
 #[cfg(test)]
+mod listing;
+#[cfg(test)]
 mod tests;
+#[cfg(test)]
+mod vectors;

@@ -2,9 +2,9 @@
 #![tactic(auto)]
 
 pub mod front;
-#[cfg(test)]
-mod tests;
+pub mod laws;
 pub mod typing;
 
 pub use front::{SourceError, read_tokens, read_unit};
+pub use laws::program_law;
 pub use typing::{Source, compile, compile_kernel, read_source};

@@ -1,4 +1,4 @@
-use crate::{Define, Defines, PrepError, expand};
+use cl_prep::{Define, Defines, PrepError, expand};
 use cl_token::{Token, place_of, tokens};
 use std::alloc::Global;
 use std::test::Fail;

@@ -1,7 +1,7 @@
 //! What the vectors do on a few lanes, at two widths.
 #![tactic(auto, unfolding(wg_num::specs::Wrap::half, wg_num::specs::Wrap::modulus))]
 
-use crate::{
+use lane_kernels::{
     Tally, any, binary32, binary64, blend32, builtin32, convert32, gather32, gather64, lowest,
     narrow, nonzero32, scatter32, scatter64, unary32, widen,
 };

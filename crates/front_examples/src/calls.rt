@@ -1,4 +1,4 @@
-use crate::{Call, leads_back, rows_of};
+use cl_faults::{Call, leads_back, rows_of};
 use std::test::Fail;
 
 // Three functions in a ring, and one that calls into it.

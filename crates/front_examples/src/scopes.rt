@@ -1,4 +1,4 @@
-use crate::{
+use cl_scope::{
     Callee, Environment, callee_of, enter, is_declared, is_flag, later, leave, meaning_of, restore,
     start,
 };
@@ -168,7 +168,7 @@ fn flags_are_known_in_a_fence(rt: HostRuntime) -> Result<(), Fail> {
         of: IntType::Uint,
         reach: Reach::Value,
     };
-    assert_eq!(rt; crate::name_kind(&environment, name), Some(number));
+    assert_eq!(rt; cl_scope::name_kind(&environment, name), Some(number));
     let _inner = restore(&mut environment, saved);
     assert!(rt; !is_flag(&environment, name));
     Ok(())

@@ -1,4 +1,4 @@
-use crate::{CheckError, check};
+use cl_check::{CheckError, check};
 use cl_meaning::Fault;
 use cl_tree::{Form, Tree};
 use std::alloc::Global;

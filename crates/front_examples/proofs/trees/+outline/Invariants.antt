@@ -1,4 +1,4 @@
-use Rattle.cl_parse.proofs.tests.+outline.Given as goal
+use Rattle.front_examples.proofs.trees.+outline.Given as goal
 
 abbrev pub decreases-outline : goal.decreases-outline
 decreases-outline l = l.depth

@@ -1,4 +1,4 @@
-use crate::{
+use cl_kinds::{
     binary_kind, builtin_type, comma_kind, number, root_changes, set_kind, value_fits, value_kind,
 };
 use cl_meaning::{Each, Kind, Reach};

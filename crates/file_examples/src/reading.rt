@@ -1,6 +1,6 @@
 //! What no clause says: that the keys are spelled as documented, and that whole files are read.
 
-use crate::{ArgText, LaunchError, read};
+use launch_file::{ArgText, LaunchError, read};
 use std::alloc::Global;
 use std::test::Fail;
 use wg_num::Width;

@@ -1,4 +1,4 @@
-use crate::{
+use cl_spelling::{
     Base, Intrinsic, Prefix, base_of, dimensions_of, intrinsic_of, is_const, is_set, literal,
     name_of, prefix_of, requires_size,
 };

@@ -1,4 +1,4 @@
-use crate::parser::{ParseError, parse};
+use cl_parse::{ParseError, parse};
 use cl_token::{Token, tokens};
 use cl_tree::Tree;
 use std::alloc::Global;

@@ -1,6 +1,6 @@
 #![tactic(auto)]
 
-use crate::{word_bytes, words};
+use buffer_io::{word_bytes, words};
 use std::test::Fail;
 
 #[test]

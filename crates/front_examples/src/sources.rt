@@ -1,6 +1,6 @@
 //! A source with the program that it stands for, and one that is refused.
 
-use crate::{SourceError, compile};
+use wg_front::{SourceError, compile};
 use cl_prep::Defines;
 use std::test::Fail;
 use wg_num::Place;

@@ -1,4 +1,4 @@
-use crate::{Kind, LexError, Token, place_of, places, tokens};
+use cl_token::{Kind, LexError, Token, place_of, places, tokens};
 use std::alloc::Global;
 use std::test::Fail;
 use wg_num::Place;

@@ -1,4 +1,4 @@
-use crate::{Terminal, leaves};
+use cl_tree::{Terminal, leaves};
 use cl_token::tokens;
 use std::test::Fail;
 

@@ -1,6 +1,6 @@
 //! Each refusal of a launch at its place in the order, for a kernel with a parameter of each kind.
 
-use crate::{KernelNeeds, LaunchError, bind_kernel, read};
+use launch_file::{KernelNeeds, LaunchError, bind_kernel, read};
 use cl_model::{Bound, Root, Space, VarKind};
 use std::alloc::Global;
 use std::test::Fail;

@@ -1,6 +1,6 @@
 //! What no clause says: that words are taken at all, and which.
 
-use crate::{Words, WordsError, read_words};
+use command_words::{Words, WordsError, read_words};
 use std::alloc::Global;
 use std::test::Fail;
 
