@@ -6,7 +6,7 @@ ghost use Rattle.cl_model.specs.Tree as tree;
 ghost use Rattle.cl_model.specs.Tree.{Apply, Choose, single, pair, truth_of, decided};
 ghost use Rattle.program_build.specs.Lists.{listed_roots, listed_arguments};
 
-use crate::boxes::boxed;
+use crate::boxes::{boxed, boxed_beside};
 use cl_model::{Arg, Expr, Query, Root, Target};
 use std::alloc::Global;
 use wg_num::{Bin, Fun, IntType, Memory, Un};
@@ -23,8 +23,8 @@ pub fn unary(alloc: Global, op: Un, of: IntType, a: Expr) -> Result<Expr, Memory
 pub fn binary(alloc: Global, op: Bin, of: IntType, a: Expr, b: Expr) -> Result<Expr, Memory>
     ensures { IfOk result (λ e. expression_of e ≡ Apply (tree.Binary op of) (pair (expression_of a) (expression_of b))) }
 {
-    let a = boxed(alloc, a)?;
-    let b = boxed(alloc, b)?;
+    let (a, b) = boxed_beside(alloc, a, b)?;
+    let (b, a) = boxed_beside(alloc, b, a)?;
     Ok(Expr::Binary { op, of, a, b })
 }
 
@@ -32,8 +32,8 @@ pub fn binary(alloc: Global, op: Bin, of: IntType, a: Expr, b: Expr) -> Result<E
 pub fn both(alloc: Global, site: u32, a: Expr, b: Expr) -> Result<Expr, Memory>
     ensures { IfOk result (λ e. expression_of e ≡ Choose site (expression_of a) (truth_of (expression_of b)) (decided false)) }
 {
-    let a = boxed(alloc, a)?;
-    let b = boxed(alloc, b)?;
+    let (a, b) = boxed_beside(alloc, a, b)?;
+    let (b, a) = boxed_beside(alloc, b, a)?;
     Ok(Expr::Both { site, a, b })
 }
 
@@ -41,8 +41,8 @@ pub fn both(alloc: Global, site: u32, a: Expr, b: Expr) -> Result<Expr, Memory>
 pub fn either(alloc: Global, site: u32, a: Expr, b: Expr) -> Result<Expr, Memory>
     ensures { IfOk result (λ e. expression_of e ≡ Choose site (expression_of a) (decided true) (truth_of (expression_of b))) }
 {
-    let a = boxed(alloc, a)?;
-    let b = boxed(alloc, b)?;
+    let (a, b) = boxed_beside(alloc, a, b)?;
+    let (b, a) = boxed_beside(alloc, b, a)?;
     Ok(Expr::Either { site, a, b })
 }
 
@@ -50,9 +50,9 @@ pub fn either(alloc: Global, site: u32, a: Expr, b: Expr) -> Result<Expr, Memory
 pub fn choose(alloc: Global, site: u32, test: Expr, yes: Expr, no: Expr) -> Result<Expr, Memory>
     ensures { IfOk result (λ e. expression_of e ≡ Choose site (expression_of test) (expression_of yes) (expression_of no)) }
 {
-    let test = boxed(alloc, test)?;
-    let yes = boxed(alloc, yes)?;
-    let no = boxed(alloc, no)?;
+    let (test, arms) = boxed_beside(alloc, test, (yes, no))?;
+    let (yes, rest) = boxed_beside(alloc, arms.0, (test, arms.1))?;
+    let (no, test) = boxed_beside(alloc, rest.1, rest.0)?;
     Ok(Expr::Choose {
         site,
         test,
@@ -92,7 +92,7 @@ pub fn load(
 pub fn assign(alloc: Global, target: Target, value: Expr) -> Result<Expr, Memory>
     ensures { IfOk result (λ e. expression_of e ≡ assigned target (expression_of value)) }
 {
-    let value = boxed(alloc, value)?;
+    let (value, target) = boxed_beside(alloc, value, target)?;
     Ok(Expr::Assign { target, value })
 }
 
@@ -109,7 +109,7 @@ pub fn update(
 ) -> Result<Expr, Memory>
     ensures { IfOk result (λ e. expression_of e ≡ updated target op of back old (expression_of value)) }
 {
-    let value = boxed(alloc, value)?;
+    let (value, target) = boxed_beside(alloc, value, target)?;
     Ok(Expr::Update {
         target,
         op,
@@ -150,7 +150,7 @@ pub fn ask(alloc: Global, what: Query, dim: Expr) -> Result<Expr, Memory>
 pub fn then(alloc: Global, a: Expr, b: Expr) -> Result<Expr, Memory>
     ensures { IfOk result (λ e. expression_of e ≡ Apply tree.Second (pair (expression_of a) (expression_of b))) }
 {
-    let a = boxed(alloc, a)?;
-    let b = boxed(alloc, b)?;
+    let (a, b) = boxed_beside(alloc, a, b)?;
+    let (b, a) = boxed_beside(alloc, b, a)?;
     Ok(Expr::Then { a, b })
 }

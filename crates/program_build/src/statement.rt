@@ -5,7 +5,7 @@ ghost use Rattle.cl_model.specs.View.{expression_of, optional_expression, statem
 ghost use Rattle.cl_model.specs.Tree as tree;
 ghost use Rattle.program_build.specs.Lists.{alone, optional_statement, listed_arms};
 
-use crate::boxes::boxed_statement;
+use crate::boxes::{boxed_beside, optional_beside};
 use cl_model::{Expr, Stmt, SwitchArm};
 use std::alloc::Global;
 use wg_num::Memory;
@@ -27,11 +27,9 @@ pub fn branch(
 ) -> Result<Stmt, Memory>
     ensures { IfOk result (λ s. statement_of s ≡ tree.If site (expression_of test) (alone (statement_of yes)) (optional_statement no)) }
 {
-    let yes = boxed_statement(alloc, yes)?;
-    let no = match no {
-        None => None,
-        Some(s) => Some(boxed_statement(alloc, s)?),
-    };
+    let (yes, rest) = boxed_beside(alloc, yes, (test, no))?;
+    let (no, parts) = optional_beside(alloc, rest.1, (rest.0, yes))?;
+    let (test, yes) = parts;
     Ok(Stmt::If {
         site,
         test,
@@ -51,7 +49,8 @@ pub fn repeat(
 ) -> Result<Stmt, Memory>
     ensures { IfOk result (λ s. statement_of s ≡ tree.Loop site test_first (optional_expression test) (optional_expression step) (statement_of body)) }
 {
-    let body = boxed_statement(alloc, body)?;
+    let (body, head) = boxed_beside(alloc, body, (test, step))?;
+    let (test, step) = head;
     Ok(Stmt::Loop {
         site,
         test_first,
