@@ -7,10 +7,11 @@ ghost use Rattle.cl_meaning.specs.Expressions as meaning;
 ghost use Rattle.wg_num.specs.declared.types.Place as places;
 ghost use Rattle.cl_piece.specs.View.{piece_of, what_of, built_of};
 
+use crate::beside::operand_beside;
 use crate::parts::pair;
 use crate::piece::{Piece, What};
 use crate::types::type_in;
-use crate::values::{literal, operand, read};
+use crate::values::{literal, read};
 use cl_constant::{operand_type, right_type};
 use cl_meaning::Kind;
 use cl_model::Expr;
@@ -63,8 +64,8 @@ fn updated(
 fn set_converted(alloc: Global, of: IntType, a: Piece, b: Piece) -> Result<What, Memory>
     ensures { IfOk result (λ w. what_of w ≡ meaning.assigned (what_of a.what) (meaning.operand of (piece_of b))) }
 {
-    let value = operand(alloc, of, b)?;
-    let what = assigned(alloc, a.what, value)?;
+    let (value, what) = operand_beside(alloc, of, b, a.what)?;
+    let what = assigned(alloc, what, value)?;
     Ok(what)
 }
 
@@ -83,10 +84,10 @@ fn set_number(alloc: Global, op: Bin, of: IntType, a: Piece, b: Piece) -> Result
     ensures { IfOk result (λ w. what_of w ≡ meaning.updated (what_of a.what) op (conversions.operand_type op of (meaning.type_in b.kind)) of false (meaning.operand (conversions.right_type op of (meaning.type_in b.kind)) (piece_of b))) }
 {
     let right = type_in(b.kind);
-    let value = operand(alloc, right_type(op, of, right), b)?;
+    let (value, what) = operand_beside(alloc, right_type(op, of, right), b, a.what)?;
     let what = updated(
         alloc,
-        a.what,
+        what,
         op,
         operand_type(op, of, right),
         of,
@@ -100,10 +101,10 @@ fn set_number(alloc: Global, op: Bin, of: IntType, a: Piece, b: Piece) -> Result
 fn set_offset(alloc: Global, op: Bin, a: Piece, b: Piece) -> Result<What, Memory>
     ensures { IfOk result (λ w. what_of w ≡ meaning.updated (what_of a.what) op IntType.Long IntType.Long false (meaning.operand IntType.Long (piece_of b))) }
 {
-    let value = operand(alloc, IntType::Long, b)?;
+    let (value, what) = operand_beside(alloc, IntType::Long, b, a.what)?;
     let what = updated(
         alloc,
-        a.what,
+        what,
         op,
         IntType::Long,
         IntType::Long,

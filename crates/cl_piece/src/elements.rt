@@ -12,11 +12,12 @@ ghost use Rattle.cl_tree.specs.Syntax as syntax;
 ghost use Rattle.cl_piece.specs.View.{piece_of, what_of, built_of};
 
 use crate::assignments::step;
+use crate::beside::{operand_beside, site_beside};
 use crate::parts::{only, pair};
 use crate::piece::{Piece, What};
-use crate::sites::{element, take_site};
+use crate::sites::element;
 use crate::types::type_in;
-use crate::values::{literal, logical, moved, operand, read, way};
+use crate::values::{literal, logical, moved, read, way};
 use cl_constant::{promoted, size_of};
 use cl_meaning::{Each, Kind};
 use cl_model::{Expr, Root, Target};
@@ -34,6 +35,20 @@ fn scaled(alloc: Global, index: Expr, count: u64) -> Result<Expr, Memory>
     Ok(e)
 }
 
+/// The same, and what is kept.
+fn scaled_beside<K: Drop>(
+    alloc: Global,
+    index: Expr,
+    count: u64,
+    kept: K,
+) -> Result<(Expr, K), Memory>
+    ensures value { IfOk result (λ r. expression_of r.0 ≡ meaning.scaled (expression_of index) count) }
+    ensures kept { IfOk result (λ r. r.1 ≡ kept) }
+{
+    let value = scaled(alloc, index, count)?;
+    Ok((value, kept))
+}
+
 /// The element at an index behind a pointer.
 fn element_at(
     alloc: Global,
@@ -46,9 +61,10 @@ fn element_at(
 ) -> Result<What, Memory>
     ensures { IfOk result (λ w. meaning.sited place sites.old.items (λ site. typed.target (typed.element site of root (meaning.moved (meaning.way (what_of a.what)) (meaning.operand IntType.Long (piece_of b))))) ≡ built_of w sites.new.items) }
 {
-    let site = take_site(sites, place)?;
-    let by = operand(alloc, IntType::Long, b)?;
-    let index = moved(alloc, way(a.what), by)?;
+    let (site, parts) = site_beside(sites, place, (a, b))?;
+    let (a, b) = parts;
+    let (by, what) = operand_beside(alloc, IntType::Long, b, a.what)?;
+    let index = moved(alloc, way(what), by)?;
     let target = element(alloc, site, of, root, index)?;
     Ok(What::Target(target))
 }
@@ -57,9 +73,9 @@ fn element_at(
 fn row_at(alloc: Global, count: u64, a: Piece, b: Piece) -> Result<What, Memory>
     ensures { IfOk result (λ w. what_of w ≡ typed.offset (Some (meaning.moved (meaning.way (what_of a.what)) (meaning.scaled (meaning.operand IntType.Long (piece_of b)) count)))) }
 {
-    let by = operand(alloc, IntType::Long, b)?;
-    let by = scaled(alloc, by, count)?;
-    let offset = moved(alloc, way(a.what), by)?;
+    let (by, what) = operand_beside(alloc, IntType::Long, b, a.what)?;
+    let (by, what) = scaled_beside(alloc, by, count, what)?;
+    let offset = moved(alloc, way(what), by)?;
     Ok(What::Offset(Some(offset)))
 }
 
@@ -108,8 +124,8 @@ fn content(alloc: Global, place: Place, sites: &mut Vec<Place>, a: Piece) -> Res
                 ..
             },
         ) => {
-            let site = take_site(sites, place)?;
-            let target = element(alloc, site, of, root, read(a.what))?;
+            let (site, what) = site_beside(sites, place, a.what)?;
+            let target = element(alloc, site, of, root, read(what))?;
             Ok(What::Target(target))
         }
         Some(Kind::Pointer { .. }) => Ok(What::Offset(way(a.what))),

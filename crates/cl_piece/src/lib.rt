@@ -2,6 +2,7 @@
 #![tactic(auto)]
 
 mod assignments;
+mod beside;
 mod calls;
 mod context;
 mod declarators;

@@ -7,11 +7,11 @@ ghost use Rattle.cl_meaning.specs.Expressions as meaning;
 ghost use Rattle.wg_num.specs.declared.types.Place as places;
 ghost use Rattle.cl_piece.specs.View.{piece_of, what_of, built_of};
 
+use crate::beside::{logical_beside, operand_beside, site_beside};
 use crate::parts::{pair, triple};
 use crate::piece::{Piece, What};
-use crate::sites::take_site;
 use crate::types::type_in;
-use crate::values::{logical, moved, moved_by, operand, read, way};
+use crate::values::{moved, moved_by, operand, read, way};
 use cl_constant::{common, operand_type, right_type};
 use cl_meaning::Kind;
 use cl_spelling::Declared;
@@ -33,11 +33,11 @@ fn is_sub(op: Bin) -> bool
 fn pointer_moved(alloc: Global, op: Bin, a: Piece, b: Piece) -> Result<What, Memory>
     ensures { IfOk result (λ w. what_of w ≡ meaning.pointer_moved op (piece_of a) (piece_of b)) }
 {
-    let by = operand(alloc, IntType::Long, b)?;
+    let (by, what) = operand_beside(alloc, IntType::Long, b, a.what)?;
     let offset = if is_sub(op) {
-        expression::binary(alloc, Bin::Sub, IntType::Long, read(a.what), by)?
+        expression::binary(alloc, Bin::Sub, IntType::Long, read(what), by)?
     } else {
-        moved(alloc, way(a.what), by)?
+        moved(alloc, way(what), by)?
     };
     Ok(What::Offset(Some(offset)))
 }
@@ -46,8 +46,8 @@ fn pointer_moved(alloc: Global, op: Bin, a: Piece, b: Piece) -> Result<What, Mem
 fn number_moved(alloc: Global, a: Piece, b: Piece) -> Result<What, Memory>
     ensures { IfOk result (λ w. what_of w ≡ typed.offset (Some (meaning.moved_by (meaning.operand IntType.Long (piece_of a)) (meaning.way (what_of b.what))))) }
 {
-    let by = operand(alloc, IntType::Long, a)?;
-    let offset = moved_by(alloc, by, way(b.what))?;
+    let (by, what) = operand_beside(alloc, IntType::Long, a, b.what)?;
+    let offset = moved_by(alloc, by, way(what))?;
     Ok(What::Offset(Some(offset)))
 }
 
@@ -63,8 +63,8 @@ fn numbers_joined(
     ensures { IfOk result (λ w. what_of w ≡ typed.value (meaning.joined_by op (conversions.operand_type op left right) (meaning.operand (conversions.operand_type op left right) (piece_of a)) (meaning.operand (conversions.right_type op left right) (piece_of b)))) }
 {
     let of = operand_type(op, left, right);
-    let a = operand(alloc, of, a)?;
-    let b = operand(alloc, right_type(op, left, right), b)?;
+    let (a, b) = operand_beside(alloc, of, a, b)?;
+    let (b, a) = operand_beside(alloc, right_type(op, left, right), b, a)?;
     let joined = expression::binary(alloc, op, of, a, b)?;
     Ok(What::Value(joined))
 }
@@ -111,9 +111,9 @@ pub(crate) fn and(
     let Some(two) = pair(pieces) else {
         return Ok(What::Nothing);
     };
-    let site = take_site(sites, place)?;
-    let a = logical(alloc, two.first)?;
-    let b = logical(alloc, two.second)?;
+    let (site, two) = site_beside(sites, place, two)?;
+    let (a, second) = logical_beside(alloc, two.first, two.second)?;
+    let (b, a) = logical_beside(alloc, second, a)?;
     let both = expression::both(alloc, site, a, b)?;
     Ok(What::Value(both))
 }
@@ -130,9 +130,9 @@ pub(crate) fn or(
     let Some(two) = pair(pieces) else {
         return Ok(What::Nothing);
     };
-    let site = take_site(sites, place)?;
-    let a = logical(alloc, two.first)?;
-    let b = logical(alloc, two.second)?;
+    let (site, two) = site_beside(sites, place, two)?;
+    let (a, second) = logical_beside(alloc, two.first, two.second)?;
+    let (b, a) = logical_beside(alloc, second, a)?;
     let either = expression::either(alloc, site, a, b)?;
     Ok(What::Value(either))
 }
@@ -150,10 +150,12 @@ pub(crate) fn choice(
         return Ok(What::Nothing);
     };
     let of = common(type_in(three.second.kind), type_in(three.third.kind));
-    let site = take_site(sites, place)?;
-    let test = read(three.first.what);
-    let yes = operand(alloc, of, three.second)?;
-    let no = operand(alloc, of, three.third)?;
+    let (site, three) = site_beside(sites, place, three)?;
+    let (yes, rest) = operand_beside(alloc, of, three.second, (three.first, three.third))?;
+    let (test, third) = rest;
+    let (no, rest) = operand_beside(alloc, of, third, (test, yes))?;
+    let (test, yes) = rest;
+    let test = read(test.what);
     let chosen = expression::choose(alloc, site, test, yes, no)?;
     Ok(What::Value(chosen))
 }

@@ -20,7 +20,7 @@ pub(crate) struct Three {
 }
 
 /// Takes the first of some pieces.
-pub(crate) fn next(pieces: &mut Vec<Piece>) -> Option<Piece>
+pub(crate) fn next<T: Drop>(pieces: &mut Vec<T>) -> Option<T>
     ensures some { IfSome result (λ p. pieces.old.items ≡ p ∷ pieces.new.items) }
     ensures none { IfNone result (pieces.old.items ≡ []) }
     ensures rest { IfNone result (pieces.new.items ≡ []) }
@@ -43,30 +43,48 @@ pub(crate) fn only(mut pieces: Vec<Piece>) -> Option<Piece>
     next(&mut pieces)
 }
 
+// Two items and no more.
+fn two_of<T: Drop>(mut items: Vec<T>) -> Option<(T, T)>
+    ensures some { IfSome result (λ t. items.items ≡ t.0 ∷ t.1 ∷ []) }
+    ensures none { IfNone result (length items.items ≢ 2) }
+{
+    if items.len() != 2 {
+        return None;
+    }
+    let first = next(&mut items)?;
+    let second = next(&mut items)?;
+    Some((first, second))
+}
+
+// Three items and no more.
+fn three_of<T: Drop>(mut items: Vec<T>) -> Option<(T, T, T)>
+    ensures some { IfSome result (λ t. items.items ≡ t.0 ∷ t.1 ∷ t.2 ∷ []) }
+    ensures none { IfNone result (length items.items ≢ 3) }
+{
+    if items.len() != 3 {
+        return None;
+    }
+    let first = next(&mut items)?;
+    let second = next(&mut items)?;
+    let third = next(&mut items)?;
+    Some((first, second, third))
+}
+
 /// Two pieces and no more.
-pub(crate) fn pair(mut pieces: Vec<Piece>) -> Option<Two>
+pub(crate) fn pair(pieces: Vec<Piece>) -> Option<Two>
     ensures some { IfSome result (λ t. pieces.items ≡ t.first ∷ t.second ∷ []) }
     ensures none { IfNone result (length pieces.items ≢ 2) }
 {
-    if pieces.len() != 2 {
-        return None;
-    }
-    let first = next(&mut pieces)?;
-    let second = next(&mut pieces)?;
+    let (first, second) = two_of(pieces)?;
     Some(Two { first, second })
 }
 
 /// Three pieces and no more.
-pub(crate) fn triple(mut pieces: Vec<Piece>) -> Option<Three>
+pub(crate) fn triple(pieces: Vec<Piece>) -> Option<Three>
     ensures some { IfSome result (λ t. pieces.items ≡ t.first ∷ t.second ∷ t.third ∷ []) }
     ensures none { IfNone result (length pieces.items ≢ 3) }
 {
-    if pieces.len() != 3 {
-        return None;
-    }
-    let first = next(&mut pieces)?;
-    let second = next(&mut pieces)?;
-    let third = next(&mut pieces)?;
+    let (first, second, third) = three_of(pieces)?;
     Some(Three {
         first,
         second,

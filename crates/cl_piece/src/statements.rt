@@ -10,6 +10,7 @@ ghost use Rattle.cl_tree.specs.Syntax.{views};
 ghost use Rattle.cl_piece.specs.Heads.{for_by, loop_by, heads_in, heads_of};
 ghost use Rattle.cl_piece.specs.View.{piece_of, what_of, built_of};
 
+use crate::beside::site_beside;
 use crate::lines::{body, put, put_line};
 use crate::parts::{next, pair};
 use crate::piece::{Piece, What};
@@ -59,7 +60,7 @@ pub(crate) fn while_loop(
     let Some(two) = pair(pieces) else {
         return Ok(What::Nothing);
     };
-    let site = take_site(sites, place)?;
+    let (site, two) = site_beside(sites, place, two)?;
     let test = Some(read(two.first.what));
     let inside = body(alloc, two.second.what);
     let s = statement::repeat(alloc, site, true, test, None, inside)?;
@@ -78,7 +79,7 @@ pub(crate) fn do_loop(
     let Some(two) = pair(pieces) else {
         return Ok(What::Nothing);
     };
-    let site = take_site(sites, place)?;
+    let (site, two) = site_beside(sites, place, two)?;
     let inside = body(alloc, two.first.what);
     let test = Some(read(two.second.what));
     let s = statement::repeat(alloc, site, false, test, None, inside)?;
@@ -153,7 +154,7 @@ fn for_heads(
 ) -> Result<What, Memory>
     ensures { IfOk result (λ w. for_by place sites.old.items (heads_of heads) ≡ built_of w sites.new.items) }
 {
-    let site = take_site(sites, place)?;
+    let (site, heads) = site_beside(sites, place, heads)?;
     let inside = body(alloc, heads.inside);
     let s = statement::repeat(alloc, site, true, heads.test, heads.step, inside)?;
     let mut lines = Vec::new(alloc);
