@@ -102,15 +102,7 @@ fn set_offset(alloc: Global, op: Bin, a: Piece, b: Piece) -> Result<What, Memory
     ensures { IfOk result (λ w. what_of w ≡ meaning.updated (what_of a.what) op IntType.Long IntType.Long false (meaning.operand IntType.Long (piece_of b))) }
 {
     let (value, what) = operand_beside(alloc, IntType::Long, b, a.what)?;
-    let what = updated(
-        alloc,
-        what,
-        op,
-        IntType::Long,
-        IntType::Long,
-        false,
-        value,
-    )?;
+    let what = updated(alloc, what, op, IntType::Long, IntType::Long, false, value)?;
     Ok(what)
 }
 

@@ -154,7 +154,7 @@ fn for_heads(
 ) -> Result<What, Memory>
     ensures { IfOk result (λ w. for_by place sites.old.items (heads_of heads) ≡ built_of w sites.new.items) }
 {
-    let (site, heads) = site_beside(sites, place, heads)?;
+    let site = take_site(sites, place)?;
     let inside = body(alloc, heads.inside);
     let s = statement::repeat(alloc, site, true, heads.test, heads.step, inside)?;
     let mut lines = Vec::new(alloc);
