@@ -7,7 +7,6 @@ ghost use Rattle.buffer_io.specs.Loads.{AllStartAs, LacksOneFile, StartsAs, fitt
 ghost use Rattle.buffer_io.specs.Saves.{AllSavedAs, KeepsAllBut, AreApart, StopsAt, IsSavedAs, saves_for, room_for, all_saves, all_room};
 ghost use Rattle.buffer_io.specs.Words.{words_of, bytes_of_words};
 
-
 use byteorder::{ByteOrder, LittleEndian};
 use cl_model::{Buffers, Launch};
 use std::alloc::Global;

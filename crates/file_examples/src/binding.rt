@@ -1,7 +1,7 @@
 //! Each refusal of a launch at its place in the order, for a kernel with a parameter of each kind.
 
-use launch_file::{KernelNeeds, LaunchError, bind_kernel, read};
 use cl_model::{Bound, Root, Space, VarKind};
+use launch_file::{KernelNeeds, LaunchError, bind_kernel, read};
 use std::alloc::Global;
 use std::test::Fail;
 use wg_num::IntType;

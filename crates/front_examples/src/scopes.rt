@@ -1,9 +1,9 @@
+use cl_meaning::{Each, Kind, Meaning, Reach};
+use cl_model::{Root, Space};
 use cl_scope::{
     Callee, Environment, callee_of, enter, is_declared, is_flag, later, leave, meaning_of, restore,
     start,
 };
-use cl_meaning::{Each, Kind, Meaning, Reach};
-use cl_model::{Root, Space};
 use cl_tree::{Form, Tree};
 use std::alloc::Global;
 use std::test::Fail;

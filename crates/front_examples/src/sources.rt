@@ -1,8 +1,8 @@
 //! A source with the program that it stands for, and one that is refused.
 
-use wg_front::{SourceError, compile};
 use cl_prep::Defines;
 use std::test::Fail;
+use wg_front::{SourceError, compile};
 use wg_num::Place;
 
 const SOURCE: &str = "__kernel void inc(__global int *a) { a[0] = 1; }";

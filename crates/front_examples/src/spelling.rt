@@ -1,8 +1,8 @@
+use cl_model::Query;
 use cl_spelling::{
     Base, Intrinsic, Prefix, base_of, dimensions_of, intrinsic_of, is_const, is_set, literal,
     name_of, prefix_of, requires_size,
 };
-use cl_model::Query;
 use std::test::Fail;
 use wg_num::{Fun, IntType, Un};
 

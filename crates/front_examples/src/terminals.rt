@@ -1,5 +1,5 @@
-use cl_tree::{Terminal, leaves};
 use cl_token::tokens;
+use cl_tree::{Terminal, leaves};
 use std::test::Fail;
 
 // Words, each with the terminal that it is.

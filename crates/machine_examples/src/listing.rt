@@ -1,7 +1,7 @@
 //! The listing of small programs, by the format of the text.
 
-use lane_code::{Bank, Code, Counts, GroupProgram, Node, Reg, Step, listing};
 use cl_model::{Query, Root, Space, VarKind};
+use lane_code::{Bank, Code, Counts, GroupProgram, Node, Reg, Step, listing};
 use std::test::Fail;
 use wg_num::{Bin, IntType, Place, Width, Word};
 
