@@ -1,4 +1,5 @@
 pub mod Lists
+pub mod Moves
 pub mod MemoryLemmas
 pub mod Steps
 pub mod Diamond

@@ -1,9 +1,16 @@
 -- Accesses with no common byte don't disturb one another.
 use Rattle.std.proofs.Common.{◌≡◌, ◌≢◌, ◌⊎◌, ℕ, zero, suc, ◌+◌, ◌*◌, ◌<◌, ◌≤◌, ℤ, pos, negsuc, true, List, [], ◌∷◌, length, take, drop, unwrap_or, slice_get, slice_set, Option, Some, None, refl, sym, ap, ◌∙◌, subst, inl, inr, arith, max}
 use Rattle.std.proofs.Math.Seq.{set_comm, set-set}
-use Rattle.std.proofs.lemmas.Bool.{cases_eq, cases_lt, false≢true}
+use Rattle.std.proofs.lemmas.Bool.{cases_eq, cases_lt, false≢true, leb-true}
 use Rattle.work_items.specs.Memory.{Memory, Access, bytes_of, first_byte, has_element, is_in_range, loaded, overwritten, stored, Covers, Overlap}
 use Rattle.work_items.proofs.Lists.{get-set_other}
+
+-- what is written stands there, whole
+part_written : (xs : List ℕ) (a : ℕ) (bs : List ℕ) → a + length bs ≤ length xs → take (length bs) (drop a (overwritten xs a bs)) ≡ bs
+part_written xs a [] h = refl
+part_written [] a (b ∷ bs) h = absurd (omega arith)
+part_written (x ∷ xs) (suc a) (b ∷ bs) h = part_written xs a (b ∷ bs) (omega arith)
+part_written (x ∷ xs) zero (b ∷ bs) h = ap (λ (ys : List ℕ). b ∷ ys) (part_written xs zero bs (omega arith))
 
 -- a write keeps the length
 pub length-overwritten : (xs : List ℕ) (a : ℕ) (bs : List ℕ) → length (overwritten xs a bs) ≡ length xs
@@ -128,6 +135,16 @@ loaded-stored m access o i bs e f h =
           subst (λ k. take access.size (drop (first_byte access.size access.index) (bytes_of (stored m o i bs) k)) ≡ take access.size (drop (first_byte access.size access.index) (bytes_of m k))) same kept
       | inr ne ↦ ap (λ xs. take access.size (drop (first_byte access.size access.index) xs)) (bytes_of-stored_other m o access.object i bs ne)
     ]
+
+element_fits : (len size : ℕ) (i : ℤ) → has_element len size i ≡ true → first_byte size i + size ≤ len
+element_fits len size (pos i) e = let le : (i + 1) * size ≤ len = leb-true ((i + 1) * size) len e in omega (arith, le)
+element_fits len size (negsuc i) e = cc e
+
+-- a load of the element that a store has written gives the bytes that were stored, all of them
+pub loaded-stored_same : (m : Memory) (o : ℕ) (i : ℤ) (bs : List ℕ) → is_in_range m (record { object = o; size = length bs; index = i }) ≡ true → loaded (stored m o i bs) (record { object = o; size = length bs; index = i }) ≡ bs
+loaded-stored_same m o i bs e =
+    ap (λ xs. take (length bs) (drop (first_byte (length bs) i) xs)) (bytes_of-stored m o i bs)
+    ∙ part_written (bytes_of m o) (first_byte (length bs) i) bs (element_fits _ (length bs) i e)
 
 stored_again : (m : Memory) (o : ℕ) (i j : ℤ) (cs bs : List ℕ) → stored (stored m o i cs) o j bs ≡ slice_set m o (overwritten (overwritten (bytes_of m o) (first_byte (length cs) i) cs) (first_byte (length bs) j) bs)
 stored_again m o i j cs bs =
