@@ -14,9 +14,9 @@ use Rattle.cl_model.specs.Task.{Point, Task, Item, first_point}
 use Rattle.cl_model.specs.Steps.{first_next}
 use Rattle.cl_model.specs.Meaning.{machine_of, start_world, is_test, IsWithin, ItemCanCome, EndsDone, EndsRange}
 use Rattle.model_examples.specs.Terms.{line, buffer}
-use Rattle.model_examples.specs.Play.{first_ready, has_ended, Finished, Faulted, Stuck, ended_from, ended_of, play, play_from, moves_from}
-use Rattle.model_examples.specs.Barriers.{race}
-use Rattle.model_examples.specs.Outcomes.{FinishedIsDone, FaultedIsRange, parting, IsParting, IsNeverReleased, NothingFollowsAFault, RaceIsNotClean}
+use Rattle.model_examples.specs.Play.{first_ready, same_point, has_ended, Finished, Faulted, Stuck, ended_from, ended_of, play, play_from, moves_from}
+use Rattle.model_examples.specs.Barriers.{race, iterations_part}
+use Rattle.model_examples.specs.Outcomes.{FinishedIsDone, FaultedIsRange, parting, IsParting, IsNeverReleased, on_four, BothWait, IterationsAreApart, NothingFollowsAFault, RaceIsNotClean}
 use Rattle.model_examples.proofs.Played.{first_is_ready, played}
 
 ended : (n : Next Item) → has_ended n ≡ true → HasEnded n
@@ -161,6 +161,19 @@ is_parting = record {
 pub is_never_released : IsNeverReleased
 unfolding wrap_of bits_of value_of modulus half binary_of unary_of
 is_never_released p = (p.1.1.all_wait 1 _ refl refl).0
+
+pub both_wait : BothWait
+unfolding wrap_of bits_of value_of modulus half binary_of unary_of
+both_wait zero h = (_, refl, refl)
+both_wait (suc zero) h = (_, refl, refl)
+both_wait (suc (suc item)) h = absurd (omega arith)
+
+two_points : (one other : Option Point) → one ≡ other → same_point one other ≡ false → same_point other other ≡ true → ⊥
+two_points one other e differ same = let f : false ≡ true = sym differ ∙ ap (λ point. same_point point other) e ∙ same in cc f
+
+pub iterations_are_apart : IterationsAreApart
+unfolding wrap_of bits_of value_of modulus half binary_of unary_of
+iterations_are_apart p = two_points _ _ ((p.1.1.all_wait 0 _ refl refl).1 ∙ sym (p.1.1.all_wait 1 _ refl refl).1) refl refl
 
 pub nothing_follows_a_fault : NothingFollowsAFault
 unfolding wrap_of bits_of value_of modulus half binary_of unary_of

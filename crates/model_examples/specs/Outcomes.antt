@@ -1,17 +1,19 @@
 -- How what is played ends is an outcome of the launch, in the words of the model.
-use Rattle.std.specs.Prelude.{◌≡◌, ℕ, List, [], ◌∷◌, Some, slice_get}
+use Rattle.std.specs.Prelude.{◌≡◌, ℕ, ◌<◌, List, [], ◌∷◌, Some, slice_get}
 use Rattle.wg_num.specs.declared.types.Bin.TheVariants as bin
 use Rattle.wg_num.specs.declared.types.Place.{Place}
 use Rattle.cl_model.specs.declared.program.Root.TheVariants as root
 use Rattle.cl_model.specs.declared.program.Query.TheVariants as query
 use Rattle.cl_model.specs.declared.launch.Bound.TheVariants as bound
-use Rattle.work_items.specs.Items.{Move, Release, IsPossible}
+use Rattle.work_items.specs.Items.{World, Move, Release, IsPossible}
+use Rattle.work_items.specs.Clean.{WaitsAt}
 use Rattle.cl_model.specs.Tree.{If, Barrier, empty, Program}
 use Rattle.cl_model.specs.Sizes.{Launch, group_of}
+use Rattle.cl_model.specs.Task.{Item}
 use Rattle.cl_model.specs.Meaning.{machine_of, start_world, IsCleanLaunch, EndsDone, EndsRange, EndsParted}
 use Rattle.model_examples.specs.Terms.{number, long, int, ints, ask, put, one_of, global_ints, kernel, line, buffer}
 use Rattle.model_examples.specs.Play.{play, Finished, Faulted, play_from, first_ready}
-use Rattle.model_examples.specs.Barriers.{race}
+use Rattle.model_examples.specs.Barriers.{race, iterations_part}
 use Rattle.model_examples.specs.Straight.{past}
 
 -- a run that finishes shows that to be done with its buffers is an outcome
@@ -49,6 +51,21 @@ IsNeverReleased =
     IsPossible (machine_of parting (line 2 2 (bound.Buffer 0 ∷ []) (8 ∷ [])))
     (play_from first_ready (machine_of parting (line 2 2 (bound.Buffer 0 ∷ []) (8 ∷ []))) 1 100 (start_world parting (line 2 2 (bound.Buffer 0 ∷ []) (8 ∷ [])) (buffer (0 ∷ 0 ∷ []) ∷ [])))
     (Release 0) → ⊥
+
+-- two items that wait at one barrier, in different iterations of the loop around it
+abbrev pub on_four : Launch
+on_four = line 2 2 (bound.Buffer 0 ∷ []) (4 ∷ [])
+
+abbrev pub waiting_world : World Item
+waiting_world = play_from first_ready (machine_of iterations_part on_four) 1 300 (start_world iterations_part on_four (buffer (0 ∷ []) ∷ []))
+
+-- both wait there
+abbrev pub BothWait : Type 0
+BothWait = (item : ℕ) → item < 2 → (state : Item) × (slice_get waiting_world.items item ≡ Some state) × WaitsAt 2 ((machine_of iterations_part on_four).next state)
+
+-- and their group is never released, since they stand at two points
+abbrev pub IterationsAreApart : Type 0
+IterationsAreApart = IsPossible (machine_of iterations_part on_four) waiting_world (Release 0) → ⊥
 
 -- behind a fault nothing moves
 abbrev pub NothingFollowsAFault : Type 0

@@ -4,7 +4,7 @@
 
 ghost use Rattle.model_examples.specs.Straight.{Increments, Wraps, Faults, FaultsBefore, Squares, Switches, Shares, SomeCleared, Calls, TableSum, Indices, ColumnWide, ColumnHigh};
 ghost use Rattle.model_examples.specs.Barriers.{Reverses, IsFresh, IsPassed, Parts, IterationsPart, Lengths, Meets, Scans, FallsThrough, ScansBack, MeetsBack, RaceOneWay, RaceOtherWay};
-ghost use Rattle.model_examples.specs.Outcomes.{FinishedIsDone, FaultedIsRange, IsParting, IsNeverReleased, NothingFollowsAFault, RaceIsNotClean};
+ghost use Rattle.model_examples.specs.Outcomes.{FinishedIsDone, FaultedIsRange, IsParting, IsNeverReleased, BothWait, IterationsAreApart, NothingFollowsAFault, RaceIsNotClean};
 
 /// Kernels without barriers end with the buffers, or the fault, that a reader of them expects.
 pub fn straight_kernels()
@@ -55,11 +55,14 @@ pub fn played_runs()
     ensures faulted { FaultedIsRange }
 {}
 
-/// What must not happen: a group is not released while one of its items has ended, nothing follows
-/// a fault, and items that race are not clean.
+/// What must not happen: a group is not released while one of its items has ended, or while two of
+/// them wait at one barrier in different iterations; nothing follows a fault; and items that race
+/// are not clean.
 pub fn refusals()
     ensures parted { IsParting }
     ensures never_released { IsNeverReleased }
+    ensures both_wait { BothWait }
+    ensures iterations_apart { IterationsAreApart }
     ensures over { NothingFollowsAFault }
     ensures not_clean { RaceIsNotClean }
 {}
