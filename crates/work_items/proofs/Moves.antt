@@ -1,7 +1,7 @@
 -- What the moves of every machine need and do: what a wrong meaning of a launch would lose.
-use Rattle.std.proofs.Common.{◌≡◌, ℕ, Option, Some, None, slice_get, refl, sym, ap, ◌∙◌}
+use Rattle.std.proofs.Common.{◌≡◌, ℕ, Some, slice_get, sym, ap, ◌∙◌}
 use Rattle.std.proofs.lemmas.Option.{none-some}
-use Rattle.work_items.specs.Items.{Machine, World, Fault, Move, Step, Release, IsWaiting, fault_of, IsPossible, after_step, after_step_of, moved}
+use Rattle.work_items.specs.Items.{Machine, World, Fault, Step, Release, IsWaiting, fault_of, IsPossible, after_step, after_step_of, moved}
 use Rattle.work_items.specs.Runs.{IsOver}
 
 module _ {S P : Type 0} (machine : Machine S P) where
