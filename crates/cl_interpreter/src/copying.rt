@@ -2,11 +2,14 @@
 
 ghost use Rattle.std.specs.Prelude.{◌≡◌, IfOk};
 ghost use Rattle.cl_interpreter.specs.Trees.{expression_of, expressions_of, optional_of, statement_of, statements_of, arms_of};
+ghost use Rattle.cl_interpreter.specs.Tasks.{path_of, task_of, tasks_of, frame_of, frames_of, item_of};
 
 use crate::making::{also, arm, boxed, boxed_statement, labels_of, more};
+use crate::task::{Frame, Item, Leg, Task};
 use crate::tree::{Arms, Expression, Expressions, Statement, Statements};
 use cl_model::Root;
 use std::alloc::Global;
+use std::collections::VecDeque;
 use wg_num::Memory;
 
 /// Roots once more.
@@ -246,4 +249,268 @@ pub fn arms(alloc: Global, list: &Arms) -> Result<Arms, Memory>
             arm(alloc, labels, *other, body, rest)
         }
     }
+}
+
+/// A way once more.
+fn way(alloc: Global, at: &[Leg]) -> Result<Vec<Leg>, Memory>
+    ensures { IfOk result (λ way. path_of way.items ≡ path_of at.now) }
+{
+    match at.to_vec(alloc) {
+        Ok(way) => Ok(way),
+        Err(_) => Err(Memory),
+    }
+}
+
+/// A task once more.
+fn task(alloc: Global, t: &Task) -> Result<Task, Memory>
+    ensures { IfOk result (λ copy. task_of copy ≡ task_of t.now) }
+{
+    match t {
+        Task::Run { at, s } => {
+            let at = way(alloc, at)?;
+            let s = statement(alloc, s)?;
+            Ok(Task::Run { at, s })
+        }
+        Task::Evaluate { at, e } => {
+            let at = way(alloc, at)?;
+            let e = expression(alloc, e)?;
+            Ok(Task::Evaluate { at, e })
+        }
+        Task::Finish { at, action, count } => {
+            let at = way(alloc, at)?;
+            Ok(Task::Finish {
+                at,
+                action: *action,
+                count: *count,
+            })
+        }
+        Task::Peek {
+            at,
+            site,
+            element,
+            root,
+        } => {
+            let at = way(alloc, at)?;
+            Ok(Task::Peek {
+                at,
+                site: *site,
+                element: *element,
+                root: *root,
+            })
+        }
+        Task::Alter {
+            at,
+            site,
+            element,
+            root,
+            op,
+            of,
+            back,
+            old,
+        } => {
+            let at = way(alloc, at)?;
+            Ok(Task::Alter {
+                at,
+                site: *site,
+                element: *element,
+                root: *root,
+                op: *op,
+                of: *of,
+                back: *back,
+                old: *old,
+            })
+        }
+        Task::Decide { at, chosen, other } => {
+            let at = way(alloc, at)?;
+            let chosen = expression(alloc, chosen)?;
+            let other = expression(alloc, other)?;
+            Ok(Task::Decide { at, chosen, other })
+        }
+        Task::Enter {
+            at,
+            site,
+            function,
+            roots: list,
+            count,
+        } => {
+            let at = way(alloc, at)?;
+            let roots = roots(alloc, list)?;
+            Ok(Task::Enter {
+                at,
+                site: *site,
+                function: *function,
+                roots,
+                count: *count,
+            })
+        }
+        Task::InCall { at, site } => {
+            let at = way(alloc, at)?;
+            Ok(Task::InCall { at, site: *site })
+        }
+        Task::Discard { at } => {
+            let at = way(alloc, at)?;
+            Ok(Task::Discard { at })
+        }
+        Task::Keep { at, x } => {
+            let at = way(alloc, at)?;
+            Ok(Task::Keep { at, x: *x })
+        }
+        Task::Clear {
+            at,
+            site,
+            array,
+            count,
+        } => {
+            let at = way(alloc, at)?;
+            Ok(Task::Clear {
+                at,
+                site: *site,
+                array: *array,
+                count: *count,
+            })
+        }
+        Task::Initialise {
+            at,
+            site,
+            array,
+            index,
+            value,
+        } => {
+            let at = way(alloc, at)?;
+            Ok(Task::Initialise {
+                at,
+                site: *site,
+                array: *array,
+                index: *index,
+                value: *value,
+            })
+        }
+        Task::Branch { at, chosen, other } => {
+            let at = way(alloc, at)?;
+            let chosen = statements(alloc, chosen)?;
+            let other = statements(alloc, other)?;
+            Ok(Task::Branch { at, chosen, other })
+        }
+        Task::InLoop {
+            at,
+            site,
+            test,
+            step,
+            body,
+            begun,
+        } => {
+            let at = way(alloc, at)?;
+            let test = optional(alloc, test)?;
+            let step = optional(alloc, step)?;
+            let body = statement(alloc, body)?;
+            Ok(Task::InLoop {
+                at,
+                site: *site,
+                test,
+                step,
+                body,
+                begun: *begun,
+            })
+        }
+        Task::Select {
+            at,
+            site,
+            arms: list,
+        } => {
+            let at = way(alloc, at)?;
+            let arms = arms(alloc, list)?;
+            Ok(Task::Select {
+                at,
+                site: *site,
+                arms,
+            })
+        }
+        Task::InSwitch { at, site } => {
+            let at = way(alloc, at)?;
+            Ok(Task::InSwitch { at, site: *site })
+        }
+        Task::Leave { at } => {
+            let at = way(alloc, at)?;
+            Ok(Task::Leave { at })
+        }
+    }
+}
+
+fn tasks(alloc: Global, list: &VecDeque<Task>) -> Result<VecDeque<Task>, Memory>
+    ensures { IfOk result (λ copy. tasks_of copy.items ≡ tasks_of list.now.items) }
+{
+    let mut made = VecDeque::new(alloc);
+    for k in 0..list.len() {
+        let copy = task(alloc, &list[k])?;
+        match made.push_back(copy) {
+            Ok(()) => {}
+            Err(_) => return Err(Memory),
+        }
+    }
+    Ok(made)
+}
+
+fn values(alloc: Global, list: &VecDeque<i128>) -> Result<VecDeque<i128>, Memory>
+    ensures { IfOk result (λ copy. copy.items ≡ list.now.items) }
+{
+    let mut made = VecDeque::new(alloc);
+    for k in 0..list.len() {
+        match made.push_back(list[k]) {
+            Ok(()) => {}
+            Err(_) => return Err(Memory),
+        }
+    }
+    Ok(made)
+}
+
+fn frame(alloc: Global, f: &Frame) -> Result<Frame, Memory>
+    ensures { IfOk result (λ copy. frame_of copy ≡ frame_of f.now) }
+{
+    let path = match f.path.as_slice().to_vec(alloc) {
+        Ok(path) => path,
+        Err(_) => return Err(Memory),
+    };
+    let objects = match f.objects.as_slice().to_vec(alloc) {
+        Ok(objects) => objects,
+        Err(_) => return Err(Memory),
+    };
+    let variables = match f.variables.as_slice().to_vec(alloc) {
+        Ok(variables) => variables,
+        Err(_) => return Err(Memory),
+    };
+    Ok(Frame {
+        function: f.function,
+        path,
+        objects,
+        variables,
+    })
+}
+
+fn frames(alloc: Global, list: &VecDeque<Frame>) -> Result<VecDeque<Frame>, Memory>
+    ensures { IfOk result (λ copy. frames_of copy.items ≡ frames_of list.now.items) }
+{
+    let mut made = VecDeque::new(alloc);
+    for k in 0..list.len() {
+        let copy = frame(alloc, &list[k])?;
+        match made.push_back(copy) {
+            Ok(()) => {}
+            Err(_) => return Err(Memory),
+        }
+    }
+    Ok(made)
+}
+
+/// An item once more.
+pub fn item(alloc: Global, i: &Item) -> Result<Item, Memory>
+    ensures { IfOk result (λ copy. item_of copy ≡ item_of i.now) }
+{
+    let tasks = tasks(alloc, &i.tasks)?;
+    let values = values(alloc, &i.values)?;
+    let frames = frames(alloc, &i.frames)?;
+    Ok(Item {
+        number: i.number,
+        tasks,
+        values,
+        frames,
+    })
 }

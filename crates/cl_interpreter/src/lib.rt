@@ -2,6 +2,30 @@
 //! launch means on examples.
 #![tactic(auto)]
 
+mod action;
+mod bytes;
 pub mod copying;
+mod entering;
+pub mod error;
+mod evaluating;
+pub mod leaving;
 pub mod making;
+pub mod next;
+pub mod objects;
+mod order;
+mod running;
+pub mod selecting;
+mod sizes;
+pub mod steps;
+pub mod task;
+#[cfg(test)]
+mod tests;
 pub mod tree;
+mod values;
+pub mod world;
+
+pub use error::Error;
+pub use next::Next;
+pub use steps::step;
+pub use task::Item;
+pub use world::{Fault, Move, Played, World, run_moves};
