@@ -1,6 +1,6 @@
 //! The steps of the actions.
 
-ghost use Rattle.std.specs.Prelude.{◌≡◌, ◌∷◌, IfOk};
+ghost use Rattle.std.specs.Prelude.{◌≡◌, ◌∷◌, IfOk, IfErr};
 ghost use Rattle.wg_num.specs.Wrap.{IsValue};
 ghost use Rattle.wg_num.specs.Operators.{IsOperand, unary_of, binary_of};
 ghost use Rattle.wg_num.specs.Bytes.{value_of_bytes, bytes_of as bytes_of_value};
@@ -11,6 +11,7 @@ ghost use Rattle.cl_model.specs.View.{launch_of};
 ghost use Rattle.cl_interpreter.specs.Trees.{action_of, program_of};
 ghost use Rattle.cl_interpreter.specs.Tasks.{item_of};
 ghost use Rattle.cl_interpreter.specs.Nexts.{next_of, pushed};
+ghost use Rattle.cl_interpreter.specs.Reasons.{IsReason, HasNoValue, IsBeyond};
 
 use crate::bytes::bytes_of;
 use crate::error::{Error, memory_only};
@@ -27,7 +28,8 @@ use wg_num::{Bin, Fun, IntType, Memory, Un, binary, builtin, convert, unary};
 
 /// The number, if it is a value of the type.
 fn typed(t: IntType, v: i128) -> Result<i128, Error>
-    ensures { IfOk result (λ n. (n ≡ v) × IsValue t v) }
+    ensures value { IfOk result (λ n. (n ≡ v) × IsValue t v) }
+    ensures reason { IfErr result (IsReason ⊥ (¬ IsValue t v)) }
 {
     if convert(t, v) == v {
         Ok(v)
@@ -38,7 +40,8 @@ fn typed(t: IntType, v: i128) -> Result<i128, Error>
 
 /// The number, if the operator takes it on its right.
 fn operand(op: Bin, t: IntType, v: i128) -> Result<i128, Error>
-    ensures { IfOk result (λ n. (n ≡ v) × IsOperand op t v) }
+    ensures value { IfOk result (λ n. (n ≡ v) × IsOperand op t v) }
+    ensures reason { IfErr result (IsReason ⊥ (¬ IsOperand op t v)) }
 {
     match op {
         Bin::Shl | Bin::Shr => {
@@ -54,7 +57,8 @@ fn operand(op: Bin, t: IntType, v: i128) -> Result<i128, Error>
 
 /// A unary operator on a number.
 fn unary_value(op: Un, t: IntType, a: i128) -> Result<i128, Error>
-    ensures { IfOk result (λ v. v ≡ unary_of op t a) }
+    ensures value { IfOk result (λ v. v ≡ unary_of op t a) }
+    ensures reason { IfErr result (IsReason ⊥ (¬ IsValue t a)) }
 {
     let a = typed(t, a)?;
     Ok(unary(op, t, a))
@@ -62,7 +66,8 @@ fn unary_value(op: Un, t: IntType, a: i128) -> Result<i128, Error>
 
 /// A binary operator on two numbers.
 pub(crate) fn binary_value(op: Bin, t: IntType, a: i128, b: i128) -> Result<i128, Error>
-    ensures { IfOk result (λ v. v ≡ binary_of op t a b) }
+    ensures value { IfOk result (λ v. v ≡ binary_of op t a b) }
+    ensures reason { IfErr result (IsReason ⊥ (¬ (IsValue t a × IsOperand op t b))) }
 {
     let a = typed(t, a)?;
     let b = operand(op, t, b)?;
@@ -71,7 +76,8 @@ pub(crate) fn binary_value(op: Bin, t: IntType, a: i128, b: i128) -> Result<i128
 
 /// A built-in function of three numbers.
 fn builtin_value(f: Fun, t: IntType, a: i128, b: i128, c: i128) -> Result<i128, Error>
-    ensures { IfOk result (λ v. v ≡ builtin_of f t a b c) }
+    ensures value { IfOk result (λ v. v ≡ builtin_of f t a b c) }
+    ensures reason { IfErr result (IsReason ⊥ (¬ (IsValue t a × IsValue t b × IsValue t c))) }
 {
     let a = typed(t, a)?;
     let b = typed(t, b)?;
@@ -87,7 +93,8 @@ pub(crate) fn changed(
     a: i128,
     b: i128,
 ) -> Result<i128, Error>
-    ensures { IfOk result (λ v. v ≡ model.changed op of back a b) }
+    ensures value { IfOk result (λ v. v ≡ model.changed op of back a b) }
+    ensures reason { IfErr result (IsReason ⊥ (¬ IsOperand op of b)) }
 {
     let v = binary_value(op, of, convert(of, a), b)?;
     Ok(convert(back, v))
@@ -173,7 +180,8 @@ pub(crate) fn action_next(
     action: Action,
     args: &VecDeque<i128>,
 ) -> Result<Next, Error>
-    ensures { IfOk result (λ n. next_of n ≡ model.action_next (program_of program.now) (launch_of launch.now) (item_of item) (action_of action) args.now.items (item_of item).values (item_of item).tasks) }
+    ensures next { IfOk result (λ n. next_of n ≡ model.action_next (program_of program.now) (launch_of launch.now) (item_of item) (action_of action) args.now.items (item_of item).values (item_of item).tasks) }
+    ensures reason { IfErr result (IsReason (IsBeyond (launch_of launch.now) item.number (action_of action) args.now.items) (HasNoValue (action_of action) args.now.items)) }
 {
     let a = nth(args, 0);
     let b = nth(args, 1);

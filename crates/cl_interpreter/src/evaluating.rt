@@ -1,6 +1,6 @@
 //! The steps of expressions that begin.
 
-ghost use Rattle.std.specs.Prelude.{◌≡◌, ◌∷◌, [], ◌++◌, ℕ, IfOk, OnOk, if◌then◌else◌};
+ghost use Rattle.std.specs.Prelude.{◌≡◌, ◌∷◌, [], ◌++◌, ℕ, IfOk, IfErr, OnOk, if◌then◌else◌};
 ghost use Rattle.work_items.specs.Items as items;
 ghost use Rattle.cl_model.specs.Tree as tree;
 ghost use Rattle.cl_model.specs.Sizes as sizes;
@@ -11,6 +11,7 @@ ghost use Rattle.cl_model.specs.View.{launch_of};
 ghost use Rattle.cl_interpreter.specs.Trees.{action_of, array_of, expression_of, expressions_of, optional_of, statement_of, statements_of, arms_of, program_of};
 ghost use Rattle.cl_interpreter.specs.Tasks.{leg_of, path_of, task_of, tasks_of, item_of};
 ghost use Rattle.cl_interpreter.specs.Nexts.{next_of};
+ghost use Rattle.cl_interpreter.specs.Reasons.{IsReasonAt};
 
 use crate::action::action_next;
 use crate::error::{Error, memory_only};
@@ -165,7 +166,8 @@ pub(crate) fn evaluate_next(
     at: Vec<Leg>,
     e: Expression,
 ) -> Result<Next, Error>
-    ensures { IfOk result (λ n. next_of n ≡ model.evaluate_next (program_of program.now) (launch_of launch.now) (item_of item) (path_of at.items) (expression_of e) (item_of item).tasks) }
+    ensures next { IfOk result (λ n. next_of n ≡ model.evaluate_next (program_of program.now) (launch_of launch.now) (item_of item) (path_of at.items) (expression_of e) (item_of item).tasks) }
+    ensures reason { IfErr result (IsReasonAt (launch_of launch.now) (item_of item) (way.Evaluate (path_of at.items) (expression_of e))) }
 {
     match e {
         Expression::Apply { action, operands } => match operands {

@@ -1,8 +1,9 @@
 //! The sizes of a launch, and what the work-item functions give (OpenCL 1.2, sections 3.2 and 6.12.1).
 
-ghost use Rattle.std.specs.Prelude.{◌≡◌, ◌*◌, ◌/◌, ◌%◌, ◌<◌, ◌∷◌, [], ℕ, IfOk, take};
+ghost use Rattle.std.specs.Prelude.{◌≡◌, ◌*◌, ◌/◌, ◌%◌, ◌^◌, ◌<◌, ◌≤◌, ◌∷◌, [], ℕ, pos, ◌≤ℤ◌, IfOk, IfErr, take};
 ghost use Rattle.cl_model.specs.Sizes as model;
 ghost use Rattle.cl_model.specs.View.{launch_of, three_of};
+ghost use Rattle.cl_interpreter.specs.Reasons.{IsReason};
 
 use crate::error::{Error, fitting, memory_only};
 use cl_model::{Launch, Query};
@@ -115,7 +116,8 @@ fn group_id(launch: &Launch, item: u64, d: usize) -> Result<u64, Memory>
 /// The id of an item in the launch.
 fn global_id(launch: &Launch, item: u64, d: usize) -> Result<u64, Error>
     requires { d < 3 }
-    ensures { IfOk result (λ n. n ≡ model.global_id (launch_of launch.now) item d) }
+    ensures value { IfOk result (λ n. n ≡ model.global_id (launch_of launch.now) item d) }
+    ensures reason { IfErr result (IsReason (2 ^ 64 ≤ model.global_id (launch_of launch.now) item d) ⊥) }
 {
     let group = memory_only(group_id(launch, item, d))?;
     let local = memory_only(local_id(launch, item, d))?;
@@ -127,7 +129,8 @@ fn global_id(launch: &Launch, item: u64, d: usize) -> Result<u64, Error>
 /// What a work-item function gives an item in a dimension below 3.
 fn answer_within(launch: &Launch, item: u64, what: Query, d: usize) -> Result<u64, Error>
     requires { d < 3 }
-    ensures { IfOk result (λ n. n ≡ model.answer_within (launch_of launch.now) item what d) }
+    ensures value { IfOk result (λ n. n ≡ model.answer_within (launch_of launch.now) item what d) }
+    ensures reason { IfErr result (IsReason (2 ^ 64 ≤ model.answer_within (launch_of launch.now) item what d) ⊥) }
 {
     match what {
         Query::WorkDim => Ok(u64::from(launch.dims)),
@@ -159,7 +162,8 @@ pub(crate) fn answer(
     what: Query,
     argument: i128,
 ) -> Result<i128, Error>
-    ensures { IfOk result (λ v. v ≡ model.answer_of (launch_of launch.now) item what argument) }
+    ensures value { IfOk result (λ v. v ≡ model.answer_of (launch_of launch.now) item what argument) }
+    ensures reason { IfErr result (IsReason (pos (2 ^ 64) ≤ℤ model.answer_of (launch_of launch.now) item what argument) ⊥) }
 {
     match argument {
         0 => Ok(i128::from(answer_within(launch, item, what, 0)?)),

@@ -1,6 +1,6 @@
 //! What a work-item does next: its first task decides.
 
-ghost use Rattle.std.specs.Prelude.{◌≡◌, ◌∷◌, [], ◌++◌, ℕ, IfOk, OnOk, if◌then◌else◌};
+ghost use Rattle.std.specs.Prelude.{◌≡◌, ◌∷◌, [], ◌++◌, ℕ, IfOk, IfErr, OnOk, if◌then◌else◌};
 ghost use Rattle.work_items.specs.Items as items;
 ghost use Rattle.cl_model.specs.Tree as tree;
 ghost use Rattle.cl_model.specs.Sizes as sizes;
@@ -11,6 +11,7 @@ ghost use Rattle.cl_model.specs.View.{launch_of};
 ghost use Rattle.cl_interpreter.specs.Trees.{action_of, array_of, expression_of, expressions_of, optional_of, statement_of, statements_of, arms_of, program_of};
 ghost use Rattle.cl_interpreter.specs.Tasks.{leg_of, path_of, task_of, tasks_of, item_of};
 ghost use Rattle.cl_interpreter.specs.Nexts.{next_of};
+ghost use Rattle.cl_interpreter.specs.Reasons.{IsReasonAt, IsReasonOf};
 
 use crate::action::{Spot, action_next, changed, load, store};
 use crate::copying;
@@ -37,7 +38,8 @@ fn alter_next(
     item: Item,
     how: Altered,
 ) -> Result<Next, Error>
-    ensures { IfOk result (λ n. (at : way.Point) → next_of n ≡ model.task_next (program_of program.now) (launch_of launch.now) (item_of item) (way.Alter at how.site how.element how.root how.op how.of how.back how.old) (item_of item).tasks) }
+    ensures next { IfOk result (λ n. (at : way.Point) → next_of n ≡ model.task_next (program_of program.now) (launch_of launch.now) (item_of item) (way.Alter at how.site how.element how.root how.op how.of how.back how.old) (item_of item).tasks) }
+    ensures reason { IfErr result (λ e. (at : way.Point) → IsReasonAt (launch_of launch.now) (item_of item) (way.Alter at how.site how.element how.root how.op how.of how.back how.old) e) }
 {
     let mut item = item;
     let right = pop(&mut item.values);
@@ -102,7 +104,8 @@ fn turn_next(
     of: Repeated,
     begun: u64,
 ) -> Result<Next, Error>
-    ensures { IfOk result (λ n. (p : tree.Program) (l : sizes.Launch) → next_of n ≡ model.task_next p l (item_of item) (way.InLoop (path_of at.items) of.site (optional_of of.test) (optional_of of.step) (statement_of of.body) begun) (item_of item).tasks) }
+    ensures next { IfOk result (λ n. (p : tree.Program) (l : sizes.Launch) → next_of n ≡ model.task_next p l (item_of item) (way.InLoop (path_of at.items) of.site (optional_of of.test) (optional_of of.step) (statement_of of.body) begun) (item_of item).tasks) }
+    ensures reason { IfErr result (λ e. (l : sizes.Launch) → IsReasonAt l (item_of item) (way.InLoop (path_of at.items) of.site (optional_of of.test) (optional_of of.step) (statement_of of.body) begun) e) }
 {
     let mut item = item;
     if of.test.is_some() && pop(&mut item.values) == 0 {
@@ -141,7 +144,8 @@ fn finish_next(
     action: Action,
     count: u64,
 ) -> Result<Next, Error>
-    ensures { IfOk result (λ n. (at : way.Point) → next_of n ≡ model.task_next (program_of program.now) (launch_of launch.now) (item_of item) (way.Finish at (action_of action) count) (item_of item).tasks) }
+    ensures next { IfOk result (λ n. (at : way.Point) → next_of n ≡ model.task_next (program_of program.now) (launch_of launch.now) (item_of item) (way.Finish at (action_of action) count) (item_of item).tasks) }
+    ensures reason { IfErr result (λ e. (at : way.Point) → IsReasonAt (launch_of launch.now) (item_of item) (way.Finish at (action_of action) count) e) }
 {
     let mut item = item;
     let args = memory_only(take(alloc, &mut item.values, count))?;
@@ -156,7 +160,8 @@ fn task_next(
     item: Item,
     task: Task,
 ) -> Result<Next, Error>
-    ensures { IfOk result (λ n. next_of n ≡ model.task_next (program_of program.now) (launch_of launch.now) (item_of item) (task_of task) (item_of item).tasks) }
+    ensures next { IfOk result (λ n. next_of n ≡ model.task_next (program_of program.now) (launch_of launch.now) (item_of item) (task_of task) (item_of item).tasks) }
+    ensures reason { IfErr result (IsReasonAt (launch_of launch.now) (item_of item) (task_of task)) }
 {
     match task {
         Task::Run { at, s } => memory_only(run_next(alloc, item, at, s)),
@@ -283,7 +288,8 @@ pub fn step(
     launch: &Launch,
     item: &Item,
 ) -> Result<Next, Error>
-    ensures { IfOk result (λ n. next_of n ≡ model.item_next (program_of program.now) (launch_of launch.now) (item_of item.now)) }
+    ensures next { IfOk result (λ n. next_of n ≡ model.item_next (program_of program.now) (launch_of launch.now) (item_of item.now)) }
+    ensures reason { IfErr result (IsReasonOf (launch_of launch.now) (item_of item.now)) }
 {
     let mut item = memory_only(copying::item(alloc, item))?;
     match item.tasks.pop_front() {
