@@ -14,15 +14,15 @@ use Rattle.cl_interpreter.proofs.Placing.{nth_object_past, slice_get_past}
 pub kernel_objects_all : (p : Program) (l : Launch) (item : ℕ) (objects : List ℕ) (k : ℕ) → length objects ≡ k → length l.args ≤ k → ((n : ℕ) → n < k → nth_object objects n ≡ kernel_objects p l item n) → (n : ℕ) → nth_object objects n ≡ kernel_objects p l item n
 kernel_objects_all p l item objects k e f h n =
     elim (cases_lt n k) [
-      inl s ↦ h n s
-    | inr s ↦ nth_object_past objects n (omega arith) ∙ sym (ap (argument_object p l (group_of l item) n) (slice_get_past l.args n (omega arith)))
+      | inl s ↦ h n s
+      | inr s ↦ nth_object_past objects n (omega arith) ∙ sym (ap (argument_object p l (group_of l item) n) (slice_get_past l.args n (omega arith)))
     ]
 
 pub passed_objects_all : (p : Program) (l : Launch) (i : Item) (roots : List (Option Root)) (objects : List ℕ) (k : ℕ) → length objects ≡ k → length roots ≤ k → ((n : ℕ) → n < k → nth_object objects n ≡ passed_object p l i (slice_get roots n)) → (n : ℕ) → nth_object objects n ≡ passed_object p l i (slice_get roots n)
 passed_objects_all p l i roots objects k e f h n =
     elim (cases_lt n k) [
-      inl s ↦ h n s
-    | inr s ↦ nth_object_past objects n (omega arith) ∙ sym (ap (passed_object p l i) (slice_get_past roots n (omega arith)))
+      | inl s ↦ h n s
+      | inr s ↦ nth_object_past objects n (omega arith) ∙ sym (ap (passed_object p l i) (slice_get_past roots n (omega arith)))
     ]
 
 -- the frame of a called function, of lists

@@ -3,6 +3,7 @@ pub mod Lists
 pub mod Marks
 pub mod Nexts
 pub mod Objects
+pub mod Reasons
 pub mod Tasks
 pub mod Trees
 pub mod Worlds

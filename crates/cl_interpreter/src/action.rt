@@ -86,13 +86,7 @@ fn builtin_value(f: Fun, t: IntType, a: i128, b: i128, c: i128) -> Result<i128, 
 }
 
 /// The new value of a compound assignment.
-pub(crate) fn changed(
-    op: Bin,
-    of: IntType,
-    back: IntType,
-    a: i128,
-    b: i128,
-) -> Result<i128, Error>
+pub(crate) fn changed(op: Bin, of: IntType, back: IntType, a: i128, b: i128) -> Result<i128, Error>
     ensures value { IfOk result (λ v. v ≡ model.changed op of back a b) }
     ensures reason { IfErr result (IsReason ⊥ (¬ IsOperand op of b)) }
 {

@@ -11,10 +11,12 @@ pub enum Error {
     /// Memory was refused, or a list would be longer than 64 bits count.
     #[error("out of memory")]
     Memory,
-    /// The id of a work-item, or the number of an iteration, is 2 to the 64 or more.
+    /// The id of a work-item that a step asks for, or the number of the iteration that it begins, is 2 to the 64 or
+    /// more.
     #[error("a number does not fit 64 bits")]
     Number,
-    /// An operand is no value of the type in which its operator computes.
+    /// An operand of a step is no value of the type in which its operator computes; on the right of a shift, it is no
+    /// value of 64 bits.
     #[error("an operand is no value of its type")]
     Operand,
 }

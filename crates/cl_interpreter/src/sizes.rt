@@ -156,12 +156,7 @@ fn answer_outside(launch: &Launch, what: Query) -> u64
 }
 
 /// What a work-item function gives an item for an argument.
-pub(crate) fn answer(
-    launch: &Launch,
-    item: u64,
-    what: Query,
-    argument: i128,
-) -> Result<i128, Error>
+pub(crate) fn answer(launch: &Launch, item: u64, what: Query, argument: i128) -> Result<i128, Error>
     ensures value { IfOk result (λ v. v ≡ model.answer_of (launch_of launch.now) item what argument) }
     ensures reason { IfErr result (IsReason (pos (2 ^ 64) ≤ℤ model.answer_of (launch_of launch.now) item what argument) ⊥) }
 {

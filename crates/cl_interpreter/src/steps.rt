@@ -230,15 +230,7 @@ fn task_next(
             site,
             array,
             count,
-        } => memory_only(clear_next(
-            alloc,
-            program,
-            launch,
-            item,
-            at,
-            (site, array),
-            count,
-        )),
+        } => memory_only(clear_next(alloc, program, launch, item, at, (site, array), count)),
         Task::Initialise {
             site,
             array,
@@ -281,13 +273,10 @@ fn task_next(
     }
 }
 
-/// What the item does next.
-pub fn step(
-    alloc: Global,
-    program: &Program,
-    launch: &Launch,
-    item: &Item,
-) -> Result<Next, Error>
+/// What the item does next. `Error::Number` comes only where the id that its first task asks for, or the number of the
+/// iteration that it begins, is 2 to the 64 or more, and `Error::Operand` only where an operand of its first task is no
+/// value of the type in which the operator computes.
+pub fn step(alloc: Global, program: &Program, launch: &Launch, item: &Item) -> Result<Next, Error>
     ensures next { IfOk result (λ n. next_of n ≡ model.item_next (program_of program.now) (launch_of launch.now) (item_of item.now)) }
     ensures reason { IfErr result (IsReasonOf (launch_of launch.now) (item_of item.now)) }
 {

@@ -1,15 +1,17 @@
-use Rattle.std.proofs.Common.{◌∙◌, ap, ℤ, Ok, SFits, rules}
+use Rattle.std.proofs.Common.{◌≡◌, ◌∙◌, ap, subst, ℤ, Ok, SFits, rules}
 use Rattle.std.specs.Int.{w128}
 use Rattle.std.proofs.lemmas.Int.{to_z-of_z}
 use Rattle.std.proofs.lemmas.Result.{IfOk-weaker, IfErr-weaker}
 use Rattle.work_items.specs.Items as items
 use Rattle.wg_num.specs.Bytes.{value_of_bytes}
+use Rattle.cl_model.specs.Task as way
+use Rattle.cl_model.specs.Steps as model
 use Rattle.cl_model.specs.Steps.{access_at}
 use Rattle.cl_model.specs.View.{launch_of}
 use Rattle.cl_interpreter.specs.declared.task.Task.TheVariants as task
 use Rattle.cl_interpreter.specs.Trees.{program_of}
 use Rattle.cl_interpreter.specs.Tasks.{item_of, path_of, task_of}
-use Rattle.cl_interpreter.specs.Nexts.{pushed}
+use Rattle.cl_interpreter.specs.Nexts.{next_of, pushed}
 use Rattle.cl_interpreter.proofs.Loading.{loads_done}
 use Rattle.cl_interpreter.specs.Reasons.{IsReasonAt}
 use Rattle.cl_interpreter.proofs.Stepping.{IsStep, stepped, widened, explained}
@@ -88,9 +90,14 @@ pub returns-in-Initialise-clause-next : goal.returns-in-Initialise-clause-next
 returns-in-Initialise-clause-next c =
     let p = program_of c.args.program.now in
     let l = launch_of c.args.launch.now in
+    let i = item_of c.args.item in
     let t = task.Initialise c.in-Initialise.at c.in-Initialise.site c.in-Initialise.array c.in-Initialise.index c.in-Initialise.value in
+    let fits : SFits w128 c.in-Initialise.value = search rules in
+    let back = to_z-of_z w128 c.in-Initialise.value fits in
+    let at = path_of c.in-Initialise.at.items in
     stepped p l c.args.item c.args.task t c.memory_only-in-Initialise.result c.in-Initialise.is
-    (widened _ (IsStep p l c.args.item t) c.memory_only-in-Initialise.result c.initialise_next.result c.memory_only-in-Initialise.ensures (λ n h. h (path_of c.in-Initialise.at.items)) c.initialise_next.ensures)
+    (widened _ (IsStep p l c.args.item t) c.memory_only-in-Initialise.result c.initialise_next.result c.memory_only-in-Initialise.ensures
+    (λ n h. subst (λ (v : ℤ). next_of n ≡ model.task_next p l i (way.Initialise at c.in-Initialise.site c.in-Initialise.array c.in-Initialise.index v) i.tasks) back (h at)) c.initialise_next.ensures)
 
 pub returns-in-Branch-clause-next : goal.returns-in-Branch-clause-next
 returns-in-Branch-clause-next c =
@@ -145,11 +152,11 @@ returns-in-Peek-clause-next c =
     let l = launch_of c.args.launch.now in
     let i = item_of c.args.item in
     let t = task.Peek c.in-Peek.at c.in-Peek.site c.in-Peek.element c.in-Peek.root in
-    let fits : SFits w128 c.last.result = search rules in
-    let back = to_z-of_z w128 c.last.result fits in
+    let fits : SFits w128 c.last-index.result = search rules in
+    let back = to_z-of_z w128 c.last-index.result fits in
     stepped p l c.args.item c.args.task t c.memory_only-in-Peek.result c.in-Peek.is
     (loads_done c.memory_only-in-Peek.result c.load.result _ _ c.memory_only-in-Peek.ensures c.load.ensures
-    (ap (λ (v : ℤ). items.Loads c.in-Peek.site (access_at p l i c.in-Peek.element c.in-Peek.root v) (λ bytes. pushed i (value_of_bytes c.in-Peek.element bytes))) (back ∙ c.last.ensures)))
+    (ap (λ (v : ℤ). items.Loads c.in-Peek.site (access_at p l i c.in-Peek.element c.in-Peek.root v) (λ bytes. pushed i (value_of_bytes c.in-Peek.element bytes))) (back ∙ c.last-index.ensures)))
 
 pub returns-in-Discard-clause-next : goal.returns-in-Discard-clause-next
 returns-in-Discard-clause-next c =
