@@ -6,8 +6,6 @@ ghost use Rattle.wg_num.specs.Wrap.{bits_of};
 ghost use Rattle.wg_num.specs.Bytes as values;
 ghost use Rattle.work_items.specs.Memory as memory;
 
-
-
 use std::alloc::Global;
 use wg_num::{IntType, Memory, value};
 

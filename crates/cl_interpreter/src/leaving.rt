@@ -96,14 +96,16 @@ fn again(alloc: Global, tasks: &mut VecDeque<Task>) -> Result<(), Memory>
     ensures { OnOk result (tasks_of tasks.new.items ≡ model.behind_continue (tasks_of tasks.old.items)) }
 {
     match tasks.pop_front() {
-        Some(Task::InLoop {
-            at,
-            site,
-            test,
-            step,
-            body,
-            begun,
-        }) => {
+        Some(
+            Task::InLoop {
+                at,
+                site,
+                test,
+                step,
+                body,
+                begun,
+            },
+        ) => {
             let of = Repeated {
                 site,
                 test,
@@ -120,10 +122,7 @@ fn again(alloc: Global, tasks: &mut VecDeque<Task>) -> Result<(), Memory>
 }
 
 /// The step expression and the test of the nearest loop, whose marker stays; it never leaves its function.
-pub(crate) fn behind_continue(
-    alloc: Global,
-    tasks: &mut VecDeque<Task>,
-) -> Result<(), Memory>
+pub(crate) fn behind_continue(alloc: Global, tasks: &mut VecDeque<Task>) -> Result<(), Memory>
     ensures { OnOk result (tasks_of tasks.new.items ≡ model.behind_continue (tasks_of tasks.old.items)) }
 {
     before_loop(tasks);

@@ -110,7 +110,10 @@ fn calls_of(calls: &mut Vec<CallSite>, s: &Statement) -> Result<(), Memory>
             calls_of_all(calls, other)
         }
         Statement::Loop {
-            test, step, body, ..
+            test,
+            step,
+            body,
+            ..
         } => {
             calls_in_optional(calls, test)?;
             calls_in_optional(calls, step)?;
@@ -368,12 +371,7 @@ fn local_count(alloc: Global, program: &Program, launch: &Launch) -> Result<u64,
 }
 
 /// The number of the first local object of a group.
-fn first_local(
-    alloc: Global,
-    program: &Program,
-    launch: &Launch,
-    group: u64,
-) -> Result<u64, Memory>
+fn first_local(alloc: Global, program: &Program, launch: &Launch, group: u64) -> Result<u64, Memory>
     ensures { IfOk result (λ n. n ≡ model.first_local (program_of program.now) (launch_of launch.now) group) }
 {
     let count = local_count(alloc, program, launch)?;

@@ -37,12 +37,7 @@ pub(crate) fn further(alloc: Global, at: &[Leg], leg: Leg) -> Result<Vec<Leg>, M
 }
 
 /// The way with two legs more.
-pub(crate) fn beyond(
-    alloc: Global,
-    at: &[Leg],
-    leg: Leg,
-    next: Leg,
-) -> Result<Vec<Leg>, Memory>
+pub(crate) fn beyond(alloc: Global, at: &[Leg], leg: Leg, next: Leg) -> Result<Vec<Leg>, Memory>
     ensures { IfOk result (λ way. path_of way.items ≡ path_of at.now ++ (leg_of leg ∷ leg_of next ∷ [])) }
 {
     let at = further(alloc, at, leg)?;

@@ -44,7 +44,14 @@ fn declare_next(
         }
         Some(e) => {
             let way = same_way(alloc, &at)?;
-            before_task(alloc, item, &at, Leg::Operand(0), e, Task::Keep { at: way, x })
+            before_task(
+                alloc,
+                item,
+                &at,
+                Leg::Operand(0),
+                e,
+                Task::Keep { at: way, x },
+            )
         }
     }
 }
@@ -118,7 +125,14 @@ fn return_next(
         }
         Some(e) => {
             let way = same_way(alloc, &at)?;
-            before_task(alloc, item, &at, Leg::Operand(0), e, Task::Leave { at: way })
+            before_task(
+                alloc,
+                item,
+                &at,
+                Leg::Operand(0),
+                e,
+                Task::Leave { at: way },
+            )
         }
     }
 }
@@ -137,12 +151,7 @@ fn jump_next(alloc: Global, item: Item, ends: bool) -> Result<Next, Memory>
 }
 
 /// The step of statements that begin.
-fn block_next(
-    alloc: Global,
-    item: Item,
-    at: Vec<Leg>,
-    list: Statements,
-) -> Result<Next, Memory>
+fn block_next(alloc: Global, item: Item, at: Vec<Leg>, list: Statements) -> Result<Next, Memory>
     ensures { IfOk result (λ n. next_of n ≡ items.Goes (model.with_tasks (item_of item) (model.in_order (path_of at.items) 0 (statements_of list) (item_of item).tasks))) }
 {
     let mut item = item;
@@ -151,13 +160,25 @@ fn block_next(
 }
 
 /// The step of a statement that begins.
-pub(crate) fn run_next(alloc: Global, item: Item, at: Vec<Leg>, s: Statement) -> Result<Next, Memory>
+pub(crate) fn run_next(
+    alloc: Global,
+    item: Item,
+    at: Vec<Leg>,
+    s: Statement,
+) -> Result<Next, Memory>
     ensures { IfOk result (λ n. (p : tree.Program) → next_of n ≡ model.run_next p (item_of item) (path_of at.items) (statement_of s) (item_of item).tasks) }
 {
     match s {
         Statement::Do(e) => {
             let way = further(alloc, &at, Leg::Own(0))?;
-            before_task(alloc, item, &at, Leg::Operand(0), e, Task::Discard { at: way })
+            before_task(
+                alloc,
+                item,
+                &at,
+                Leg::Operand(0),
+                e,
+                Task::Discard { at: way },
+            )
         }
         Statement::Declare { x, value } => declare_next(alloc, item, at, x, value),
         Statement::Fill {

@@ -53,7 +53,11 @@ fn entered(v: i128, by_label: bool, k: u64, arms: Arms) -> Result<Option<Entry>,
             body,
             rest,
         } => {
-            let here = if by_label { has_label(v, &labels) } else { other };
+            let here = if by_label {
+                has_label(v, &labels)
+            } else {
+                other
+            };
             if here {
                 let arms = Arms::More {
                     labels,
