@@ -1,6 +1,6 @@
 //! Values in memory, and loads and stores of whole elements.
 
-ghost use Rattle.std.specs.Prelude.{◌≡◌, ◌<◌, ◌+◌, ◌≤◌, IfOk, MatchOption, length, replicate, true, false};
+ghost use Rattle.std.specs.Prelude.{◌≡◌, ◌<◌, ◌+◌, ◌≤◌, IfOk, MatchOption, length, replicate, true, false, ◌^◌, ◌*◌};
 ghost use Rattle.std.specs.Simd.Lanes.{number_l};
 ghost use Rattle.wg_num.specs.Wrap.{bits_of};
 ghost use Rattle.wg_num.specs.Bytes as values;
@@ -48,7 +48,8 @@ pub(crate) fn bytes_of(alloc: Global, t: IntType, v: i128) -> Result<Vec<u8>, Me
 /// The number that bytes stand for, lowest first, at most eight of them.
 fn number_of(bytes: &[u8]) -> u64
     requires { length bytes.now < 9 }
-    ensures { result ≡ number_l 256 bytes.now }
+    ensures value { result ≡ number_l 256 bytes.now }
+    ensures below { result < 2 ^ (8 * length bytes.now) }
 {
     match bytes {
         [] => 0,
