@@ -2,6 +2,7 @@
 //! launch means on examples.
 #![tactic(auto)]
 
+pub mod access;
 mod action;
 mod bytes;
 pub mod copying;
@@ -16,6 +17,7 @@ mod order;
 mod running;
 pub mod selecting;
 mod sizes;
+mod starting;
 pub mod steps;
 pub mod task;
 #[cfg(test)]
@@ -28,4 +30,4 @@ pub use error::Error;
 pub use next::Next;
 pub use steps::step;
 pub use task::Item;
-pub use world::{Fault, Move, Played, World, run_moves};
+pub use world::{Fault, Move, Played, Start, World, make_move, run_moves, start_world};

@@ -1,55 +1,56 @@
-//! A launch under given moves: its memory, its items and its fault, if there is one.
+//! A launch under given moves: its memory, its work-items and its fault, if there is one.
 
-ghost use Rattle.std.specs.Prelude.{◌≡◌, ◌<◌, ◌≤◌, ◌+◌, ◌++◌, ◌∷◌, [], ℕ, IfOk, OnOk, map, length, slice_get, if◌then◌else◌, true, false};
-ghost use Rattle.work_items.specs.Memory as cells;
+ghost use Rattle.std.specs.Prelude.{◌≡◌, ◌<◌, ◌/◌, ℕ, IfOk, IfErr, MatchOption, Option, map, length, vec_len, slice_get, nat_eq, true, false};
 ghost use Rattle.work_items.specs.Items as acts;
-ghost use Rattle.cl_model.specs.Steps.{nth};
-ghost use Rattle.cl_model.specs.Calls.{kernel_of};
-ghost use Rattle.cl_model.specs.Objects as objects;
-ghost use Rattle.cl_model.specs.Sizes as sizes;
 ghost use Rattle.cl_model.specs.Meaning as meaning;
+ghost use Rattle.cl_model.specs.Task as way;
+ghost use Rattle.cl_model.specs.Tree as tree;
 ghost use Rattle.cl_model.specs.View as typed;
-ghost use Rattle.cl_interpreter.specs.Trees.{statements_of, program_of};
-ghost use Rattle.cl_interpreter.specs.Tasks.{item_of};
+ghost use Rattle.cl_interpreter.specs.Trees.{program_of};
+ghost use Rattle.cl_interpreter.specs.Tasks.{item_of, path_of};
 ghost use Rattle.cl_interpreter.specs.Nexts.{next_of};
-ghost use Rattle.cl_interpreter.specs.Worlds.{bytes_in, move_of, world_of, IsOutcome, IsMade, IsPlayed};
+ghost use Rattle.cl_interpreter.specs.Worlds.{move_of, world_of, barrier_of as barrier_at, StandTogether, gone, gone_from, IsMade, IsPlayed};
 
-use crate::bytes::{place_in, size_of, value_of, zeros};
-use crate::copying;
+use crate::access::{Stepped, outcome};
 use crate::error::{Error, memory_only};
-use crate::next::Next;
-use crate::objects::{array_bytes, arrays_in, kernel_objects};
 use crate::making;
-use crate::sizes::{group_count, group_of, item_count};
+use crate::next::Next;
+use crate::sizes::group_size;
+use crate::starting::{start_items, start_memory};
 use crate::steps::step;
-use crate::task::{Frame, Item, Task};
-use crate::tree::{Program, Statement, Statements};
-use crate::values::push;
-use cl_model::{Bound, Buffers, Launch};
+use crate::task::{Item, Leg, Task};
+use crate::tree::{Program, Statement};
+use cl_model::{Buffers, Launch};
 use std::alloc::Global;
-use std::collections::VecDeque;
-use wg_num::{IntType, Memory};
+use wg_num::Memory;
 
-/// An access out of range: of which item, at which site.
+/// An access out of range: of which work-item, at which site.
 #[derive(Clone, Copy, PartialEq, Eq, Debug)]
 pub struct Fault {
     pub item: usize,
     pub site: u32,
 }
 
-/// What may happen: an item takes its step, or a group is released.
+/// What may happen: a work-item takes its step, or a work-group is released from the barrier at which it waits.
 #[derive(Clone, Copy, PartialEq, Eq, Debug)]
 pub enum Move {
     Step(usize),
     Release(u64),
 }
 
-/// The memory, the state of each item, and the fault that ended the run, if there was one.
+/// The memory, the state of each work-item, and the fault that ended the run, if there was one.
 #[derive(Drop)]
 pub struct World {
     pub memory: Vec<Vec<u8>>,
     pub items: Vec<Item>,
     pub fault: Option<Fault>,
+}
+
+/// A launch at its start: the plain tree of its program, by which the moves are made, and its world.
+#[derive(Drop)]
+pub struct Start {
+    pub program: Program,
+    pub world: World,
 }
 
 /// What the moves lead to: a world, or the number of the first move that cannot be made where it comes.
@@ -59,285 +60,44 @@ pub enum Played {
     Impossible(usize),
 }
 
-/// The values of the kernel's arguments, 0 for a pointer.
-fn argument_values(alloc: Global, args: &[Bound]) -> Result<Vec<i128>, Memory>
-    ensures { IfOk result (λ v. (x : ℕ) → nth v.items x ≡ meaning.argument_value (slice_get args.now x)) }
-{
-    let mut values = Vec::new(alloc);
-    for bound in args {
-        let value = match bound {
-            Bound::Value(v) => *v,
-            Bound::Buffer(_) | Bound::Local(_) => 0,
-        };
-        match values.push(value) {
-            Ok(()) => {}
-            Err(_) => return Err(Memory),
-        }
-    }
-    Ok(values)
-}
-
-/// The kernel's body.
-fn kernel_body(alloc: Global, program: &Program) -> Result<Statements, Memory>
-    ensures { IfOk result (λ ss. statements_of ss ≡ (kernel_of (program_of program.now)).body) }
-{
-    match program.functions.get(program.kernel as usize) {
-        Some(kernel) => copying::statements(alloc, &kernel.body),
-        None => Ok(Statements::End),
-    }
-}
-
-/// An item as it starts: the kernel's body is its only task.
-fn start_item(
+/// A launch at its start, on these buffers: each work-item begins the kernel's body, over the buffers, the constant
+/// tables and zeroed local and private objects (OpenCL 1.2, sections 3.2 and 3.3). It fails for want of memory alone.
+pub fn start_world(
     alloc: Global,
-    program: &Program,
-    launch: &Launch,
-    number: u64,
-) -> Result<Item, Memory>
-    ensures { IfOk result (λ i. item_of i ≡ meaning.start_item (program_of program.now) (typed.launch_of launch.now) number) }
-{
-    let body = kernel_body(alloc, program)?;
-    let mut tasks = VecDeque::new(alloc);
-    let task = Task::Run {
-        at: Vec::new(alloc),
-        s: Statement::Block(body),
-    };
-    crate::order::put(&mut tasks, task)?;
-    let frame = Frame {
-        function: program.kernel,
-        path: Vec::new(alloc),
-        objects: kernel_objects(alloc, program, launch, number)?,
-        variables: argument_values(alloc, &launch.args)?,
-    };
-    let mut frames = VecDeque::new(alloc);
-    match frames.push_front(frame) {
-        Ok(()) => Ok(Item {
-            number,
-            tasks,
-            values: VecDeque::new(alloc),
-            frames,
-        }),
-        Err(_) => Err(Memory),
-    }
-}
-
-/// The items of a launch as they start.
-fn start_items(alloc: Global, program: &Program, launch: &Launch) -> Result<Vec<Item>, Memory>
-    ensures { IfOk result (λ v. map item_of v.items ≡ meaning.start_items (program_of program.now) (typed.launch_of launch.now) 0 (sizes.item_count (typed.launch_of launch.now))) }
-{
-    let mut items = Vec::new(alloc);
-    for number in 0..item_count(launch)? {
-        let item = start_item(alloc, program, launch, number)?;
-        match items.push(item) {
-            Ok(()) => {}
-            Err(_) => return Err(Memory),
-        }
-    }
-    Ok(items)
-}
-
-/// An object of these bytes behind others.
-fn put_object(memory: &mut Vec<Vec<u8>>, bytes: Vec<u8>) -> Result<(), Memory>
-    ensures { OnOk result (bytes_in memory.new.items ≡ bytes_in memory.old.items ++ bytes.items ∷ []) }
-{
-    match memory.push(bytes) {
-        Ok(()) => Ok(()),
-        Err(_) => Err(Memory),
-    }
-}
-
-/// The sizes of the local objects of a group, or else of the private objects of an item.
-fn object_sizes(
-    alloc: Global,
-    program: &Program,
-    launch: &Launch,
-    local: bool,
-) -> Result<Vec<u64>, Memory>
-    ensures { IfOk result (λ v. v.items ≡ (if local then objects.local_sizes (program_of program.now) (typed.launch_of launch.now) else objects.private_sizes (program_of program.now))) }
-{
-    let mut sizes = Vec::new(alloc);
-    for placed in &arrays_in(alloc, program, local)? {
-        match sizes.push(array_bytes(placed.array)?) {
-            Ok(()) => {}
-            Err(_) => return Err(Memory),
-        }
-    }
-    if local {
-        for bound in &launch.args {
-            if let Bound::Local(n) = bound {
-                match sizes.push(*n) {
-                    Ok(()) => {}
-                    Err(_) => return Err(Memory),
-                }
-            }
-        }
-    }
-    Ok(sizes)
-}
-
-/// Zero objects of these sizes behind others.
-fn put_zeros(alloc: Global, memory: &mut Vec<Vec<u8>>, sizes: &[u64]) -> Result<(), Memory>
-    ensures { OnOk result (bytes_in memory.new.items ≡ bytes_in memory.old.items ++ map objects.zeros sizes.now) }
-{
-    for size in sizes {
-        let bytes = zeros(alloc, *size)?;
-        put_object(memory, bytes)?;
-    }
-    Ok(())
-}
-
-/// So many copies of zero objects of these sizes behind others.
-fn put_copies(
-    alloc: Global,
-    memory: &mut Vec<Vec<u8>>,
-    count: u64,
-    sizes: &[u64],
-) -> Result<(), Memory>
-    ensures { OnOk result (bytes_in memory.new.items ≡ bytes_in memory.old.items ++ objects.copies count (map objects.zeros sizes.now)) }
-{
-    for _k in 0..count {
-        put_zeros(alloc, memory, sizes)?;
-    }
-    Ok(())
-}
-
-/// The memory in which a launch starts on these buffers.
-fn start_memory(
-    alloc: Global,
-    program: &Program,
+    program: &cl_model::Program,
     launch: &Launch,
     buffers: &Buffers,
-) -> Result<Vec<Vec<u8>>, Memory>
-    ensures { IfOk result (λ m. bytes_in m.items ≡ objects.start_memory (program_of program.now) (typed.launch_of launch.now) (typed.buffers_of buffers.now)) }
+) -> Result<Start, Memory>
+    ensures tree { IfOk result (λ s. program_of s.program ≡ typed.program_of program.now) }
+    ensures world { IfOk result (λ s. world_of s.world ≡ meaning.start_world (typed.program_of program.now) (typed.launch_of launch.now) (typed.buffers_of buffers.now)) }
 {
-    let mut memory = buffers.copy(alloc)?.list;
-    for table in &program.tables {
-        match table.bytes.as_slice().to_vec(alloc) {
-            Ok(bytes) => put_object(&mut memory, bytes)?,
-            Err(_) => return Err(Memory),
-        }
-    }
-    let locals = object_sizes(alloc, program, launch, true)?;
-    put_copies(alloc, &mut memory, group_count(launch)?, &locals)?;
-    let privates = object_sizes(alloc, program, launch, false)?;
-    put_copies(alloc, &mut memory, item_count(launch)?, &privates)?;
-    Ok(memory)
-}
-
-/// The world in which a launch starts on these buffers.
-fn start_world(
-    alloc: Global,
-    program: &Program,
-    launch: &Launch,
-    buffers: &Buffers,
-) -> Result<World, Memory>
-    ensures { IfOk result (λ w. world_of w ≡ meaning.start_world (program_of program.now) (typed.launch_of launch.now) (typed.buffers_of buffers.now)) }
-{
-    let memory = start_memory(alloc, program, launch, buffers)?;
-    let items = start_items(alloc, program, launch)?;
-    Ok(World {
+    let program = making::program(alloc, program)?;
+    let memory = start_memory(alloc, &program, launch, buffers)?;
+    let items = start_items(alloc, &program, launch)?;
+    let world = World {
         memory,
         items,
         fault: None,
-    })
+    };
+    Ok(Start { program, world })
 }
 
-/// Writes bytes into an object from a place on.
-fn overwrite(bytes: &mut [u8], first: usize, new: &[u8])
-    requires { first + length new.now ≤ length bytes.old }
-    ensures { bytes.new ≡ cells.overwritten bytes.old first new.now }
+/// Lets an item take a step; false where it is none.
+fn take_step(world: &mut World, item: usize, next: Next) -> Result<bool, Memory>
+    requires there { item < vec_len world.old.items }
+    requires running { world.old.fault ≡ None }
+    ensures made { IfOk result (λ made. (machine : acts.Machine way.Item (Option way.Point)) (state : way.Item) → slice_get (map item_of world.old.items.items) item ≡ Some state → next_of next ≡ machine.next state → IsMade machine (world_of world.old) (acts.Step item) made (world_of world.new)) }
+    ensures kept { IfErr result (λ e. world_of world.new ≡ world_of world.old) }
 {
-    for k in 0..new.len() {
-        bytes[first + k] = new[k];
-    }
-}
-
-/// What a step comes to.
-#[derive(Drop)]
-pub enum Stepped {
-    /// The item as it is afterwards.
-    To(Item),
-    /// The access at this site is out of range.
-    Out(u32),
-    /// The item can take no step.
-    Stuck,
-}
-
-/// How many bytes an object has, none where there is no such object.
-fn length_of(memory: &[Vec<u8>], object: u64) -> usize
-    ensures { result ≡ length (cells.bytes_of (bytes_in memory.now) object) }
-{
-    match memory.get(object as usize) {
-        Some(bytes) => bytes.len(),
-        None => 0,
-    }
-}
-
-/// The value of an element of an object.
-fn value_in(memory: &[Vec<u8>], object: u64, element: IntType, first: usize) -> i128 {
-    match memory.get(object as usize) {
-        Some(bytes) => value_of(element, &bytes.as_slice()[first..first + size_of(element) as usize]),
-        None => value_of(element, &[]),
-    }
-}
-
-/// What a store to an object comes to, with what it does to the memory.
-fn after_store(
-    memory: &mut Vec<Vec<u8>>,
-    object: u64,
-    index: i128,
-    bytes: &[u8],
-) -> bool
-    ensures range { result ≡ cells.is_in_range (bytes_in memory.old.items) (record { object = object; size = length bytes.now; index = index }) }
-    ensures stored { result ≡ true → bytes_in memory.new.items ≡ cells.stored (bytes_in memory.old.items) object index bytes.now }
-    ensures same { result ≡ false → bytes_in memory.new.items ≡ bytes_in memory.old.items }
-{
-    match place_in(length_of(memory, object), bytes.len() as u64, index) {
-        None => false,
-        Some(first) => {
-            if object < memory.len() as u64 {
-                overwrite(memory[object as usize].as_mut_slice(), first, bytes);
-            }
-            true
+    match outcome(&mut world.memory, next)? {
+        Stepped::Stuck => Ok(false),
+        Stepped::To(after) => {
+            world.items[item] = after;
+            Ok(true)
         }
-    }
-}
-
-/// What the step of an item comes to, with what it does to the memory.
-fn outcome(memory: &mut Vec<Vec<u8>>, next: Next) -> Result<Stepped, Memory>
-    ensures { IfOk result (λ s. IsOutcome (bytes_in memory.old.items) (next_of next) s (bytes_in memory.new.items)) }
-{
-    match next {
-        Next::Ends | Next::Waits { .. } => Ok(Stepped::Stuck),
-        Next::Goes { after } | Next::Begins { after } => Ok(Stepped::To(after)),
-        Next::Loads {
-            site,
-            object,
-            element,
-            index,
-            after,
-        } => {
-            let mut after = after;
-            match place_in(length_of(memory, object), size_of(element), index) {
-                None => Ok(Stepped::Out(site)),
-                Some(first) => {
-                    push(&mut after.values, value_in(memory, object, element, first))?;
-                    Ok(Stepped::To(after))
-                }
-            }
-        }
-        Next::Stores {
-            site,
-            object,
-            index,
-            bytes,
-            after,
-        } => {
-            if after_store(memory, object, index, &bytes) {
-                Ok(Stepped::To(after))
-            } else {
-                Ok(Stepped::Out(site))
-            }
+        Stepped::Out(site) => {
+            world.fault = Some(Fault { item, site });
+            Ok(true)
         }
     }
 }
@@ -351,132 +111,241 @@ fn step_item(
     item: usize,
 ) -> Result<bool, Error>
     requires { world.old.fault ≡ None }
-    ensures { IfOk result (λ made. IsMade (meaning.machine_of (program_of program.now) (typed.launch_of launch.now)) (world_of world.old) (acts.Step item) made (world_of world.new)) }
+    ensures made { IfOk result (λ made. IsMade (meaning.machine_of (program_of program.now) (typed.launch_of launch.now)) (world_of world.old) (acts.Step item) made (world_of world.new)) }
+    ensures kept { IfErr result (λ e. world_of world.new ≡ world_of world.old) }
 {
     if item >= world.items.len() {
         return Ok(false);
     }
     let next = step(alloc, program, launch, &world.items[item])?;
-    match memory_only(outcome(&mut world.memory, next))? {
-        Stepped::Stuck => Ok(false),
-        Stepped::To(after) => {
-            world.items[item] = after;
-            Ok(true)
-        }
-        Stepped::Out(site) => {
-            world.fault = Some(Fault { item, site });
-            Ok(true)
-        }
+    match take_step(world, item, next) {
+        Ok(made) => Ok(made),
+        Err(_) => Err(Error::Memory),
     }
 }
 
-/// The first item of a group.
-fn first_of(launch: &Launch, count: usize, group: u64) -> Result<Option<usize>, Memory> {
+/// The item is of the group, where groups have so many items.
+fn is_in(item: usize, size: u64, group: u64) -> bool
+    ensures { result ≡ nat_eq (item / size) group }
+{
+    if size == 0 {
+        group == 0
+    } else {
+        item as u64 / size == group
+    }
+}
+
+/// The first item of a group, if it has one.
+fn first_of(count: usize, size: u64, group: u64) -> Option<usize>
+    ensures { MatchOption result ((k : ℕ) → k < count → k / size ≡ group → ⊥) (λ k. (k < count) × (k / size ≡ group)) }
+{
     for item in 0..count {
-        if group_of(launch, item as u64)? == group {
-            return Ok(Some(item));
+        if is_in(item, size, group) {
+            return Some(item);
         }
     }
-    Ok(None)
+    None
 }
 
-/// Whether the first tasks of two items run a statement at one point.
-fn same_point(item: &Item, other: &Item) -> bool {
-    match item.tasks.front() {
-        Some(Task::Run { at, .. }) => match other.tasks.front() {
-            Some(Task::Run { at: there, .. }) => at.as_slice() == there.as_slice(),
-            Some(_) | None => false,
+/// The legs are equal.
+fn same_leg(leg: Leg, other: Leg) -> bool
+    ensures same { result ≡ true → leg ≡ other }
+    ensures apart { result ≡ false → leg ≡ other → ⊥ }
+{
+    match leg {
+        Leg::Operand(n) => match other {
+            Leg::Operand(m) => n == m,
+            _ => false,
         },
-        Some(_) | None => false,
+        Leg::Own(n) => match other {
+            Leg::Own(m) => n == m,
+            _ => false,
+        },
+        Leg::Tested => match other {
+            Leg::Tested => true,
+            _ => false,
+        },
+        Leg::Chosen => match other {
+            Leg::Chosen => true,
+            _ => false,
+        },
+        Leg::Other => match other {
+            Leg::Other => true,
+            _ => false,
+        },
+        Leg::Nth(n) => match other {
+            Leg::Nth(m) => n == m,
+            _ => false,
+        },
+        Leg::Turn(n) => match other {
+            Leg::Turn(m) => n == m,
+            _ => false,
+        },
+        Leg::Body => match other {
+            Leg::Body => true,
+            _ => false,
+        },
+        Leg::Step => match other {
+            Leg::Step => true,
+            _ => false,
+        },
+        Leg::Arm(n) => match other {
+            Leg::Arm(m) => n == m,
+            _ => false,
+        },
+        Leg::Into => match other {
+            Leg::Into => true,
+            _ => false,
+        },
     }
 }
 
-/// The item as it is once released, where it waits at a barrier.
-fn waited(next: Next) -> Option<Item> {
-    match next {
-        Next::Waits { after, .. } => Some(after),
-        other => {
-            drop(other);
-            None
-        }
+/// The ways are equal.
+fn same_way(way: &[Leg], other: &[Leg]) -> bool
+    ensures same { result ≡ true → way.now ≡ other.now }
+    ensures apart { result ≡ false → way.now ≡ other.now → ⊥ }
+{
+    match way {
+        [] => other.is_empty(),
+        [leg, rest @ ..] => match other {
+            [] => false,
+            [first, others @ ..] => same_leg(*leg, *first) && same_way(rest, others),
+        },
     }
 }
 
-/// The items with those of a group released; `None` where one of them does not wait at the point of the first.
-fn released(
-    alloc: Global,
-    program: &Program,
-    launch: &Launch,
-    items: &[Item],
-    group: u64,
-    first: usize,
-) -> Result<Option<Vec<Item>>, Error> {
-    let mut after = Vec::new(alloc);
-    for (number, item) in items.iter().enumerate() {
-        let item = if memory_only(group_of(launch, number as u64))? == group {
-            if !same_point(item, &items[first]) {
-                return Ok(None);
-            }
-            match waited(step(alloc, program, launch, item)?) {
-                Some(item) => item,
-                None => return Ok(None),
-            }
-        } else {
-            memory_only(copying::item(alloc, item))?
-        };
-        match after.push(item) {
-            Ok(()) => {}
-            Err(_) => return Err(Error::Memory),
+/// The way to the barrier at which an item stands, if it does.
+fn barrier_of(item: &Item) -> Option<&[Leg]>
+    ensures { MatchOption result (barrier_at (item_of item.now).tasks ≡ None) (λ way. barrier_at (item_of item.now).tasks ≡ Some (path_of way.now)) }
+{
+    match item.tasks.front() {
+        Some(
+            Task::Run {
+                at,
+                s: Statement::Barrier { .. },
+            },
+        ) => Some(at.as_slice()),
+        Some(_) | None => None,
+    }
+}
+
+/// Both items stand at barriers, and at one point.
+fn stands_with(item: &Item, other: &Item) -> bool
+    ensures together { result ≡ true → StandTogether (item_of item.now) (item_of other.now) }
+    ensures apart { result ≡ false → StandTogether (item_of item.now) (item_of other.now) → ⊥ }
+{
+    match barrier_of(item) {
+        None => false,
+        Some(way) => match barrier_of(other) {
+            None => false,
+            Some(there) => same_way(way, there),
+        },
+    }
+}
+
+/// The first item of a group that does not stand at a barrier at the point of one item, if there is such an item.
+fn parted(items: &[Item], size: u64, group: u64, one: usize) -> Option<usize>
+    requires { one < length items.now }
+    ensures { let list = map item_of items.now in MatchOption result ((k : ℕ) (i j : way.Item) → k / size ≡ group → slice_get list k ≡ Some i → slice_get list one ≡ Some j → StandTogether i j) (λ k. (k < length items.now) × (k / size ≡ group) × ((i j : way.Item) → slice_get list k ≡ Some i → slice_get list one ≡ Some j → StandTogether i j → ⊥)) }
+{
+    for k in 0..items.len() {
+        if is_in(k, size, group) && !stands_with(&items[k], &items[one]) {
+            return Some(k);
         }
     }
-    Ok(Some(after))
+    None
+}
+
+/// Takes the first task off an item.
+fn let_go(item: &mut Item)
+    ensures { item_of item.new ≡ gone (item_of item.old) }
+{
+    match item.tasks.pop_front() {
+        Some(task) => drop(task),
+        None => {}
+    }
+}
+
+/// Takes the first task off each item of a group.
+fn let_all_go(items: &mut Vec<Item>, size: u64, group: u64)
+    ensures { map item_of items.new.items ≡ gone_from size group 0 (map item_of items.old.items) }
+{
+    for k in 0..items.len() {
+        if is_in(k, size, group) {
+            let_go(&mut items[k]);
+        }
+    }
 }
 
 /// Releases a group; false where not all its items wait at one point, or it has none.
-fn release(
-    alloc: Global,
-    program: &Program,
-    launch: &Launch,
-    world: &mut World,
-    group: u64,
-) -> Result<bool, Error>
+fn release(launch: &Launch, world: &mut World, group: u64) -> Result<bool, Memory>
     requires { world.old.fault ≡ None }
-    ensures { IfOk result (λ made. IsMade (meaning.machine_of (program_of program.now) (typed.launch_of launch.now)) (world_of world.old) (acts.Release group) made (world_of world.new)) }
+    ensures made { IfOk result (λ made. (program : tree.Program) → IsMade (meaning.machine_of program (typed.launch_of launch.now)) (world_of world.old) (acts.Release group) made (world_of world.new)) }
+    ensures kept { IfErr result (λ e. world_of world.new ≡ world_of world.old) }
 {
-    match memory_only(first_of(launch, world.items.len(), group))? {
+    let size = group_size(launch)?;
+    match first_of(world.items.len(), size, group) {
         None => Ok(false),
-        Some(first) => {
-            match released(alloc, program, launch, &world.items, group, first)? {
-                None => Ok(false),
-                Some(items) => {
-                    world.items = items;
-                    Ok(true)
-                }
+        Some(first) => match parted(&world.items, size, group, first) {
+            Some(_) => Ok(false),
+            None => {
+                let_all_go(&mut world.items, size, group);
+                Ok(true)
             }
-        }
+        },
     }
 }
 
-/// Makes a move; false where it cannot be made, and then the world stays as it is.
-fn make_move(
+/// Makes a move of a launch; false where it cannot be made, and then the world stays as it is. None can follow a
+/// fault. A step is that of the work-item's first task. A release takes a barrier off each work-item of a group whose
+/// work-items all wait at one point (OpenCL 1.2, section 6.12.8). An error leaves the world as it is. Want of memory
+/// is also the answer where a number of objects or of work-items is 2 to the 64 or more; a step alone can give
+/// another error, where it needs a number or an operand that there is not (see `Error`).
+pub fn make_move(
     alloc: Global,
     program: &Program,
     launch: &Launch,
     world: &mut World,
     what: Move,
 ) -> Result<bool, Error>
-    ensures { IfOk result (λ made. IsMade (meaning.machine_of (program_of program.now) (typed.launch_of launch.now)) (world_of world.old) (move_of what) made (world_of world.new)) }
+    ensures made { IfOk result (λ made. IsMade (meaning.machine_of (program_of program.now) (typed.launch_of launch.now)) (world_of world.old) (move_of what) made (world_of world.new)) }
+    ensures kept { IfErr result (λ e. world_of world.new ≡ world_of world.old) }
+    ensures release { IfErr result (λ e. (group : ℕ) → what ≡ Move.Release group → e ≡ Error.Memory) }
 {
     if world.fault.is_some() {
         return Ok(false);
     }
     match what {
         Move::Step(item) => step_item(alloc, program, launch, world, item),
-        Move::Release(group) => release(alloc, program, launch, world, group),
+        Move::Release(group) => match release(launch, world, group) {
+            Ok(made) => Ok(made),
+            Err(_) => Err(Error::Memory),
+        },
     }
 }
 
-/// The world after these moves of a launch on these buffers, or the first of them that cannot be made.
+/// The world after these moves from a world on, or the number of the first of them that cannot be made.
+fn play(
+    alloc: Global,
+    program: &Program,
+    launch: &Launch,
+    world: World,
+    moves: &[Move],
+) -> Result<Played, Error>
+    ensures { IfOk result (IsPlayed (meaning.machine_of (program_of program.now) (typed.launch_of launch.now)) (world_of world) (map move_of moves.now)) }
+{
+    let mut world = world;
+    for (number, what) in moves.iter().enumerate() {
+        let made = make_move(alloc, program, launch, &mut world, *what)?;
+        if !made {
+            return Ok(Played::Impossible(number));
+        }
+    }
+    Ok(Played::Reached(world))
+}
+
+/// The world after these moves of a launch on these buffers, or the number of the first of them that cannot be made.
+/// The errors are those of `start_world` and `make_move`.
 pub fn run_moves(
     alloc: Global,
     program: &cl_model::Program,
@@ -486,12 +355,7 @@ pub fn run_moves(
 ) -> Result<Played, Error>
     ensures { IfOk result (IsPlayed (meaning.machine_of (typed.program_of program.now) (typed.launch_of launch.now)) (meaning.start_world (typed.program_of program.now) (typed.launch_of launch.now) (typed.buffers_of buffers.now)) (map move_of moves.now)) }
 {
-    let program = memory_only(making::program(alloc, program))?;
-    let mut world = memory_only(start_world(alloc, &program, launch, buffers))?;
-    for (number, what) in moves.iter().enumerate() {
-        if !make_move(alloc, &program, launch, &mut world, *what)? {
-            return Ok(Played::Impossible(number));
-        }
-    }
-    Ok(Played::Reached(world))
+    let start = memory_only(start_world(alloc, program, launch, buffers))?;
+    let Start { program, world } = start;
+    play(alloc, &program, launch, world, moves)
 }
