@@ -1,6 +1,6 @@
 //! A launch under given moves: its memory, its work-items and its fault, if there is one.
 
-ghost use Rattle.std.specs.Prelude.{◌≡◌, ◌<◌, ◌/◌, ℕ, IfOk, IfErr, MatchOption, Option, map, length, vec_len, slice_get, nat_eq, true, false};
+ghost use Rattle.std.specs.Prelude.{◌≡◌, ◌<◌, ◌/◌, ◌⊎◌, ℕ, IfOk, IfErr, MatchOption, Option, map, length, vec_len, slice_get, nat_eq, true, false};
 ghost use Rattle.work_items.specs.Items as acts;
 ghost use Rattle.cl_model.specs.Meaning as meaning;
 ghost use Rattle.cl_model.specs.Task as way;
@@ -9,7 +9,7 @@ ghost use Rattle.cl_model.specs.View as typed;
 ghost use Rattle.cl_interpreter.specs.Trees.{program_of};
 ghost use Rattle.cl_interpreter.specs.Tasks.{item_of, path_of};
 ghost use Rattle.cl_interpreter.specs.Nexts.{next_of};
-ghost use Rattle.cl_interpreter.specs.Worlds.{move_of, world_of, barrier_of as barrier_at, StandTogether, gone, gone_from, IsMade, IsPlayed};
+ghost use Rattle.cl_interpreter.specs.Worlds.{move_of, world_of, barrier_of as barrier_at, StandTogether, gone, gone_from, IsMade, IsPlayed, IsStepOf};
 
 use crate::access::{Stepped, outcome};
 use crate::error::{Error, memory_only};
@@ -61,7 +61,8 @@ pub enum Played {
 }
 
 /// A launch at its start, on these buffers: each work-item begins the kernel's body, over the buffers, the constant
-/// tables and zeroed local and private objects (OpenCL 1.2, sections 3.2 and 3.3). It fails for want of memory alone.
+/// tables and zeroed local and private objects (OpenCL 1.2, sections 3.2 and 3.3). It fails for want of memory alone,
+/// also where a number of objects, of bytes or of work-items is 2 to the 64 or more.
 pub fn start_world(
     alloc: Global,
     program: &cl_model::Program,
@@ -113,6 +114,7 @@ fn step_item(
     requires { world.old.fault ≡ None }
     ensures made { IfOk result (λ made. IsMade (meaning.machine_of (program_of program.now) (typed.launch_of launch.now)) (world_of world.old) (acts.Step item) made (world_of world.new)) }
     ensures kept { IfErr result (λ e. world_of world.new ≡ world_of world.old) }
+    ensures other { IfErr result (λ e. (e ≡ Error.Memory) ⊎ (item < vec_len world.old.items)) }
 {
     if item >= world.items.len() {
         return Ok(false);
@@ -299,8 +301,8 @@ fn release(launch: &Launch, world: &mut World, group: u64) -> Result<bool, Memor
 /// Makes a move of a launch; false where it cannot be made, and then the world stays as it is. None can follow a
 /// fault. A step is that of the work-item's first task. A release takes a barrier off each work-item of a group whose
 /// work-items all wait at one point (OpenCL 1.2, section 6.12.8). An error leaves the world as it is. Want of memory
-/// is also the answer where a number of objects or of work-items is 2 to the 64 or more; a step alone can give
-/// another error, where it needs a number or an operand that there is not (see `Error`).
+/// is also the answer where a number of objects or of work-items is 2 to the 64 or more; only a step of a work-item
+/// that is there can give another error, where it needs a number or an operand that there is not (see `Error`).
 pub fn make_move(
     alloc: Global,
     program: &Program,
@@ -310,7 +312,7 @@ pub fn make_move(
 ) -> Result<bool, Error>
     ensures made { IfOk result (λ made. IsMade (meaning.machine_of (program_of program.now) (typed.launch_of launch.now)) (world_of world.old) (move_of what) made (world_of world.new)) }
     ensures kept { IfErr result (λ e. world_of world.new ≡ world_of world.old) }
-    ensures release { IfErr result (λ e. (group : ℕ) → what ≡ Move.Release group → e ≡ Error.Memory) }
+    ensures other { IfErr result (λ e. (e ≡ Error.Memory) ⊎ IsStepOf (vec_len world.old.items) what) }
 {
     if world.fault.is_some() {
         return Ok(false);
