@@ -20,8 +20,6 @@ mod sizes;
 mod starting;
 pub mod steps;
 pub mod task;
-#[cfg(test)]
-mod tests;
 pub mod tree;
 mod values;
 pub mod world;
