@@ -2,4 +2,16 @@
 #![tactic(auto)]
 
 #[cfg(test)]
+mod accepted;
+#[cfg(test)]
+mod order;
+#[cfg(test)]
+mod pieces;
+#[cfg(test)]
 mod printing;
+#[cfg(test)]
+mod programs;
+#[cfg(test)]
+mod refused;
+#[cfg(test)]
+mod verdicts;

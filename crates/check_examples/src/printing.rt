@@ -11,14 +11,18 @@ fn put<T: Copy + Debug>(text: &mut String, value: T) -> Result<(), AllocError> {
     write!(text, "{value:?}")
 }
 
-// A word, and a number behind it.
-fn put_numbered(text: &mut String, word: &str, number: u32) -> Result<(), AllocError> {
+/// A word, and a number behind it.
+pub fn put_numbered(text: &mut String, word: &str, number: u32) -> Result<(), AllocError> {
     text.push_str(word)?;
     put(text, number)
 }
 
 // An operator or a function of a type, behind an opening parenthesis.
-fn put_typed<T: Copy + Debug>(text: &mut String, operator: T, of: IntType) -> Result<(), AllocError> {
+fn put_typed<T: Copy + Debug>(
+    text: &mut String,
+    operator: T,
+    of: IntType,
+) -> Result<(), AllocError> {
     text.push_str("(")?;
     put(text, operator)?;
     text.push_str(".")?;
@@ -399,8 +403,8 @@ fn put_statement(text: &mut String, s: &Stmt) -> Result<(), AllocError> {
     }
 }
 
-// A place: its line and its column.
-fn put_place(text: &mut String, place: Place) -> Result<(), AllocError> {
+/// A place: its line and its column.
+pub fn put_place(text: &mut String, place: Place) -> Result<(), AllocError> {
     let Place { line, column } = place;
     put_numbered(text, " ", line)?;
     put_numbered(text, ":", column)
