@@ -52,7 +52,7 @@ fn worked_examples_are_compiled(rt: HostRuntime) -> Result<(), Fail> {
 }
 
 // Sources close to a fault.
-const EDGES: [&str; 20] = [
+const EDGES: [&str; 21] = [
     "k accepted | int min(int x, int y); __kernel void k(__global int *a) { a[0] = min(1, 2); }",
     "k accepted | uint min(uint x); void barrier(int x); __kernel void k(__global int *a) { a[0] = min(1, 2); barrier(CLK_LOCAL_MEM_FENCE); }",
     "k accepted | __constant int c = 1; void g(int c) { } void h(int h) { } __constant int CLK_LOCAL_MEM_FENCE = 1; __kernel void k(__global int *a) { int k = 1; }",
@@ -69,6 +69,7 @@ const EDGES: [&str; 20] = [
     "k accepted | __constant int c[2][2] = { 1, 2, 3 }; int g(__constant int *p) { return p[1]; } __kernel void k(__global int *a) { a[0] = g(c[1]) + c[0][1] + *c[1]; __constant int *p = c[0]; p = p + 1; }",
     "k accepted | __constant int c = true ? sizeof(int) * 2 : (uchar)300; __constant char t[] = { 1, -1, }; __kernel void k(__global int *a) { a[0] = c + t[1]; }",
     "k accepted | __constant char t[1048576] = { 1 }; __kernel void k(__global int *a) { a[0] = t[1048575]; }",
+    "k accepted | __kernel void k(__global int *a) { (a)[0] = 1; int t[2]; (t)[0] = 1; *(a + 1) = 2; (*a)++; a[0] = *a++ + (a += 1)[0]; }",
     "k accepted | __kernel void k(__global int *a) { switch (1) { case 1: default: case 2: break; } while (1) { switch (1) { case 1: continue; } } }",
     "k accepted | __kernel void k(__global int *a) { switch (a[0]) { case sizeof(int) * 2: case true: case -1 ? 5 : 6: case (char)300: ; } }",
     "k accepted | __kernel void k(__global int *a) { switch ((uchar)1) { case 0: case 256: ; } switch (1L) { case 1: case 4294967297: ; } }",

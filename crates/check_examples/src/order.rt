@@ -82,7 +82,7 @@ fn the_least_number_of_a_node_is_told(rt: HostRuntime) -> Result<(), Fail> {
 }
 
 // Several nodes are at fault, and the first is told: by last tokens, parts before the whole.
-const NODES: [&str; 32] = [
+const NODES: [&str; 34] = [
     "k E401 1:43 | __kernel void k(__global int *a) { a[0] = f() + x; }",
     "k E401 1:36 | __kernel void k(__global int *a) { b[0] = z; }",
     "k E403 1:38 | __kernel void k(__global int *a) { a[a + a] = y; }",
@@ -104,6 +104,8 @@ const NODES: [&str; 32] = [
     "k E408 1:36 | __kernel void k(__global int *a) { float a = b; }",
     "k E401 1:67 | __kernel void k(__global int *a) { switch (1) { case 1: ; case 1: y; } }",
     "k E401 1:68 | __kernel void k(__global int *a) { int n = 1; switch (1) { case n: z; } }",
+    "k E403 1:51 | __kernel void k(__global int *a) { int x = 1; x = x = a; }",
+    "k E401 1:44 | __kernel void k(__global int *a) { case 1: y; }",
     "k E412 1:25 | int g(int x) { return g(g(x)); } __kernel void k(__global int *a) { }",
     "k E411 1:16 | __kernel int k(bool b) { return 1; }",
     "k E414 1:10 | __kernel __attribute__((reqd_work_group_size(0, 1, 1))) int k() { return 1; }",

@@ -4,7 +4,7 @@ use crate::verdicts::differing;
 use std::test::Fail;
 
 // E401 and E402.
-const NAMES: [&str; 30] = [
+const NAMES: [&str; 32] = [
     "k E401 1:43 | __kernel void k(__global int *a) { a[0] = f(1); }",
     "k E401 1:73 | __kernel void g(__global int *a) { } __kernel void k(__global int *a) { g(a); }",
     "k E401 1:81 | int g(int x) { return x; } __kernel void k(__global int *a) { int g = 1; a[0] = g(1); }",
@@ -19,6 +19,8 @@ const NAMES: [&str; 30] = [
     "k E401 1:68 | void g(); __kernel void g() { } __kernel void k(__global int *a) { g(); }",
     "k E401 1:22 | void g(); void h() { g(); } __kernel void g() { } __kernel void k(__global int *a) { }",
     "k E401 1:42 | __kernel void k(__global int *a) { int t[t]; }",
+    "k E401 1:49 | __kernel void k(__global int *a) { int t[2] = { t }; }",
+    "k E401 1:20 | __constant int c = c; __kernel void k(__global int *a) { }",
     "k E401 1:40 | __kernel void k(__global int *a) { min(CLK_LOCAL_MEM_FENCE, 1); }",
     "k E401 1:43 | __kernel void k(__global int *a) { a[0] = a(1); }",
     "k E402 1:34 | __kernel void k(__global int *a, int a) { }",
@@ -44,7 +46,7 @@ fn unknown_and_repeated_names_are_refused(rt: HostRuntime) -> Result<(), Fail> {
 }
 
 // E403.
-const OPERANDS: [&str; 41] = [
+const OPERANDS: [&str; 43] = [
     "k E403 1:43 | __kernel void k(__global int *a) { a[0] = a - a; }",
     "k E403 1:43 | __kernel void k(__global int *a) { a[0] = a == a; }",
     "k E403 1:43 | __kernel void k(__global int *a) { a[0] = ~a; }",
@@ -84,6 +86,8 @@ const OPERANDS: [&str; 41] = [
     "k E403 1:65 | __kernel void k(__global int *a) { int x = 1; __global int *p = &x; }",
     "k E403 1:54 | __kernel void k(__global int *a) { __global int *p = &a; }",
     "k E403 1:58 | __kernel void k(__global int *a) { int t[2][2]; int *p = &t[1]; }",
+    "k E403 1:68 | __kernel void k(__global int *a) { __local int c; __local int *p = &c; }",
+    "k E403 1:58 | __kernel void k(__global int *a) { __local int c; a[0] = *c; }",
     "k E403 1:49 | __kernel void k(__global int *a) { int t[2][2]; t, 1; }",
     "k E403 1:56 | __kernel void k(__global int *a) { int t[2][2]; a[0] = t + 1; }",
 ];
