@@ -6,6 +6,8 @@ mod accepted;
 #[cfg(test)]
 mod order;
 #[cfg(test)]
+mod pieces;
+#[cfg(test)]
 mod printing;
 #[cfg(test)]
 mod programs;
