@@ -116,10 +116,12 @@ fn extent(sizes: Sizes) -> (u32, [u64; 3], [u64; 3], [u64; 3]) {
             global,
             local,
         } => (1, [global, 1, 1], [local, 1, 1], [offset, 0, 0]),
-        Sizes::Plane {
-            global: [x, y],
-            local: [u, v],
-        } => (2, [x, y, 1], [u, v, 1], [0, 0, 0]),
+        Sizes::Plane { global, local } => (
+            2,
+            [global[0], global[1], 1],
+            [local[0], local[1], 1],
+            [0, 0, 0],
+        ),
     }
 }
 

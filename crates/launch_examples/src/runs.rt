@@ -244,9 +244,10 @@ pub fn run_launch(
     } else {
         End::Unfinished
     };
+    let Underway { world, turns, .. } = underway;
     Ok(Run {
         end,
-        turns: underway.turns,
-        memory: underway.world.memory,
+        turns,
+        memory: world.memory,
     })
 }

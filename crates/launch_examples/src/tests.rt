@@ -43,20 +43,25 @@ fn ends<R: Abort + AllocGlobal>(
     Ok(())
 }
 
-#[test]
-fn launches_leave_their_buffers(rt: HostRuntime) -> Result<(), Fail> {
-    for (example, left) in &straight::LEFT {
-        leaves(&rt, example, 1000, left)?;
+/// Each example is done in each order and leaves its buffers.
+fn all_leave<R: Abort + AllocGlobal>(
+    rt: &R,
+    examples: &[(Example, &[Elements])],
+) -> Result<(), Fail> {
+    for (example, left) in examples {
+        leaves(rt, example, 1000, left)?;
     }
     Ok(())
 }
 
 #[test]
+fn launches_leave_their_buffers(rt: HostRuntime) -> Result<(), Fail> {
+    all_leave(&rt, &straight::LEFT)
+}
+
+#[test]
 fn groups_leave_their_buffers(rt: HostRuntime) -> Result<(), Fail> {
-    for (example, left) in &grouped::LEFT {
-        leaves(&rt, example, 1000, left)?;
-    }
-    Ok(())
+    all_leave(&rt, &grouped::LEFT)
 }
 
 #[test]
@@ -192,12 +197,35 @@ fn a_race_leaves_one_of_its_values(rt: HostRuntime) -> Result<(), Fail> {
     Ok(())
 }
 
-/// Each of 16 items begins 2 iterations over tiles and 4 in them.
-#[test]
-fn a_product_of_matrices_by_tiles(rt: HostRuntime) -> Result<(), Fail> {
+/// The product of two matrices by tiles is done in this order with 96 turns: each of 16 items begins 2 iterations over
+/// tiles and 4 in them.
+fn multiplies<R: Abort + AllocGlobal>(rt: &R, order: Order) -> Result<(), Fail> {
     let (example, left) = &grouped::PRODUCT;
-    leaves(&rt, example, 96, left)?;
-    let fewer = prepare(rt.alloc(), example, 95)?;
-    assert_eq!(rt; fewer.run(rt.alloc(), Order::First)?.end, End::Turns);
+    let ran = prepare(rt.alloc(), example, 96)?.run(rt.alloc(), order)?;
+    assert_eq!(rt; (ran.end, ran.turns), (End::Done, 96));
+    assert!(rt; holds(rt.alloc(), &ran.memory, left)?);
+    Ok(())
+}
+
+#[test]
+fn a_product_from_the_first_item_on(rt: HostRuntime) -> Result<(), Fail> {
+    multiplies(&rt, Order::First)
+}
+
+#[test]
+fn a_product_from_the_last_item_on(rt: HostRuntime) -> Result<(), Fail> {
+    multiplies(&rt, Order::Last)
+}
+
+#[test]
+fn a_product_step_by_step(rt: HostRuntime) -> Result<(), Fail> {
+    multiplies(&rt, Order::Around)
+}
+
+#[test]
+fn a_product_with_too_few_turns(rt: HostRuntime) -> Result<(), Fail> {
+    let (example, _) = &grouped::PRODUCT;
+    let ran = prepare(rt.alloc(), example, 95)?.run(rt.alloc(), Order::First)?;
+    assert_eq!(rt; ran.end, End::Turns);
     Ok(())
 }
