@@ -9,6 +9,8 @@ mod example;
 #[cfg(test)]
 mod grouped;
 #[cfg(test)]
+mod moves;
+#[cfg(test)]
 mod runs;
 #[cfg(test)]
 mod straight;

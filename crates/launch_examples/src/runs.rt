@@ -2,7 +2,7 @@
 
 use cl_interpreter::task::Task;
 use cl_interpreter::tree::{Program, Statement};
-use cl_interpreter::{Fault, Item, Move, Next, World, make_move, making, start_world, step};
+use cl_interpreter::{Fault, Item, Move, Next, Start, World, make_move, start_world, step};
 use cl_model::{Buffers, Launch};
 use std::alloc::Global;
 use std::test::Fail;
@@ -231,8 +231,7 @@ pub fn run_launch(
     buffers: &Buffers,
     order: Order,
 ) -> Result<Run, Fail> {
-    let program = making::program(alloc, program)?;
-    let world = start_world(alloc, &program, launch, buffers)?;
+    let Start { program, world } = start_world(alloc, program, launch, buffers)?;
     let mut underway = Underway {
         program,
         launch,
