@@ -124,3 +124,22 @@ fn the_first_node_at_fault_is_told(rt: HostRuntime) -> Result<(), Fail> {
     assert_eq!(rt; differing(rt.alloc(), &NODES)?.as_str(), "");
     Ok(())
 }
+
+// A function is visible from its name on, which stands behind its heads; the heads of a prototype are in no function.
+const HEADS: [&str; 9] = [
+    "k E401 1:37 | __attribute__((reqd_work_group_size(f(), 1, 1))) int f() { return 1; } __kernel void k(__global int *a) { }",
+    "k E401 1:37 | __attribute__((reqd_work_group_size(k, 1, 1))) __kernel void k(__global int *a) { }",
+    "k E401 1:37 | __attribute__((reqd_work_group_size(f(), 1, 1))) int f(); __kernel void k(__global int *a) { }",
+    "k E414 1:23 | __constant int f = 1; __attribute__((reqd_work_group_size(f, 1, 1))) void f() { } __kernel void k(__global int *a) { }",
+    "k E414 1:1 | __attribute__((reqd_work_group_size(min(1, 2), 1, 1))) int min() { return 1; } __kernel void k(__global int *a) { }",
+    "k E412 1:46 | int f(); __attribute__((reqd_work_group_size(f(), 1, 1))) int f() { return 1; } __kernel void k(__global int *a) { }",
+    "k E414 1:23 | int f() { return 1; } __attribute__((reqd_work_group_size(f(), 1, 1))) void h(); __kernel void k(__global int *a) { }",
+    "k E414 1:34 | int g(); int f() { return g(); } __attribute__((reqd_work_group_size(f(), 1, 1))) void h(); int g() { return 1; } __kernel void k(__global int *a) { }",
+    "k accepted | int f(int f) { return f; } __kernel void k(__global int *k) { k[0] = f(1); }",
+];
+
+#[test]
+fn heads_stand_before_the_name(rt: HostRuntime) -> Result<(), Fail> {
+    assert_eq!(rt; differing(rt.alloc(), &HEADS)?.as_str(), "");
+    Ok(())
+}

@@ -42,7 +42,8 @@ pub record Signature : Type 0 where
   pub result : Yield
   pub parameters : List Parameter
 
--- the function or prototype around a node: the number of its definition, and whether it is one; a prototype has number 0
+-- the function or prototype around a node: the number of its definition, and whether it is one; a prototype has the number
+-- of none
 pub record Owner : Type 0 where
   pub number : ℕ
   pub kernel : Bool

@@ -1,5 +1,5 @@
 -- What is visible at each node of a tree, and the nodes in their order. All of it is a function of the tree alone.
-use Rattle.std.specs.Prelude.{ℕ, suc, nat_eq, Bool, true, false, ◌&&◌, ◌||◌, List, [], ◌∷◌, ◌++◌, length, take, Option, None, Some, if◌then◌else◌}
+use Rattle.std.specs.Prelude.{ℕ, suc, nat_eq, Bool, true, false, ◌&&◌, ◌||◌, List, [], ◌∷◌, ◌++◌, length, take, slice_get, Option, None, Some, if◌then◌else◌}
 use Rattle.std.specs.Str.{bytes_eq}
 use Rattle.wg_num.specs.declared.types.IntType.{IntType}
 use Rattle.wg_num.specs.declared.types.IntType.TheVariants as types
@@ -18,7 +18,7 @@ use Rattle.cl_meaning.specs.declared.kind.Meaning.TheVariants as meanings
 use Rattle.cl_meaning.specs.declared.kind.Role.{Role}
 use Rattle.cl_meaning.specs.declared.kind.Role.TheVariants as roles
 use Rattle.cl_meaning.specs.declared.kind.Yield.TheVariants as yields
-use Rattle.cl_meaning.specs.Environment.{Env, Owner, Labels, Signature, empty_scope, declare, in_last}
+use Rattle.cl_meaning.specs.Environment.{Env, Scope, Owner, Labels, Signature, empty_scope, with_entry, declare, in_last}
 use Rattle.cl_meaning.specs.Kinds.{Callee, known, is_fence, callee_of, kind_step, type_of}
 use Rattle.cl_meaning.specs.Declarations.{form_of, parts_of, declarator_in, with_declarator, last_kind, first_type, second_star, with_parameter, yield_of, is_kernel_head, sizes_in, firm}
 
@@ -57,12 +57,16 @@ definition_from name n (g ∷ gs) = if bytes_eq g.name name then Some (n, g.kern
 abbrev pub definition_of : Env → List ℕ → Option (ℕ × Bool)
 definition_of env name = definition_from name 0 env.functions
 
+-- what the name of a function stands for, whose number this is
+abbrev pub function_meaning : Bool → ℕ → Meaning
+function_meaning kernel n = if kernel then meanings.Kernel else meanings.Function n
+
 -- what the name of a definition stands for
 abbrev pub defined_meaning : Option (ℕ × Bool) → Meaning
 defined_meaning None = meanings.Undefined
-defined_meaning (Some (n, kernel)) = if kernel then meanings.Kernel else meanings.Function n
+defined_meaning (Some (n, kernel)) = function_meaning kernel n
 
--- a function is visible from its name on
+-- a function is visible behind its definition
 abbrev pub with_function : Env → List ℕ → Env
 with_function env name = declare env name (firm (defined_meaning (definition_of env name)))
 
@@ -81,19 +85,20 @@ announced env name = is_free (in_last env.scopes name) && unknown (intrinsic_in 
 abbrev pub with_prototype : Env → List ℕ → Env
 with_prototype env name = if announced env name then declare env name (record { meaning = defined_meaning (definition_of env name); firm = false }) else env
 
-abbrev pub number_in : Option (ℕ × Bool) → ℕ
-number_in None = 0
-number_in (Some (n, kernel)) = n
+-- the number of a definition; where there is none, that of none of the unit's functions
+abbrev pub number_in : Env → Option (ℕ × Bool) → ℕ
+number_in env None = length env.functions
+number_in env (Some (n, kernel)) = n
 
--- in a function or prototype: its name is visible from there on, and its parameters and its block share one scope
+-- in a function or prototype: its heads and its result stand in the scope around it
 abbrev pub in_function : Env → ℕ → Bool → Env
 in_function env number defining = record env { owner = record { number = number; kernel = false; defining = defining; result = yields.Nothing; sizes = None }; variables = []; arrays = [] }
 
 abbrev pub in_definition : Env → List ℕ → Env
-in_definition env name = opened (with_function (opened (in_function env (number_in (definition_of env name)) true)) name)
+in_definition env name = in_function env (number_in env (definition_of env name)) true
 
 abbrev pub in_prototype : Env → Env
-in_prototype env = opened (in_function env 0 false)
+in_prototype env = in_function env (length env.functions) false
 
 -- behind `default`
 abbrev pub with_default : Option Labels → Option Labels
@@ -128,11 +133,37 @@ abbrev pub head_sizes : Forest → Option (List ℕ)
 head_sizes none = None
 head_sizes (more p ps) = sizes_in p
 
+abbrev pub behind_head : Env → Syntax → Env
+behind_head env p = in_owner env (record env.owner { kernel = env.owner.kernel || is_kernel_head p; sizes = or_sizes env.owner.sizes (head_sizes (parts_of p)) })
+
+abbrev pub behind_result : Env → Syntax → Env
+behind_result env p = in_owner env (record env.owner { result = yield_of (parts_of p) })
+
+-- the scope of a function's own name, where that number is one's
+abbrev pub own_scope : ℕ → Option Signature → Scope
+own_scope number None = empty_scope
+own_scope number (Some g) = with_entry empty_scope g.name (firm (function_meaning g.kernel number))
+
+abbrev pub with_own : Env → Env
+with_own env = record env { scopes = env.scopes ++ own_scope env.owner.number (slice_get env.functions env.owner.number) ∷ [] }
+
+-- A function is visible from its name on, which stands behind its result: in a scope of its own, around the one that its
+-- parameters and its block share.
+abbrev pub named : Env → Env
+named env = opened (with_own env)
+
 abbrev pub behind_part : Env → Form → Syntax → Env
-behind_part env forms.HeadNode p = in_owner env (record env.owner { kernel = env.owner.kernel || is_kernel_head p; sizes = or_sizes env.owner.sizes (head_sizes (parts_of p)) })
-behind_part env forms.ResultNode p = in_owner env (record env.owner { result = yield_of (parts_of p) })
+behind_part env forms.HeadNode p = behind_head env p
+behind_part env forms.ResultNode p = named (behind_result env p)
 behind_part env forms.ParamsNode p = record env { in_body = true }
 behind_part env form p = env
+
+-- the parameters of a prototype have a scope too
+abbrev pub behind_prototype_part : Env → Form → Syntax → Env
+behind_prototype_part env forms.HeadNode p = behind_head env p
+behind_prototype_part env forms.ResultNode p = opened (behind_result env p)
+behind_prototype_part env forms.ParamsNode p = record env { in_body = true }
+behind_prototype_part env form p = env
 
 -- the type to which the labels of a switch are converted
 abbrev pub label_type : Option Kind → IntType
@@ -162,7 +193,7 @@ behind_type env form p = env
 -- first part
 unfoldable pub later : Env → Form → Bool → Syntax → Option Kind → Env
 later env forms.FunctionNode front p k = behind_part env (form_of p) p
-later env forms.PrototypeNode front p k = behind_part env (form_of p) p
+later env forms.PrototypeNode front p k = behind_prototype_part env (form_of p) p
 later env forms.DeclareNode front p k = behind_type env (form_of p) p
 later env forms.SwitchNode front p k = behind_value env env.labels k
 later env forms.CaseNode front p k = behind_label env front p

@@ -1,20 +1,23 @@
 //! From part to part: what a part of a node adds for the parts behind it, beside the names that it declares.
-ghost use Rattle.std.specs.Prelude.{◌≡◌, ◌||◌, List, Some, option_map, OnOk};
+ghost use Rattle.std.specs.Prelude.{◌≡◌, ◌||◌, List, ◌∷◌, [], ◌++◌, Some, map, option_map, slice_get, OnOk, IfOk};
 ghost use Rattle.wg_num.specs.declared.types.Place.{Place};
 ghost use Rattle.cl_constant.specs.Constants as constants;
 ghost use Rattle.cl_tree.specs.Syntax.{view};
-ghost use Rattle.cl_tree.specs.declared.tree.Form.TheVariants as forms;
 ghost use Rattle.cl_meaning.specs.Declarations.{form_of};
+ghost use Rattle.cl_meaning.specs.Environment as environments;
 ghost use Rattle.cl_meaning.specs.Kinds as kinds;
 ghost use Rattle.cl_meaning.specs.Visible as spec;
-ghost use Rattle.cl_scope.specs.View.{env_of, labels_of, owner_of};
+ghost use Rattle.cl_scope.specs.View.{env_of, scope_of, signature_of, labels_of, owner_of};
 
-use crate::environment::{Environment, Labels, Owner};
+use crate::environment::{Environment, Labels, Names, Owner};
+use crate::lookup::function_meaning;
+use crate::scopes::{insert, open};
 use crate::signature::{head_sizes, is_kernel_head, yield_of};
 use cl_constant::{Constant, constant_of, promoted};
-use cl_meaning::Kind;
+use cl_meaning::{Entry, Kind};
 use cl_spelling::declared_of;
 use cl_tree::{Form, Tree};
+use indexmap::IndexMap;
 use std::alloc::Global;
 use wg_num::{IntType, Memory, wrap};
 
@@ -57,7 +60,7 @@ fn headed(owner: Owner, kernel: bool, sizes: Option<[u64; 3]>) -> Owner
 
 /// Behind a head of a function or prototype.
 fn behind_head(environment: &mut Environment, part: &Tree) -> Result<(), Memory>
-    ensures { OnOk result ((places : List Place) → env_of places environment.new ≡ spec.behind_part (env_of places environment.old) forms.HeadNode (view part.now)) }
+    ensures { OnOk result ((places : List Place) → env_of places environment.new ≡ spec.behind_head (env_of places environment.old) (view part.now)) }
 {
     let sizes = head_sizes(&part.parts)?;
     let kernel = is_kernel_head(part);
@@ -65,22 +68,102 @@ fn behind_head(environment: &mut Environment, part: &Tree) -> Result<(), Memory>
     Ok(())
 }
 
-/// Behind the result of a function or prototype.
+/// Behind the result of a function or prototype, its name aside.
 fn behind_result(environment: &mut Environment, part: &Tree)
-    ensures { (places : List Place) → env_of places environment.new ≡ spec.behind_part (env_of places environment.old) forms.ResultNode (view part.now) }
+    ensures { (places : List Place) → env_of places environment.new ≡ spec.behind_result (env_of places environment.old) (view part.now) }
 {
     environment.owner.result = yield_of(&part.parts);
 }
 
-/// Behind a part of a function or prototype.
-fn behind_part(environment: &mut Environment, part: &Tree) -> Result<(), Memory>
+fn no_names(alloc: Global) -> Names
+    ensures { scope_of result ≡ environments.empty_scope }
+{
+    IndexMap::new(alloc)
+}
+
+fn one_name(alloc: Global, name: &[u8], entry: Entry) -> Result<Names, Memory>
+    ensures { IfOk result (λ s. scope_of s ≡ environments.with_entry environments.empty_scope name.now entry) }
+{
+    let mut scope = no_names(alloc);
+    insert(alloc, &mut scope, name, entry)?;
+    Ok(scope)
+}
+
+/// The scope of the own name of the function that is around.
+fn own_scope(alloc: Global, environment: &Environment) -> Result<Names, Memory>
+    ensures { IfOk result (λ s. scope_of s ≡ spec.own_scope environment.now.owner.number (slice_get (map signature_of environment.now.functions.items) environment.now.owner.number)) }
+{
+    let number = environment.owner.number;
+    match environment.functions.get(number as usize) {
+        Some(own) => {
+            let meaning = function_meaning(own.kernel, number);
+            let entry = Entry {
+                meaning,
+                firm: true,
+            };
+            one_name(alloc, own.name.bytes(), entry)
+        }
+        None => Ok(no_names(alloc)),
+    }
+}
+
+fn push_scope(environment: &mut Environment, scope: Names) -> Result<(), Memory>
+    ensures { OnOk result ((places : List Place) → env_of places environment.new ≡ record (env_of places environment.old) { scopes = (env_of places environment.old).scopes ++ scope_of scope ∷ [] }) }
+{
+    match environment.scopes.push(scope) {
+        Ok(()) => Ok(()),
+        Err(_) => Err(Memory),
+    }
+}
+
+/// Opens the scope of the own name of the function that is around.
+fn add_own(alloc: Global, environment: &mut Environment) -> Result<(), Memory>
+    ensures { OnOk result ((places : List Place) → env_of places environment.new ≡ spec.with_own (env_of places environment.old)) }
+{
+    let scope = own_scope(alloc, environment)?;
+    push_scope(environment, scope)
+}
+
+/// Behind the name of a function, which is visible from there on, in a scope around the one that its
+/// parameters and its block share (C99, section 6.2.1).
+fn behind_name(alloc: Global, environment: &mut Environment) -> Result<(), Memory>
+    ensures { OnOk result ((places : List Place) → env_of places environment.new ≡ spec.named (env_of places environment.old)) }
+{
+    add_own(alloc, environment)?;
+    open(alloc, environment)
+}
+
+/// Behind a part of a function.
+fn behind_part(alloc: Global, environment: &mut Environment, part: &Tree) -> Result<(), Memory>
     ensures { OnOk result ((places : List Place) → env_of places environment.new ≡ spec.behind_part (env_of places environment.old) (form_of (view part.now)) (view part.now)) }
 {
     match part.form {
         Form::HeadNode => behind_head(environment, part),
         Form::ResultNode => {
             behind_result(environment, part);
+            behind_name(alloc, environment)
+        }
+        Form::ParamsNode => {
+            environment.in_body = true;
             Ok(())
+        }
+        _ => Ok(()),
+    }
+}
+
+/// Behind a part of a prototype.
+fn behind_prototype_part(
+    alloc: Global,
+    environment: &mut Environment,
+    part: &Tree,
+) -> Result<(), Memory>
+    ensures { OnOk result ((places : List Place) → env_of places environment.new ≡ spec.behind_prototype_part (env_of places environment.old) (form_of (view part.now)) (view part.now)) }
+{
+    match part.form {
+        Form::HeadNode => behind_head(environment, part),
+        Form::ResultNode => {
+            behind_result(environment, part);
+            open(alloc, environment)
         }
         Form::ParamsNode => {
             environment.in_body = true;
@@ -157,7 +240,8 @@ pub fn later(
     ensures { OnOk result ((places : List Place) → env_of places environment.new ≡ spec.later (env_of places environment.old) form front (view part.now) kind) }
 {
     match form {
-        Form::FunctionNode | Form::PrototypeNode => behind_part(environment, part),
+        Form::FunctionNode => behind_part(alloc, environment, part),
+        Form::PrototypeNode => behind_prototype_part(alloc, environment, part),
         Form::DeclareNode => {
             behind_type(environment, part);
             Ok(())

@@ -15,8 +15,8 @@ pub struct Signature {
     pub parameters: Vec<Parameter>,
 }
 
-/// The function or prototype around a node: the number of its definition (0 for a prototype), whether it is
-/// one, and the work-group size that its heads require (OpenCL 1.2, section 6.7.2).
+/// The function or prototype around a node: the number of its definition (that of none for a prototype),
+/// whether it is one, and the work-group size that its heads require (OpenCL 1.2, section 6.7.2).
 #[derive(Clone, Copy)]
 pub struct Owner {
     pub number: u32,

@@ -182,6 +182,16 @@ pub fn name_kind(environment: &Environment, name: &[u8]) -> Option<Kind>
     }
 }
 
+/// What the name of a function stands for, whose number this is.
+pub(crate) fn function_meaning(kernel: bool, number: u32) -> Meaning
+    ensures { result ≡ visible.function_meaning kernel number }
+{
+    if kernel {
+        return Meaning::Kernel;
+    }
+    Meaning::Function { number }
+}
+
 /// The first definition of a function.
 #[derive(Clone, Copy)]
 pub struct Definition {

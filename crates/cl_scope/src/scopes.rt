@@ -20,7 +20,13 @@ fn key_of(alloc: Global, name: &[u8]) -> Result<Vec<u8>, Memory>
     }
 }
 
-fn insert(alloc: Global, scope: &mut Names, name: &[u8], entry: Entry) -> Result<(), Memory>
+/// One name more in a scope.
+pub(crate) fn insert(
+    alloc: Global,
+    scope: &mut Names,
+    name: &[u8],
+    entry: Entry,
+) -> Result<(), Memory>
     ensures { OnOk result (scope_of scope.new ≡ spec.with_entry (scope_of scope.old) name.now entry) }
 {
     let key = key_of(alloc, name)?;

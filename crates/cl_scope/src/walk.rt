@@ -1,5 +1,5 @@
 //! From node to node: what is visible at the first part of a node, and at the node behind its parts.
-ghost use Rattle.std.specs.Prelude.{◌≡◌, List, option_map, OnOk, IfOk};
+ghost use Rattle.std.specs.Prelude.{◌≡◌, List, length, option_map, OnOk, IfOk};
 ghost use Rattle.wg_num.specs.declared.types.Place.{Place};
 ghost use Rattle.cl_tree.specs.Syntax.{view};
 ghost use Rattle.cl_tree.specs.declared.tree.Form.{Form};
@@ -10,7 +10,7 @@ ghost use Rattle.cl_scope.specs.Walk as spec;
 
 use crate::declare::number_of;
 use crate::environment::{Environment, Labels, Owner};
-use crate::lookup::{Callee, callee_of, definition_of};
+use crate::lookup::{Callee, callee_of, definition_of, function_meaning};
 use crate::scopes::{declare, open};
 use cl_meaning::{Entry, Meaning, Yield};
 use cl_model::{Array, Var};
@@ -122,23 +122,23 @@ pub(crate) fn defined_meaning(environment: &Environment, name: &[u8]) -> Result<
 {
     match definition_of(environment, name) {
         None => Ok(Meaning::Undefined),
-        Some(definition) => {
-            if definition.kernel {
-                return Ok(Meaning::Kernel);
-            }
-            Ok(Meaning::Function {
-                number: number_of(definition.number)?,
-            })
-        }
+        Some(definition) => Ok(function_meaning(definition.kernel, number_of(definition.number)?)),
     }
 }
 
-/// The number of the definition of a function; 0 where there is none.
+/// The number that stands where there is no function of the unit: that of none of them.
+fn number_of_none(environment: &Environment) -> Result<u32, Memory>
+    ensures { IfOk result (λ n. n ≡ length (visible_in environment.now).functions) }
+{
+    number_of(environment.functions.len())
+}
+
+/// The number of the definition of a function.
 fn defined_number(environment: &Environment, name: &[u8]) -> Result<u32, Memory>
-    ensures { IfOk result (λ n. n ≡ visible.number_in (visible.definition_of (visible_in environment.now) name.now)) }
+    ensures { IfOk result (λ n. n ≡ visible.number_in (visible_in environment.now) (visible.definition_of (visible_in environment.now) name.now)) }
 {
     match definition_of(environment, name) {
-        None => Ok(0),
+        None => number_of_none(environment),
         Some(definition) => number_of(definition.number),
     }
 }
@@ -163,8 +163,7 @@ pub(crate) fn add_function(
     )
 }
 
-/// Goes into a function: its name is visible from there on, and its parameters and its block share one
-/// scope (C99, section 6.2.1).
+/// Goes into a function, whose name is not visible yet.
 fn enter_definition(
     alloc: Global,
     environment: &mut Environment,
@@ -174,11 +173,7 @@ fn enter_definition(
     ensures outside { IfOk result (λ b. spec.body_view b ≡ spec.body_of (visible_in environment.old)) }
 {
     let number = defined_number(environment, name)?;
-    let body = take_body(alloc, environment, number, true);
-    open(alloc, environment)?;
-    add_function(alloc, environment, name)?;
-    open(alloc, environment)?;
-    Ok(body)
+    Ok(take_body(alloc, environment, number, true))
 }
 
 /// Goes into a prototype.
@@ -186,9 +181,8 @@ fn enter_prototype(alloc: Global, environment: &mut Environment) -> Result<Body,
     ensures inside { OnOk result ((places : List Place) → env_of places environment.new ≡ visible.in_prototype (env_of places environment.old)) }
     ensures outside { IfOk result (λ b. spec.body_view b ≡ spec.body_of (visible_in environment.old)) }
 {
-    let body = take_body(alloc, environment, 0, false);
-    open(alloc, environment)?;
-    Ok(body)
+    let number = number_of_none(environment)?;
+    Ok(take_body(alloc, environment, number, false))
 }
 
 /// Goes into a block, and answers the labels outside: the block of a function shares the scope of its

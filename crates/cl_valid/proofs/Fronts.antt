@@ -1,5 +1,5 @@
 -- Functions and prototypes: with what their blocks are looked at, and what they leave.
-use Rattle.std.proofs.Common.{◌≡◌, ◌≢◌, ℕ, ◌+◌, ◌*◌, ◌≤◌, List, [], ◌∷◌, ◌++◌, length, Option, Some, Bool, true, false, ◌||◌, refl, ap, sym, ◌∙◌, subst, inl, inr, arith, slice_get}
+use Rattle.std.proofs.Common.{◌≡◌, ◌≢◌, ℕ, ◌+◌, ◌*◌, ◌≤◌, List, [], ◌∷◌, ◌++◌, length, take, Option, Some, Bool, true, false, ◌||◌, refl, ap, sym, ◌∙◌, subst, inl, inr, arith, slice_get}
 use Rattle.std.proofs.lemmas.Bool.{false≢true}
 use Rattle.std.proofs.lemmas.Option.{none-some}
 use Rattle.wg_num.specs.declared.types.Place.{Place}
@@ -15,9 +15,9 @@ use Rattle.cl_meaning.specs.declared.kind.Role.{Role}
 use Rattle.cl_meaning.specs.declared.kind.Role.TheVariants as roles
 use Rattle.cl_meaning.specs.declared.kind.Yield.{Yield}
 use Rattle.cl_meaning.specs.declared.kind.Yield.TheVariants as yields
-use Rattle.cl_meaning.specs.Environment.{Env, Variable, Owner, Signature}
+use Rattle.cl_meaning.specs.Environment.{Env, Scope, Variable, Owner, Signature, empty_scope}
 use Rattle.cl_meaning.specs.Declarations.{yield_of, yield_by, is_kernel_head, parts_of, with_parts, parameters_of}
-use Rattle.cl_meaning.specs.Visible.{Before, is_front, inside, later, behind, behind_parts, kind_of, in_owner, or_sizes, head_sizes}
+use Rattle.cl_meaning.specs.Visible.{Before, is_front, inside, later, behind, behind_parts, kind_of, in_owner, or_sizes, head_sizes, opened, named, own_scope}
 use Rattle.cl_meaning.specs.Faults.{Asked}
 use Rattle.cl_meaning.specs.Typed.{Piece}
 use Rattle.cl_meaning.specs.Statements.{last_piece}
@@ -31,11 +31,12 @@ use Rattle.cl_valid.proofs.Measure.{Weights}
 use Rattle.cl_valid.proofs.Small.{held}
 use Rattle.cl_valid.proofs.Holding.{extra, extras, extras_here, all_hold, type_sites}
 use Rattle.cl_valid.proofs.Weighing.{free_of}
-use Rattle.cl_valid.proofs.Grown.{SameOuter, is_deep}
+use Rattle.cl_valid.proofs.Grown.{SameOuter, outer_then, outer_closed, is_deep, deep_outer}
 use Rattle.cl_valid.proofs.Declarators.{Leaves, expressions_neutral}
 use Rattle.cl_valid.proofs.Facing.{At, at_later}
 use Rattle.cl_valid.proofs.Lining.{RootFits}
 use Rattle.cl_valid.proofs.Heads.{head_leaves, result_leaves, ParamKinds, params_made}
+use Rattle.cl_valid.proofs.Owners.{deep_twice, outer_twice, OwnFits, at_own}
 
 -- ---- the sites of what stands in front of a block
 
@@ -107,6 +108,13 @@ head_env e t = in_owner e (record e.owner { kernel = e.owner.kernel || is_kernel
 abbrev pub result_env : Env → Syntax → Env
 result_env e t = in_owner e (record e.owner { result = yield_of (parts_of t) })
 
+-- behind the name of a function, and behind that of a prototype
+abbrev pub named_env : Env → Syntax → Env
+named_env e t = named (result_env e t)
+
+abbrev pub opened_env : Env → Syntax → Env
+opened_env e t = opened (result_env e t)
+
 abbrev pub params_env : Env → Syntax → Env
 params_env e t = record (behind e t) { in_body = true }
 
@@ -139,10 +147,10 @@ function_head e front (node forms.HeadNode w f l (more (node forms.AttributeNode
     ap (λ z. head_env z (node forms.HeadNode w f l (more (node forms.AttributeNode w' f' l' parts) none))) (head_leaves e (node forms.HeadNode w f l (more (node forms.AttributeNode w' f' l' parts) none)) h)
 function_head e front t k h = absurd h
 
-function_result : (e : Env) (front : Bool) (t : Syntax) (k : Option Kind) → IsResult t → later (behind e t) forms.FunctionNode front t k ≡ result_env e t
+function_result : (e : Env) (front : Bool) (t : Syntax) (k : Option Kind) → IsResult t → later (behind e t) forms.FunctionNode front t k ≡ named_env e t
 unfolding later
-function_result e front (node forms.ResultNode w f l none) k h = ap (λ z. result_env z (node forms.ResultNode w f l none)) (result_leaves e (node forms.ResultNode w f l none) h)
-function_result e front (node forms.ResultNode w f l (more t none)) k h = ap (λ z. result_env z (node forms.ResultNode w f l (more t none))) (result_leaves e (node forms.ResultNode w f l (more t none)) h)
+function_result e front (node forms.ResultNode w f l none) k h = ap (λ z. named_env z (node forms.ResultNode w f l none)) (result_leaves e (node forms.ResultNode w f l none) h)
+function_result e front (node forms.ResultNode w f l (more t none)) k h = ap (λ z. named_env z (node forms.ResultNode w f l (more t none))) (result_leaves e (node forms.ResultNode w f l (more t none)) h)
 function_result e front t k h = absurd h
 
 function_params : (e : Env) (front : Bool) (t : Syntax) (k : Option Kind) → IsParams t → later (behind e t) forms.FunctionNode front t k ≡ params_env e t
@@ -157,10 +165,10 @@ prototype_head e front (node forms.HeadNode w f l (more (node forms.AttributeNod
     ap (λ z. head_env z (node forms.HeadNode w f l (more (node forms.AttributeNode w' f' l' parts) none))) (head_leaves e (node forms.HeadNode w f l (more (node forms.AttributeNode w' f' l' parts) none)) h)
 prototype_head e front t k h = absurd h
 
-prototype_result : (e : Env) (front : Bool) (t : Syntax) (k : Option Kind) → IsResult t → later (behind e t) forms.PrototypeNode front t k ≡ result_env e t
+prototype_result : (e : Env) (front : Bool) (t : Syntax) (k : Option Kind) → IsResult t → later (behind e t) forms.PrototypeNode front t k ≡ opened_env e t
 unfolding later
-prototype_result e front (node forms.ResultNode w f l none) k h = ap (λ z. result_env z (node forms.ResultNode w f l none)) (result_leaves e (node forms.ResultNode w f l none) h)
-prototype_result e front (node forms.ResultNode w f l (more t none)) k h = ap (λ z. result_env z (node forms.ResultNode w f l (more t none))) (result_leaves e (node forms.ResultNode w f l (more t none)) h)
+prototype_result e front (node forms.ResultNode w f l none) k h = ap (λ z. opened_env z (node forms.ResultNode w f l none)) (result_leaves e (node forms.ResultNode w f l none) h)
+prototype_result e front (node forms.ResultNode w f l (more t none)) k h = ap (λ z. opened_env z (node forms.ResultNode w f l (more t none))) (result_leaves e (node forms.ResultNode w f l (more t none)) h)
 prototype_result e front t k h = absurd h
 
 prototype_params : (e : Env) (front : Bool) (t : Syntax) (k : Option Kind) → IsParams t → later (behind e t) forms.PrototypeNode front t k ≡ params_env e t
@@ -173,31 +181,37 @@ unfolding later
 function_block e front (node forms.BlockNode w f l ps) k h = refl
 function_block e front t k h = absurd h
 
--- what is visible behind the parameters
+-- what is visible behind the parameters of a function
 pub record Entered (e eb : Env) (g : Signature) : Type 0 where
   pub frame : eb ≡ record e { scopes = eb.scopes; variables = eb.variables; owner = eb.owner; in_body = true }
-  pub scopes : SameOuter e.scopes eb.scopes
+  pub outer : (ts : List Scope) → SameOuter eb.scopes ts → take (length e.scopes) ts ≡ e.scopes
+  pub deep : is_deep eb.scopes ≡ true
   pub new : List Variable
   pub variables : eb.variables ≡ e.variables ++ new
   pub kinds : ParamKinds (length e.variables) g.parameters new
-  pub at : (P : Program) (f : Function) (ms : List (List ℕ)) → is_deep e.scopes ≡ true → ((n : ℕ) (v : Variable) → slice_get eb.variables n ≡ Some v → Holds f n v.kind × RootFits P f v.kind) → At P f ms (numbers_below (length e.variables)) e → At P f ms (numbers_below (length eb.variables)) eb
+  pub at : (P : Program) (f : Function) (ms : List (List ℕ)) → is_deep (opened e).scopes ≡ true → OwnFits P f ms e → ((n : ℕ) (v : Variable) → slice_get eb.variables n ≡ Some v → Holds f n v.kind × RootFits P f v.kind) → At P f ms (numbers_below (length e.variables)) e → At P f ms (numbers_below (length eb.variables)) eb
   pub number : eb.owner.number ≡ e.owner.number
   pub result : eb.owner.result ≡ g.result
   pub inside' : g.result ≢ yields.Outside
 
 -- behind the result and the parameters
-entered_by : (asked : Asked) (e : Env) (r p : Syntax) (name : List ℕ) (kernel : Bool) → IsResult r → IsParams p → SoundTree asked e roles.Other r → SoundTree asked (result_env e r) roles.Other p →
-    Entered e (params_env (result_env e r) p) (record { name = name; kernel = kernel; result = yield_of (parts_of r); parameters = parameters_of (parts_of p) })
+entered_by : (asked : Asked) (e : Env) (r p : Syntax) (name : List ℕ) (kernel : Bool) → IsResult r → IsParams p → SoundTree asked e roles.Other r → SoundTree asked (named_env e r) roles.Other p →
+    Entered e (params_env (named_env e r) p) (record { name = name; kernel = kernel; result = yield_of (parts_of r); parameters = parameters_of (parts_of p) })
 entered_by asked e r p name kernel hr hp sr sp =
-    let x = params_made asked (result_env e r) roles.Other p hp sp in
+    let e1 = result_env e r in
+    let e2 = named_env e r in
+    let own = own_scope e1.owner.number (slice_get e1.functions e1.owner.number) in
+    let deep2 : is_deep e2.scopes ≡ true = deep_twice e.scopes own empty_scope in
+    let x = params_made asked e2 roles.Other p hp sp in
     record {
-      frame = ap (λ (z : Env). record z { in_body = true }) x.frame ∙ ap (λ (z : Owner). record e { scopes = (behind (result_env e r) p).scopes; variables = (behind (result_env e r) p).variables; owner = z; in_body = true }) (sym (ap (λ (z : Env). z.owner) x.frame));
-      scopes = x.scopes;
+      frame = ap (λ (z : Env). record z { in_body = true }) x.frame ∙ ap (λ (z : Owner). record e { scopes = (behind e2 p).scopes; variables = (behind e2 p).variables; owner = z; in_body = true }) (sym (ap (λ (z : Env). z.owner) x.frame));
+      outer = λ ts h. outer_twice e.scopes own empty_scope ts (outer_then e2.scopes (behind e2 p).scopes ts x.scopes h);
+      deep = deep_outer e2.scopes (behind e2 p).scopes deep2 x.scopes;
       new = x.new;
       variables = x.variables;
       kinds = x.kinds;
-      at = λ P f ms d h a. at_later P f ms (numbers_below (length (behind (result_env e r) p).variables)) (behind (result_env e r) p) (params_env (result_env e r) p) refl refl (omega arith)
-          (x.at P f ms d h (at_later P f ms (numbers_below (length e.variables)) e (result_env e r) refl refl (omega arith) a));
+      at = λ P f ms d own h a. at_later P f ms (numbers_below (length (behind e2 p).variables)) (behind e2 p) (params_env e2 p) refl refl (omega arith)
+          (x.at P f ms deep2 h (at_own P f ms (numbers_below (length e.variables)) e1 d own (at_later P f ms (numbers_below (length e.variables)) e e1 refl refl (omega arith) a)));
       number = ap (λ (z : Env). z.owner.number) x.frame;
       result = ap (λ (z : Env). z.owner.result) x.frame;
       inside' = result_inside asked e roles.Other r hr sr;
@@ -206,11 +220,12 @@ entered_by asked e r p name kernel hr hp sr sp =
 entered_head : (e eb : Env) (t : Syntax) (g : Signature) → Entered (head_env e t) eb g → Entered e eb g
 entered_head e eb t g x = record {
   frame = x.frame;
-  scopes = x.scopes;
+  outer = x.outer;
+  deep = x.deep;
   new = x.new;
   variables = x.variables;
   kinds = x.kinds;
-  at = λ P f ms d h a. x.at P f ms d h (at_later P f ms (numbers_below (length e.variables)) e (head_env e t) refl refl (omega arith) a);
+  at = λ P f ms d own h a. x.at P f ms d own h (at_later P f ms (numbers_below (length e.variables)) e (head_env e t) refl refl (omega arith) a);
   number = x.number;
   result = x.result;
   inside' = x.inside';
@@ -240,16 +255,16 @@ signed g (node forms.ResultNode w f l rs) (node forms.ParamsNode w' f' l' qs) b 
 signed g (node forms.ResultNode w f l rs) p b hr hp hb = absurd hp
 signed g r p b hr hp hb = absurd hr
 
-parts_function : (e : Env) (front : Bool) (r p b : Syntax) → IsResult r → IsParams p → IsBlock b → behind_parts e forms.FunctionNode front (more r (more p (more b none))) ≡ behind (params_env (result_env e r) p) b
+parts_function : (e : Env) (front : Bool) (r p b : Syntax) → IsResult r → IsParams p → IsBlock b → behind_parts e forms.FunctionNode front (more r (more p (more b none))) ≡ behind (params_env (named_env e r) p) b
 unfolding behind_parts
 parts_function e front r p b hr hp hb =
     ap (λ z. behind_parts z forms.FunctionNode false (more p (more b none))) (function_result e front r (kind_of e r) hr)
-    ∙ (ap (λ z. behind_parts z forms.FunctionNode false (more b none)) (function_params (result_env e r) false p (kind_of (result_env e r) p) hp)
-    ∙ function_block (params_env (result_env e r) p) false b (kind_of (params_env (result_env e r) p) b) hb)
+    ∙ (ap (λ z. behind_parts z forms.FunctionNode false (more b none)) (function_params (named_env e r) false p (kind_of (named_env e r) p) hp)
+    ∙ function_block (params_env (named_env e r) p) false b (kind_of (params_env (named_env e r) p) b) hb)
 
 abbrev three_pieces : Env → List Place → Syntax → Syntax → Syntax → MadeParts
 three_pieces e sites r p b =
-    let e1 = result_env e r in
+    let e1 = named_env e r in
     let e2 = params_env e1 p in
     let s1 = (meant e sites r).sites in
     let s2 = (meant e1 s1 p).sites in
@@ -259,17 +274,17 @@ meant_function : (e : Env) (front : Bool) (sites : List Place) (r p b : Syntax) 
 unfolding parts_meant
 meant_function e front sites r p b hr hp =
     ap (λ z. with_piece (meant e sites r).piece (parts_meant z forms.FunctionNode false (meant e sites r).sites (more p (more b none)))) (function_result e front r (kind_of e r) hr)
-    ∙ ap (λ z. with_piece (meant e sites r).piece (with_piece (meant (result_env e r) (meant e sites r).sites p).piece (parts_meant z forms.FunctionNode false (meant (result_env e r) (meant e sites r).sites p).sites (more b none)))) (function_params (result_env e r) false p (kind_of (result_env e r) p) hp)
+    ∙ ap (λ z. with_piece (meant e sites r).piece (with_piece (meant (named_env e r) (meant e sites r).sites p).piece (parts_meant z forms.FunctionNode false (meant (named_env e r) (meant e sites r).sites p).sites (more b none)))) (function_params (named_env e r) false p (kind_of (named_env e r) p) hp)
 
-extras_function : (m : Weights) (k : ℕ) (e : Env) (front : Bool) (r p b : Syntax) → IsResult r → IsParams p → extras m k e forms.FunctionNode front (more r (more p (more b none))) ≡ extra m k e r + (extra m k (result_env e r) p + (extra m k (params_env (result_env e r) p) b + 0))
+extras_function : (m : Weights) (k : ℕ) (e : Env) (front : Bool) (r p b : Syntax) → IsResult r → IsParams p → extras m k e forms.FunctionNode front (more r (more p (more b none))) ≡ extra m k e r + (extra m k (named_env e r) p + (extra m k (params_env (named_env e r) p) b + 0))
 extras_function m k e front r p b hr hp =
     ap (λ z. extra m k e r + extras m k z forms.FunctionNode false (more p (more b none))) (function_result e front r (kind_of e r) hr)
-    ∙ ap (λ z. extra m k e r + (extra m k (result_env e r) p + extras m k z forms.FunctionNode false (more b none))) (function_params (result_env e r) false p (kind_of (result_env e r) p) hp)
+    ∙ ap (λ z. extra m k e r + (extra m k (named_env e r) p + extras m k z forms.FunctionNode false (more b none))) (function_params (named_env e r) false p (kind_of (named_env e r) p) hp)
 
-sound_function : (asked : Asked) (e : Env) (b0 : Before) (r p b : Syntax) → IsResult r → IsParams p → SoundParts asked e forms.FunctionNode b0 (more r (more p (more b none))) → SoundTree asked e roles.Other r × SoundTree asked (result_env e r) roles.Other p × SoundTree asked (params_env (result_env e r) p) roles.Other b
+sound_function : (asked : Asked) (e : Env) (b0 : Before) (r p b : Syntax) → IsResult r → IsParams p → SoundParts asked e forms.FunctionNode b0 (more r (more p (more b none))) → SoundTree asked e roles.Other r × SoundTree asked (named_env e r) roles.Other p × SoundTree asked (params_env (named_env e r) p) roles.Other b
 sound_function asked e b0 r p b hr hp s =
     let s1 = subst (λ z. SoundParts asked z forms.FunctionNode (Some (last_of r)) (more p (more b none))) (function_result e (is_front b0) r (kind_of e r) hr) s.1 in
-    let s2 = subst (λ z. SoundParts asked z forms.FunctionNode (Some (last_of p)) (more b none)) (function_params (result_env e r) false p (kind_of (result_env e r) p) hp) s1.1 in
+    let s2 = subst (λ z. SoundParts asked z forms.FunctionNode (Some (last_of p)) (more b none)) (function_params (named_env e r) false p (kind_of (named_env e r) p) hp) s1.1 in
     (s.0, s1.0, s2.0)
 
 definition_front : (asked : Asked) (e : Env) (sites : List Place) (b0 : Before) (front : Bool) (g : Signature) (r p b : Syntax) → IsResult r → IsParams p → IsBlock b → SoundParts asked e forms.FunctionNode b0 (more r (more p (more b none))) → Front asked e sites front g (more r (more p (more b none)))
@@ -279,17 +294,17 @@ definition_front asked e sites b0 front g r p b hr hp hb s =
     let en = entered_by asked e r p g.name g.kernel hr hp x.0 x.1 in
     let sg = signed g r p b hr hp hb in
     record {
-      eb = params_env (result_env e r) p;
-      sb = (meant (result_env e r) (meant e sites r).sites p).sites;
+      eb = params_env (named_env e r) p;
+      sb = (meant (named_env e r) (meant e sites r).sites p).sites;
       block = b;
       shape = hb;
       sound = x.2;
-      entered = subst (λ z. Entered e (params_env (result_env e r) p) z) (sym sg) en;
-      kernel = λ k. ap (λ (z : Env). z.owner.kernel) (params_made asked (result_env e r) roles.Other p hp x.1).frame ∙ (k ∙ ap (λ (z : Signature). z.kernel) (sym sg));
+      entered = subst (λ z. Entered e (params_env (named_env e r) p) z) (sym sg) en;
+      kernel = λ k. ap (λ (z : Env). z.owner.kernel) (params_made asked (named_env e r) roles.Other p hp x.1).frame ∙ (k ∙ ap (λ (z : Signature). z.kernel) (sym sg));
       inner = parts_function e front r p b hr hp hb;
       made = ap (λ (z : MadeParts). z.sites) mm;
       last = ap (λ (z : MadeParts). last_piece z.pieces) mm;
-      weigh = λ m k z n. (let a = ap (λ s. held m (length s)) (params_sites (result_env e r) (meant e sites r).sites p hp) in let c = ap (λ s. held m (length s)) (result_sites e sites r hr) in let d = extras_function m k e front r p b hr hp in omega arith);
+      weigh = λ m k z n. (let a = ap (λ s. held m (length s)) (params_sites (named_env e r) (meant e sites r).sites p hp) in let c = ap (λ s. held m (length s)) (result_sites e sites r hr) in let d = extras_function m k e front r p b hr hp in omega arith);
       nodes = refl;
       some = λ t. refl;
     }
@@ -337,22 +352,22 @@ function_front asked e sites b0 front g (more (node form w f l hs) (more p (more
 
 pub record Fore (asked : Asked) (e : Env) (sites : List Place) (front : Bool) (parts : Forest) : Type 0 where
   pub eb : Env
-  pub g : Signature
-  pub entered : Entered e eb g
+  pub frame : eb ≡ record e { scopes = eb.scopes; variables = eb.variables; owner = eb.owner; in_body = true }
+  pub outer : take (length e.scopes) eb.scopes ≡ e.scopes
   pub inner : behind_parts e forms.PrototypeNode front parts ≡ eb
   pub weigh : (m : Weights) (k : ℕ) → ((x : ℕ) → m.named x ≡ 0) → e.owner.number ≡ k → held m (length sites) ≤ held m (length (parts_meant e forms.PrototypeNode front sites parts).sites) + extras m k e forms.PrototypeNode front parts
 
-parts_prototype : (e : Env) (front : Bool) (r p : Syntax) → IsResult r → IsParams p → behind_parts e forms.PrototypeNode front (more r (more p none)) ≡ params_env (result_env e r) p
+parts_prototype : (e : Env) (front : Bool) (r p : Syntax) → IsResult r → IsParams p → behind_parts e forms.PrototypeNode front (more r (more p none)) ≡ params_env (opened_env e r) p
 unfolding behind_parts
 parts_prototype e front r p hr hp =
     ap (λ z. behind_parts z forms.PrototypeNode false (more p none)) (prototype_result e front r (kind_of e r) hr)
-    ∙ prototype_params (result_env e r) false p (kind_of (result_env e r) p) hp
+    ∙ prototype_params (opened_env e r) false p (kind_of (opened_env e r) p) hp
 
 sites_prototype : (e : Env) (front : Bool) (sites : List Place) (r p : Syntax) → IsResult r → IsParams p → (parts_meant e forms.PrototypeNode front sites (more r (more p none))).sites ≡ sites
 unfolding parts_meant
 sites_prototype e front sites r p hr hp = params_sites (later (behind e r) forms.PrototypeNode front r (kind_of e r)) (meant e sites r).sites p hp ∙ result_sites e sites r hr
 
-sound_prototype : (asked : Asked) (e : Env) (b0 : Before) (r p : Syntax) → IsResult r → IsParams p → SoundParts asked e forms.PrototypeNode b0 (more r (more p none)) → SoundTree asked e roles.Other r × SoundTree asked (result_env e r) roles.Other p
+sound_prototype : (asked : Asked) (e : Env) (b0 : Before) (r p : Syntax) → IsResult r → IsParams p → SoundParts asked e forms.PrototypeNode b0 (more r (more p none)) → SoundTree asked e roles.Other r × SoundTree asked (opened_env e r) roles.Other p
 sound_prototype asked e b0 r p hr hp s =
     let s1 = subst (λ z. SoundParts asked z forms.PrototypeNode (Some (last_of r)) (more p none)) (prototype_result e (is_front b0) r (kind_of e r) hr) s.1 in
     (s.0, s1.0)
@@ -363,19 +378,20 @@ head_fore asked e sites front t ps h x =
     let hd = prototype_head e front t (kind_of e t) h in
     record {
       eb = x.eb;
-      g = x.g;
-      entered = entered_head e x.eb t x.g x.entered;
+      frame = x.frame;
+      outer = x.outer;
       inner = ap (λ z. behind_parts z forms.PrototypeNode false ps) hd ∙ x.inner;
       weigh = λ m k z n. (let a = x.weigh m k z n in let c = head_weighs m k e sites t h z n in let d = ap (λ y. extras m k y forms.PrototypeNode false ps) hd in let i = ap (λ y. held m (length (parts_meant y forms.PrototypeNode false (meant e sites t).sites ps).sites)) hd in omega arith);
     }
 
 announcement_fore : (asked : Asked) (e : Env) (sites : List Place) (b0 : Before) (front : Bool) (r p : Syntax) → IsResult r → IsParams p → SoundParts asked e forms.PrototypeNode b0 (more r (more p none)) → Fore asked e sites front (more r (more p none))
 announcement_fore asked e sites b0 front r p hr hp s =
-    let x = sound_prototype asked e b0 r p hr hp s in
+    let e2 = opened_env e r in
+    let x = params_made asked e2 roles.Other p hp (sound_prototype asked e b0 r p hr hp s).1 in
     record {
-      eb = params_env (result_env e r) p;
-      g = record { name = []; kernel = false; result = yield_of (parts_of r); parameters = parameters_of (parts_of p) };
-      entered = entered_by asked e r p [] false hr hp x.0 x.1;
+      eb = params_env e2 p;
+      frame = ap (λ (z : Env). record z { in_body = true }) x.frame ∙ ap (λ (z : Owner). record e { scopes = (behind e2 p).scopes; variables = (behind e2 p).variables; owner = z; in_body = true }) (sym (ap (λ (z : Env). z.owner) x.frame));
+      outer = outer_closed e.scopes empty_scope (behind e2 p).scopes x.scopes;
       inner = parts_prototype e front r p hr hp;
       weigh = λ m k z n. (let a = ap (λ s. held m (length s)) (sites_prototype e front sites r p hr hp) in omega arith);
     }

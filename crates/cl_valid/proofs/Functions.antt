@@ -24,9 +24,9 @@ use Rattle.cl_meaning.specs.declared.kind.Parameter.TheVariants as parameters
 use Rattle.cl_meaning.specs.declared.kind.Role.TheVariants as roles
 use Rattle.cl_meaning.specs.declared.kind.Yield.TheVariants as yields
 use Rattle.cl_meaning.specs.Environment as environment
-use Rattle.cl_meaning.specs.Environment.{Env, Variable, Array, Signature, meaning_of, meaning_in, found_in, empty_scope, into_last}
+use Rattle.cl_meaning.specs.Environment.{Env, Variable, Array, Signature, meaning_of, meaning_in, found_in, empty_scope}
 use Rattle.cl_meaning.specs.Declarations.{signature_in}
-use Rattle.cl_meaning.specs.Visible.{inside, restored, left, before_labels, behind, behind_parts, in_block, in_definition, in_function, opened, apart, with_function, definition_of, defined_meaning, number_in}
+use Rattle.cl_meaning.specs.Visible.{inside, restored, left, before_labels, behind, behind_parts, in_block, in_definition, opened, apart, definition_of, defined_meaning}
 use Rattle.cl_meaning.specs.Faults.{Asked}
 use Rattle.cl_meaning.specs.Typed as typed_specs
 use Rattle.cl_meaning.specs.Typed.{What, function, statement, Piece, Built}
@@ -36,15 +36,16 @@ use Rattle.cl_valid.specs.Shape.{IsBlock, AreLines}
 use Rattle.cl_valid.specs.Sound.{SoundTree, SoundParts}
 use Rattle.cl_valid.specs.Erased.{array_of, function_of}
 use Rattle.cl_valid.specs.Fits.{Holds, ParameterIs, ParametersAre, CalledFits, MeaningFits, Fits}
-use Rattle.cl_valid.proofs.Grown.{extends_same, is_deep, deep_outer, Grown, NoLocal, Within}
+use Rattle.cl_valid.proofs.Grown.{extends_same, is_deep, Grown, NoLocal, Within}
 use Rattle.cl_valid.proofs.Growing.{StatementGrows, LinesGrow, SwitchGrows, growing}
 use Rattle.cl_valid.proofs.Naming.{MeaningScoped, Scoped}
-use Rattle.cl_valid.proofs.Facing.{Finals, At, at_later, at_named, at_opened, extends_length}
+use Rattle.cl_valid.proofs.Facing.{Finals, At, at_later, extends_length}
 use Rattle.cl_valid.proofs.Lining.{one_below, RootFits, AllRoots}
 use Rattle.cl_valid.proofs.Induction.{of_lines, block_parts}
 use Rattle.cl_valid.proofs.Stating.{Here}
 use Rattle.cl_valid.proofs.Validity.{LinesStated, StatementGood, LinesGood, SwitchGood, good}
 use Rattle.cl_valid.proofs.Heads.{ParamKind, ParamKinds}
+use Rattle.cl_valid.proofs.Owners.{OwnFits, own_fits}
 use Rattle.cl_valid.proofs.Fronts.{Front}
 use Rattle.cl_valid.proofs.Parts.{built_of}
 
@@ -199,13 +200,6 @@ body_of_last [] p b e h = absurd (none-some p e)
 body_of_last (q ∷ []) p b e h = ap (λ (z : Piece). block_of z.what) (same_Some _ _ e) ∙ ap block_of h
 body_of_last (q ∷ (r ∷ rs)) p b e h = body_of_last (r ∷ rs) p b e h
 
--- two scopes more are enough to be in a function
-deep_two : (ss : List environment.Scope) (a b : environment.Scope) (name : List ℕ) (x : _) → is_deep (into_last (ss ++ a ∷ []) name x ++ b ∷ []) ≡ true
-deep_two [] a b name x = refl
-deep_two (s ∷ []) a b name x = refl
-deep_two (s ∷ (r ∷ [])) a b name x = refl
-deep_two (s ∷ (r ∷ (q ∷ qs))) a b name x = refl
-
 pub defined_scoped : (o : Option (ℕ × Bool)) → MeaningScoped [] (defined_meaning o)
 defined_scoped None = tt
 defined_scoped (Some (n, true)) = tt
@@ -258,11 +252,8 @@ module _ (asked : Asked) (u : Env) (sites : List Place) (w : List ℕ) (f' l : �
       (body_of_last ps.pieces (meant fr.eb fr.sb fr.block).piece (all_lines (made_lines fr.eb fr.sb fr.block).pieces) fr.last (ap (λ (z : Built). z.what) bm))
       ∙ ap (λ z. record { what = function typed; sites = z }) (fr.made ∙ ap (λ (z : Built). z.sites) bm))
 
-  deep0 : is_deep e0.scopes ≡ true
-  deep0 = deep_two u.scopes empty_scope empty_scope (name_in w) _
-
   pub within : Within (body_env fr.eb)
-  within = record { deep = deep_outer e0.scopes fr.eb.scopes deep0 fr.entered.scopes; in_block = refl }
+  within = record { deep = fr.entered.deep; in_block = refl }
 
   pub sound : AreLines (lines_in fr.block) × SoundParts asked (body_env fr.eb) forms.BlockNode None (lines_in fr.block)
   sound = block_sound asked fr.eb fr.block fr.shape marked fr.sound
@@ -305,14 +296,10 @@ module _ (asked : Asked) (u : Env) (sites : List Place) (w : List ℕ) (f' l : �
 
   module _ (P : Program) (us : (s : environment.Scope) × (u.scopes ≡ s ∷ [])) (fits : Fits P plain asked.missing u) (seen : Scoped [] u) (known : (q : List ℕ) → bytes_eq (name_in w) q ≡ true → MeaningFits P plain asked.missing u.functions q (defined_meaning (definition_of u (name_in w)))) where
     at_first : At P plain asked.missing [] e0
-    at_first =
-        let i0 = in_function u (number_in (definition_of u (name_in w))) true in
-        let o1 = opened i0 in
-        let d1 = with_function o1 (name_in w) in
-        let a0 : At P plain asked.missing [] i0 = record { fits = fits; seen = seen; below = tt } in
-        let a1 = at_opened P plain asked.missing [] i0 o1 refl refl refl a0 in
-        let a2 = at_named P plain asked.missing [] o1 d1 (name_in w) (defined_meaning (definition_of u (name_in w))) (subst (λ z. is_deep (z ++ empty_scope ∷ []) ≡ true) (sym us.1) refl) refl refl refl known (defined_scoped (definition_of u (name_in w))) a1 in
-        at_opened P plain asked.missing [] d1 e0 refl refl refl a2
+    at_first = record { fits = fits; seen = seen; below = tt }
+
+    own : OwnFits P plain asked.missing e0
+    own = own_fits P plain asked.missing e0 u (name_in w) refl (definition_of u (name_in w)) refl refl known
 
     -- a variable of the parameters, in the function
     holds_param : (n : ℕ) (v : Variable) → slice_get fr.eb.variables n ≡ Some v → Holds plain n v.kind × RootFits P plain v.kind
@@ -324,7 +311,7 @@ module _ (asked : Asked) (u : Env) (sites : List Place) (w : List ℕ) (f' l : �
         (x, param_fits P plain n q.0 v.kind (subst (λ z. ParamKind z q.0 v.kind) (omega arith) q.1) (slice_take plain.variables (length sg.parameters) n v.kind (omega arith) x))
 
     at_body : At P plain asked.missing (numbers_below (length fr.eb.variables)) (body_env fr.eb)
-    at_body = at_later P plain asked.missing (numbers_below (length fr.eb.variables)) fr.eb (body_env fr.eb) refl refl (omega arith) (fr.entered.at P plain asked.missing deep0 holds_param at_first)
+    at_body = at_later P plain asked.missing (numbers_below (length fr.eb.variables)) fr.eb (body_env fr.eb) refl refl (omega arith) (fr.entered.at P plain asked.missing (subst (λ z. is_deep (z ++ empty_scope ∷ []) ≡ true) (sym us.1) refl) own holds_param at_first)
 
     here : Here P plain asked.missing (numbers_below (length fr.eb.variables)) (body_env fr.eb)
     here = record { within = within; at = at_body; result = ap result_of (sym fr.entered.result) }

@@ -1,7 +1,7 @@
 -- What the items of a unit leave: a function and a prototype leave a name.
 use Rattle.std.proofs.Common.{◌≡◌, ℕ, suc, ◌+◌, List, [], ◌∷◌, ◌++◌, length, take, Option, None, Some, Bool, true, false, ◌||◌, if◌then◌else◌, refl, ap, sym, ◌∙◌, subst, inl, inr, ◌⊎◌, arith, slice_get}
 use Rattle.std.proofs.lemmas.Bool.{false≢true}
-use Rattle.std.proofs.lemmas.Option.{none-some, same_Some}
+use Rattle.std.proofs.lemmas.Option.{none-some}
 use Rattle.std.proofs.lemmas.Slice.Eq.{bytes_eq-Decides}
 use Rattle.std.specs.Str.{bytes_eq}
 use Rattle.wg_num.specs.declared.types.Place.{Place}
@@ -21,7 +21,8 @@ use Rattle.cl_meaning.specs.Faults.{Asked, is_called, signature_of, prototype_mi
 use Rattle.cl_valid.specs.Sound.{SoundTree}
 use Rattle.cl_valid.specs.Fits.{CalledFits, MeaningFits}
 use Rattle.cl_valid.proofs.Cases.{neither_first}
-use Rattle.cl_valid.proofs.Grown.{SameOuter, outer_then, outer_whole}
+use Rattle.cl_valid.proofs.Grown.{outer_whole}
+use Rattle.cl_valid.proofs.Owners.{definition_at}
 use Rattle.cl_valid.proofs.Fronts.{Front, Fore}
 use Rattle.cl_valid.proofs.Functions.{bare, ending, block_ends, marked, grown}
 use Rattle.cl_valid.proofs.Constants as constants_proofs
@@ -56,18 +57,6 @@ definition_first name n [] g rest h e = ap (λ b. if b then Some (n, g.kernel) e
 definition_first name n (x ∷ done) g rest h e =
     ap (λ b. if b then Some (n, x.kernel) else definition_from name (suc n) (done ++ g ∷ rest)) h.0 ∙ (definition_first name (suc n) done g rest h.1 e ∙ ap (λ z. Some (z, g.kernel)) (let q : suc n + length done ≡ n + suc (length done) = omega arith in q))
 
--- what is found is the function with that number
-pub definition_at : (name : List ℕ) (n : ℕ) (gs : List Signature) (m : ℕ) (k : Bool) → definition_from name n gs ≡ Some (m, k) → (i : ℕ) × (m ≡ n + i) × ((g : Signature) → slice_get gs i ≡ Some g → g.kernel ≡ k)
-definition_at name n [] m k h = absurd (none-some (m, k) h)
-definition_at name n (g ∷ gs) m k h = by (bytes_eq g.name name) h (λ e. definition_at name (suc n) gs m k e)
-  where
-    by : (b : Bool) → (if b then Some (n, g.kernel) else definition_from name (suc n) gs) ≡ Some (m, k) → (definition_from name (suc n) gs ≡ Some (m, k) → (i : ℕ) × (m ≡ suc n + i) × ((x : Signature) → slice_get gs i ≡ Some x → x.kernel ≡ k)) →
-        (i : ℕ) × (m ≡ n + i) × ((x : Signature) → slice_get (g ∷ gs) i ≡ Some x → x.kernel ≡ k)
-    by true h r =
-        let e = same_Some _ _ h in
-        (0, (let q : m ≡ n = sym (ap (λ z. z.0) e) in omega arith), λ x y. ap (λ (z : Signature). z.kernel) (sym (same_Some _ _ y)) ∙ ap (λ z. z.1) e)
-    by false h r = let q = r h in let e = q.1 in (suc q.0, omega arith, λ x y. q.2 x y)
-
 -- a name that no function has
 signature_none : (name : List ℕ) (n : ℕ) (gs : List Signature) → definition_from name n gs ≡ None → signature_of name gs ≡ None
 signature_none name n [] h = refl
@@ -91,14 +80,9 @@ meaning_known P f ms gs name (Some (m, false)) c e n q h = λ g s.
     let i = d.0 in
     let mi = d.1 in
     let s' = subst (λ z. slice_get gs z ≡ Some g) (let q : m ≡ i = omega arith in q) s in
-    c m g s (d.2 g s'))
+    c m g s (d.2 g s').0)
 
 -- ---- a function
-
-take_one : (s r : environment.Scope) (rs ts : List environment.Scope) → SameOuter (s ∷ (r ∷ rs)) ts → take 1 ts ≡ s ∷ []
-take_one s r rs (t ∷ (x ∷ xs)) h = ap (λ z. z ∷ []) h.0
-take_one s r rs (t ∷ []) h = absurd h
-take_one s r rs [] h = absurd h
 
 -- the unit with what a function cannot change
 abbrev as_in : Env → Env → List environment.Scope → Env
@@ -114,39 +98,31 @@ closed_front u e later ss vs as' ow ib f p g t l s =
     ∙ (ap (λ z. record u { labels = z; scopes = take (length u.scopes) ss }) l
     ∙ ap (λ z. record u { scopes = z }) s))))
 
-first_scope : (u : Env) (o : OneScope u) (r : environment.Scope) (rs ts : List environment.Scope) → SameOuter (o.0 ∷ (r ∷ rs)) ts → take (length u.scopes) ts ≡ u.scopes
-first_scope u o r rs ts h = ap (λ z. take (length z) ts) o.1 ∙ (take_one o.0 r rs ts h ∙ sym o.1)
-
-definition_scopes : (u : Env) (o : OneScope u) (name : List ℕ) → (r : environment.Scope) × (rs : List environment.Scope) × ((in_definition u name).scopes ≡ o.0 ∷ (r ∷ rs))
-definition_scopes u o name = (_, _, ap (λ z. into_last (z ++ empty_scope ∷ []) name (firm (defined_meaning (definition_of u name))) ++ empty_scope ∷ []) o.1)
-
-function_closed : (asked : Asked) (u : Env) (sites : List Place) (w : List ℕ) (f l : ℕ) (parts : Forest) (fr : Front asked (in_definition u (name_in w)) sites true (bare w) parts) → OneScope u → without_variables u (behind fr.eb fr.block) ≡ u
-function_closed asked u sites w f l parts fr o =
+function_closed : (asked : Asked) (u : Env) (sites : List Place) (w : List ℕ) (f l : ℕ) (parts : Forest) (fr : Front asked (in_definition u (name_in w)) sites true (bare w) parts) → without_variables u (behind fr.eb fr.block) ≡ u
+function_closed asked u sites w f l parts fr =
     let e0 = in_definition u (name_in w) in
     let en = ending fr.eb fr.block in
     let gr = grown asked u sites w f l parts fr in
-    let ds = definition_scopes u o (name_in w) in
     let be = block_ends fr.eb fr.block fr.shape (marked asked u sites w f l parts fr) in
     let sc : take (length fr.eb.scopes) en.scopes ≡ en.scopes = outer_whole fr.eb.scopes en.scopes gr.scopes in
-    let ot = outer_then e0.scopes fr.eb.scopes en.scopes fr.entered.scopes gr.scopes in
     closed_front u e0 (behind fr.eb fr.block) (take (length fr.eb.scopes) en.scopes) en.variables en.arrays fr.eb.owner true
     (be ∙ (ap (λ z. before_labels fr.eb z) gr.frame ∙ ap (λ (z : Env). record z { scopes = take (length fr.eb.scopes) en.scopes; variables = en.variables; arrays = en.arrays }) fr.entered.frame))
-    refl refl refl refl (ap (take (length u.scopes)) sc ∙ first_scope u o ds.0 ds.1 en.scopes (subst (λ z. SameOuter z en.scopes) ds.2 ot))
+    refl refl refl refl (ap (take (length u.scopes)) sc ∙ fr.entered.outer en.scopes gr.scopes)
 
-pub function_leaves : (asked : Asked) (u : Env) (sites : List Place) (w : List ℕ) (f l : ℕ) (parts : Forest) (fr : Front asked (in_definition u (name_in w)) sites true (bare w) parts) → OneScope u → behind u (node forms.FunctionNode w f l parts) ≡ with_function u (name_in w)
+pub function_leaves : (asked : Asked) (u : Env) (sites : List Place) (w : List ℕ) (f l : ℕ) (parts : Forest) (fr : Front asked (in_definition u (name_in w)) sites true (bare w) parts) → behind u (node forms.FunctionNode w f l parts) ≡ with_function u (name_in w)
 unfolding behind restored left inside
-function_leaves asked u sites w f l parts fr o =
-    ap (λ z. with_function (without_variables u z) (name_in w)) fr.inner ∙ ap (λ z. with_function z (name_in w)) (function_closed asked u sites w f l parts fr o)
+function_leaves asked u sites w f l parts fr =
+    ap (λ z. with_function (without_variables u z) (name_in w)) fr.inner ∙ ap (λ z. with_function z (name_in w)) (function_closed asked u sites w f l parts fr)
 
-pub function_visible : (asked : Asked) (u : Env) (sites : List Place) (w : List ℕ) (f l : ℕ) (parts : Forest) (fr : Front asked (in_definition u (name_in w)) sites true (bare w) parts) → OneScope u → visible_at u (node forms.FunctionNode w f l parts) ≡ u
+pub function_visible : (asked : Asked) (u : Env) (sites : List Place) (w : List ℕ) (f l : ℕ) (parts : Forest) (fr : Front asked (in_definition u (name_in w)) sites true (bare w) parts) → visible_at u (node forms.FunctionNode w f l parts) ≡ u
 unfolding restored inside
-function_visible asked u sites w f l parts fr o = ap (λ z. without_variables u z) fr.inner ∙ function_closed asked u sites w f l parts fr o
+function_visible asked u sites w f l parts fr = ap (λ z. without_variables u z) fr.inner ∙ function_closed asked u sites w f l parts fr
 
 -- a function is declared once
-pub function_new : (asked : Asked) (u : Env) (sites : List Place) (role : Role) (w : List ℕ) (f l : ℕ) (parts : Forest) (fr : Front asked (in_definition u (name_in w)) sites true (bare w) parts) → OneScope u → SoundTree asked u role (node forms.FunctionNode w f l parts) → is_declared u (name_in w) ≡ false
-function_new asked u sites role w f l parts fr o s =
+pub function_new : (asked : Asked) (u : Env) (sites : List Place) (role : Role) (w : List ℕ) (f l : ℕ) (parts : Forest) (fr : Front asked (in_definition u (name_in w)) sites true (bare w) parts) → SoundTree asked u role (node forms.FunctionNode w f l parts) → is_declared u (name_in w) ≡ false
+function_new asked u sites role w f l parts fr s =
     let h = s.1.0 faults.DeclaredTwice in
-    let v = function_visible asked u sites w f l parts fr o in
+    let v = function_visible asked u sites w f l parts fr in
     neither_first (is_declared u (name_in w)) (is_known_name u (name_in w)) (subst (λ z. (is_declared z (name_in w) || is_known_name z (name_in w)) ≡ false) v h)
 
 pub function_grown : (u : Env) (name : List ℕ) → UnitGrown u (with_function u name)
@@ -159,26 +135,25 @@ function_firm u name (s, us) =
 
 -- ---- a prototype
 
-prototype_closed : (asked : Asked) (u : Env) (sites : List Place) (parts : Forest) (fo : Fore asked (in_prototype u) sites true parts) → OneScope u → without_variables u fo.eb ≡ u
-prototype_closed asked u sites parts fo o =
+prototype_closed : (asked : Asked) (u : Env) (sites : List Place) (parts : Forest) (fo : Fore asked (in_prototype u) sites true parts) → without_variables u fo.eb ≡ u
+prototype_closed asked u sites parts fo =
     let e = in_prototype u in
-    closed_front u e fo.eb fo.eb.scopes fo.eb.variables e.arrays fo.eb.owner true fo.entered.frame refl refl refl refl
-    (first_scope u o empty_scope [] fo.eb.scopes (subst (λ z. SameOuter (z ++ empty_scope ∷ []) fo.eb.scopes) o.1 fo.entered.scopes))
+    closed_front u e fo.eb fo.eb.scopes fo.eb.variables e.arrays fo.eb.owner true fo.frame refl refl refl refl fo.outer
 
-pub prototype_leaves : (asked : Asked) (u : Env) (sites : List Place) (w : List ℕ) (f l : ℕ) (parts : Forest) (fo : Fore asked (in_prototype u) sites true parts) → OneScope u → behind u (node forms.PrototypeNode w f l parts) ≡ with_prototype u (name_in w)
+pub prototype_leaves : (asked : Asked) (u : Env) (sites : List Place) (w : List ℕ) (f l : ℕ) (parts : Forest) (fo : Fore asked (in_prototype u) sites true parts) → behind u (node forms.PrototypeNode w f l parts) ≡ with_prototype u (name_in w)
 unfolding behind restored left inside
-prototype_leaves asked u sites w f l parts fo o =
-    ap (λ z. with_prototype (without_variables u z) (name_in w)) fo.inner ∙ ap (λ z. with_prototype z (name_in w)) (prototype_closed asked u sites parts fo o)
+prototype_leaves asked u sites w f l parts fo =
+    ap (λ z. with_prototype (without_variables u z) (name_in w)) fo.inner ∙ ap (λ z. with_prototype z (name_in w)) (prototype_closed asked u sites parts fo)
 
-prototype_visible : (asked : Asked) (u : Env) (sites : List Place) (w : List ℕ) (f l : ℕ) (parts : Forest) (fo : Fore asked (in_prototype u) sites true parts) → OneScope u → visible_at u (node forms.PrototypeNode w f l parts) ≡ u
+prototype_visible : (asked : Asked) (u : Env) (sites : List Place) (w : List ℕ) (f l : ℕ) (parts : Forest) (fo : Fore asked (in_prototype u) sites true parts) → visible_at u (node forms.PrototypeNode w f l parts) ≡ u
 unfolding restored inside
-prototype_visible asked u sites w f l parts fo o = ap (λ z. without_variables u z) fo.inner ∙ prototype_closed asked u sites parts fo o
+prototype_visible asked u sites w f l parts fo = ap (λ z. without_variables u z) fo.inner ∙ prototype_closed asked u sites parts fo
 
 -- a function with a prototype alone is not called
-pub prototype_uncalled : (asked : Asked) (u : Env) (sites : List Place) (role : Role) (w : List ℕ) (f l : ℕ) (parts : Forest) (fo : Fore asked (in_prototype u) sites true parts) → OneScope u → SoundTree asked u role (node forms.PrototypeNode w f l parts) → definition_of u (name_in w) ≡ None → is_called asked.missing (name_in w) ≡ false
-prototype_uncalled asked u sites role w f l parts fo o s e =
+pub prototype_uncalled : (asked : Asked) (u : Env) (sites : List Place) (role : Role) (w : List ℕ) (f l : ℕ) (parts : Forest) (fo : Fore asked (in_prototype u) sites true parts) → SoundTree asked u role (node forms.PrototypeNode w f l parts) → definition_of u (name_in w) ≡ None → is_called asked.missing (name_in w) ≡ false
+prototype_uncalled asked u sites role w f l parts fo s e =
     let h = s.1.0 faults.PrototypeMatch in
-    let v = prototype_visible asked u sites w f l parts fo o in
+    let v = prototype_visible asked u sites w f l parts fo in
     let h' = subst (λ (z : Env). prototype_misfits asked (signature_in w parts) (signature_of (name_in w) z.functions) ≡ false) v h in
     let h'' = subst (λ z. prototype_misfits asked (signature_in w parts) z ≡ false) (signature_none (name_in w) 0 u.functions e) h' in
     ap (is_called asked.missing) (sym (name_of w parts)) ∙ h''

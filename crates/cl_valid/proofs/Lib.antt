@@ -31,6 +31,7 @@ pub mod Validity
 pub mod Weighing
 pub mod Sums
 pub mod Heads
+pub mod Owners
 pub mod Fronts
 pub mod Functions
 pub mod Constants

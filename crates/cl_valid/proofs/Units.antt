@@ -207,8 +207,8 @@ other_known top n u front sites p ps gs ws e h rec =
 
 prototype_sites : (asked : Asked) (s : ℕ) (u : Env) (sites : List Place) (w : List ℕ) (f l : ℕ) (parts : Forest) (fo : Fore asked (in_prototype u) sites true parts) → held (site_alone s) (length sites) ≤ held (site_alone s) (length (meant u sites (node forms.PrototypeNode w f l parts)).sites)
 prototype_sites asked s u sites w f l parts fo =
-    let a = fo.weigh (site_alone s) 0 (λ x. refl) refl in
-    let b = site_extras s 0 (in_prototype u) forms.PrototypeNode true parts in
+    let a = fo.weigh (site_alone s) (in_prototype u).owner.number (λ x. refl) refl in
+    let b = site_extras s (in_prototype u).owner.number (in_prototype u) forms.PrototypeNode true parts in
     let c = ap (λ (z : Built). held (site_alone s) (length z.sites)) (prototype_built u sites w f l parts) in
     omega arith
 
@@ -224,10 +224,10 @@ unit_line : (asked : Asked) (u : Env) (t : Syntax) → IsDeclaration t → Sound
 unit_line asked u t h s o = (constant_line no_program asked [] u roles.Other t h s refl o).grown
 
 prototype_grown : (asked : Asked) (u : Env) (sites : List Place) (w : List ℕ) (f l : ℕ) (parts : Forest) (fo : Fore asked (in_prototype u) sites true parts) → OneScope u → UnitGrown u (behind u (node forms.PrototypeNode w f l parts))
-prototype_grown asked u sites w f l parts fo o = subst (λ z. UnitGrown u z) (sym (prototype_leaves asked u sites w f l parts fo o)) (prototype_cases u (name_in w) o).0
+prototype_grown asked u sites w f l parts fo o = subst (λ z. UnitGrown u z) (sym (prototype_leaves asked u sites w f l parts fo)) (prototype_cases u (name_in w) o).0
 
-definition_grown : (asked : Asked) (u : Env) (sites : List Place) (w : List ℕ) (f l : ℕ) (parts : Forest) (fr : Front asked (in_definition u (name_in w)) sites true (bare w) parts) → OneScope u → UnitGrown u (behind u (node forms.FunctionNode w f l parts))
-definition_grown asked u sites w f l parts fr o = subst (λ z. UnitGrown u z) (sym (function_leaves asked u sites w f l parts fr o)) (function_grown u (name_in w))
+definition_grown : (asked : Asked) (u : Env) (sites : List Place) (w : List ℕ) (f l : ℕ) (parts : Forest) (fr : Front asked (in_definition u (name_in w)) sites true (bare w) parts) → UnitGrown u (behind u (node forms.FunctionNode w f l parts))
+definition_grown asked u sites w f l parts fr = subst (λ z. UnitGrown u z) (sym (function_leaves asked u sites w f l parts fr)) (function_grown u (name_in w))
 
 module _ (asked : Asked) (top : ℕ → (ℕ → ℕ) → ℕ) where
   pub known : (u : Env) (front : Bool) (sites : List Place) (b : Before) (items : Forest) (done : List Signature) → AreItems items → SoundParts asked u forms.UnitNode b items → OneScope u → Each (λ (h : Signature). is_declared u h.name ≡ true) done → u.functions ≡ done ++ definitions_in items →
@@ -237,10 +237,10 @@ module _ (asked : Asked) (top : ℕ → (ℕ → ℕ) → ℕ) where
       let p = node forms.FunctionNode w f l parts in
       let x = unit_sound_next asked u b p ps s in
       let fr = front_of asked u sites w f l parts h x.0 in
-      let gr = definition_grown asked u sites w f l parts fr o in
-      let dk = definition_known u w parts done (definitions_in ps) (function_new asked u sites roles.Other w f l parts fr o x.0) fm g in
-      let num : (in_definition u (name_in w)).owner.number ≡ length done = ap number_in dk ∙ (let q : 0 + length done ≡ length done = omega arith in q) in
-      let fi = ap (λ z. is_declared z (signature_in w parts).name) (function_leaves asked u sites w f l parts fr o) ∙ (ap (is_declared (with_function u (name_in w))) (name_of w parts) ∙ function_firm u (name_in w) o) in
+      let gr = definition_grown asked u sites w f l parts fr in
+      let dk = definition_known u w parts done (definitions_in ps) (function_new asked u sites roles.Other w f l parts fr x.0) fm g in
+      let num : (in_definition u (name_in w)).owner.number ≡ length done = ap (number_in u) dk ∙ (let q : 0 + length done ≡ length done = omega arith in q) in
+      let fi = ap (λ z. is_declared z (signature_in w parts).name) (function_leaves asked u sites w f l parts fr) ∙ (ap (is_declared (with_function u (name_in w))) (name_of w parts) ∙ function_firm u (name_in w) o) in
       function_known asked top u front sites w f l parts ps done fr num t
       (known (behind u p) false (meant u sites p).sites (Some (last_of p)) ps (done ++ signature_in w parts ∷ []) hs x.1 (gr.one o)
       (each_more (λ (h : Signature). is_declared (behind u p) h.name ≡ true) done (signature_in w parts) (still_firm u (behind u p) done gr o fm) fi)
@@ -288,7 +288,7 @@ valid_next P u front sites p ps Fs g t e v g' t' =
     (record { functions' = subst (Each (λ (F : typed_specs.Function). IsValidFunction P (function_of F))) (sym e) v; tables' = λ h. t' (t h); grown' = unit_then u (behind u p) (behind_parts (behind u p) forms.UnitNode false ps) g g' })
 
 prototype_tables : {asked : Asked} (u : Env) (sites : List Place) (w : List ℕ) (f l : ℕ) (parts : Forest) (fo : Fore asked (in_prototype u) sites true parts) → OneScope u → AllTables u.tables → AllTables (behind u (node forms.PrototypeNode w f l parts)).tables
-prototype_tables {asked} u sites w f l parts fo o h = subst (λ (z : Env). AllTables z.tables) (sym (prototype_leaves asked u sites w f l parts fo o)) (by (prototype_cases u (name_in w) o).1)
+prototype_tables {asked} u sites w f l parts fo o h = subst (λ (z : Env). AllTables z.tables) (sym (prototype_leaves asked u sites w f l parts fo)) (by (prototype_cases u (name_in w) o).1)
   where
     by : (with_prototype u (name_in w) ≡ u) ⊎ (with_prototype u (name_in w) ≡ environment.declare u (name_in w) (proto_entry u (name_in w))) → AllTables (with_prototype u (name_in w)).tables
     by (inl e) = subst (λ (z : Env). AllTables z.tables) (sym e) h
@@ -300,7 +300,7 @@ unit_line_rest asked u none b h s o = subst (λ z. UnitGrown u z) (sym (unit_non
 unit_line_rest asked u (more (node forms.FunctionNode w f l parts) ps) b (inl h, hs) s o =
     let p = node forms.FunctionNode w f l parts in
     let x = unit_sound_next asked u b p ps s in
-    let gr = definition_grown asked u [] w f l parts (front_of asked u [] w f l parts h x.0) o in
+    let gr = definition_grown asked u [] w f l parts (front_of asked u [] w f l parts h x.0) in
     subst (λ z. UnitGrown u z) (sym (unit_behind_next u false p ps)) (unit_then u (behind u p) (behind_parts (behind u p) forms.UnitNode false ps) gr (unit_line_rest asked (behind u p) ps (Some (last_of p)) hs x.1 (gr.one o)))
 unit_line_rest asked u (more (node forms.PrototypeNode w f l parts) ps) b (inr (inl h), hs) s o =
     let p = node forms.PrototypeNode w f l parts in
@@ -318,11 +318,11 @@ module _ (P : Program) (asked : Asked) (gs : List Signature) (tabs : List Table)
   -- what is visible behind a prototype
   prototype_at : (u : Env) (sites : List Place) (w : List ℕ) (f l : ℕ) (parts : Forest) (fo : Fore asked (in_prototype u) sites true parts) → SoundTree asked u roles.Other (node forms.PrototypeNode w f l parts) → u.functions ≡ gs → OneScope u → AtUnit P asked.missing u → AtUnit P asked.missing (behind u (node forms.PrototypeNode w f l parts))
   prototype_at u sites w f l parts fo s g o a =
-      subst (λ z. AtUnit P asked.missing z) (sym (prototype_leaves asked u sites w f l parts fo o)) (by (prototype_cases u (name_in w) o).1)
+      subst (λ z. AtUnit P asked.missing z) (sym (prototype_leaves asked u sites w f l parts fo)) (by (prototype_cases u (name_in w) o).1)
     where
       declared : AtUnit P asked.missing (environment.declare u (name_in w) (proto_entry u (name_in w)))
       declared = unit_named P asked.missing u (environment.declare u (name_in w) (proto_entry u (name_in w))) (name_in w) (proto_entry u (name_in w)) o refl refl
-          (λ f' q h. meaning_known P f' asked.missing u.functions (name_in w) (definition_of u (name_in w)) (subst (AllCalled P) (sym g) called) refl (prototype_uncalled asked u sites roles.Other w f l parts fo o s) q h)
+          (λ f' q h. meaning_known P f' asked.missing u.functions (name_in w) (definition_of u (name_in w)) (subst (AllCalled P) (sym g) called) refl (prototype_uncalled asked u sites roles.Other w f l parts fo s) q h)
           (defined_scoped (definition_of u (name_in w))) a
 
       by : (with_prototype u (name_in w) ≡ u) ⊎ (with_prototype u (name_in w) ≡ environment.declare u (name_in w) (proto_entry u (name_in w))) → AtUnit P asked.missing (with_prototype u (name_in w))
@@ -337,7 +337,7 @@ module _ (P : Program) (asked : Asked) (gs : List Signature) (tabs : List Table)
       let p = node forms.FunctionNode w f l parts in
       let x = unit_sound_next asked u b p ps s in
       let fr = front_of asked u sites w f l parts h x.0 in
-      let gr = definition_grown asked u sites w f l parts fr o in
+      let gr = definition_grown asked u sites w f l parts fr in
       let m = behind u p in
       let called' = subst (AllCalled P) (sym g) called in
       let there : definition_of u (name_in w) ≡ None → ⊥ = λ e. definition_there (name_in w) 0 done (signature_in w parts) (definitions_in ps) (ap (λ z. bytes_eq z (name_in w)) (name_of w parts) ∙ bytes_same (name_in w)) (ap (definition_from (name_in w) 0) (sym (g ∙ gd)) ∙ e) in
@@ -345,11 +345,11 @@ module _ (P : Program) (asked : Asked) (gs : List Signature) (tabs : List Table)
       λ f' q e. meaning_known P f' asked.missing u.functions (name_in w) (definition_of u (name_in w)) called' refl (λ z. absurd (there z)) q e in
       let F = typed asked u sites w f l parts fr in
       let v = function_valid asked u sites w f l parts fr P o (a.0 (function_of F)) a.1 (kn (function_of F)) il is in
-      let am = subst (λ z. AtUnit P asked.missing z) (sym (function_leaves asked u sites w f l parts fr o)) (unit_named P asked.missing u (with_function u (name_in w)) (name_in w) (firm (defined_meaning (definition_of u (name_in w)))) o refl refl kn (defined_scoped (definition_of u (name_in w))) a) in
+      let am = subst (λ z. AtUnit P asked.missing z) (sym (function_leaves asked u sites w f l parts fr)) (unit_named P asked.missing u (with_function u (name_in w)) (name_in w) (firm (defined_meaning (definition_of u (name_in w)))) o refl refl kn (defined_scoped (definition_of u (name_in w))) a) in
       let et' = subst (λ (z : Env). Extends z.tables tabs) (unit_behind_next u front p ps) et in
       let rec = all_valid m false (meant u sites p).sites (Some (last_of p)) ps (done ++ signature_in w parts ∷ []) hs x.1 (gr.one o) (ap (λ z. z.functions) gr.frame ∙ g) (gd ∙ sym (append_assoc done (signature_in w parts ∷ []) (definitions_in ps))) am (ap (λ z. z.in_loop) gr.frame ∙ il) (ap (λ z. z.in_switch) gr.frame ∙ is) et' in
       let rest = parts_meant m forms.UnitNode false (meant u sites p).sites ps in
-      valid_next P u front sites p ps (F ∷ functions_in rest.pieces) gr (subst AllTables (sym (ap (λ z. z.tables) (function_leaves asked u sites w f l parts fr o))))
+      valid_next P u front sites p ps (F ∷ functions_in rest.pieces) gr (subst AllTables (sym (ap (λ z. z.tables) (function_leaves asked u sites w f l parts fr))))
       (ap (λ (z : MadeParts). functions_in z.pieces) (unit_meant_next u front sites p ps) ∙ ap (λ (z : Built). function_before z.what (functions_in rest.pieces)) (function_is asked u sites w f l parts fr))
       (v, rec.functions') rec.grown' rec.tables'
   all_valid u front sites b (more (node forms.PrototypeNode w f l parts) ps) done (inr (inl h), hs) s o g gd a il is et =

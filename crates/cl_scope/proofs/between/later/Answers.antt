@@ -1,4 +1,4 @@
-use Rattle.std.proofs.Common.{List, inl, inr}
+use Rattle.std.proofs.Common.{List}
 use Rattle.std.proofs.lemmas.Result.{on_ok_weaker}
 use Rattle.wg_num.specs.declared.types.Place.{Place}
 use Rattle.cl_tree.specs.Syntax.{view}
@@ -10,8 +10,14 @@ use Rattle.cl_scope.proofs.between.later.Goals as goal
 pub returns-in-FunctionNode : goal.returns-in-FunctionNode
 unfolding later
 returns-in-FunctionNode c = on_ok_weaker c.behind_part.result
-    (λ h (places : List Place). elim c.in-FunctionNode.is [ inl e ↦ rw e (h places) | inr e ↦ rw e (h places) ])
+    (λ h (places : List Place). rw c.in-FunctionNode.is (h places))
     c.behind_part.ensures
+
+pub returns-in-PrototypeNode : goal.returns-in-PrototypeNode
+unfolding later
+returns-in-PrototypeNode c = on_ok_weaker c.behind_prototype_part.result
+    (λ h (places : List Place). rw c.in-PrototypeNode.is (h places))
+    c.behind_prototype_part.ensures
 
 pub returns-in-DeclareNode : goal.returns-in-DeclareNode
 unfolding later

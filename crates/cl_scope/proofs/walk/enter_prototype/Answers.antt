@@ -1,7 +1,9 @@
-use Rattle.std.proofs.Common.{◌∙◌, ap}
-use Rattle.cl_meaning.specs.Environment.{Env}
-use Rattle.cl_meaning.specs.Visible.{opened}
+use Rattle.std.proofs.Common.{ℕ, ◌∙◌, ap, false}
+use Rattle.cl_meaning.specs.Visible.{in_function}
+use Rattle.cl_scope.specs.View.{env_of}
 use Rattle.cl_scope.proofs.walk.enter_prototype.Goals as goal
 
 pub returns-clause-inside : goal.returns-clause-inside
-returns-clause-inside c = λ places. c.in_ok-open.ensures places ∙ ap (λ (e : Env). opened e) (c.take_body-body.ensures.inside places)
+returns-clause-inside c = λ places.
+    c.take_body.ensures.inside places
+    ∙ ap (λ (n : ℕ). in_function (env_of places c.args.environment.now) n false) c.in_ok-number.ensures
