@@ -1,15 +1,15 @@
 -- Which items wait at a barrier, and what their release does.
-use Rattle.std.proofs.Common.{◌≡◌, ℕ, zero, suc, ◌+◌, ◌/◌, ℤ, List, [], ◌∷◌, Option, Some, None, refl, sym, ap, ◌∙◌, subst, slice_get, nat_eq, cond, if◌then◌else◌, arith, set, length, map, ap₂, ◌<◌, get_or}
+use Rattle.std.proofs.Common.{◌≡◌, ℕ, zero, suc, ◌+◌, ◌/◌, ℤ, List, [], ◌∷◌, Some, None, refl, sym, ap, ◌∙◌, slice_get, nat_eq, cond, if◌then◌else◌, arith, set, length, map, ap₂, ◌<◌, get_or}
 use Rattle.std.proofs.Common.{Bool, true, false}
 use Rattle.std.proofs.lemmas.Bool.{eqb-true}
 use Rattle.std.proofs.lemmas.List.{length-set, length-map, map-set}
-use Rattle.work_items.specs.Items.{Waits, Goes, Begins, IsWaiting, after_wait, released_from}
+use Rattle.work_items.specs.Items.{Goes, Begins, IsWaiting, after_wait, released_from}
 use Rattle.cl_model.specs.Sizes.{Launch, group_size}
-use Rattle.cl_model.specs.Tree.{Action, Literal, Expression, Apply, Expressions, none, more, Statement, Do, Declare, Fill, Block, If, Loop, Switch, Break, Continue, Return, Barrier, Program}
+use Rattle.cl_model.specs.Tree.{Action, Literal, Expression, Apply, none, more, Statement, Declare, Loop, Return, Barrier, Program}
 use Rattle.cl_model.specs.Values.{is_zero}
 use Rattle.cl_model.specs.Task as model
 use Rattle.cl_model.specs.Task.{Point, Task, Run, Evaluate, Finish, InLoop, Item, first_point}
-use Rattle.cl_model.specs.Steps.{last, action_next, evaluate_next, run_next, task_next, first_next, item_next, with_tasks}
+use Rattle.cl_model.specs.Steps.{last, action_next, evaluate_next, run_next, first_next, item_next, with_tasks}
 use Rattle.cl_model.specs.Meaning.{machine_of}
 use Rattle.cl_interpreter.specs.declared.task.Item as rust_item
 use Rattle.cl_interpreter.specs.declared.task.Leg.{Leg}

@@ -1,5 +1,5 @@
 -- The start of a launch: its arguments, one item or one copy more, and the memory part by part.
-use Rattle.std.proofs.Common.{◌≡◌, ℕ, ℤ, zero, suc, ◌+◌, List, [], ◌∷◌, ◌++◌, Some, refl, sym, ap, ◌∙◌, map, arith, rules}
+use Rattle.std.proofs.Common.{◌≡◌, ℕ, ℤ, zero, suc, ◌+◌, List, [], ◌∷◌, ◌++◌, Some, sym, ap, ◌∙◌, map, arith, rules}
 use Rattle.std.proofs.lemmas.List.{append_assoc, map-append}
 use Rattle.work_items.specs.Memory.{Memory}
 use Rattle.cl_model.specs.declared.launch.Bound.{Bound}

@@ -1,9 +1,9 @@
 -- A step takes nothing of the item but its number, its values and its frames.
-use Rattle.std.proofs.Common.{◌≡◌, ℕ, ℤ, List, [], ◌∷◌, Option, Some, None, refl, sym, ap, ◌∙◌}
-use Rattle.std.proofs.Common.{Bool, true, false}
+use Rattle.std.proofs.Common.{◌≡◌, ℤ, List, [], ◌∷◌, Some, None, refl, sym, ap, ◌∙◌}
+use Rattle.std.proofs.Common.{true, false}
 use Rattle.work_items.specs.Items.{Goes, Ends}
 use Rattle.cl_model.specs.Sizes.{Launch}
-use Rattle.cl_model.specs.Tree.{Action, Literal, Expression, Apply, Expressions, none, more, Statement, Do, Declare, Fill, Block, If, Loop, Switch, Break, Continue, Return, Barrier, Program}
+use Rattle.cl_model.specs.Tree.{Action, Literal, Expression, Apply, none, more, Statement, Do, Declare, Fill, Block, If, Loop, Switch, Break, Continue, Return, Barrier, Program}
 use Rattle.cl_model.specs.Task.{Point, Task, Run, Evaluate, Finish, InLoop, InCall, Leave, Item}
 use Rattle.cl_model.specs.Steps.{action_next, evaluate_next, run_next, task_next, first_next, item_next, behind_return}
 

@@ -1,5 +1,5 @@
 -- The tasks that `break` leaves.
-use Rattle.std.proofs.Common.{◌≡◌, List, [], ◌∷◌, Option, Some, None, refl, drop}
+use Rattle.std.proofs.Common.{◌≡◌, List, [], ◌∷◌, Some, refl, drop}
 use Rattle.cl_interpreter.specs.declared.task.Task.{Task}
 use Rattle.cl_interpreter.specs.declared.task.Task.TheVariants as task
 use Rattle.cl_interpreter.specs.declared.leaving.Mark.TheVariants.{Loop, Switch}

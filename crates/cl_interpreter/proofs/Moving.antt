@@ -3,7 +3,7 @@ use Rattle.std.proofs.Common.{◌≡◌, ℕ, zero, suc, ◌+◌, ◌<◌, ◌�
 use Rattle.std.proofs.Common.{true, false}
 use Rattle.std.proofs.lemmas.Option.{slice_get_past}
 use Rattle.work_items.specs.Memory.{Memory}
-use Rattle.work_items.specs.Items.{Next, Machine, World, Step, Release, HasStep, IsPossible, IsGathered, fault_of, memory_after, state_after, after_step, after_step_of, moved, Fault}
+use Rattle.work_items.specs.Items.{Next, Machine, World, Step, Release, HasStep, IsPossible, IsGathered, fault_of, memory_after, state_after, after_step, after_step_of, Fault}
 use Rattle.cl_model.specs.Tree.{Program}
 use Rattle.cl_model.specs.Sizes.{Launch, group_size}
 use Rattle.cl_model.specs.Task.{Item, Point, first_point}

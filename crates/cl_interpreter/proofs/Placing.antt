@@ -1,5 +1,5 @@
 -- Instances and their arrays, one after the other.
-use Rattle.std.proofs.Common.{◌≡◌, ℕ, zero, suc, ◌+◌, ◌-◌, ◌<◌, ◌≤◌, List, [], ◌∷◌, ◌++◌, Option, Some, None, Bool, refl, sym, ap, ◌∙◌, arith, flat_map, length, slice_get, below_more, length-append}
+use Rattle.std.proofs.Common.{◌≡◌, ℕ, zero, suc, ◌+◌, ◌-◌, ◌<◌, ◌≤◌, List, [], ◌∷◌, ◌++◌, None, Bool, refl, sym, ap, ◌∙◌, arith, flat_map, length, slice_get, below_more, length-append}
 use Rattle.cl_model.specs.Objects.{PlacedArray, placed_from}
 use Rattle.cl_interpreter.specs.Tasks.{nth_object}
 use Rattle.cl_interpreter.specs.Objects.{is_chosen, chosen_of, placed_at}

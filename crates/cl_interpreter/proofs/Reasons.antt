@@ -1,5 +1,5 @@
 -- Why a step has no answer.
-use Rattle.std.proofs.Common.{◌≡◌, Result, Ok, Err, IfErr, MatchResult, List, [], ◌∷◌, ℕ, ℤ, subst, sym, ◌∙◌, ap}
+use Rattle.std.proofs.Common.{◌≡◌, Result, Ok, Err, IfErr, MatchResult, List, ◌∷◌, ℕ, ℤ, subst, sym}
 use Rattle.wg_num.specs.declared.types.IntType.{IntType}
 use Rattle.wg_num.specs.declared.types.Fun.{Fun}
 use Rattle.wg_num.specs.Wrap.{IsValue}

@@ -1,5 +1,5 @@
 -- Runs with one move more.
-use Rattle.std.proofs.Common.{◌≡◌, ℕ, zero, suc, ◌+◌, ◌<◌, ◌≤◌, List, [], ◌∷◌, ◌++◌, Option, Some, None, true, false, refl, sym, ap, ◌∙◌, subst, take, length, map, get_or, slice_get, arith}
+use Rattle.std.proofs.Common.{◌≡◌, ℕ, zero, suc, ◌+◌, ◌<◌, ◌≤◌, List, [], ◌∷◌, Option, Some, true, false, refl, sym, ap, ◌∙◌, subst, take, length, map, get_or, slice_get, inr, arith}
 use Rattle.std.proofs.lemmas.Option.{slice_get_within}
 use Rattle.std.proofs.lemmas.List.{take_all}
 use Rattle.work_items.specs.Items.{Machine, World, Move, IsPossible, moved}
@@ -8,7 +8,10 @@ use Rattle.cl_model.specs.Task.{Item, Point}
 use Rattle.cl_interpreter.specs.declared.world.Move as rust_move
 use Rattle.cl_interpreter.specs.declared.world.World as rust_world
 use Rattle.cl_interpreter.specs.declared.world.Played.TheVariants.{Reached, Impossible}
+use Rattle.cl_model.specs.Sizes.{Launch}
+use Rattle.cl_interpreter.specs.declared.error.Error.{Error}
 use Rattle.cl_interpreter.specs.Worlds.{move_of, world_of, IsMade, IsPlayed}
+use Rattle.cl_interpreter.specs.Reasons.{IsReasonOfMove, IsReasonOfMoves}
 
 pub run_more : {S P : Type 0} (machine : Machine S P) (world : World S) (moves : List Move) (k : ℕ) (m : Move) → slice_get moves k ≡ Some m → IsRun machine world (take k moves) → IsPossible machine (world_after machine world (take k moves)) m → IsRun machine world (take (suc k) moves)
 run_more machine world [] k m h r p = cc
@@ -48,6 +51,11 @@ pub plays_all : (machine : Machine Item (Option Point)) (start : World Item) (mo
 plays_all machine start moves k w h p =
     let e : take k moves ≡ moves = take_all k moves h in
     (subst (λ (ms : List Move). IsRun machine start ms) e p.0, p.1 ∙ ap (world_after machine start) e)
+
+-- a move that has no answer, where those before it lead
+pub plays_reason : (machine : Machine Item (Option Point)) (launch : Launch) (start : World Item) (moves : List Move) (k : ℕ) (m : Move) (w : World Item) (e : Error)
+    → slice_get moves k ≡ Some m → Plays machine start moves k w → IsReasonOfMove launch w m e → IsReasonOfMoves machine launch start moves e
+plays_reason machine launch start moves k m w e g h r = inr (k, m, g, h.0, subst (λ (x : World Item). IsReasonOfMove launch x m e) h.1 r)
 
 pub move_there : (moves : List rust_move.Move) (k : ℕ) (d : rust_move.Move) → k < length moves → slice_get (map move_of moves) k ≡ Some (move_of (get_or moves k d))
 move_there [] k d h = absurd (omega arith)

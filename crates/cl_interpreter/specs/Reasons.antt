@@ -1,10 +1,12 @@
--- Why a step has no answer.
-use Rattle.std.specs.Prelude.{◌≡◌, ◌^◌, ◌≤◌, ℕ, suc, ℤ, pos, ◌≤ℤ◌, List, [], ◌∷◌}
+-- Why a step, a move and a list of moves have no answer.
+use Rattle.std.specs.Prelude.{◌≡◌, ◌^◌, ◌≤◌, ◌⊎◌, ℕ, suc, ℤ, pos, ◌≤ℤ◌, List, [], ◌∷◌, Option, Some, take, slice_get}
+use Rattle.work_items.specs.Items as items
+use Rattle.work_items.specs.Runs.{IsRun, world_after}
 use Rattle.wg_num.specs.Wrap.{IsValue}
 use Rattle.wg_num.specs.Operators.{IsOperand}
 use Rattle.cl_model.specs.Tree.{Action, Unary, Binary, Builtin, Change, Ask, Apply, none}
 use Rattle.cl_model.specs.Sizes.{Launch, answer_of}
-use Rattle.cl_model.specs.Task.{Task, Evaluate, Finish, Alter, InLoop, Item}
+use Rattle.cl_model.specs.Task.{Task, Point, Evaluate, Finish, Alter, InLoop, Item}
 use Rattle.cl_model.specs.Steps.{last, taken, nth}
 use Rattle.cl_interpreter.specs.declared.error.Error.{Error}
 use Rattle.cl_interpreter.specs.declared.error.Error.TheVariants.{Memory, Number, Operand}
@@ -54,3 +56,14 @@ IsReasonFirst launch i (task ∷ rest) e = IsReasonAt launch i task e
 -- why what the item does next has none
 abbrev pub IsReasonOf : Launch → Item → Error → Type 0
 IsReasonOf launch i e = IsReasonFirst launch i i.tasks e
+
+-- why a move has none: memory ran out, or it is a step of an item that is there, which has none
+abbrev pub IsReasonOfMove : Launch → items.World Item → items.Move → Error → Type 0
+IsReasonOfMove launch w (items.Step item) e = (e ≡ Memory) ⊎ ((i : Item) × (slice_get w.items item ≡ Some i) × IsReasonOf launch i e)
+IsReasonOfMove launch w (items.Release group) e = e ≡ Memory
+
+-- why moves from a world on have none: memory ran out, or one of them has none where the moves before it lead
+abbrev pub IsReasonOfMoves : items.Machine Item (Option Point) → Launch → items.World Item → List items.Move → Error → Type 0
+IsReasonOfMoves machine launch start moves e =
+    (e ≡ Memory)
+    ⊎ ((n : ℕ) × (m : items.Move) × (slice_get moves n ≡ Some m) × IsRun machine start (take n moves) × IsReasonOfMove launch (world_after machine start (take n moves)) m e)

@@ -1,5 +1,5 @@
 -- The tasks, frames and items of the definitions for which those of the crate stand.
-use Rattle.std.specs.Prelude.{ℕ, ℤ, pos, List, [], ◌∷◌, Option, Some, None, map, unwrap_or, slice_get}
+use Rattle.std.specs.Prelude.{ℕ, List, map, unwrap_or, slice_get}
 use Rattle.cl_interpreter.specs.declared.task.Leg.{Leg}
 use Rattle.cl_interpreter.specs.declared.task.Leg.TheVariants as leg
 use Rattle.cl_interpreter.specs.declared.task.Task.{Task}

@@ -1,5 +1,5 @@
 -- The plain tree of the definitions for which the crate's own tree stands.
-use Rattle.std.specs.Prelude.{List, [], ◌∷◌, Option, Some, None, map}
+use Rattle.std.specs.Prelude.{Option, Some, None, map}
 use Rattle.cl_interpreter.specs.declared.tree.Action.{Action}
 use Rattle.cl_interpreter.specs.declared.tree.Action.TheVariants as action
 use Rattle.cl_interpreter.specs.declared.tree.Expression.{Expression}

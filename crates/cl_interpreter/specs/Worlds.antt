@@ -28,11 +28,6 @@ abbrev pub move_of : Move → items.Move
 move_of (move.Step item) = items.Step item
 move_of (move.Release group) = items.Release group
 
--- the move is a step of one of so many items
-abbrev pub IsStepOf : ℕ → Move → Type 0
-IsStepOf count (move.Step item) = item < count
-IsStepOf count (move.Release group) = ⊥
-
 -- the bytes of each object
 abbrev pub bytes_in : List (Vec ℕ Global) → memory.Memory
 bytes_in objects = map (λ (v : Vec ℕ Global). v.items) objects

@@ -9,7 +9,8 @@ ghost use Rattle.cl_model.specs.View as typed;
 ghost use Rattle.cl_interpreter.specs.Trees.{program_of};
 ghost use Rattle.cl_interpreter.specs.Tasks.{item_of, path_of};
 ghost use Rattle.cl_interpreter.specs.Nexts.{next_of};
-ghost use Rattle.cl_interpreter.specs.Worlds.{move_of, world_of, barrier_of as barrier_at, StandTogether, gone, gone_from, IsMade, IsPlayed, IsStepOf};
+ghost use Rattle.cl_interpreter.specs.Worlds.{move_of, world_of, barrier_of as barrier_at, StandTogether, gone, gone_from, IsMade, IsPlayed};
+ghost use Rattle.cl_interpreter.specs.Reasons.{IsReasonOfMove, IsReasonOfMoves};
 
 use crate::access::{Stepped, outcome};
 use crate::error::{Error, memory_only};
@@ -114,7 +115,7 @@ fn step_item(
     requires { world.old.fault ≡ None }
     ensures made { IfOk result (λ made. IsMade (meaning.machine_of (program_of program.now) (typed.launch_of launch.now)) (world_of world.old) (acts.Step item) made (world_of world.new)) }
     ensures kept { IfErr result (λ e. world_of world.new ≡ world_of world.old) }
-    ensures other { IfErr result (λ e. (e ≡ Error.Memory) ⊎ (item < vec_len world.old.items)) }
+    ensures reason { IfErr result (IsReasonOfMove (typed.launch_of launch.now) (world_of world.old) (acts.Step item)) }
 {
     if item >= world.items.len() {
         return Ok(false);
@@ -301,8 +302,8 @@ fn release(launch: &Launch, world: &mut World, group: u64) -> Result<bool, Memor
 /// Makes a move of a launch; false where it cannot be made, and then the world stays as it is. None can follow a
 /// fault. A step is that of the work-item's first task. A release takes a barrier off each work-item of a group whose
 /// work-items all wait at one point (OpenCL 1.2, section 6.12.8). An error leaves the world as it is. Want of memory
-/// is also the answer where a number of objects or of work-items is 2 to the 64 or more; only a step of a work-item
-/// that is there can give another error, where it needs a number or an operand that there is not (see `Error`).
+/// is also the answer where a number of objects or of work-items is 2 to the 64 or more; another error comes only where
+/// `step` gives it for a work-item that is there, whose step the move is.
 pub fn make_move(
     alloc: Global,
     program: &Program,
@@ -312,7 +313,7 @@ pub fn make_move(
 ) -> Result<bool, Error>
     ensures made { IfOk result (λ made. IsMade (meaning.machine_of (program_of program.now) (typed.launch_of launch.now)) (world_of world.old) (move_of what) made (world_of world.new)) }
     ensures kept { IfErr result (λ e. world_of world.new ≡ world_of world.old) }
-    ensures other { IfErr result (λ e. (e ≡ Error.Memory) ⊎ IsStepOf (vec_len world.old.items) what) }
+    ensures reason { IfErr result (IsReasonOfMove (typed.launch_of launch.now) (world_of world.old) (move_of what)) }
 {
     if world.fault.is_some() {
         return Ok(false);
@@ -334,7 +335,8 @@ fn play(
     world: World,
     moves: &[Move],
 ) -> Result<Played, Error>
-    ensures { IfOk result (IsPlayed (meaning.machine_of (program_of program.now) (typed.launch_of launch.now)) (world_of world) (map move_of moves.now)) }
+    ensures played { IfOk result (IsPlayed (meaning.machine_of (program_of program.now) (typed.launch_of launch.now)) (world_of world) (map move_of moves.now)) }
+    ensures reason { IfErr result (IsReasonOfMoves (meaning.machine_of (program_of program.now) (typed.launch_of launch.now)) (typed.launch_of launch.now) (world_of world) (map move_of moves.now)) }
 {
     let mut world = world;
     for (number, what) in moves.iter().enumerate() {
@@ -347,7 +349,7 @@ fn play(
 }
 
 /// The world after these moves of a launch on these buffers, or the number of the first of them that cannot be made.
-/// The errors are those of `start_world` and `make_move`.
+/// The errors are want of memory, and those of `make_move` at one of the moves, where those before it lead.
 pub fn run_moves(
     alloc: Global,
     program: &cl_model::Program,
@@ -355,7 +357,8 @@ pub fn run_moves(
     buffers: &Buffers,
     moves: &[Move],
 ) -> Result<Played, Error>
-    ensures { IfOk result (IsPlayed (meaning.machine_of (typed.program_of program.now) (typed.launch_of launch.now)) (meaning.start_world (typed.program_of program.now) (typed.launch_of launch.now) (typed.buffers_of buffers.now)) (map move_of moves.now)) }
+    ensures played { IfOk result (IsPlayed (meaning.machine_of (typed.program_of program.now) (typed.launch_of launch.now)) (meaning.start_world (typed.program_of program.now) (typed.launch_of launch.now) (typed.buffers_of buffers.now)) (map move_of moves.now)) }
+    ensures reason { IfErr result (IsReasonOfMoves (meaning.machine_of (typed.program_of program.now) (typed.launch_of launch.now)) (typed.launch_of launch.now) (meaning.start_world (typed.program_of program.now) (typed.launch_of launch.now) (typed.buffers_of buffers.now)) (map move_of moves.now)) }
 {
     let start = memory_only(start_world(alloc, program, launch, buffers))?;
     let Start { program, world } = start;

@@ -10,7 +10,7 @@ use Rattle.cl_model.specs.View.{launch_of}
 use Rattle.cl_model.specs.Steps.{access_at, action_next}
 use Rattle.cl_interpreter.specs.declared.tree.Action.{Action}
 use Rattle.cl_interpreter.specs.Trees.{action_of, program_of}
-use Rattle.cl_interpreter.specs.Tasks.{item_of, tasks_of}
+use Rattle.cl_interpreter.specs.Tasks.{item_of}
 use Rattle.cl_interpreter.specs.Nexts.{pushed}
 use Rattle.cl_interpreter.proofs.Loading.{loads_done}
 use Rattle.cl_interpreter.proofs.action.action_next.Goals as goal
