@@ -1,12 +1,13 @@
 //! `break`, `continue` and `return`: the tasks that they leave.
 
-ghost use Rattle.std.specs.Prelude.{◌≡◌, OnOk, List, ℤ, drop};
+ghost use Rattle.std.specs.Prelude.{◌≡◌, OnOk, List, ℤ};
 ghost use Rattle.cl_model.specs.Steps as model;
 ghost use Rattle.cl_model.specs.Task as way;
 ghost use Rattle.cl_interpreter.specs.Tasks.{tasks_of, item_of};
 ghost use Rattle.cl_interpreter.specs.Marks.{mark_of, first_mark_of, IsMarked, IsStop, left_item};
 
 use crate::order::{Repeated, put_rest};
+use crate::queue::drop_first;
 use crate::task::{Item, Task};
 use std::alloc::Global;
 use std::collections::VecDeque;
@@ -50,17 +51,9 @@ fn before_mark(tasks: &mut VecDeque<Task>)
     while let Some(mark) = first_mark(tasks) {
         match mark {
             Mark::Loop | Mark::Switch | Mark::Call => return,
-            Mark::Nothing => {
-                tasks.pop_front();
-            }
+            Mark::Nothing => drop_first(tasks),
         }
     }
-}
-
-fn drop_first(tasks: &mut VecDeque<Task>)
-    ensures { tasks.new.items ≡ drop 1 tasks.old.items }
-{
-    tasks.pop_front();
 }
 
 /// The tasks behind the nearest loop or switch; it never leaves its function.
@@ -83,9 +76,7 @@ fn before_loop(tasks: &mut VecDeque<Task>)
     while let Some(mark) = first_mark(tasks) {
         match mark {
             Mark::Loop | Mark::Call => return,
-            Mark::Switch | Mark::Nothing => {
-                tasks.pop_front();
-            }
+            Mark::Switch | Mark::Nothing => drop_first(tasks),
         }
     }
 }
@@ -138,7 +129,7 @@ fn behind_call(tasks: &mut VecDeque<Task>) -> bool
     ensures { (i : way.Item) (values : List ℤ) → model.behind_return i (tasks_of tasks.old.items) values ≡ left_item result i (tasks_of tasks.new.items) values }
 {
     while let Some(mark) = first_mark(tasks) {
-        tasks.pop_front();
+        drop_first(tasks);
         if let Mark::Call = mark {
             return true;
         }

@@ -14,6 +14,7 @@ pub mod making;
 pub mod next;
 pub mod objects;
 mod order;
+mod queue;
 mod running;
 pub mod selecting;
 mod sizes;

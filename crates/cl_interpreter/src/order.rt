@@ -7,6 +7,7 @@ ghost use Rattle.cl_interpreter.specs.Trees.{expression_of, expressions_of, opti
 ghost use Rattle.cl_interpreter.specs.Tasks.{leg_of, path_of, task_of, tasks_of};
 
 use crate::copying;
+use crate::queue::put_first;
 use crate::task::{Leg, Task};
 use crate::tree::{Arms, Expression, Expressions, Statement, Statements};
 use std::alloc::Global;
@@ -48,10 +49,7 @@ pub(crate) fn beyond(alloc: Global, at: &[Leg], leg: Leg, next: Leg) -> Result<V
 pub(crate) fn put(tasks: &mut VecDeque<Task>, task: Task) -> Result<(), Memory>
     ensures { OnOk result (tasks_of tasks.new.items ≡ task_of task ∷ tasks_of tasks.old.items) }
 {
-    match tasks.push_front(task) {
-        Ok(()) => Ok(()),
-        Err(_) => Err(Memory),
-    }
+    put_first(tasks, task)
 }
 
 /// Puts an expression in front, which is one leg behind the way.
