@@ -4,7 +4,8 @@ ghost use Rattle.std.specs.Prelude.{◌≡◌, IfOk};
 ghost use Rattle.cl_interpreter.specs.Trees.{expression_of, expressions_of, optional_of, statement_of, statements_of, arms_of};
 ghost use Rattle.cl_interpreter.specs.Tasks.{path_of, task_of, tasks_of, frame_of, frames_of, item_of};
 
-use crate::making::{also, arm, boxed, boxed_statement, labels_of, more};
+use crate::making::{also, arm, labels_of, more};
+use crate::queue::{beside, boxed_value, with_last};
 use crate::task::{Frame, Item, Leg, Task};
 use crate::tree::{Arms, Expression, Expressions, Statement, Statements};
 use cl_model::Root;
@@ -47,9 +48,9 @@ pub fn expression(alloc: Global, e: &Expression) -> Result<Expression, Memory>
             value,
         } => {
             let index = expression(alloc, index)?;
-            let value = expression(alloc, value)?;
-            let index = boxed(alloc, index)?;
-            let value = boxed(alloc, value)?;
+            let (value, index) = beside(expression(alloc, value), index)?;
+            let (index, value) = beside(boxed_value(alloc, index), value)?;
+            let (value, index) = beside(boxed_value(alloc, value), index)?;
             Ok(Expression::Update {
                 site: *site,
                 element: *element,
@@ -69,11 +70,11 @@ pub fn expression(alloc: Global, e: &Expression) -> Result<Expression, Memory>
             other,
         } => {
             let test = expression(alloc, test)?;
-            let chosen = expression(alloc, chosen)?;
-            let other = expression(alloc, other)?;
-            let test = boxed(alloc, test)?;
-            let chosen = boxed(alloc, chosen)?;
-            let other = boxed(alloc, other)?;
+            let test = boxed_value(alloc, test)?;
+            let (chosen, test) = beside(expression(alloc, chosen), test)?;
+            let (chosen, test) = beside(boxed_value(alloc, chosen), test)?;
+            let (other, (test, chosen)) = beside(expression(alloc, other), (test, chosen))?;
+            let (other, (test, chosen)) = beside(boxed_value(alloc, other), (test, chosen))?;
             Ok(Expression::Choose {
                 site: *site,
                 test,
@@ -108,7 +109,7 @@ pub fn expressions(alloc: Global, list: &Expressions) -> Result<Expressions, Mem
         Expressions::End => Ok(Expressions::End),
         Expressions::More { first, rest } => {
             let first = expression(alloc, first)?;
-            let rest = expressions(alloc, rest)?;
+            let (rest, first) = beside(expressions(alloc, rest), first)?;
             more(alloc, first, rest)
         }
     }
@@ -164,8 +165,8 @@ pub fn statement(alloc: Global, s: &Statement) -> Result<Statement, Memory>
             other,
         } => {
             let test = expression(alloc, test)?;
-            let chosen = statements(alloc, chosen)?;
-            let other = statements(alloc, other)?;
+            let (chosen, test) = beside(statements(alloc, chosen), test)?;
+            let (other, (test, chosen)) = beside(statements(alloc, other), (test, chosen))?;
             Ok(Statement::If {
                 site: *site,
                 test,
@@ -181,9 +182,9 @@ pub fn statement(alloc: Global, s: &Statement) -> Result<Statement, Memory>
             body,
         } => {
             let test = optional(alloc, test)?;
-            let step = optional(alloc, step)?;
-            let body = statement(alloc, body)?;
-            let body = boxed_statement(alloc, body)?;
+            let (step, test) = beside(optional(alloc, step), test)?;
+            let (body, (test, step)) = beside(statement(alloc, body), (test, step))?;
+            let (body, (test, step)) = beside(boxed_value(alloc, body), (test, step))?;
             Ok(Statement::Loop {
                 site: *site,
                 test_first: *test_first,
@@ -198,7 +199,7 @@ pub fn statement(alloc: Global, s: &Statement) -> Result<Statement, Memory>
             arms: list,
         } => {
             let value = expression(alloc, value)?;
-            let arms = arms(alloc, list)?;
+            let (arms, value) = beside(arms(alloc, list), value)?;
             Ok(Statement::Switch {
                 site: *site,
                 value,
@@ -224,7 +225,7 @@ pub fn statements(alloc: Global, list: &Statements) -> Result<Statements, Memory
         Statements::End => Ok(Statements::End),
         Statements::More { first, rest } => {
             let first = statement(alloc, first)?;
-            let rest = statements(alloc, rest)?;
+            let (rest, first) = beside(statements(alloc, rest), first)?;
             also(alloc, first, rest)
         }
     }
@@ -245,7 +246,7 @@ pub fn arms(alloc: Global, list: &Arms) -> Result<Arms, Memory>
         } => {
             let labels = labels_of(alloc, labels)?;
             let body = statements(alloc, body)?;
-            let rest = arms(alloc, rest)?;
+            let (rest, body) = beside(arms(alloc, rest), body)?;
             arm(alloc, labels, *other, body, rest)
         }
     }
@@ -323,7 +324,7 @@ fn task(alloc: Global, t: &Task) -> Result<Task, Memory>
         Task::Decide { at, chosen, other } => {
             let at = way(alloc, at)?;
             let chosen = expression(alloc, chosen)?;
-            let other = expression(alloc, other)?;
+            let (other, chosen) = beside(expression(alloc, other), chosen)?;
             Ok(Task::Decide { at, chosen, other })
         }
         Task::Enter {
@@ -388,7 +389,7 @@ fn task(alloc: Global, t: &Task) -> Result<Task, Memory>
         Task::Branch { at, chosen, other } => {
             let at = way(alloc, at)?;
             let chosen = statements(alloc, chosen)?;
-            let other = statements(alloc, other)?;
+            let (other, chosen) = beside(statements(alloc, other), chosen)?;
             Ok(Task::Branch { at, chosen, other })
         }
         Task::InLoop {
@@ -401,8 +402,8 @@ fn task(alloc: Global, t: &Task) -> Result<Task, Memory>
         } => {
             let at = way(alloc, at)?;
             let test = optional(alloc, test)?;
-            let step = optional(alloc, step)?;
-            let body = statement(alloc, body)?;
+            let (step, test) = beside(optional(alloc, step), test)?;
+            let (body, (test, step)) = beside(statement(alloc, body), (test, step))?;
             Ok(Task::InLoop {
                 at,
                 site: *site,
@@ -441,11 +442,8 @@ fn tasks(alloc: Global, list: &VecDeque<Task>) -> Result<VecDeque<Task>, Memory>
 {
     let mut made = VecDeque::new(alloc);
     for k in 0..list.len() {
-        let copy = task(alloc, &list[k])?;
-        match made.push_back(copy) {
-            Ok(()) => {}
-            Err(_) => return Err(Memory),
-        }
+        let (copy, kept) = beside(task(alloc, &list[k]), made)?;
+        made = with_last(kept, copy)?;
     }
     Ok(made)
 }
@@ -491,11 +489,8 @@ fn frames(alloc: Global, list: &VecDeque<Frame>) -> Result<VecDeque<Frame>, Memo
 {
     let mut made = VecDeque::new(alloc);
     for k in 0..list.len() {
-        let copy = frame(alloc, &list[k])?;
-        match made.push_back(copy) {
-            Ok(()) => {}
-            Err(_) => return Err(Memory),
-        }
+        let (copy, kept) = beside(frame(alloc, &list[k]), made)?;
+        made = with_last(kept, copy)?;
     }
     Ok(made)
 }

@@ -17,6 +17,7 @@ use crate::action::action_next;
 use crate::error::{Error, memory_only};
 use crate::next::Next;
 use crate::order::{count_of, each_operand, put, put_expression, same_way};
+use crate::queue::beside;
 use crate::task::{Item, Leg, Task};
 use crate::tree::{Action, Expression, Expressions, Program};
 use cl_model::{Launch, Root};
@@ -72,7 +73,6 @@ fn update_next(
 ) -> Result<Next, Memory>
     ensures { IfOk result (λ n. next_of n ≡ items.Goes (model.with_tasks (item_of item) (way.Evaluate ((path_of at.items) ++ way.Operand 0 ∷ []) (expression_of index) ∷ way.Peek (path_of at.items) how.site how.element how.root ∷ way.Evaluate ((path_of at.items) ++ way.Operand 1 ∷ []) (expression_of value) ∷ way.Alter (path_of at.items) how.site how.element how.root how.op how.of how.back how.old ∷ (item_of item).tasks))) }
 {
-    let mut item = item;
     let Altered {
         site,
         element,
@@ -82,32 +82,33 @@ fn update_next(
         back,
         old,
     } = how;
-    let way = same_way(alloc, &at)?;
-    put(
-        &mut item.tasks,
-        Task::Alter {
-            at: way,
-            site,
-            element,
-            root,
-            op,
-            of,
-            back,
-            old,
-        },
+    let (way, (mut item, (index, value))) = beside(same_way(alloc, &at), (item, (index, value)))?;
+    let alter = Task::Alter {
+        at: way,
+        site,
+        element,
+        root,
+        op,
+        of,
+        back,
+        old,
+    };
+    let (_, (mut item, (index, value))) = beside(
+        put(&mut item.tasks, alter),
+        (item, (index, value)),
     )?;
-    put_expression(alloc, &mut item.tasks, &at, Leg::Operand(1), value)?;
-    let way = same_way(alloc, &at)?;
-    put(
-        &mut item.tasks,
-        Task::Peek {
-            at: way,
-            site,
-            element,
-            root,
-        },
-    )?;
-    put_expression(alloc, &mut item.tasks, &at, Leg::Operand(0), index)?;
+    let made = put_expression(alloc, &mut item.tasks, &at, Leg::Operand(1), value);
+    let (_, (item, index)) = beside(made, (item, index))?;
+    let (way, (mut item, index)) = beside(same_way(alloc, &at), (item, index))?;
+    let peek = Task::Peek {
+        at: way,
+        site,
+        element,
+        root,
+    };
+    let (_, (mut item, index)) = beside(put(&mut item.tasks, peek), (item, index))?;
+    let made = put_expression(alloc, &mut item.tasks, &at, Leg::Operand(0), index);
+    let (_, item) = beside(made, item)?;
     Ok(Next::Goes { after: item })
 }
 

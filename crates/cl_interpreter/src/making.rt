@@ -7,6 +7,7 @@ ghost use Rattle.cl_model.specs.View as typed;
 ghost use Rattle.cl_interpreter.specs.Lists.{listed_roots, listed_arguments, listed_arms};
 ghost use Rattle.cl_interpreter.specs.Trees.{action_of, expression_of, expressions_of, optional_of, statement_of, statements_of, arms_of, array_of, table_of, function_of, program_of};
 
+use crate::queue::{beside, boxed_value};
 use crate::tree::{
     Action, Arms, Array, Expression, Expressions, Function, Program, Statement, Statements, Table,
 };
@@ -18,10 +19,7 @@ use wg_num::{Bin, IntType, Memory};
 pub(crate) fn boxed(alloc: Global, e: Expression) -> Result<Box<Expression>, Memory>
     ensures { IfOk result (λ b. b.value ≡ e) }
 {
-    match Box::new(alloc, e) {
-        Ok(b) => Ok(b),
-        Err(_) => Err(Memory),
-    }
+    boxed_value(alloc, e)
 }
 
 /// An expression in front of others.
@@ -32,11 +30,9 @@ pub(crate) fn more(
 ) -> Result<Expressions, Memory>
     ensures { IfOk result (λ es. expressions_of es ≡ model.more (expression_of first) (expressions_of rest)) }
 {
-    let first = boxed(alloc, first)?;
-    match Box::new(alloc, rest) {
-        Ok(rest) => Ok(Expressions::More { first, rest }),
-        Err(_) => Err(Memory),
-    }
+    let (first, rest) = beside(boxed_value(alloc, first), rest)?;
+    let (rest, first) = beside(boxed_value(alloc, rest), first)?;
+    Ok(Expressions::More { first, rest })
 }
 
 /// A step on no value.
@@ -375,21 +371,16 @@ fn optional(alloc: Global, e: &Option<Expr>) -> Result<Option<Expression>, Memor
 pub(crate) fn boxed_statement(alloc: Global, s: Statement) -> Result<Box<Statement>, Memory>
     ensures { IfOk result (λ b. b.value ≡ s) }
 {
-    match Box::new(alloc, s) {
-        Ok(b) => Ok(b),
-        Err(_) => Err(Memory),
-    }
+    boxed_value(alloc, s)
 }
 
 /// A statement in front of others.
 pub(crate) fn also(alloc: Global, first: Statement, rest: Statements) -> Result<Statements, Memory>
     ensures { IfOk result (λ ss. statements_of ss ≡ model.also (statement_of first) (statements_of rest)) }
 {
-    let first = boxed_statement(alloc, first)?;
-    match Box::new(alloc, rest) {
-        Ok(rest) => Ok(Statements::More { first, rest }),
-        Err(_) => Err(Memory),
-    }
+    let (first, rest) = beside(boxed_value(alloc, first), rest)?;
+    let (rest, first) = beside(boxed_value(alloc, rest), first)?;
+    Ok(Statements::More { first, rest })
 }
 
 /// An arm in front of others.
@@ -402,15 +393,13 @@ pub(crate) fn arm(
 ) -> Result<Arms, Memory>
     ensures { IfOk result (λ all. arms_of all ≡ model.arm labels.items other (statements_of body) (arms_of rest)) }
 {
-    match Box::new(alloc, rest) {
-        Ok(rest) => Ok(Arms::More {
-            labels,
-            other,
-            body,
-            rest,
-        }),
-        Err(_) => Err(Memory),
-    }
+    let (rest, body) = beside(boxed_value(alloc, rest), body)?;
+    Ok(Arms::More {
+        labels,
+        other,
+        body,
+        rest,
+    })
 }
 
 /// Labels once more.

@@ -7,7 +7,7 @@ ghost use Rattle.cl_interpreter.specs.Trees.{expression_of, expressions_of, opti
 ghost use Rattle.cl_interpreter.specs.Tasks.{leg_of, path_of, task_of, tasks_of};
 
 use crate::copying;
-use crate::queue::put_first;
+use crate::queue::{beside, put_first};
 use crate::task::{Leg, Task};
 use crate::tree::{Arms, Expression, Expressions, Statement, Statements};
 use std::alloc::Global;
@@ -76,7 +76,7 @@ pub(crate) fn put_statement(
 ) -> Result<(), Memory>
     ensures { OnOk result (tasks_of tasks.new.items ≡ model.Run (path_of at.now ++ leg_of leg ∷ []) (statement_of s) ∷ tasks_of tasks.old.items) }
 {
-    let at = further(alloc, at, leg)?;
+    let (at, s) = beside(further(alloc, at, leg), s)?;
     put(tasks, Task::Run { at, s })
 }
 
@@ -254,10 +254,10 @@ pub(crate) fn put_rest(
     ensures { OnOk result (tasks_of tasks.new.items
         ≡ steps.step_tasks (path_of at.now) k (optional_of of.step) (steps.test_tasks (path_of at.now) k (optional_of of.test) (model.InLoop (path_of at.now) of.site (optional_of of.test) (optional_of of.step) (statement_of of.body) k ∷ tasks_of tasks.old.items))) }
 {
-    let test = copying::optional(alloc, &of.test)?;
-    let step = copying::optional(alloc, &of.step)?;
-    put_loop(alloc, tasks, at, of, k)?;
-    test_tasks(alloc, tasks, at, k, test)?;
+    let (test, of) = beside(copying::optional(alloc, &of.test), of)?;
+    let (step, (of, test)) = beside(copying::optional(alloc, &of.step), (of, test))?;
+    let (_, (test, step)) = beside(put_loop(alloc, tasks, at, of, k), (test, step))?;
+    let (_, step) = beside(test_tasks(alloc, tasks, at, k, test), step)?;
     step_tasks(alloc, tasks, at, k, step)
 }
 
@@ -271,8 +271,8 @@ pub(crate) fn iteration(
 ) -> Result<(), Memory>
     ensures { OnOk result (tasks_of tasks.new.items ≡ steps.iteration (path_of at.now) of.site (optional_of of.test) (optional_of of.step) (statement_of of.body) k (tasks_of tasks.old.items)) }
 {
-    let body = copying::statement(alloc, &of.body)?;
-    put_rest(alloc, tasks, at, of, k)?;
-    let at = beyond(alloc, at, Leg::Turn(k), Leg::Body)?;
+    let (body, of) = beside(copying::statement(alloc, &of.body), of)?;
+    let (_, body) = beside(put_rest(alloc, tasks, at, of, k), body)?;
+    let (at, body) = beside(beyond(alloc, at, Leg::Turn(k), Leg::Body), body)?;
     put(tasks, Task::Run { at, s: body })
 }

@@ -20,6 +20,7 @@ use crate::order::{
     Repeated, count_of, each_operand, further, in_order, iteration, put, put_loop, same_way,
     test_tasks,
 };
+use crate::queue::beside;
 use crate::task::{Item, Leg, Task};
 use crate::tree::{Expression, Expressions, Statement, Statements};
 use crate::values::{push, set_first};
@@ -95,12 +96,15 @@ fn loop_next(
 {
     let mut item = item;
     if test_first {
-        let test = copying::optional(alloc, &of.test)?;
-        put_loop(alloc, &mut item.tasks, &at, of, 0)?;
-        test_tasks(alloc, &mut item.tasks, &at, 0, test)?;
+        let (test, (of, mut item)) = beside(copying::optional(alloc, &of.test), (of, item))?;
+        let (_, (mut item, test)) = beside(
+            put_loop(alloc, &mut item.tasks, &at, of, 0),
+            (item, test),
+        )?;
+        let (_, item) = beside(test_tasks(alloc, &mut item.tasks, &at, 0, test), item)?;
         Ok(Next::Goes { after: item })
     } else {
-        iteration(alloc, &mut item.tasks, &at, of, 1)?;
+        let (_, item) = beside(iteration(alloc, &mut item.tasks, &at, of, 1), item)?;
         Ok(Next::Begins { after: item })
     }
 }

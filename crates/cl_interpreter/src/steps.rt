@@ -16,11 +16,12 @@ ghost use Rattle.cl_interpreter.specs.Reasons.{IsReasonAt, IsReasonOf};
 use crate::action::{Spot, action_next, changed, load, store};
 use crate::copying;
 use crate::entering::{Callee, call_ends, clear_next, enter_next, initialise_next};
-use crate::error::{Error, fitting, memory_only};
+use crate::error::{Error, memory_only};
 use crate::evaluating::{Altered, evaluate_next};
 use crate::leaving::behind_return;
 use crate::next::Next;
 use crate::order::{Repeated, further, in_order, iteration, put_expression};
+use crate::queue::discard;
 use crate::running::run_next;
 use crate::selecting::select_next;
 use crate::task::{Item, Leg, Task};
@@ -109,11 +110,20 @@ fn turn_next(
 {
     let mut item = item;
     if of.test.is_some() && pop(&mut item.values) == 0 {
+        discard(of);
         return Ok(Next::Goes { after: item });
     }
-    let k = fitting(begun.checked_add(1))?;
-    memory_only(iteration(alloc, &mut item.tasks, &at, of, k))?;
-    Ok(Next::Begins { after: item })
+    let Some(k) = begun.checked_add(1) else {
+        discard((item, of));
+        return Err(Error::Number);
+    };
+    match iteration(alloc, &mut item.tasks, &at, of, k) {
+        Ok(()) => Ok(Next::Begins { after: item }),
+        Err(_) => {
+            discard(item);
+            Err(Error::Memory)
+        }
+    }
 }
 
 /// The step of a value that nothing uses.

@@ -1,5 +1,5 @@
 -- Lists of pieces, expressions and statements.
-use Rattle.std.proofs.Common.{◌≡◌, ℕ, List, [], ◌∷◌, ◌++◌, length, map, Option, refl, sym, ap, ◌∙◌, Some, None}
+use Rattle.std.proofs.Common.{◌≡◌, List, [], ◌∷◌, ◌++◌, length, map, Option, refl, ap, Some, None}
 use Rattle.cl_model.specs.declared.program.Root.{Root}
 use Rattle.cl_model.specs.declared.program.Arg.{Arg}
 use Rattle.cl_model.specs.declared.program.Expr.{Expr}
@@ -10,7 +10,7 @@ use Rattle.cl_model.specs.Tree as tree
 use Rattle.cl_model.specs.Tree.{Statements, empty, also, Arms}
 use Rattle.cl_model.specs.View.{expression_of, root_of, argument_of, statement_of, listed_expressions, listed_statements}
 use Rattle.program_build.specs.Lists.{listed_roots, listed_arguments, listed_arms}
-use Rattle.cl_meaning.specs.Typed.{Piece, Function}
+use Rattle.cl_meaning.specs.Typed.{Function}
 use Rattle.cl_meaning.specs.declared.kind.Parameter.{Parameter}
 use Rattle.cl_meaning.specs.Expressions.{expressions, roots_passed, all_passed}
 use Rattle.cl_meaning.specs.Statements.{followed, last_piece}

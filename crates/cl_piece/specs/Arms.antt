@@ -1,5 +1,5 @@
 -- The arms of a switch, as they are put together from its statements.
-use Rattle.std.specs.Prelude.{ℤ, Bool, false, List, [], ◌∷◌}
+use Rattle.std.specs.Prelude.{ℤ, Bool, false, List, []}
 use Rattle.cl_model.specs.declared.program.SwitchArm as rust
 use Rattle.cl_model.specs.Tree.{Statements, Arms, no_arm, arm}
 use Rattle.cl_model.specs.View.{listed_statements}

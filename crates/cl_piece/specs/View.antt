@@ -1,5 +1,5 @@
 -- What a contract sees of a piece, and of a typed program with its names.
-use Rattle.std.specs.Prelude.{ℕ, List, map, Option, None, Some, option_map}
+use Rattle.std.specs.Prelude.{List, map, option_map}
 use Rattle.wg_num.specs.declared.types.Place.{Place}
 use Rattle.cl_model.specs.declared.program.Program as rust_program
 use Rattle.cl_model.specs.declared.program.Function as rust_function

@@ -1,6 +1,6 @@
 //! Steps that may fail, with what is kept beside them; where one fails, what is kept is dropped here.
 
-ghost use Rattle.std.specs.Prelude.{◌≡◌, ◌∷◌, ◌++◌, [], length, IfOk, OnOk};
+ghost use Rattle.std.specs.Prelude.{◌≡◌, ◌∷◌, ◌++◌, [], length, Ok, IfOk, OnOk};
 ghost use Rattle.cl_model.specs.View.{expression_of};
 ghost use Rattle.cl_meaning.specs.Expressions as meaning;
 ghost use Rattle.cl_piece.specs.View.{piece_of};
@@ -11,6 +11,17 @@ use crate::values::{logical, operand};
 use cl_model::Expr;
 use std::alloc::Global;
 use wg_num::{IntType, Memory, Place};
+
+/// A value with what is kept beside it; where there is none, that is dropped.
+pub(crate) fn beside<T: Drop, K: Drop>(made: Result<T, Memory>, kept: K) -> Result<(T, K), Memory>
+    ensures made { IfOk result (λ r. made ≡ Ok r.0) }
+    ensures kept { IfOk result (λ r. r.1 ≡ kept) }
+{
+    match made {
+        Ok(value) => Ok((value, kept)),
+        Err(_) => Err(Memory),
+    }
+}
 
 /// The value of a piece, converted, and what is kept.
 pub(crate) fn operand_beside<K: Drop>(

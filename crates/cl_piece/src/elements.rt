@@ -115,7 +115,8 @@ fn index(
 fn content(alloc: Global, place: Place, sites: &mut Vec<Place>, a: Piece) -> Result<What, Memory>
     ensures { IfOk result (λ w. meaning.content_made place sites.old.items (piece_of a) a.kind ≡ built_of w sites.new.items) }
 {
-    match a.kind {
+    let Piece { kind, what } = a;
+    match kind {
         Some(
             Kind::Pointer {
                 element: of,
@@ -124,12 +125,15 @@ fn content(alloc: Global, place: Place, sites: &mut Vec<Place>, a: Piece) -> Res
                 ..
             },
         ) => {
-            let (site, what) = site_beside(sites, place, a.what)?;
+            let (site, what) = site_beside(sites, place, what)?;
             let target = element(alloc, site, of, root, read(what))?;
             Ok(What::Target(target))
         }
-        Some(Kind::Pointer { .. }) => Ok(What::Offset(way(a.what))),
-        _ => Ok(What::Nothing),
+        Some(Kind::Pointer { .. }) => Ok(What::Offset(way(what))),
+        _ => {
+            drop(what);
+            Ok(What::Nothing)
+        }
     }
 }
 

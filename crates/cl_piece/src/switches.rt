@@ -12,6 +12,7 @@ ghost use Rattle.wg_num.specs.declared.types.Place as places;
 ghost use Rattle.cl_piece.specs.Arms.{arms_with, begun_of, begun_by};
 ghost use Rattle.cl_piece.specs.View.{piece_of, what_of, built_of};
 
+use crate::beside::beside;
 use crate::growth::{append, push};
 use crate::lines::{body, put};
 use crate::parts::{next, only, pair};
@@ -56,26 +57,24 @@ fn put_in_arm(
 ) -> Result<SwitchArm, Memory>
     ensures { IfOk result (λ a. (later : List typed.Piece) → arms_with arms.new.items a later ≡ arms_with arms.old.items last (piece_of piece ∷ later)) }
 {
-    match piece.what {
+    let Piece { what, .. } = piece;
+    match what {
         What::Labelled {
             labels,
             other,
             behind,
         } => {
-            push(arms, last)?;
-            let arm = new_arm(
-                alloc,
-                What::Labelled {
-                    labels,
-                    other,
-                    behind,
-                },
-            )?;
-            Ok(arm)
+            let (_, (labels, behind)) = beside(push(arms, last), (labels, behind))?;
+            let first = What::Labelled {
+                labels,
+                other,
+                behind,
+            };
+            new_arm(alloc, first)
         }
         plain => {
             let line = body(alloc, plain);
-            put(&mut last.body, line)?;
+            let (_, last) = beside(put(&mut last.body, line), last)?;
             Ok(last)
         }
     }
@@ -141,7 +140,7 @@ fn labelled(alloc: Global, mut labels: Vec<i128>, other: bool, what: What) -> Re
             other: another,
             behind,
         } => {
-            append(&mut labels, later)?;
+            let (_, behind) = beside(append(&mut labels, later), behind)?;
             Ok(What::Labelled {
                 labels,
                 other: other || another,
