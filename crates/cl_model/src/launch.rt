@@ -57,21 +57,3 @@ impl Buffers {
         Ok(Buffers { list })
     }
 }
-
-#[cfg(test)]
-mod tests {
-    use super::*;
-    use std::test::Fail;
-
-    #[test]
-    fn a_copy_has_the_same_bytes(rt: HostRuntime) -> Result<(), Fail> {
-        let mut list = Vec::new(rt.alloc());
-        list.push(vec![in rt.alloc(); 1u8, 2, 3]?)?;
-        list.push(Vec::new(rt.alloc()))?;
-        let buffers = Buffers { list };
-        let copy = buffers.copy(rt.alloc())?;
-        assert_eq!(rt; copy.list.len(), 2);
-        assert_eq!(rt; copy.list[0].as_slice(), [1u8, 2, 3].as_slice());
-        Ok(())
-    }
-}

@@ -16,8 +16,6 @@ mod memory_sink;
 mod memory_store;
 mod pool;
 mod std_sink;
-#[cfg(test)]
-mod tests;
 mod whole;
 
 pub use folder_store::FolderStore;

@@ -26,8 +26,3 @@ fn main(rt: HostRuntime) -> ExitCode {
     let status = wgcc(rt.alloc(), &words, &mut store, &mut out, &mut err);
     ExitCode::from(status)
 }
-
-#[cfg(test)]
-mod launch_tests;
-#[cfg(test)]
-mod tests;
