@@ -49,12 +49,23 @@ fn made(
     }
 }
 
+/// Whether that is a `break` with this site.
+fn is_exit(what: &What, number: u32) -> bool {
+    match what {
+        What::Statement(statement) => {
+            let statement: &Stmt = statement;
+            matches!(statement, Stmt::Break { site } if *site == number)
+        }
+        _ => false,
+    }
+}
+
 #[test]
 fn an_exit_takes_a_site(rt: HostRuntime) -> Result<(), Fail> {
     let tree = leaf(rt.alloc(), Form::BreakNode, "break ;")?;
     let mut sites = Vec::new(rt.alloc());
     let what = made(rt.alloc(), &tree, None, Vec::new(rt.alloc()), &mut sites)?;
-    assert!(rt; matches!(what, What::Statement(Stmt::Break { site: 0 })));
+    assert!(rt; is_exit(&what, 0));
     assert_eq!(rt; sites.first(), Some(&PLACES[1]));
     Ok(())
 }
@@ -66,7 +77,7 @@ fn block(alloc: Global) -> Result<Vec<Piece>, Fail> {
     let mut pieces = Vec::new(alloc);
     pieces.push(Piece {
         kind: None,
-        what: What::Statement(statement::block(lines)),
+        what: What::Statement(Box::new(alloc, statement::block(lines))?),
     })?;
     Ok(pieces)
 }

@@ -29,15 +29,15 @@ function_of g = record {
 
 abbrev pub what_of : rust_what.What → What
 what_of rust.Nothing = nothing
-what_of (rust.Value e) = value (expression_of e)
+what_of (rust.Value e) = value (expression_of e.value)
 what_of (rust.Target t) = target (target_of t)
-what_of (rust.Offset o) = offset (option_map expression_of o)
+what_of (rust.Offset o) = offset (option_map (λ b. expression_of b.value) o)
 what_of (rust.Values es) = values (map expression_of es.items)
 what_of (rust.Barrier site) = barrier site
 what_of rust.Fence = fence
 what_of (rust.Lines l) = lines (listed_statements l.items)
-what_of (rust.Statement s) = statement (statement_of s)
-what_of (rust.Labelled ls other s) = labelled ls.items other (statement_of s)
+what_of (rust.Statement s) = statement (statement_of s.value)
+what_of (rust.Labelled ls other s) = labelled ls.items other (statement_of s.value)
 what_of (rust.Function g) = function (function_of g)
 what_of (rust.Functions gs) = functions (map function_of gs.items)
 

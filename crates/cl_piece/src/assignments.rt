@@ -8,6 +8,7 @@ ghost use Rattle.wg_num.specs.declared.types.Place as places;
 ghost use Rattle.cl_piece.specs.View.{piece_of, what_of, built_of};
 
 use crate::beside::operand_beside;
+use crate::boxes::as_value;
 use crate::parts::pair;
 use crate::piece::{Piece, What};
 use crate::types::type_in;
@@ -27,9 +28,10 @@ fn assigned(alloc: Global, what: What, value: Expr) -> Result<What, Memory>
     match what {
         What::Target(target) => {
             let assignment = expression::assign(alloc, target, value)?;
-            Ok(What::Value(assignment))
+            as_value(alloc, assignment)
         }
         other => {
+            drop(value);
             drop(other);
             Ok(What::Nothing)
         }
@@ -51,9 +53,10 @@ fn updated(
     match what {
         What::Target(target) => {
             let update = expression::update(alloc, target, op, of, back, old, value)?;
-            Ok(What::Value(update))
+            as_value(alloc, update)
         }
         other => {
+            drop(value);
             drop(other);
             Ok(What::Nothing)
         }

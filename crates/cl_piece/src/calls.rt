@@ -10,6 +10,7 @@ ghost use Rattle.cl_meaning.specs.Kinds as kinds;
 ghost use Rattle.cl_meaning.specs.Expressions as meaning;
 ghost use Rattle.cl_piece.specs.View.{piece_of, what_of, built_of};
 
+use crate::boxes::as_value;
 use crate::growth::push;
 use crate::parts::next;
 use crate::piece::{Piece, What};
@@ -74,7 +75,7 @@ pub(crate) fn defined_call(
 {
     let site = take_site(sites, place)?;
     let arguments = all_passed(alloc, parameters, pieces)?;
-    Ok(What::Value(expression::call(site, number, arguments)))
+    as_value(alloc, expression::call(site, number, arguments))
 }
 
 /// A type as that of an argument of a built-in function: `bool` counts as `int`.
@@ -161,7 +162,7 @@ fn builtin_call(alloc: Global, f: Fun, pieces: Vec<Piece>) -> Result<What, Memor
     let types = types_in(alloc, &pieces)?;
     let of = builtin_type(&types);
     let values = operands(alloc, of, pieces)?;
-    Ok(What::Value(expression::builtin(f, of, values)))
+    as_value(alloc, expression::builtin(f, of, values))
 }
 
 /// The dimension about which a work-item function is asked: its first argument.
@@ -183,7 +184,7 @@ fn query_call(alloc: Global, what: Query, pieces: Vec<Piece>) -> Result<What, Me
 {
     let dim = dimension(alloc, pieces)?;
     let e = expression::ask(alloc, what, dim)?;
-    Ok(What::Value(e))
+    as_value(alloc, e)
 }
 
 /// What a call of a name that is known without a declaration stands for (OpenCL 1.2, section 6.12).

@@ -42,7 +42,7 @@ pub(crate) fn name_at(
     ensures { IfOk result (λ w. expressions.flagged_made (visible_in environment.now) place sites.old.items of.now ≡ built_of w sites.new.items) }
 {
     if is_flag(environment, of) {
-        return Ok(leaves::flag());
+        return leaves::flag(alloc);
     }
     let what = leaves::name(alloc, place, sites, meaning_of(environment, of))?;
     Ok(what)

@@ -8,6 +8,7 @@ ghost use Rattle.cl_meaning.specs.Statements as meaning;
 ghost use Rattle.cl_piece.specs.Declares.{initial_in, variable_line, kept_line, scalar_what, array_built, value_built, declared_built};
 ghost use Rattle.cl_piece.specs.View.{piece_of, what_of, built_of};
 
+use crate::beside::beside;
 use crate::lines::{last, put};
 use crate::piece::{Piece, What};
 use crate::sites::take_site;
@@ -53,7 +54,7 @@ fn line(alloc: Global, s: Stmt) -> Result<What, Memory>
 fn variable(alloc: Global, count: usize, value: Option<Expr>) -> Result<What, Memory>
     ensures { IfOk result (λ w. what_of w ≡ variable_line count (optional_expression value)) }
 {
-    let var = number(count)?;
+    let (var, value) = beside(number(count), value)?;
     let what = line(alloc, Stmt::Declare { var, value })?;
     Ok(what)
 }
@@ -85,7 +86,10 @@ fn kept_variable(
             let what = variable(alloc, count, value)?;
             Ok(what)
         }
-        _ => Ok(What::Lines(Vec::new(alloc))),
+        _ => {
+            drop(value);
+            Ok(What::Lines(Vec::new(alloc)))
+        }
     }
 }
 
@@ -132,11 +136,11 @@ fn array(
 ) -> Result<What, Memory>
     ensures { IfOk result (λ w. array_built place sites.old.items kept count (option_map piece_of value) ≡ built_of w sites.new.items) }
 {
+    let values = list_values(alloc, value);
     match kept {
         Space::Private => {
             let array = number(count)?;
             let site = take_site(sites, place)?;
-            let values = list_values(alloc, value);
             let what = line(
                 alloc,
                 Stmt::Fill {

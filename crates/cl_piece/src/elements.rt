@@ -13,6 +13,7 @@ ghost use Rattle.cl_piece.specs.View.{piece_of, what_of, built_of};
 
 use crate::assignments::step;
 use crate::beside::{operand_beside, site_beside};
+use crate::boxes::{as_offset, as_value, as_way};
 use crate::parts::{only, pair};
 use crate::piece::{Piece, What};
 use crate::sites::element;
@@ -76,7 +77,7 @@ fn row_at(alloc: Global, count: u64, a: Piece, b: Piece) -> Result<What, Memory>
     let (by, what) = operand_beside(alloc, IntType::Long, b, a.what)?;
     let (by, what) = scaled_beside(alloc, by, count, what)?;
     let offset = moved(alloc, way(what), by)?;
-    Ok(What::Offset(Some(offset)))
+    as_offset(alloc, offset)
 }
 
 /// What an index behind a pointer or array reaches (C99, section 6.5.2.1). Planes of more than 2^64
@@ -99,6 +100,8 @@ fn index(
         },
     ) = a.kind
     else {
+        drop(a);
+        drop(b);
         return Ok(What::Nothing);
     };
     match each {
@@ -106,7 +109,11 @@ fn index(
         Each::Row { length } => row_at(alloc, length, a, b),
         Each::Plane { rows, length } => match rows.checked_mul(length) {
             Some(count) => row_at(alloc, count, a, b),
-            None => Err(Memory),
+            None => {
+                drop(a);
+                drop(b);
+                Err(Memory)
+            }
         },
     }
 }
@@ -129,7 +136,7 @@ fn content(alloc: Global, place: Place, sites: &mut Vec<Place>, a: Piece) -> Res
             let target = element(alloc, site, of, root, read(what))?;
             Ok(What::Target(target))
         }
-        Some(Kind::Pointer { .. }) => Ok(What::Offset(way(what))),
+        Some(Kind::Pointer { .. }) => as_way(alloc, way(what)),
         _ => {
             drop(what);
             Ok(What::Nothing)
@@ -142,9 +149,7 @@ fn address(what: What) -> What
     ensures { what_of result ≡ meaning.address_what (what_of what) }
 {
     match what {
-        What::Target(Target::Element { index, .. }) => {
-            What::Offset(Some(Box::into_inner(index)))
-        }
+        What::Target(Target::Element { index, .. }) => What::Offset(Some(index)),
         other => {
             drop(other);
             What::Nothing
@@ -153,12 +158,17 @@ fn address(what: What) -> What
 }
 
 /// The size of a type in bytes (C99, section 6.5.3.4).
-fn size(of: Option<Declared>) -> What
-    ensures { what_of result ≡ meaning.size_what of }
+fn size(alloc: Global, of: Option<Declared>) -> Result<What, Memory>
+    ensures { IfOk result (λ w. what_of w ≡ meaning.size_what of) }
 {
     match of {
-        None => What::Nothing,
-        Some(declared) => What::Value(literal(i128::from(size_of(declared.of)), IntType::Ulong)),
+        None => Ok(What::Nothing),
+        Some(declared) => {
+            as_value(
+                alloc,
+                literal(i128::from(size_of(declared.of)), IntType::Ulong),
+            )
+        }
     }
 }
 
@@ -169,7 +179,7 @@ fn unary(alloc: Global, op: Un, a: Piece) -> Result<What, Memory>
     let of = promoted(type_in(a.kind));
     let a = logical(alloc, a)?;
     let e = expression::unary(alloc, op, of, a)?;
-    Ok(What::Value(e))
+    as_value(alloc, e)
 }
 
 /// What an operator in front of its operand stands for (C99, section 6.5.3); `of` is the first part where
@@ -186,7 +196,7 @@ pub(crate) fn prefix(
 {
     match operator {
         None => Ok(What::Nothing),
-        Some(Prefix::Size) => Ok(size(of)),
+        Some(Prefix::Size) => size(alloc, of),
         Some(Prefix::Step(op)) => match only(pieces) {
             None => Ok(What::Nothing),
             Some(a) => step(alloc, op, false, a),

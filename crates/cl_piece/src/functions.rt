@@ -43,7 +43,7 @@ fn block_of(alloc: Global, what: What) -> Vec<Stmt>
     ensures { listed_statements result.items ≡ meaning.block_of (what_of what) }
 {
     match what {
-        What::Statement(s) => statements_in(alloc, s),
+        What::Statement(s) => statements_in(alloc, Box::into_inner(s)),
         other => {
             drop(other);
             Vec::new(alloc)

@@ -6,6 +6,7 @@ ghost use Rattle.cl_meaning.specs.Expressions as expressions;
 ghost use Rattle.wg_num.specs.declared.types.Place as places;
 ghost use Rattle.cl_piece.specs.View.{piece_of, what_of, built_of};
 
+use crate::boxes::as_value;
 use crate::parts::only;
 use crate::piece::{Piece, What};
 use crate::sites::{element, take_site};
@@ -45,29 +46,29 @@ pub(crate) fn name(
 }
 
 /// What a flag of a memory fence stands for (OpenCL 1.2, section 6.12.9).
-pub(crate) fn flag() -> What
-    ensures { what_of result ≡ typed.value (expressions.literal (pos 0) IntType.Uint) }
+pub(crate) fn flag(alloc: Global) -> Result<What, Memory>
+    ensures { IfOk result (λ w. what_of w ≡ typed.value (expressions.literal (pos 0) IntType.Uint)) }
 {
-    What::Value(literal(0, IntType::Uint))
+    as_value(alloc, literal(0, IntType::Uint))
 }
 
 /// What a number stands for.
-pub(crate) fn number(literal_of: Option<Literal>) -> What
-    ensures { what_of result ≡ expressions.number_what (option_map (λ l. (l.of, l.value)) literal_of) }
+pub(crate) fn number(alloc: Global, literal_of: Option<Literal>) -> Result<What, Memory>
+    ensures { IfOk result (λ w. what_of w ≡ expressions.number_what (option_map (λ l. (l.of, l.value)) literal_of)) }
 {
     match literal_of {
-        None => What::Nothing,
-        Some(l) => What::Value(literal(i128::from(l.value), l.of)),
+        None => Ok(What::Nothing),
+        Some(l) => as_value(alloc, literal(i128::from(l.value), l.of)),
     }
 }
 
 /// What a truth word stands for (OpenCL 1.2, section 6.1.1).
-pub(crate) fn truth(value: Option<i128>) -> What
-    ensures { what_of result ≡ expressions.truth_what value }
+pub(crate) fn truth(alloc: Global, value: Option<i128>) -> Result<What, Memory>
+    ensures { IfOk result (λ w. what_of w ≡ expressions.truth_what value) }
 {
     match value {
-        None => What::Nothing,
-        Some(value) => What::Value(literal(value, IntType::Int)),
+        None => Ok(What::Nothing),
+        Some(value) => as_value(alloc, literal(value, IntType::Int)),
     }
 }
 

@@ -3,6 +3,7 @@
 
 mod assignments;
 mod beside;
+mod boxes;
 mod calls;
 mod context;
 mod declarators;

@@ -8,6 +8,7 @@ ghost use Rattle.cl_meaning.specs.Statements as meaning;
 ghost use Rattle.wg_num.specs.declared.types.Place as places;
 ghost use Rattle.cl_piece.specs.View.{piece_of, what_of, built_of};
 
+use crate::boxes::as_statement;
 use crate::calls::operands;
 use crate::growth::{append, push};
 use crate::parts::next;
@@ -44,8 +45,8 @@ pub(crate) fn put_line(lines: &mut Vec<Stmt>, what: What) -> Result<(), Memory>
 {
     match what {
         What::Lines(later) => put_all(lines, later),
-        What::Statement(line) => put(lines, line),
-        What::Labelled { behind, .. } => put(lines, behind),
+        What::Statement(line) => put(lines, Box::into_inner(line)),
+        What::Labelled { behind, .. } => put(lines, Box::into_inner(behind)),
         other => {
             drop(other);
             Ok(())
@@ -70,8 +71,8 @@ pub(crate) fn body(alloc: Global, what: What) -> Stmt
     ensures { statement_of result ≡ meaning.body_of (what_of what) }
 {
     match what {
-        What::Statement(s) => s,
-        What::Labelled { behind, .. } => behind,
+        What::Statement(s) => Box::into_inner(s),
+        What::Labelled { behind, .. } => Box::into_inner(behind),
         other => {
             drop(other);
             statement::block(Vec::new(alloc))
@@ -92,7 +93,7 @@ pub(crate) fn block(alloc: Global, pieces: Vec<Piece>) -> Result<What, Memory>
     ensures { IfOk result (λ w. what_of w ≡ typed.statement (tree.Block (meaning.all_lines (map piece_of pieces.items)))) }
 {
     let lines = all_lines(alloc, pieces)?;
-    Ok(What::Statement(statement::block(lines)))
+    as_statement(alloc, statement::block(lines))
 }
 
 /// The values of a list, converted to the type of the elements (C99, section 6.7.8).

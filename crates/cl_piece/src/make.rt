@@ -9,6 +9,7 @@ ghost use Rattle.cl_meaning.specs.Declarations.{form_of};
 ghost use Rattle.cl_piece.specs.Making.{make_at, made_at, form_at, first_place, is_primary, is_joined, is_fixed, is_line, is_test, is_jump};
 ghost use Rattle.cl_piece.specs.View.{piece_of, what_of, built_of};
 
+use crate::boxes::as_statement;
 use crate::context::{call_at, case_at, declarator_at, function_at, name_at};
 use crate::piece::{Piece, What};
 use crate::{assignments, elements, functions, leaves, lines, operators, statements, switches};
@@ -47,8 +48,8 @@ fn primary(
     let place = place_at(node);
     let word = node.tree.word.bytes();
     match node.tree.form {
-        Form::NumberNode => Ok(leaves::number(literal(word))),
-        Form::TruthNode => Ok(leaves::truth(truth_of(word))),
+        Form::NumberNode => leaves::number(alloc, literal(word)),
+        Form::TruthNode => leaves::truth(alloc, truth_of(word)),
         Form::VariableNode => name_at(alloc, node.environment, place, sites, name_of(word)),
         Form::ParenNode => Ok(leaves::only_part(pieces)),
         Form::CallNode => call_at(alloc, node.environment, place, sites, name_of(word), pieces),
@@ -128,7 +129,7 @@ fn line(
             declarator_at(alloc, node.environment, place, sites, &declarator, pieces)
         }
         Form::DeclareNode => lines::declaration(alloc, pieces),
-        Form::SimpleNode => Ok(What::Statement(lines::simple(alloc, pieces))),
+        Form::SimpleNode => as_statement(alloc, lines::simple(alloc, pieces)),
         Form::BlockNode => lines::block(alloc, pieces),
         _ => Ok(What::Nothing),
     }
@@ -173,8 +174,8 @@ fn jump(
     match node.tree.form {
         Form::CaseNode => case_at(alloc, environment, &node.tree.parts, pieces),
         Form::DefaultNode => switches::default(alloc, pieces),
-        Form::BreakNode => statements::leave(place, sites),
-        Form::ContinueNode => statements::go_on(place, sites),
+        Form::BreakNode => statements::leave(alloc, place, sites),
+        Form::ContinueNode => statements::go_on(alloc, place, sites),
         Form::ReturnNode => {
             let result = environment.owner.result;
             statements::give_back(alloc, place, sites, result, pieces)

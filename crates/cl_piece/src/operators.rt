@@ -8,7 +8,8 @@ ghost use Rattle.wg_num.specs.declared.types.Place as places;
 ghost use Rattle.cl_piece.specs.View.{piece_of, what_of, built_of};
 
 use crate::beside::{logical_beside, operand_beside, site_beside};
-use crate::parts::{pair, triple};
+use crate::boxes::{as_offset, as_value};
+use crate::parts::{Two, pair, triple};
 use crate::piece::{Piece, What};
 use crate::types::type_in;
 use crate::values::{moved, moved_by, operand, read, way};
@@ -39,7 +40,7 @@ fn pointer_moved(alloc: Global, op: Bin, a: Piece, b: Piece) -> Result<What, Mem
     } else {
         moved(alloc, way(what), by)?
     };
-    Ok(What::Offset(Some(offset)))
+    as_offset(alloc, offset)
 }
 
 /// A pointer moved forward by the number in front of it (C99, section 6.5.6).
@@ -48,7 +49,7 @@ fn number_moved(alloc: Global, a: Piece, b: Piece) -> Result<What, Memory>
 {
     let (by, what) = operand_beside(alloc, IntType::Long, a, b.what)?;
     let offset = moved_by(alloc, by, way(what))?;
-    Ok(What::Offset(Some(offset)))
+    as_offset(alloc, offset)
 }
 
 /// An operator on two numbers of these types (C99, sections 6.3.1.8 and 6.5.5 to 6.5.12).
@@ -66,7 +67,7 @@ fn numbers_joined(
     let (a, b) = operand_beside(alloc, of, a, b)?;
     let (b, a) = operand_beside(alloc, right_type(op, left, right), b, a)?;
     let joined = expression::binary(alloc, op, of, a, b)?;
-    Ok(What::Value(joined))
+    as_value(alloc, joined)
 }
 
 /// An operator on two operands.
@@ -79,7 +80,11 @@ fn joined(alloc: Global, op: Bin, a: Piece, b: Piece) -> Result<What, Memory>
         }
         (Some(Kind::Pointer { .. }), Some(Kind::Number { .. })) => pointer_moved(alloc, op, a, b),
         (Some(Kind::Number { .. }), Some(Kind::Pointer { .. })) => number_moved(alloc, a, b),
-        _ => Ok(What::Nothing),
+        _ => {
+            drop(a);
+            drop(b);
+            Ok(What::Nothing)
+        }
     }
 }
 
@@ -115,7 +120,7 @@ pub(crate) fn and(
     let (a, second) = logical_beside(alloc, two.first, two.second)?;
     let (b, a) = logical_beside(alloc, second, a)?;
     let both = expression::both(alloc, site, a, b)?;
-    Ok(What::Value(both))
+    as_value(alloc, both)
 }
 
 /// What `||` stands for (C99, section 6.5.14).
@@ -134,7 +139,7 @@ pub(crate) fn or(
     let (a, second) = logical_beside(alloc, two.first, two.second)?;
     let (b, a) = logical_beside(alloc, second, a)?;
     let either = expression::either(alloc, site, a, b)?;
-    Ok(What::Value(either))
+    as_value(alloc, either)
 }
 
 /// What `?:` stands for (C99, section 6.5.15).
@@ -157,7 +162,7 @@ pub(crate) fn choice(
     let (test, yes) = rest;
     let test = read(test.what);
     let chosen = expression::choose(alloc, site, test, yes, no)?;
-    Ok(What::Value(chosen))
+    as_value(alloc, chosen)
 }
 
 /// What a comma stands for (C99, section 6.5.17).
@@ -168,7 +173,7 @@ pub(crate) fn comma(alloc: Global, pieces: Vec<Piece>) -> Result<What, Memory>
         return Ok(What::Nothing);
     };
     let then = expression::then(alloc, read(two.first.what), read(two.second.what))?;
-    Ok(What::Value(then))
+    as_value(alloc, then)
 }
 
 /// What a cast to a type stands for (C99, section 6.5.4).
@@ -181,6 +186,8 @@ pub(crate) fn cast(alloc: Global, to: Option<Declared>, pieces: Vec<Piece>) -> R
     let Some(two) = pair(pieces) else {
         return Ok(What::Nothing);
     };
-    let value = operand(alloc, to.of, two.second)?;
-    Ok(What::Value(value))
+    let Two { first, second } = two;
+    drop(first);
+    let value = operand(alloc, to.of, second)?;
+    as_value(alloc, value)
 }

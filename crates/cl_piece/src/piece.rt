@@ -8,11 +8,11 @@ use cl_model::{Expr, Function, Stmt, Target};
 pub enum What {
     /// Nothing by itself.
     Nothing,
-    Value(Expr),
+    Value(Box<Expr>),
     /// A variable or an element, which can be read or assigned to.
     Target(Target),
     /// A pointer into an array: its offset in elements, where it does not lead to the first one.
-    Offset(Option<Expr>),
+    Offset(Option<Box<Expr>>),
     /// The values of a list.
     Values(Vec<Expr>),
     Barrier {
@@ -21,12 +21,12 @@ pub enum What {
     Fence,
     /// What a declaration does.
     Lines(Vec<Stmt>),
-    Statement(Stmt),
+    Statement(Box<Stmt>),
     /// A statement behind labels; `other` is whether `default` is among them.
     Labelled {
         labels: Vec<i128>,
         other: bool,
-        behind: Stmt,
+        behind: Box<Stmt>,
     },
     Function(Function),
     Functions(Vec<Function>),

@@ -10,7 +10,8 @@ ghost use Rattle.cl_tree.specs.Syntax.{views};
 ghost use Rattle.cl_piece.specs.Heads.{for_by, loop_by, heads_in, heads_of};
 ghost use Rattle.cl_piece.specs.View.{piece_of, what_of, built_of};
 
-use crate::beside::site_beside;
+use crate::beside::{beside, site_beside};
+use crate::boxes::as_statement;
 use crate::lines::{body, put, put_line};
 use crate::parts::{next, pair};
 use crate::piece::{Piece, What};
@@ -38,14 +39,15 @@ pub(crate) fn branch(
     let Some(yes) = next(&mut pieces) else {
         return Ok(What::Nothing);
     };
-    let no = match next(&mut pieces) {
+    let no = next(&mut pieces);
+    let (site, (test, yes, no)) = site_beside(sites, place, (test, yes, no))?;
+    let yes = body(alloc, yes.what);
+    let no = match no {
         None => None,
         Some(no) => Some(body(alloc, no.what)),
     };
-    let site = take_site(sites, place)?;
-    let yes = body(alloc, yes.what);
     let s = statement::branch(alloc, site, read(test.what), yes, no)?;
-    Ok(What::Statement(s))
+    as_statement(alloc, s)
 }
 
 /// What `while` stands for (C99, section 6.8.5.1).
@@ -64,7 +66,7 @@ pub(crate) fn while_loop(
     let test = Some(read(two.first.what));
     let inside = body(alloc, two.second.what);
     let s = statement::repeat(alloc, site, true, test, None, inside)?;
-    Ok(What::Statement(s))
+    as_statement(alloc, s)
 }
 
 /// What `do` stands for (C99, section 6.8.5.2).
@@ -83,7 +85,7 @@ pub(crate) fn do_loop(
     let inside = body(alloc, two.first.what);
     let test = Some(read(two.second.what));
     let s = statement::repeat(alloc, site, false, test, None, inside)?;
-    Ok(What::Statement(s))
+    as_statement(alloc, s)
 }
 
 /// The parts of a `for`.
@@ -135,6 +137,10 @@ fn for_parts(mut pieces: Vec<Piece>, tested: bool) -> Option<Heads>
         });
     };
     if !pieces.is_empty() {
+        drop(start);
+        drop(second);
+        drop(third);
+        drop(fourth);
         return None;
     }
     Some(Heads {
@@ -154,13 +160,22 @@ fn for_heads(
 ) -> Result<What, Memory>
     ensures { IfOk result (λ w. for_by place sites.old.items (heads_of heads) ≡ built_of w sites.new.items) }
 {
-    let site = take_site(sites, place)?;
-    let inside = body(alloc, heads.inside);
-    let s = statement::repeat(alloc, site, true, heads.test, heads.step, inside)?;
+    let (site, heads) = site_beside(sites, place, heads)?;
+    let Heads {
+        start,
+        test,
+        step,
+        inside,
+    } = heads;
+    let inside = body(alloc, inside);
+    let (s, start) = beside(
+        statement::repeat(alloc, site, true, test, step, inside),
+        start,
+    )?;
     let mut lines = Vec::new(alloc);
-    put_line(&mut lines, heads.start)?;
+    let (_, s) = beside(put_line(&mut lines, start), s)?;
     put(&mut lines, s)?;
-    Ok(What::Statement(statement::block(lines)))
+    as_statement(alloc, statement::block(lines))
 }
 
 /// What `for` stands for; `tested` is whether its second part is its test (C99, section 6.8.5.3).
@@ -183,19 +198,19 @@ pub(crate) fn for_loop(
 }
 
 /// What `break` stands for (C99, section 6.8.6.3).
-pub(crate) fn leave(place: Place, sites: &mut Vec<Place>) -> Result<What, Memory>
+pub(crate) fn leave(alloc: Global, place: Place, sites: &mut Vec<Place>) -> Result<What, Memory>
     ensures { IfOk result (λ w. sited place sites.old.items (λ site. typed.statement (tree.Break site)) ≡ built_of w sites.new.items) }
 {
     let site = take_site(sites, place)?;
-    Ok(What::Statement(Stmt::Break { site }))
+    as_statement(alloc, Stmt::Break { site })
 }
 
 /// What `continue` stands for (C99, section 6.8.6.2).
-pub(crate) fn go_on(place: Place, sites: &mut Vec<Place>) -> Result<What, Memory>
+pub(crate) fn go_on(alloc: Global, place: Place, sites: &mut Vec<Place>) -> Result<What, Memory>
     ensures { IfOk result (λ w. sited place sites.old.items (λ site. typed.statement (tree.Continue site)) ≡ built_of w sites.new.items) }
 {
     let site = take_site(sites, place)?;
-    Ok(What::Statement(Stmt::Continue { site }))
+    as_statement(alloc, Stmt::Continue { site })
 }
 
 /// The value that a function returns, converted to the type of its result.
@@ -225,6 +240,6 @@ pub(crate) fn give_back(
     ensures { IfOk result (λ w. sited place sites.old.items (λ site. typed.statement (tree.Return site (meaning.returned result_of (map piece_of pieces.items)))) ≡ built_of w sites.new.items) }
 {
     let value = returned(alloc, result_of, pieces)?;
-    let site = take_site(sites, place)?;
-    Ok(What::Statement(Stmt::Return { site, value }))
+    let (site, value) = site_beside(sites, place, value)?;
+    as_statement(alloc, Stmt::Return { site, value })
 }

@@ -13,9 +13,10 @@ ghost use Rattle.cl_piece.specs.Arms.{arms_with, begun_of, begun_by};
 ghost use Rattle.cl_piece.specs.View.{piece_of, what_of, built_of};
 
 use crate::beside::beside;
+use crate::boxes::{as_statement, boxed};
 use crate::growth::{append, push};
 use crate::lines::{body, put};
-use crate::parts::{next, only, pair};
+use crate::parts::{Two, next, only, pair};
 use crate::piece::{Piece, What};
 use crate::sites::take_site;
 use crate::values::read;
@@ -34,7 +35,7 @@ fn new_arm(alloc: Global, what: What) -> Result<SwitchArm, Memory>
             labels,
             other,
             behind,
-        } => (labels, other, behind),
+        } => (labels, other, Box::into_inner(behind)),
         plain => (Vec::new(alloc), false, body(alloc, plain)),
     };
     let mut lines = Vec::new(alloc);
@@ -111,7 +112,7 @@ pub(crate) fn switch(
     };
     let arms = arms(alloc, pieces)?;
     let site = take_site(sites, place)?;
-    Ok(What::Statement(statement::switch(site, read(value.what), arms)))
+    as_statement(alloc, statement::switch(site, read(value.what), arms))
 }
 
 /// A label, converted to the type of the switch.
@@ -147,11 +148,14 @@ fn labelled(alloc: Global, mut labels: Vec<i128>, other: bool, what: What) -> Re
                 behind,
             })
         }
-        plain => Ok(What::Labelled {
-            labels,
-            other,
-            behind: body(alloc, plain),
-        }),
+        plain => {
+            let behind = boxed(alloc, body(alloc, plain))?;
+            Ok(What::Labelled {
+                labels,
+                other,
+                behind,
+            })
+        }
     }
 }
 
@@ -168,8 +172,10 @@ pub(crate) fn case(
     let Some(two) = pair(pieces) else {
         return Ok(What::Nothing);
     };
-    let label = label(alloc, of, constant)?;
-    let what = labelled(alloc, label, false, two.second.what)?;
+    let Two { first, second } = two;
+    drop(first);
+    let (label, second) = beside(label(alloc, of, constant), second)?;
+    let what = labelled(alloc, label, false, second.what)?;
     Ok(what)
 }
 

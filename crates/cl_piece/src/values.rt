@@ -45,9 +45,9 @@ pub(crate) fn read(what: What) -> Expr
     ensures { expression_of result ≡ meaning.read (what_of what) }
 {
     match what {
-        What::Value(e) => e,
+        What::Value(e) => Box::into_inner(e),
         What::Target(target) => read_target(target),
-        What::Offset(Some(e)) => e,
+        What::Offset(Some(e)) => Box::into_inner(e),
         other => {
             drop(other);
             literal(0, IntType::Long)
@@ -60,7 +60,8 @@ pub(crate) fn way(what: What) -> Option<Expr>
     ensures { option_map expression_of result ≡ meaning.way (what_of what) }
 {
     match what {
-        What::Offset(o) => o,
+        What::Offset(None) => None,
+        What::Offset(Some(e)) => Some(Box::into_inner(e)),
         other => Some(read(other)),
     }
 }
