@@ -1,8 +1,10 @@
 pub mod Acts
+pub mod Counting
 pub mod Fits
 pub mod Groups
 pub mod Listing
 pub mod Meaning
+pub mod Parts
 pub mod Program
 pub mod Registers
 pub mod Run

@@ -1,0 +1,5 @@
+pub mod Tables
+pub mod Rows
+pub mod Steps
+pub mod Blocks
+pub mod Settling

@@ -1,0 +1,4 @@
+pub mod Known
+pub mod Rounds
+pub mod Listed
+pub mod Marks

@@ -1,0 +1,49 @@
+use Rattle.std.proofs.Common.{◌≡◌, true, drop, ◌+◌, ◌*◌}
+use Rattle.cl_model.specs.View.{buffers_of, launch_of}
+use Rattle.lane_code.specs.View.{plain_of}
+use Rattle.lane_code.specs.Program.{work_of, code_of, names_of}
+use Rattle.lane_code.specs.Parts.{nodes_fit}
+use Rattle.lane_code.specs.Run.{items_end, work_end, rounds}
+use Rattle.lane_machine.specs.Room.{HasRoomForEach, IsNoLess}
+use Rattle.lane_machine.specs.Machinery.{room_at}
+use Rattle.group_run.specs.Ends.{Stands}
+use Rattle.group_run.specs.Nodes.{nodes_end}
+use Rattle.group_run.proofs.NodeLaws.{node_weight, list_weight}
+use Rattle.group_run.proofs.worker.Worker.+node.Given as goal
+
+-- the nodes still to be done lead to the end of all
+abbrev pub invariant-nodes-loop-one : goal.invariant-nodes-loop-one
+invariant-nodes-loop-one l = record {
+  same : nodes_end (plain_of l.program) (launch_of l.launch) l.number (drop l.one-index l.one-items) l.self.turns l.self.group.kept (buffers_of l.buffers)
+      ≡ nodes_end (plain_of l.program) (launch_of l.launch) l.number l.one-items l.fn.self.turns l.fn.self.group.kept (buffers_of l.fn.buffers);
+  fits : nodes_fit (names_of (plain_of l.program)) (drop l.one-index l.one-items) ≡ true;
+  each : HasRoomForEach (room_at l.program.width l.fn.self.machine) (drop l.one-index l.one-items);
+  stands : Stands (plain_of l.program) (launch_of l.launch) l.number l.self.group;
+  room : IsNoLess (room_at l.program.width l.fn.self.machine) (room_at l.program.width l.self.machine);
+}
+
+-- the rounds from here on lead to the end of the loop
+abbrev pub invariant-rounds-loop-test : goal.invariant-rounds-loop-test
+invariant-rounds-loop-test l = record {
+  same : rounds (work_end (plain_of l.program) (launch_of l.launch) l.number (work_of l.test.value)) (work_end (plain_of l.program) (launch_of l.launch) l.number (work_of l.body.value))
+      (items_end (plain_of l.program) (launch_of l.launch) l.number (code_of l.rest)) l.most l.self.turns l.self.group.kept (buffers_of l.buffers)
+      ≡ work_end (plain_of l.program) (launch_of l.launch) l.number (work_of l.node) l.fn.self.turns l.fn.self.group.kept (buffers_of l.fn.buffers);
+  stands : Stands (plain_of l.program) (launch_of l.launch) l.number l.self.group;
+  room : IsNoLess (room_at l.program.width l.fn.self.machine) (room_at l.program.width l.self.machine);
+}
+
+abbrev pub decreases-rounds-loop-test : goal.decreases-rounds-loop-test
+decreases-rounds-loop-test l = l.most
+
+-- the work, and which function does it
+abbrev pub decreases-node : goal.decreases-node
+decreases-node l = 3 * node_weight l.node.now + 2
+
+abbrev pub decreases-rounds : goal.decreases-rounds
+decreases-rounds l = 3 * node_weight l.node.now + 1
+
+abbrev pub decreases-iteration : goal.decreases-iteration
+decreases-iteration l = 3 * node_weight l.body.now + 3
+
+abbrev pub decreases-nodes : goal.decreases-nodes
+decreases-nodes l = 3 * list_weight l.nodes.now.items + 3

@@ -1,0 +1,281 @@
+//! Does what a group does.
+ghost use Rattle.std.specs.Prelude.{◌≡◌, ◌<◌, true, List, sum};
+ghost use Rattle.cl_model.specs.Sizes.{group_count};
+ghost use Rattle.cl_model.specs.View.{buffers_of, launch_of};
+ghost use Rattle.lane_code.specs.View.{plain_of};
+ghost use Rattle.lane_code.specs.Fits.{code_fits, LaunchFits};
+ghost use Rattle.lane_code.specs.Program.{code_of, work_of, names_of, work_fits};
+ghost use Rattle.lane_code.specs.Parts.{nodes_fit};
+ghost use Rattle.lane_code.specs.Meaning.{region_end};
+ghost use Rattle.lane_code.specs.Run.{chunk_at, chunk_count, chunk_ended, chunks_end, items_end, work_end, groups_end};
+ghost use Rattle.lane_machine.specs.Room.{HasRoom, HasRoomFor, HasRoomForEach, IsNoLess};
+ghost use Rattle.lane_machine.specs.Zeroed.{IsGroupOf};
+ghost use Rattle.lane_machine.specs.Machinery.{room_at};
+ghost use Rattle.group_run.specs.Ends.{ended, run_end, is_loop, Stands};
+ghost use Rattle.group_run.specs.Nodes.{nodes_end, turn_end};
+
+use crate::ends::{chunks_in_group, has_done, launch_end};
+use crate::sizes::groups_in_launch;
+use cl_model::{Buffers, Launch};
+use lane_code::{Code, GroupProgram, Node, RunEnd};
+use lane_machine::{Answers, Group, Machine};
+
+/// The machine, what a group keeps, and the turns that are left.
+#[derive(Drop)]
+pub(crate) struct Worker {
+    pub(crate) machine: Machine,
+    pub(crate) group: Group,
+    pub(crate) turns: u64,
+}
+
+impl Worker {
+    /// A code on one chunk.
+    fn chunk(
+        &mut self,
+        program: &GroupProgram,
+        launch: &Launch,
+        number: u64,
+        code: &Code,
+        chunk: u32,
+        buffers: &mut Buffers,
+    ) -> RunEnd
+        requires stands { Stands (plain_of program.now) (launch_of launch.now) number self.old.group }
+        requires fits { code_fits (names_of (plain_of program.now)) code.now.counts code.now.steps.items ≡ true }
+        requires room { HasRoom code.now.counts (room_at program.now.width self.old.machine) }
+        requires chunk { chunk < chunk_count (plain_of program.now) (launch_of launch.now) }
+        ensures end { chunk_ended (chunk_at (plain_of program.now) (launch_of launch.now) number chunk) (region_end (chunk_at (plain_of program.now) (launch_of launch.now) number chunk) code.now.steps.items code.now.counts self.old.turns self.old.group.kept (buffers_of buffers.old)) ≡ ended result self.new.turns self.new.group.kept (buffers_of buffers.new) }
+        ensures stands { Stands (plain_of program.now) (launch_of launch.now) number self.new.group }
+        ensures room { IsNoLess (room_at program.now.width self.old.machine) (room_at program.now.width self.new.machine) }
+    {
+        let end = self.machine.region(
+            code,
+            program,
+            launch,
+            buffers,
+            &mut self.group,
+            chunk,
+            &mut self.turns,
+        );
+        launch_end(program, launch, number, chunk, end)
+    }
+
+    /// A code on all chunks, in order.
+    fn chunks(
+        &mut self,
+        program: &GroupProgram,
+        launch: &Launch,
+        number: u64,
+        code: &Code,
+        buffers: &mut Buffers,
+    ) -> RunEnd
+        requires stands { Stands (plain_of program.now) (launch_of launch.now) number self.old.group }
+        requires fits { code_fits (names_of (plain_of program.now)) code.now.counts code.now.steps.items ≡ true }
+        requires room { HasRoom code.now.counts (room_at program.now.width self.old.machine) }
+        ensures end { chunks_end (plain_of program.now) (launch_of launch.now) number (code_of code.now) 0 (chunk_count (plain_of program.now) (launch_of launch.now)) self.old.turns self.old.group.kept (buffers_of buffers.old) ≡ ended result self.new.turns self.new.group.kept (buffers_of buffers.new) }
+        ensures stands { Stands (plain_of program.now) (launch_of launch.now) number self.new.group }
+        ensures room { IsNoLess (room_at program.now.width self.old.machine) (room_at program.now.width self.new.machine) }
+    {
+        let count = chunks_in_group(program, launch);
+        for chunk in 0..count {
+            let end = self.chunk(program, launch, number, code, chunk, buffers);
+            if !has_done(end) {
+                return end;
+            }
+        }
+        RunEnd::Done
+    }
+
+    /// A region: a code on all chunks, between the entry and exit values of the once slots.
+    fn items(
+        &mut self,
+        program: &GroupProgram,
+        launch: &Launch,
+        number: u64,
+        code: &Code,
+        buffers: &mut Buffers,
+    ) -> RunEnd
+        requires stands { Stands (plain_of program.now) (launch_of launch.now) number self.old.group }
+        requires fits { code_fits (names_of (plain_of program.now)) code.now.counts code.now.steps.items ≡ true }
+        requires room { HasRoom code.now.counts (room_at program.now.width self.old.machine) }
+        ensures end { items_end (plain_of program.now) (launch_of launch.now) number (code_of code.now) self.old.turns self.old.group.kept (buffers_of buffers.old) ≡ ended result self.new.turns self.new.group.kept (buffers_of buffers.new) }
+        ensures stands { Stands (plain_of program.now) (launch_of launch.now) number self.new.group }
+        ensures room { IsNoLess (room_at program.now.width self.old.machine) (room_at program.now.width self.new.machine) }
+    {
+        self.group.begin();
+        let end = self.chunks(program, launch, number, code, buffers);
+        if has_done(end) {
+            self.group.finish();
+        }
+        end
+    }
+
+    /// Nodes in order.
+    #[cycle(node)]
+    fn nodes(
+        &mut self,
+        program: &GroupProgram,
+        launch: &Launch,
+        number: u64,
+        nodes: &Vec<Node>,
+        buffers: &mut Buffers,
+    ) -> RunEnd
+        requires stands { Stands (plain_of program.now) (launch_of launch.now) number self.old.group }
+        requires fits { nodes_fit (names_of (plain_of program.now)) nodes.now.items ≡ true }
+        requires room { HasRoomForEach (room_at program.now.width self.old.machine) nodes.now.items }
+        ensures end { nodes_end (plain_of program.now) (launch_of launch.now) number nodes.now.items self.old.turns self.old.group.kept (buffers_of buffers.old) ≡ ended result self.new.turns self.new.group.kept (buffers_of buffers.new) }
+        ensures stands { Stands (plain_of program.now) (launch_of launch.now) number self.new.group }
+        ensures room { IsNoLess (room_at program.now.width self.old.machine) (room_at program.now.width self.new.machine) }
+    {
+        for one in nodes {
+            let end = self.node(program, launch, number, one, buffers);
+            if !has_done(end) {
+                return end;
+            }
+        }
+        RunEnd::Done
+    }
+
+    /// An iteration that the group begins on agreement, which takes a turn, if there is one.
+    #[cycle(node)]
+    fn iteration(
+        &mut self,
+        program: &GroupProgram,
+        launch: &Launch,
+        number: u64,
+        body: &Node,
+        buffers: &mut Buffers,
+    ) -> RunEnd
+        requires stands { Stands (plain_of program.now) (launch_of launch.now) number self.old.group }
+        requires fits { work_fits (names_of (plain_of program.now)) (work_of body.now) ≡ true }
+        requires room { HasRoomFor (room_at program.now.width self.old.machine) (work_of body.now) }
+        ensures end { turn_end (work_end (plain_of program.now) (launch_of launch.now) number (work_of body.now)) self.old.turns self.old.group.kept (buffers_of buffers.old) ≡ ended result self.new.turns self.new.group.kept (buffers_of buffers.new) }
+        ensures stands { Stands (plain_of program.now) (launch_of launch.now) number self.new.group }
+        ensures room { IsNoLess (room_at program.now.width self.old.machine) (room_at program.now.width self.new.machine) }
+    {
+        if self.turns == 0 {
+            return RunEnd::Turns;
+        }
+        self.turns -= 1;
+        self.node(program, launch, number, body, buffers)
+    }
+
+    /// A loop on which the group votes before each iteration.
+    #[cycle(node)]
+    fn rounds(
+        &mut self,
+        program: &GroupProgram,
+        launch: &Launch,
+        number: u64,
+        node: &Node,
+        buffers: &mut Buffers,
+    ) -> RunEnd
+        requires repeats { is_loop (work_of node.now) ≡ true }
+        requires stands { Stands (plain_of program.now) (launch_of launch.now) number self.old.group }
+        requires fits { work_fits (names_of (plain_of program.now)) (work_of node.now) ≡ true }
+        requires room { HasRoomFor (room_at program.now.width self.old.machine) (work_of node.now) }
+        ensures end { work_end (plain_of program.now) (launch_of launch.now) number (work_of node.now) self.old.turns self.old.group.kept (buffers_of buffers.old) ≡ ended result self.new.turns self.new.group.kept (buffers_of buffers.new) }
+        ensures stands { Stands (plain_of program.now) (launch_of launch.now) number self.new.group }
+        ensures room { IsNoLess (room_at program.now.width self.old.machine) (room_at program.now.width self.new.machine) }
+    {
+        let Node::Loop {
+            test_first,
+            test,
+            body,
+            rest,
+        } = node
+        else {
+            unreachable!()
+        };
+        let mut most = self.turns;
+        if !*test_first {
+            let end = self.iteration(program, launch, number, body, buffers);
+            if !has_done(end) {
+                return end;
+            }
+        }
+        loop {
+            let end = self.node(program, launch, number, test, buffers);
+            if !has_done(end) {
+                return end;
+            }
+            match self.group.answers() {
+                Answers::No => return RunEnd::Done,
+                Answers::Mixed => return self.items(program, launch, number, rest, buffers),
+                Answers::Yes => {}
+            }
+            if most == 0 {
+                return RunEnd::Turns;
+            }
+            most -= 1;
+            let end = self.iteration(program, launch, number, body, buffers);
+            if !has_done(end) {
+                return end;
+            }
+        }
+    }
+
+    /// What a node says.
+    #[cycle(node)]
+    pub(crate) fn node(
+        &mut self,
+        program: &GroupProgram,
+        launch: &Launch,
+        number: u64,
+        node: &Node,
+        buffers: &mut Buffers,
+    ) -> RunEnd
+        requires stands { Stands (plain_of program.now) (launch_of launch.now) number self.old.group }
+        requires fits { work_fits (names_of (plain_of program.now)) (work_of node.now) ≡ true }
+        requires room { HasRoomFor (room_at program.now.width self.old.machine) (work_of node.now) }
+        ensures end { work_end (plain_of program.now) (launch_of launch.now) number (work_of node.now) self.old.turns self.old.group.kept (buffers_of buffers.old) ≡ ended result self.new.turns self.new.group.kept (buffers_of buffers.new) }
+        ensures stands { Stands (plain_of program.now) (launch_of launch.now) number self.new.group }
+        ensures room { IsNoLess (room_at program.now.width self.old.machine) (room_at program.now.width self.new.machine) }
+    {
+        match node {
+            Node::Items(code) => self.items(program, launch, number, code, buffers),
+            Node::Seq(nodes) => self.nodes(program, launch, number, nodes, buffers),
+            Node::Vote {
+                test,
+                yes,
+                no,
+                mixed,
+            } => {
+                let end = self.items(program, launch, number, test, buffers);
+                if !has_done(end) {
+                    return end;
+                }
+                match self.group.answers() {
+                    Answers::Yes => self.node(program, launch, number, yes, buffers),
+                    Answers::No => self.node(program, launch, number, no, buffers),
+                    Answers::Mixed => self.items(program, launch, number, mixed, buffers),
+                }
+            }
+            Node::Loop { .. } => self.rounds(program, launch, number, node, buffers),
+        }
+    }
+
+    /// All groups of the launch, in order.
+    pub(crate) fn groups(
+        &mut self,
+        program: &GroupProgram,
+        launch: &Launch,
+        buffers: &mut Buffers,
+    ) -> RunEnd
+        requires fits { LaunchFits (plain_of program.now).params (sum (plain_of program.now).locals) (launch_of launch.now) }
+        requires made { IsGroupOf (plain_of program.now) (launch_of launch.now) self.old.group.kept }
+        requires room { HasRoomFor (room_at program.now.width self.old.machine) (plain_of program.now).top }
+        ensures end { groups_end (plain_of program.now) (launch_of launch.now) 0 (group_count (launch_of launch.now)) self.old.turns (buffers_of buffers.old) ≡ run_end result self.new.turns (buffers_of buffers.new) }
+        ensures made { IsGroupOf (plain_of program.now) (launch_of launch.now) self.new.group.kept }
+        ensures room { HasRoomFor (room_at program.now.width self.new.machine) (plain_of program.now).top }
+    {
+        let count = groups_in_launch(launch);
+        for number in 0..count {
+            self.group.clear(number);
+            let end = self.node(program, launch, number, &program.top, buffers);
+            if !has_done(end) {
+                return end;
+            }
+        }
+        RunEnd::Done
+    }
+}

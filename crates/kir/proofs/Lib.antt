@@ -1,0 +1,13 @@
+pub mod Rows
+pub mod Alike
+pub mod Placed
+pub mod Outcomes
+pub mod Shells
+pub mod Numbers
+pub mod Liveness
+pub mod ItemHistories
+pub mod Aligned
+pub mod FromSteps
+pub mod EvenRuns
+pub mod Kept
+pub mod FirstLines

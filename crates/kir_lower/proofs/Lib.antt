@@ -1,0 +1,5 @@
+pub mod Lists
+pub mod Going
+pub mod Weights
+pub mod Parts
+pub mod Wholes

@@ -1,0 +1,6 @@
+pub mod Made
+pub mod Ways
+pub mod Actions
+pub mod Code
+pub mod Whole
+pub mod View

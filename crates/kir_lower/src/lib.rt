@@ -1,0 +1,15 @@
+//! From a typed program to the kernel without calls: each call in place, expressions in steps, ways
+//! out as guards.
+#![tactic(auto)]
+
+mod actions;
+mod arms;
+mod emit;
+mod entering;
+mod exits;
+mod lowering;
+mod places;
+mod ways;
+mod whole;
+
+pub use whole::lower;

@@ -1,0 +1,271 @@
+//! Where variables, flags, values and arrays are kept.
+
+ghost use Rattle.std.specs.Prelude.{◌≡◌, ◌+◌, ◌++◌, ◌∷◌, [], pos, IfOk, OnOk, length, map};
+ghost use Rattle.cl_model.specs.Calls as called;
+ghost use Rattle.cl_model.specs.Tree as plain;
+ghost use Rattle.cl_model.specs.View.{array_of, function_of, program_of};
+ghost use Rattle.kir.specs.Tree.{OfFlag, OfValue};
+ghost use Rattle.kir.specs.Lowering.{names_of};
+ghost use Rattle.cl_model.specs.Valid as valid;
+ghost use Rattle.kir_lower.specs.Made as spec;
+ghost use Rattle.kir_lower.specs.View.{made_of, instance_of, names_in};
+ghost use Rattle.kir_lower.specs.Whole as whole;
+
+use cl_model::{Array, Function, Program, Root, Var};
+use kir::types::kind_type;
+use kir::{Atom, Cell, CellKind};
+use std::alloc::Global;
+use wg_num::{IntType, Memory, Place};
+
+/// What an expression gives: an atom, and the type of its value.
+#[derive(Clone, Copy)]
+pub struct Value {
+    pub atom: Atom,
+    pub of: IntType,
+}
+
+/// The cells and arrays that are made so far.
+#[derive(Drop)]
+pub struct Made {
+    pub cells: Vec<Cell>,
+    pub arrays: Vec<Array>,
+}
+
+/// A function as it stands in the inlined kernel: the sites of the calls that lead to it and their
+/// places, the kernel's roots of its parameters, the types of its variables and of the elements of
+/// its arrays, the first cell of its variables, its first array, the cell of its result, and how
+/// deep calls may nest from here.
+#[derive(Drop)]
+pub struct Instance<'a> {
+    pub program: &'a Program,
+    pub depth: usize,
+    pub calls: Vec<u32>,
+    pub places: Vec<Place>,
+    pub roots: Vec<Root>,
+    pub types: Vec<IntType>,
+    pub elements: Vec<IntType>,
+    pub base: u32,
+    pub arrays: u32,
+    pub answer: u32,
+}
+
+/// A call: its site, the function that it calls, and the kernel's root of each argument.
+#[derive(Drop)]
+pub struct Callee {
+    pub site: u32,
+    pub function: u32,
+    pub roots: Vec<Root>,
+}
+
+/// One more item, or want of memory.
+pub fn add<T: Drop>(list: &mut Vec<T>, item: T) -> Result<(), Memory>
+    ensures { OnOk result (list.new.items ≡ list.old.items ++ item ∷ []) }
+{
+    match list.push(item) {
+        Ok(()) => Ok(()),
+        Err(_) => Err(Memory),
+    }
+}
+
+/// A number as the kernel has them.
+pub fn number(n: usize) -> Result<u32, Memory>
+    ensures { IfOk result (λ m. m ≡ n) }
+{
+    match u32::try_from(n) {
+        Ok(n) => Ok(n),
+        Err(_) => Err(Memory),
+    }
+}
+
+/// The number that is so far behind another.
+pub fn behind(first: u32, n: u32) -> Result<u32, Memory>
+    ensures { IfOk result (λ m. m ≡ first + n) }
+{
+    match first.checked_add(n) {
+        Some(n) => Ok(n),
+        None => Err(Memory),
+    }
+}
+
+/// The constant of type int.
+pub fn int(value: i128) -> Atom
+    ensures { result ≡ spec.int value }
+{
+    Atom::Const {
+        value,
+        of: IntType::Int,
+    }
+}
+
+/// A constant and its type.
+pub fn constant(value: i128, of: IntType) -> Value
+    ensures { result ≡ spec.constant value of }
+{
+    Value {
+        atom: Atom::Const { value, of },
+        of,
+    }
+}
+
+/// One more cell for a value.
+pub fn add_value(made: &mut Made, of: IntType) -> Result<u32, Memory>
+    ensures cell { IfOk result (λ c. c ≡ spec.next_cell (made_of made.old)) }
+    ensures made { OnOk result (made_of made.new ≡ spec.with_cell (made_of made.old) OfValue of) }
+{
+    let cell = number(made.cells.len())?;
+    let kind = CellKind::Value;
+    add(&mut made.cells, Cell { kind, of })?;
+    Ok(cell)
+}
+
+/// One more cell for a pending way out.
+pub fn add_flag(made: &mut Made) -> Result<u32, Memory>
+    ensures cell { IfOk result (λ c. c ≡ spec.next_cell (made_of made.old)) }
+    ensures made { OnOk result (made_of made.new ≡ spec.with_cell (made_of made.old) OfFlag IntType.Int) }
+{
+    let cell = number(made.cells.len())?;
+    let kind = CellKind::Flag;
+    let of = IntType::Int;
+    add(&mut made.cells, Cell { kind, of })?;
+    Ok(cell)
+}
+
+/// The cell of a variable.
+pub fn cell_at(here: &Instance<'_>, x: u32) -> Result<u32, Memory>
+    ensures { IfOk result (λ c. c ≡ (instance_of here.now).base + x) }
+{
+    behind(here.base, x)
+}
+
+/// The type of what a variable holds.
+pub fn type_at(here: &Instance<'_>, x: u32) -> Result<IntType, Memory>
+    ensures { IfOk result (λ t. t ≡ spec.type_at (instance_of here.now) x) }
+{
+    match here.types.get(x as usize) {
+        Some(of) => Ok(*of),
+        None => Err(Memory),
+    }
+}
+
+/// The type of an array's elements.
+pub fn element_at(here: &Instance<'_>, array: u32) -> Result<IntType, Memory>
+    ensures { IfOk result (λ t. t ≡ spec.element_at (instance_of here.now) array) }
+{
+    match here.elements.get(array as usize) {
+        Some(of) => Ok(*of),
+        None => Err(Memory),
+    }
+}
+
+/// The kernel's root that a root of the function names.
+pub fn root_in(here: &Instance<'_>, root: Root) -> Result<Root, Memory>
+    ensures { IfOk result (λ r. r ≡ spec.root_in (instance_of here.now) root) }
+{
+    match root {
+        Root::Param(n) => match here.roots.get(n as usize) {
+            Some(root) => Ok(*root),
+            None => Err(Memory),
+        },
+        Root::Constant(n) => Ok(Root::Constant(n)),
+        Root::Local(n) => Ok(Root::Local(behind(here.arrays, n)?)),
+        Root::Private(n) => Ok(Root::Private(behind(here.arrays, n)?)),
+    }
+}
+
+/// The function with this number.
+pub fn function_at(program: &Program, function: u32) -> Result<&Function, Memory>
+    ensures plain { IfOk result (λ f. function_of f.now ≡ called.function_at (program_of program.now) function) }
+    ensures names { IfOk result (λ f. names_in f.now ≡ whole.names_at (names_of program.now) function) }
+{
+    match program.functions.get(function as usize) {
+        Some(function) => Ok(function),
+        None => Err(Memory),
+    }
+}
+
+/// The place of a site.
+pub fn place_at(program: &Program, site: u32) -> Result<Place, Memory>
+    ensures { IfOk result (λ p. p ≡ whole.place_at (program_of program.now) site) }
+{
+    match program.sites.get(site as usize) {
+        Some(place) => Ok(*place),
+        None => Err(Memory),
+    }
+}
+
+/// A path of calls with one call more.
+pub fn longer_calls(alloc: Global, calls: &[u32], site: u32) -> Result<Vec<u32>, Memory>
+    ensures { IfOk result (λ v. v.items ≡ calls.now ++ site ∷ []) }
+{
+    match calls.to_vec(alloc) {
+        Ok(mut calls) => match calls.push(site) {
+            Ok(()) => Ok(calls),
+            Err(_) => Err(Memory),
+        },
+        Err(_) => Err(Memory),
+    }
+}
+
+/// Places with one more.
+pub fn longer_places(alloc: Global, places: &[Place], place: Place) -> Result<Vec<Place>, Memory>
+    ensures { IfOk result (λ v. v.items ≡ places.now ++ place ∷ []) }
+{
+    match places.to_vec(alloc) {
+        Ok(mut places) => match places.push(place) {
+            Ok(()) => Ok(places),
+            Err(_) => Err(Memory),
+        },
+        Err(_) => Err(Memory),
+    }
+}
+
+/// The types of what variables hold.
+pub fn types_of(alloc: Global, vars: &[Var]) -> Result<Vec<IntType>, Memory>
+    ensures { IfOk result (λ v. v.items ≡ map valid.kind_type (map (λ x. x.kind) vars.now)) }
+{
+    let mut types = Vec::new(alloc);
+    for var in vars {
+        add(&mut types, kind_type(var.kind))?;
+    }
+    Ok(types)
+}
+
+/// The types of the elements of arrays.
+pub fn elements_of(alloc: Global, arrays: &[Array]) -> Result<Vec<IntType>, Memory>
+    ensures { IfOk result (λ v. v.items ≡ map (λ (a : plain.Array). a.element) (map array_of arrays.now)) }
+{
+    let mut types = Vec::new(alloc);
+    for array in arrays {
+        add(&mut types, array.element)?;
+    }
+    Ok(types)
+}
+
+/// An array with the same parts.
+pub fn copy_array(alloc: Global, array: &Array) -> Result<Array, Memory>
+    ensures { IfOk result (λ a. array_of a ≡ array_of array.now) }
+{
+    let name = array.name.copy(alloc)?;
+    match array.dims.as_slice().to_vec(alloc) {
+        Ok(dims) => Ok(Array {
+            name,
+            space: array.space,
+            element: array.element,
+            dims,
+            place: array.place,
+        }),
+        Err(_) => Err(Memory),
+    }
+}
+
+/// Makes a function's arrays.
+pub fn add_arrays(alloc: Global, made: &mut Made, arrays: &[Array]) -> Result<(), Memory>
+    ensures cells { OnOk result (made.new.cells ≡ made.old.cells) }
+    ensures arrays { OnOk result (map array_of made.new.arrays.items ≡ map array_of made.old.arrays.items ++ map array_of arrays.now) }
+{
+    for array in arrays {
+        let array = copy_array(alloc, array)?;
+        add(&mut made.arrays, array)?;
+    }
+    Ok(())
+}

@@ -1,0 +1,7 @@
+mod Arguments
+mod Joining
+mod Lowering
+mod Past
+mod Patch
+pub mod Roots
+mod Tallies

@@ -1,0 +1,9 @@
+pub mod Layout
+pub mod Standing
+pub mod Following
+pub mod Counts
+pub mod Banks
+pub mod Atoms
+pub mod Registers
+pub mod Homes
+pub mod Lowered

@@ -1,0 +1,160 @@
+//! The code at the ends of a region.
+
+ghost use Rattle.std.specs.Prelude.{◌≡◌, ◌++◌, slice_get, OnOk};
+ghost use Rattle.mask_lower.specs.Registers.{frame_of};
+ghost use Rattle.mask_lower.specs.Homes as spec;
+ghost use Rattle.mask_lower.specs.Lowered.{vote_code};
+
+use crate::masks::lower_test;
+use crate::placing::cell_at;
+use crate::registers::{Free, Layout, Operand, mask_reg, put, slot_reg};
+use ctx_plan::Home;
+use kir::Atom;
+use lane_code::{Reg, Step};
+use wg_num::Memory;
+
+/// The home of a cell.
+fn home_of(homes: &Vec<Home>, cell: usize) -> Option<Home>
+    ensures { result ≡ slice_get homes.now.items cell }
+{
+    homes.get(cell).copied()
+}
+
+/// A register gets what the home has.
+fn lower_get(code: &mut Vec<Step>, to: Reg, home: Option<Home>) -> Result<(), Memory>
+    ensures { OnOk result (code.new.items ≡ code.old.items ++ spec.get_code to home) }
+{
+    match home {
+        None | Some(Home::Register) => Ok(()),
+        Some(Home::Column(column)) => {
+            put(code, Step::ColumnGet { column, to })?;
+            Ok(())
+        }
+        Some(Home::Once(slot)) => {
+            put(
+                code,
+                Step::OnceGet {
+                    slot,
+                    to: slot_reg(),
+                },
+            )?;
+            put(
+                code,
+                Step::Spread {
+                    to,
+                    from: slot_reg(),
+                },
+            )?;
+            Ok(())
+        }
+    }
+}
+
+/// A cell gets what its home has, if it is named.
+fn lower_cell(code: &mut Vec<Step>, cell: Option<Operand>, home: Option<Home>) -> Result<(), Memory>
+    ensures { OnOk result (code.new.items ≡ code.old.items ++ spec.cell_code cell home) }
+{
+    match cell {
+        None => Ok(()),
+        Some(cell) => {
+            lower_get(code, cell.at, home)?;
+            Ok(())
+        }
+    }
+}
+
+/// The named cells come from their homes.
+pub(crate) fn lower_entry(
+    code: &mut Vec<Step>,
+    cells: &Vec<Option<Operand>>,
+    homes: &Vec<Home>,
+) -> Result<(), Memory>
+    ensures { OnOk result (code.new.items ≡ code.old.items ++ spec.entry_code homes.now.items 0 cells.now.items) }
+{
+    let mut number: usize = 0;
+    for cell in cells {
+        lower_cell(code, *cell, home_of(homes, number))?;
+        number += 1;
+    }
+    Ok(())
+}
+
+/// The home gets what all existing lanes have, a slot what the lowest has.
+fn lower_put(code: &mut Vec<Step>, cell: Operand, home: Option<Home>) -> Result<(), Memory>
+    ensures { OnOk result (code.new.items ≡ code.old.items ++ spec.put_code cell home) }
+{
+    match home {
+        None | Some(Home::Register) => Ok(()),
+        Some(Home::Column(column)) => {
+            put(
+                code,
+                Step::ColumnPut {
+                    column,
+                    from: cell.at,
+                    mask: mask_reg(0),
+                },
+            )?;
+            Ok(())
+        }
+        Some(Home::Once(slot)) => {
+            put(
+                code,
+                Step::First {
+                    to: slot_reg(),
+                    from: cell.at,
+                    of: cell.of,
+                    mask: mask_reg(0),
+                },
+            )?;
+            put(
+                code,
+                Step::OncePut {
+                    slot,
+                    from: slot_reg(),
+                },
+            )?;
+            Ok(())
+        }
+    }
+}
+
+/// The cells of a list go to their homes.
+pub(crate) fn lower_exit(
+    code: &mut Vec<Step>,
+    cells: &Vec<Option<Operand>>,
+    live: &Vec<u32>,
+    homes: &Vec<Home>,
+) -> Result<(), Memory>
+    ensures { OnOk result (code.new.items ≡ code.old.items ++ spec.exit_code homes.now.items cells.now.items live.now.items) }
+{
+    for cell in live {
+        let operand = cell_at(cells, *cell)?;
+        lower_put(code, operand, home_of(homes, *cell as usize))?;
+    }
+    Ok(())
+}
+
+/// All existing lanes vote, where there is an answer.
+pub(crate) fn lower_vote(
+    code: &mut Vec<Step>,
+    answer: Option<Atom>,
+    layout: &Layout,
+    next: Free,
+) -> Result<(), Memory>
+    ensures { OnOk result (code.new.items ≡ code.old.items ++ vote_code (frame_of layout.now) next answer) }
+{
+    match answer {
+        None => Ok(()),
+        Some(answer) => {
+            let _after = lower_test(code, layout, next, answer, 1, 0)?;
+            put(
+                code,
+                Step::VotePut {
+                    from: mask_reg(1),
+                    mask: mask_reg(0),
+                },
+            )?;
+            Ok(())
+        }
+    }
+}

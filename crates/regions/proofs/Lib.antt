@@ -1,0 +1,8 @@
+pub mod Pieces
+pub mod Cuts
+pub mod Interleaving
+pub mod Sets
+pub mod Firsts
+pub mod Passings
+pub mod Trees
+pub mod Walk

@@ -1,0 +1,8 @@
+pub mod Tree
+pub mod View
+pub mod Split
+pub mod Spans
+pub mod Pieces
+pub mod TreeRun
+pub mod Living
+pub mod Cutting

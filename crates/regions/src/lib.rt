@@ -1,0 +1,11 @@
+//! The regions of a kernel: what its work-items do between two cuts.
+#![tactic(auto)]
+
+mod copying;
+mod holding;
+mod living;
+pub mod region;
+mod splitting;
+
+pub use region::{Region, RegionTree};
+pub use splitting::split;
