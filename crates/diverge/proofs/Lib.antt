@@ -3,3 +3,6 @@ pub mod Rows
 pub mod Steps
 pub mod Blocks
 pub mod Settling
+pub mod Kept
+pub mod Shapes
+pub mod Ending

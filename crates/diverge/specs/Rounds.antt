@@ -156,18 +156,23 @@ start_row f = record { variables = replicate (length f.variables) fresh; result 
 abbrev pub start : Program → State
 start program = record { rows = map start_row program.functions; grew = false }
 
--- how many entries there are, a result counting as one: each round but the last adds one
+-- how many entries there are, a result counting as one
 abbrev pub entries_of : List Function → ℕ
 entries_of [] = 0
 entries_of (f ∷ rest) = (length f.variables + 1) + entries_of rest
 
-abbrev pub entry_count : Program → ℕ
-entry_count program = entries_of program.functions
+-- each round but the last makes an entry vary
+abbrev pub round_limit : Program → ℕ
+round_limit program = 1 + entries_of program.functions
 
 -- which variables vary
 abbrev pub marks_of : Row → List Test
 marks_of row = map (λ e. e.varies) row.variables
 
+-- what is known at the end
+abbrev pub known_of : Program → State
+known_of program = rounds program (round_limit program) (start program)
+
 -- which variables of which functions of a program vary
 abbrev pub varying_of : Program → List (List Test)
-varying_of program = map marks_of (rounds program (entry_count program) (start program)).rows
+varying_of program = map marks_of (known_of program).rows

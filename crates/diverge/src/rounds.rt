@@ -4,7 +4,7 @@ ghost use Rattle.std.specs.Prelude.{◌≡◌, IfOk, map};
 ghost use Rattle.cl_model.specs.View.{function_of, program_of};
 ghost use Rattle.diverge.specs.Known.{row_of, state_of};
 ghost use Rattle.diverge.specs.Rounds as spec;
-ghost use Rattle.diverge.specs.Marks.{marks};
+ghost use Rattle.diverge.specs.Marks.{FitsProgram, IsSettled, marks};
 
 use crate::known::{Known, Row, Spot, fresh, leave, leave_result};
 use crate::statements::statements;
@@ -94,11 +94,11 @@ fn start(alloc: Global, program: &Program) -> Result<Known, Memory>
     Ok(Known { rows, grew: false })
 }
 
-// How many entries there are; `Memory` where no memory could hold so many.
-fn entry_count(program: &Program) -> Result<usize, Memory>
-    ensures { IfOk result (λ n. n ≡ spec.entry_count (program_of program.now)) }
+// One more than there are entries; `Memory` where no memory could hold so many.
+fn round_limit(program: &Program) -> Result<usize, Memory>
+    ensures { IfOk result (λ n. n ≡ spec.round_limit (program_of program.now)) }
 {
-    let mut count = 0usize;
+    let mut count = 1usize;
     for own in &program.functions {
         match own.vars.len().checked_add(1) {
             None => return Err(Memory),
@@ -138,10 +138,12 @@ fn listed(alloc: Global, known: &Known) -> Result<Varying, Memory>
 
 /// Which variables of which functions of a program vary; `Memory` where memory is refused.
 pub fn analyse(alloc: Global, program: &Program) -> Result<Varying, Memory>
-    ensures { IfOk result (λ v. marks v ≡ spec.varying_of (program_of program.now)) }
+    ensures exact { IfOk result (λ v. marks v ≡ spec.varying_of (program_of program.now)) }
+    ensures settled { IsSettled (program_of program.now) }
+    ensures shape { IfOk result (λ v. FitsProgram (program_of program.now) (marks v)) }
 {
     let mut known = start(alloc, program)?;
-    let limit = entry_count(program)?;
+    let limit = round_limit(program)?;
     settle(program, limit, &mut known);
     listed(alloc, &known)
 }

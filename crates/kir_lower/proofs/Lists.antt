@@ -1,5 +1,5 @@
 -- Lines put one after another, and lists taken item by item.
-use Rattle.std.proofs.Common.{◌≡◌, ◌∷◌, ◌++◌, List, [], ℕ, suc, ◌+◌, ◌<◌, Option, Some, None, length, drop, get_or, true, refl, ap, sym, ◌∙◌, arith, drop-cons, false, if◌then◌else◌}
+use Rattle.std.proofs.Common.{◌≡◌, ◌∷◌, ◌++◌, List, [], ℕ, suc, ◌+◌, ◌<◌, Option, Some, None, length, drop, get_or, refl, ap, sym, ◌∙◌, arith, drop-cons, false, if◌then◌else◌}
 use Rattle.kir.specs.declared.line.Line.{Line}
 use Rattle.kir.specs.declared.line.Line.TheVariants as line
 use Rattle.kir.specs.Tree.{Lines, NoLine, SetThen, LoadThen, StoreThen, ClearThen, IfThen, LoopThen, BarrierThen, joined_to}

@@ -1,5 +1,5 @@
 -- Nodes whose parts stand in a `Vec`, and their parts one after another.
-use Rattle.std.proofs.Common.{◌≡◌, ◌∷◌, ◌++◌, List, [], ℕ, suc, ◌+◌, ◌≤◌, add-one, refl, ap, ap₂, sym, ◌∙◌, append_assoc, arith, Global}
+use Rattle.std.proofs.Common.{◌≡◌, ◌∷◌, ◌++◌, List, [], ℕ, suc, ◌+◌, add-one, ap, ap₂, sym, ◌∙◌, append_assoc, Global}
 use Rattle.std.specs.declared.vec.Vec.{Vec}
 use Rattle.wg_num.specs.declared.types.IntType.{IntType}
 use Rattle.wg_num.specs.declared.types.Fun.{Fun}

@@ -1,11 +1,11 @@
 -- The lines of single steps: each computes a new cell from atoms, sets a variable's cell, or accesses an element.
-use Rattle.std.specs.Prelude.{ℕ, suc, ◌+◌, ℤ, pos, List, [], ◌∷◌, Option, Some, None, map, slice_get, unwrap_or, if◌then◌else◌}
+use Rattle.std.specs.Prelude.{ℕ, ◌+◌, ℤ, pos, List, [], ◌∷◌, Option, Some, None, map, if◌then◌else◌}
 use Rattle.std.specs.Prelude.{Bool as Test, true, false}
 use Rattle.wg_num.specs.declared.types.IntType.{IntType}
 use Rattle.wg_num.specs.declared.types.IntType.TheVariants.{Int, Long}
 use Rattle.wg_num.specs.declared.types.Un.TheVariants.{Not}
 use Rattle.wg_num.specs.declared.types.Bin.{Bin}
-use Rattle.wg_num.specs.declared.types.Bin.TheVariants.{And, Or, Eq, Ne}
+use Rattle.wg_num.specs.declared.types.Bin.TheVariants.{And, Eq, Ne}
 use Rattle.wg_num.specs.Builtins.{result_type}
 use Rattle.cl_model.specs.declared.program.Root.{Root}
 use Rattle.cl_model.specs.declared.program.Root.TheVariants.{Private}

@@ -1,15 +1,14 @@
 -- The lines of expressions and statements, each called function's lines in place of the call.
-use Rattle.std.specs.Prelude.{ℕ, suc, ◌+◌, pos, List, [], ◌∷◌, Option, Some, None, length, ◌&&◌, if◌then◌else◌}
+use Rattle.std.specs.Prelude.{ℕ, ◌+◌, pos, List, [], ◌∷◌, Option, Some, None, ◌&&◌, if◌then◌else◌}
 use Rattle.std.specs.Prelude.{Bool as Test, true, false}
 use Rattle.wg_num.specs.declared.types.IntType.{IntType}
 use Rattle.wg_num.specs.declared.types.IntType.TheVariants.{Int}
 use Rattle.wg_num.specs.declared.types.Bin.TheVariants.{Or, Eq}
 use Rattle.cl_model.specs.declared.program.Root.{Root}
-use Rattle.cl_model.specs.Tree as tree
 use Rattle.cl_model.specs.Tree.{Expression, Apply, Update, Choose, Call, Expressions, none, more, Statement, Do, Declare, Fill, Block, If, Loop, Switch, Break, Continue, Return, Barrier, Statements, empty, also, Arms, no_arm, arm, Function}
 use Rattle.kir.specs.declared.line.Atom.{Atom}
 use Rattle.kir.specs.declared.line.Atom.TheVariants.{Cell as CellAtom}
-use Rattle.kir.specs.Tree.{Lines, NoLine, SetThen, ClearThen, IfThen, BarrierThen, Copy, joined_to, OfValue}
+use Rattle.kir.specs.Tree.{Lines, NoLine, ClearThen, IfThen, BarrierThen, joined_to, OfValue}
 use Rattle.kir_lower.specs.declared.places.Value.{Value}
 use Rattle.kir_lower.specs.Made.{Made, next_cell, with_cell, Instance, type_at, element_at, root_in, argument_roots, int, constant}
 use Rattle.kir_lower.specs.Ways.{way_out, way_out_of_all, way_out_of_arms, declares}

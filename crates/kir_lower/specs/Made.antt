@@ -1,5 +1,5 @@
 -- What a kernel has so far, and where a function's variables, arrays and result stand in it.
-use Rattle.std.specs.Prelude.{ℕ, suc, ◌+◌, ℤ, pos, List, [], ◌∷◌, ◌++◌, Option, Some, None, length, map, slice_get, unwrap_or}
+use Rattle.std.specs.Prelude.{ℕ, ◌+◌, ℤ, List, [], ◌∷◌, ◌++◌, Option, Some, None, length, map, slice_get, unwrap_or}
 use Rattle.wg_num.specs.declared.types.IntType.{IntType}
 use Rattle.wg_num.specs.declared.types.IntType.TheVariants.{Int}
 use Rattle.wg_num.specs.declared.types.Place.{Place}
@@ -9,8 +9,8 @@ use Rattle.cl_model.specs.declared.program.VarKind.{VarKind}
 use Rattle.cl_model.specs.Tree.{Array}
 use Rattle.cl_model.specs.Valid.{kind_type}
 use Rattle.kir.specs.declared.line.Atom.{Atom}
-use Rattle.kir.specs.declared.line.Atom.TheVariants.{Const, Cell as CellAtom}
-use Rattle.kir.specs.Tree.{Lines, CellKind, OfVariable, OfFlag, OfValue, Cell}
+use Rattle.kir.specs.declared.line.Atom.TheVariants.{Const}
+use Rattle.kir.specs.Tree.{CellKind, OfVariable, Cell}
 use Rattle.kir.specs.Lowering.{Named}
 use Rattle.kir_lower.specs.declared.places.Value.{Value}
 

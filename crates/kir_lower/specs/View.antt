@@ -2,7 +2,6 @@
 use Rattle.std.specs.Prelude.{List, map, Option, Some, None}
 use Rattle.std.specs.Global.{Global}
 use Rattle.std.specs.declared.boxed.Box.{Box}
-use Rattle.cl_model.specs.declared.program.Program.{Program}
 use Rattle.cl_model.specs.declared.program.Function.{Function}
 use Rattle.cl_model.specs.declared.program.Var.{Var}
 use Rattle.cl_model.specs.declared.program.Stmt.{Stmt}

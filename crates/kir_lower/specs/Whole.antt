@@ -1,5 +1,5 @@
 -- The kernel that a program is lowered to.
-use Rattle.std.specs.Prelude.{ℕ, zero, suc, ◌+◌, pos, List, [], ◌∷◌, ◌++◌, Option, Some, None, length, map, slice_get, unwrap_or}
+use Rattle.std.specs.Prelude.{ℕ, zero, suc, ◌+◌, pos, List, [], ◌∷◌, ◌++◌, length, map, slice_get, unwrap_or}
 use Rattle.wg_num.specs.declared.types.IntType.TheVariants.{Int}
 use Rattle.wg_num.specs.declared.types.Place.{Place}
 use Rattle.cl_model.specs.declared.program.Root.{Root}
@@ -9,11 +9,11 @@ use Rattle.cl_model.specs.Tree.{Array, Function, Program}
 use Rattle.cl_model.specs.Calls.{function_at}
 use Rattle.cl_model.specs.Calls as called
 use Rattle.cl_model.specs.Valid.{kind_type, parameter_kinds}
-use Rattle.kir.specs.Tree.{Lines, NoLine, SetThen, Argument, Copy, joined_to, Kernel}
+use Rattle.kir.specs.Tree.{Lines, NoLine, SetThen, Argument, Copy, Kernel}
 use Rattle.kir.specs.Lowering.{Named}
 use Rattle.kir_lower.specs.declared.places.Value.{Value}
 use Rattle.kir_lower.specs.Made.{Made, next_cell, Instance, constant, variable_cells}
-use Rattle.kir_lower.specs.Actions.{Code, given, behind, set_to}
+use Rattle.kir_lower.specs.Actions.{Code, given, behind}
 use Rattle.kir_lower.specs.Code.{Calls, body_code}
 
 -- the names of a function's variables

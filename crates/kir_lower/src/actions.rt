@@ -45,7 +45,12 @@ pub struct Part {
 }
 
 /// A copy of a variable.
-pub fn put_variable(here: &Instance<'_>, made: &mut Made, lines: &mut Vec<Line>, x: u32) -> Result<Value, Memory>
+pub fn put_variable(
+    here: &Instance<'_>,
+    made: &mut Made,
+    lines: &mut Vec<Line>,
+    x: u32,
+) -> Result<Value, Memory>
     ensures lines { OnOk result (lines_of lines.new.items ≡ joined_to (lines_of lines.old.items) (spec.action_code (instance_of here.now) (tree.Variable x) [] (made_of made.old)).lines) }
     ensures value { IfOk result (λ v. v ≡ (spec.action_code (instance_of here.now) (tree.Variable x) [] (made_of made.old)).value) }
     ensures made { OnOk result (made_of made.new ≡ (spec.action_code (instance_of here.now) (tree.Variable x) [] (made_of made.old)).made) }
@@ -56,27 +61,55 @@ pub fn put_variable(here: &Instance<'_>, made: &mut Made, lines: &mut Vec<Line>,
 }
 
 /// A variable is set.
-pub fn put_assigned(here: &Instance<'_>, lines: &mut Vec<Line>, x: u32, value: Value) -> Result<(), Memory>
+pub fn put_assigned(
+    here: &Instance<'_>,
+    lines: &mut Vec<Line>,
+    x: u32,
+    value: Value,
+) -> Result<(), Memory>
     ensures { OnOk result (lines_of lines.new.items ≡ joined_to (lines_of lines.old.items) (spec.set_to ((instance_of here.now).base + x) value.atom)) }
 {
     let cell = cell_at(here, x)?;
     put_copy(lines, cell, value.atom)
 }
 
-pub fn put_unary(made: &mut Made, lines: &mut Vec<Line>, op: Un, of: IntType, a: Value) -> Result<Value, Memory>
+pub fn put_unary(
+    made: &mut Made,
+    lines: &mut Vec<Line>,
+    op: Un,
+    of: IntType,
+    a: Value,
+) -> Result<Value, Memory>
     ensures lines { OnOk result (lines_of lines.new.items ≡ joined_to (lines_of lines.old.items) (spec.computed (Unary op of a.atom) (valid.unary_type op of) (made_of made.old)).lines) }
     ensures value { IfOk result (λ v. v ≡ (spec.computed (Unary op of a.atom) (valid.unary_type op of) (made_of made.old)).value) }
     ensures made { OnOk result (made_of made.new ≡ (spec.computed (Unary op of a.atom) (valid.unary_type op of) (made_of made.old)).made) }
 {
-    put_computed(made, lines, Work::Unary { op, of, a: a.atom }, unary_type(op, of))
+    put_computed(
+        made,
+        lines,
+        Work::Unary { op, of, a: a.atom },
+        unary_type(op, of),
+    )
 }
 
-pub fn put_binary(made: &mut Made, lines: &mut Vec<Line>, op: Bin, of: IntType, a: Atom, b: Atom) -> Result<Value, Memory>
+pub fn put_binary(
+    made: &mut Made,
+    lines: &mut Vec<Line>,
+    op: Bin,
+    of: IntType,
+    a: Atom,
+    b: Atom,
+) -> Result<Value, Memory>
     ensures lines { OnOk result (lines_of lines.new.items ≡ joined_to (lines_of lines.old.items) (spec.operated op of a b (made_of made.old)).lines) }
     ensures value { IfOk result (λ v. v ≡ (spec.operated op of a b (made_of made.old)).value) }
     ensures made { OnOk result (made_of made.new ≡ (spec.operated op of a b (made_of made.old)).made) }
 {
-    put_computed(made, lines, Work::Binary { op, of, a, b }, binary_type(op, of))
+    put_computed(
+        made,
+        lines,
+        Work::Binary { op, of, a, b },
+        binary_type(op, of),
+    )
 }
 
 fn atoms_of(alloc: Global, values: &[Value]) -> Result<Vec<Atom>, Memory>
@@ -89,16 +122,33 @@ fn atoms_of(alloc: Global, values: &[Value]) -> Result<Vec<Atom>, Memory>
     Ok(atoms)
 }
 
-pub fn put_builtin(alloc: Global, made: &mut Made, lines: &mut Vec<Line>, f: Fun, of: IntType, values: &[Value]) -> Result<Value, Memory>
+pub fn put_builtin(
+    alloc: Global,
+    made: &mut Made,
+    lines: &mut Vec<Line>,
+    f: Fun,
+    of: IntType,
+    values: &[Value],
+) -> Result<Value, Memory>
     ensures lines { OnOk result (lines_of lines.new.items ≡ joined_to (lines_of lines.old.items) (spec.computed (Builtin f of (spec.atoms_of values.now)) (builtins.result_type f of) (made_of made.old)).lines) }
     ensures value { IfOk result (λ v. v ≡ (spec.computed (Builtin f of (spec.atoms_of values.now)) (builtins.result_type f of) (made_of made.old)).value) }
     ensures made { OnOk result (made_of made.new ≡ (spec.computed (Builtin f of (spec.atoms_of values.now)) (builtins.result_type f of) (made_of made.old)).made) }
 {
     let args = atoms_of(alloc, values)?;
-    put_computed(made, lines, Work::Builtin { f, of, args }, result_type(f, of))
+    put_computed(
+        made,
+        lines,
+        Work::Builtin { f, of, args },
+        result_type(f, of),
+    )
 }
 
-pub fn put_converted(made: &mut Made, lines: &mut Vec<Line>, to: IntType, a: Atom) -> Result<Value, Memory>
+pub fn put_converted(
+    made: &mut Made,
+    lines: &mut Vec<Line>,
+    to: IntType,
+    a: Atom,
+) -> Result<Value, Memory>
     ensures lines { OnOk result (lines_of lines.new.items ≡ joined_to (lines_of lines.old.items) (spec.converted to a (made_of made.old)).lines) }
     ensures value { IfOk result (λ v. v ≡ (spec.converted to a (made_of made.old)).value) }
     ensures made { OnOk result (made_of made.new ≡ (spec.converted to a (made_of made.old)).made) }
@@ -106,12 +156,25 @@ pub fn put_converted(made: &mut Made, lines: &mut Vec<Line>, to: IntType, a: Ato
     put_computed(made, lines, Work::Convert { to, a }, to)
 }
 
-pub fn put_answer(made: &mut Made, lines: &mut Vec<Line>, what: cl_model::Query, dim: Value) -> Result<Value, Memory>
+pub fn put_answer(
+    made: &mut Made,
+    lines: &mut Vec<Line>,
+    what: cl_model::Query,
+    dim: Value,
+) -> Result<Value, Memory>
     ensures lines { OnOk result (lines_of lines.new.items ≡ joined_to (lines_of lines.old.items) (spec.computed (Ask what dim.atom) (valid.query_type what) (made_of made.old)).lines) }
     ensures value { IfOk result (λ v. v ≡ (spec.computed (Ask what dim.atom) (valid.query_type what) (made_of made.old)).value) }
     ensures made { OnOk result (made_of made.new ≡ (spec.computed (Ask what dim.atom) (valid.query_type what) (made_of made.old)).made) }
 {
-    put_computed(made, lines, Work::Ask { what, dim: dim.atom }, query_type(what))
+    put_computed(
+        made,
+        lines,
+        Work::Ask {
+            what,
+            dim: dim.atom,
+        },
+        query_type(what),
+    )
 }
 
 /// Whether a value is not 0.
@@ -162,7 +225,13 @@ pub fn put_stored(lines: &mut Vec<Line>, element: Element, from: Atom) -> Result
 
 /// The new value of a compound assignment.
 #[tactic(auto, using(crate::proofs::Lists::join_assoc))]
-pub fn put_changed(made: &mut Made, lines: &mut Vec<Line>, change: Change, was: Atom, by: Atom) -> Result<Value, Memory>
+pub fn put_changed(
+    made: &mut Made,
+    lines: &mut Vec<Line>,
+    change: Change,
+    was: Atom,
+    by: Atom,
+) -> Result<Value, Memory>
     ensures lines { OnOk result (lines_of lines.new.items ≡ joined_to (lines_of lines.old.items) (spec.changed change.op change.of change.back was by (made_of made.old)).lines) }
     ensures value { IfOk result (λ v. v ≡ (spec.changed change.op change.of change.back was by (made_of made.old)).value) }
     ensures made { OnOk result (made_of made.new ≡ (spec.changed change.op change.of change.back was by (made_of made.old)).made) }
@@ -173,7 +242,14 @@ pub fn put_changed(made: &mut Made, lines: &mut Vec<Line>, change: Change, was: 
 }
 
 /// The value of one of two branches, whose last lines set one new cell.
-pub fn put_choice(made: &mut Made, lines: &mut Vec<Line>, site: u32, test: Atom, yes: Part, no: Part) -> Result<Value, Memory>
+pub fn put_choice(
+    made: &mut Made,
+    lines: &mut Vec<Line>,
+    site: u32,
+    test: Atom,
+    yes: Part,
+    no: Part,
+) -> Result<Value, Memory>
     ensures lines { OnOk result (lines_of lines.new.items ≡ joined_to (lines_of lines.old.items) (spec.choice_code site test (lines_of yes.lines.items) yes.value (lines_of no.lines.items) no.value (made_of made.old)).lines) }
     ensures value { IfOk result (λ v. v ≡ (spec.choice_code site test (lines_of yes.lines.items) yes.value (lines_of no.lines.items) no.value (made_of made.old)).value) }
     ensures made { OnOk result (made_of made.new ≡ (spec.choice_code site test (lines_of yes.lines.items) yes.value (lines_of no.lines.items) no.value (made_of made.old)).made) }
@@ -199,7 +275,13 @@ pub fn put_choice(made: &mut Made, lines: &mut Vec<Line>, site: u32, test: Atom,
 
 /// The stores of values into the elements of a private array, from the first on.
 #[tactic(auto, using(crate::proofs::Lists::join_assoc, crate::proofs::Lists::join_none))]
-fn put_initial(lines: &mut Vec<Line>, site: u32, of: IntType, array: u32, values: &[Value]) -> Result<(), Memory>
+fn put_initial(
+    lines: &mut Vec<Line>,
+    site: u32,
+    of: IntType,
+    array: u32,
+    values: &[Value],
+) -> Result<(), Memory>
     ensures { OnOk result (lines_of lines.new.items ≡ joined_to (lines_of lines.old.items) (spec.initial_lines site of array 0 values.now)) }
 {
     let mut rest = values;
@@ -220,7 +302,13 @@ fn put_initial(lines: &mut Vec<Line>, site: u32, of: IntType, array: u32, values
 
 /// The values for the first elements of a private array that is zeros.
 #[tactic(auto, using(crate::proofs::Lists::join_assoc))]
-pub fn put_filled(lines: &mut Vec<Line>, site: u32, of: IntType, array: u32, values: &[Value]) -> Result<(), Memory>
+pub fn put_filled(
+    lines: &mut Vec<Line>,
+    site: u32,
+    of: IntType,
+    array: u32,
+    values: &[Value],
+) -> Result<(), Memory>
     ensures { OnOk result (lines_of lines.new.items ≡ joined_to (lines_of lines.old.items) (ClearThen array (spec.initial_lines site of array 0 values.now))) }
 {
     put(lines, Line::Clear { array })?;

@@ -38,7 +38,14 @@ pub fn default_number(arms: &[SwitchArm]) -> usize
 
 /// An arm is chosen where the value is one of its labels.
 #[tactic(auto, using(crate::proofs::Lists::join_assoc, crate::proofs::Lists::join_none))]
-fn put_labels(alloc: Global, made: &mut Made, lines: &mut Vec<Line>, of: Compared, number: u32, labels: &[i128]) -> Result<(), Memory>
+fn put_labels(
+    alloc: Global,
+    made: &mut Made,
+    lines: &mut Vec<Line>,
+    of: Compared,
+    number: u32,
+    labels: &[i128],
+) -> Result<(), Memory>
     ensures lines { OnOk result (lines_of lines.new.items ≡ joined_to (lines_of lines.old.items) (spec.labels_code of.site of.value of.chosen number labels.now (made_of made.old)).lines) }
     ensures made { OnOk result (made_of made.new ≡ (spec.labels_code of.site of.value of.chosen number labels.now (made_of made.old)).made) }
 {
@@ -52,7 +59,14 @@ fn put_labels(alloc: Global, made: &mut Made, lines: &mut Vec<Line>, of: Compare
 
 /// An arm is chosen where the value is a label.
 #[tactic(auto, using(crate::proofs::Lists::join_assoc, crate::proofs::Lists::join_none))]
-fn put_label(alloc: Global, made: &mut Made, lines: &mut Vec<Line>, of: Compared, number: u32, label: i128) -> Result<(), Memory>
+fn put_label(
+    alloc: Global,
+    made: &mut Made,
+    lines: &mut Vec<Line>,
+    of: Compared,
+    number: u32,
+    label: i128,
+) -> Result<(), Memory>
     ensures lines { OnOk result (lines_of lines.new.items ≡ joined_to (lines_of lines.old.items) (spec.label_code of.site of.value of.chosen number label (made_of made.old)).lines) }
     ensures made { OnOk result (made_of made.new ≡ (spec.label_code of.site of.value of.chosen number label (made_of made.old)).made) }
 {
@@ -65,7 +79,13 @@ fn put_label(alloc: Global, made: &mut Made, lines: &mut Vec<Line>, of: Compared
 
 /// The arm of which the value is a label is chosen.
 #[tactic(auto, using(crate::proofs::Lists::join_assoc, crate::proofs::Lists::join_none))]
-fn put_all_labels(alloc: Global, made: &mut Made, lines: &mut Vec<Line>, of: Compared, arms: &[SwitchArm]) -> Result<(), Memory>
+fn put_all_labels(
+    alloc: Global,
+    made: &mut Made,
+    lines: &mut Vec<Line>,
+    of: Compared,
+    arms: &[SwitchArm],
+) -> Result<(), Memory>
     ensures lines { OnOk result (lines_of lines.new.items ≡ joined_to (lines_of lines.old.items) ((spec.all_labels_code of.site of.value of.chosen 0 (listed_arms arms.now) (made_of made.old)).lines)) }
     ensures made { OnOk result (made_of made.new ≡ (spec.all_labels_code of.site of.value of.chosen 0 (listed_arms arms.now) (made_of made.old)).made) }
 {
@@ -81,7 +101,14 @@ fn put_all_labels(alloc: Global, made: &mut Made, lines: &mut Vec<Line>, of: Com
 
 /// The number of the arm that is chosen, in a cell.
 #[tactic(auto, using(crate::proofs::Lists::join_assoc, crate::proofs::Lists::join_none))]
-pub fn put_chosen(alloc: Global, made: &mut Made, lines: &mut Vec<Line>, site: u32, value: Value, arms: &[SwitchArm]) -> Result<Atom, Memory>
+pub fn put_chosen(
+    alloc: Global,
+    made: &mut Made,
+    lines: &mut Vec<Line>,
+    site: u32,
+    value: Value,
+    arms: &[SwitchArm],
+) -> Result<Atom, Memory>
     ensures lines { OnOk result (lines_of lines.new.items ≡ joined_to (lines_of lines.old.items) (spec.selected site value (listed_arms arms.now) (made_of made.old)).lines) }
     ensures value { IfOk result (λ a. a ≡ (spec.selected site value (listed_arms arms.now) (made_of made.old)).value.atom) }
     ensures made { OnOk result (made_of made.new ≡ (spec.selected site value (listed_arms arms.now) (made_of made.old)).made) }

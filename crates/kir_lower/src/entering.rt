@@ -1,6 +1,7 @@
 //! A call: a function's cells and arrays, its parameters and its result.
 
-ghost use Rattle.std.specs.Prelude.{◌≡◌, ◌+◌, ◌++◌, ◌∷◌, [], IfOk, OnOk, map, slice_get};
+ghost use Rattle.std.specs.Prelude.{◌≡◌, ◌+◌, ◌++◌, ◌∷◌, [], IfOk, OnOk, length, map, slice_get};
+ghost use Rattle.cl_model.specs.Tree as tree;
 ghost use Rattle.cl_model.specs.Valid as valid;
 ghost use Rattle.cl_model.specs.View.{function_of, program_of, root_of};
 ghost use Rattle.kir.specs.Listed.{lines_of, cell_of};
@@ -48,7 +49,14 @@ pub fn roots_in(alloc: Global, here: &Instance<'_>, args: &[Arg]) -> Result<Vec<
 }
 
 /// The cell of a variable of a function behind these calls.
-fn variable_cell(alloc: Global, calls: &[u32], places: &[Place], function: u32, var: u32, declared: &Var) -> Result<Cell, Memory>
+fn variable_cell(
+    alloc: Global,
+    calls: &[u32],
+    places: &[Place],
+    function: u32,
+    var: u32,
+    declared: &Var,
+) -> Result<Cell, Memory>
     ensures { IfOk result (λ c. cell_of c ≡ record { kind = OfVariable (record { calls = calls.now; function = function; number = var }) (places.now ++ declared.now.place ∷ []) declared.now.name; of = valid.kind_type declared.now.kind }) }
 {
     let path = longer_places(alloc, places, declared.place)?;
@@ -69,7 +77,14 @@ fn variable_cell(alloc: Global, calls: &[u32], places: &[Place], function: u32, 
 }
 
 /// Makes the cells of a function's variables.
-fn add_variables(alloc: Global, made: &mut Made, calls: &[u32], places: &[Place], function: u32, vars: &[Var]) -> Result<(), Memory>
+fn add_variables(
+    alloc: Global,
+    made: &mut Made,
+    calls: &[u32],
+    places: &[Place],
+    function: u32,
+    vars: &[Var],
+) -> Result<(), Memory>
     ensures arrays { OnOk result (made.new.arrays ≡ made.old.arrays) }
     ensures cells { OnOk result (map cell_of made.new.cells.items ≡ map cell_of made.old.cells.items ++ spec.variable_cells calls.now places.now function 0 (names_listed vars.now) (map (λ v. v.kind) vars.now)) }
 {
@@ -94,26 +109,30 @@ pub struct Way {
     pub function: u32,
 }
 
-/// A function behind calls, with new cells for its variables and new arrays.
-pub fn placed<'a>(alloc: Global, program: &'a Program, made: &mut Made, way: Way, function: &Function) -> Result<Instance<'a>, Memory>
-    ensures here { IfOk result (λ i. instance_of i ≡ whole.instance_at (way_of way) (function_of function.now) (made_of made.old)) }
-    ensures depth { IfOk result (λ i. i.depth ≡ way.depth) }
-    ensures program { IfOk result (λ i. i.program.now ≡ program.now) }
-    ensures made { OnOk result (made_of made.new ≡ whole.with_instance (way_of way) (names_in function.now) (function_of function.now) (made_of made.old)) }
+/// What a function keeps of its variables and arrays: their types, and where they begin.
+#[derive(Drop)]
+struct Room {
+    types: Vec<IntType>,
+    elements: Vec<IntType>,
+    base: u32,
+    arrays: u32,
+    answer: u32,
+}
+
+/// The room of a function behind what is made.
+fn room_for(alloc: Global, made: &Made, function: &Function) -> Result<Room, Memory>
+    ensures types { IfOk result (λ r. r.types.items ≡ map valid.kind_type (function_of function.now).variables) }
+    ensures elements { IfOk result (λ r. r.elements.items ≡ map (λ (a : tree.Array). a.element) (function_of function.now).arrays) }
+    ensures base { IfOk result (λ r. r.base ≡ spec.next_cell (made_of made.now)) }
+    ensures arrays { IfOk result (λ r. r.arrays ≡ length (made_of made.now).arrays) }
+    ensures answer { IfOk result (λ r. r.answer ≡ spec.next_cell (made_of made.now) + length (function_of function.now).variables) }
 {
     let base = number(made.cells.len())?;
     let arrays = number(made.arrays.len())?;
     let answer = behind(base, number(function.vars.len())?)?;
-    add_variables(alloc, made, &way.calls, &way.places, way.function, &function.vars)?;
-    add_arrays(alloc, made, &function.arrays)?;
     let types = types_of(alloc, &function.vars)?;
     let elements = elements_of(alloc, &function.arrays)?;
-    Ok(Instance {
-        program,
-        depth: way.depth,
-        calls: way.calls,
-        places: way.places,
-        roots: way.roots,
+    Ok(Room {
         types,
         elements,
         base,
@@ -122,8 +141,58 @@ pub fn placed<'a>(alloc: Global, program: &'a Program, made: &mut Made, way: Way
     })
 }
 
+/// Makes the cells of a function's variables and its arrays.
+fn make_cells(alloc: Global, made: &mut Made, way: &Way, function: &Function) -> Result<(), Memory>
+    ensures { OnOk result (made_of made.new ≡ whole.with_instance (way_of way.now) (names_in function.now) (function_of function.now) (made_of made.old)) }
+{
+    add_variables(
+        alloc,
+        made,
+        &way.calls,
+        &way.places,
+        way.function,
+        &function.vars,
+    )?;
+    add_arrays(alloc, made, &function.arrays)
+}
+
+/// A function behind calls, with new cells for its variables and new arrays.
+pub fn placed<'a>(
+    alloc: Global,
+    program: &'a Program,
+    made: &mut Made,
+    way: Way,
+    function: &Function,
+) -> Result<Instance<'a>, Memory>
+    ensures here { IfOk result (λ i. instance_of i ≡ whole.instance_at (way_of way) (function_of function.now) (made_of made.old)) }
+    ensures depth { IfOk result (λ i. i.depth ≡ way.depth) }
+    ensures program { IfOk result (λ i. i.program.now ≡ program.now) }
+    ensures made { OnOk result (made_of made.new ≡ whole.with_instance (way_of way) (names_in function.now) (function_of function.now) (made_of made.old)) }
+{
+    let room = room_for(alloc, made, function)?;
+    make_cells(alloc, made, &way, function)?;
+    Ok(Instance {
+        program,
+        depth: way.depth,
+        calls: way.calls,
+        places: way.places,
+        roots: way.roots,
+        types: room.types,
+        elements: room.elements,
+        base: room.base,
+        arrays: room.arrays,
+        answer: room.answer,
+    })
+}
+
 /// The function that is called.
-pub fn enter<'a>(alloc: Global, here: &Instance<'a>, made: &mut Made, callee: Callee, function: &Function) -> Result<Instance<'a>, Memory>
+pub fn enter<'a>(
+    alloc: Global,
+    here: &Instance<'a>,
+    made: &mut Made,
+    callee: Callee,
+    function: &Function,
+) -> Result<Instance<'a>, Memory>
     ensures here { IfOk result (λ i. instance_of i ≡ whole.instance_at (whole.way_behind (program_of here.now.program.now) (instance_of here.now) callee.site callee.function callee.roots.items) (function_of function.now) (made_of made.old)) }
     ensures depth { IfOk result (λ i. i.depth + 1 ≡ here.now.depth) }
     ensures program { IfOk result (λ i. i.program.now ≡ here.now.program.now) }
@@ -179,7 +248,11 @@ pub fn put_bound(lines: &mut Vec<Line>, base: u32, kinds: &[VarKind]) -> Result<
 
 /// The result of a function, if it has one: a new cell, 0 at first.
 #[tactic(auto, using(crate::proofs::Lists::join_none))]
-pub fn put_result(made: &mut Made, lines: &mut Vec<Line>, gives: Option<IntType>) -> Result<Value, Memory>
+pub fn put_result(
+    made: &mut Made,
+    lines: &mut Vec<Line>,
+    gives: Option<IntType>,
+) -> Result<Value, Memory>
     ensures lines { OnOk result (lines_of lines.new.items ≡ joined_to (lines_of lines.old.items) (code.result_code gives (made_of made.old)).lines) }
     ensures value { IfOk result (λ v. v ≡ (code.result_code gives (made_of made.old)).value) }
     ensures made { OnOk result (made_of made.new ≡ (code.result_code gives (made_of made.old)).made) }

@@ -26,20 +26,8 @@ pub fn way_out(s: &Stmt, breaks: bool, continues: bool) -> Option<u32>
         },
         Stmt::Loop { body, .. } => way_out(body, false, false),
         Stmt::Switch { arms, .. } => way_out_of_arms(arms, false, continues),
-        Stmt::Break { site } => {
-            if breaks {
-                Some(*site)
-            } else {
-                None
-            }
-        }
-        Stmt::Continue { site } => {
-            if continues {
-                Some(*site)
-            } else {
-                None
-            }
-        }
+        Stmt::Break { site } => { if breaks { Some(*site) } else { None } }
+        Stmt::Continue { site } => { if continues { Some(*site) } else { None } }
         Stmt::Return { site, .. } => Some(*site),
     }
 }

@@ -34,7 +34,13 @@ use wg_num::{Bin, IntType, Memory};
 /// The lines of an expression, which give its value.
 #[cycle(lowering)]
 #[tactic(auto, using(crate::proofs::Lists::join_assoc, crate::proofs::Lists::join_none), unfolding(crate::specs::Code::expression_code))]
-fn put_expression(alloc: Global, here: &Instance<'_>, made: &mut Made, lines: &mut Vec<Line>, e: &Expr) -> Result<Value, Memory>
+fn put_expression(
+    alloc: Global,
+    here: &Instance<'_>,
+    made: &mut Made,
+    lines: &mut Vec<Line>,
+    e: &Expr,
+) -> Result<Value, Memory>
     ensures lines { OnOk result (lines_of lines.new.items ≡ joined_to (lines_of lines.old.items) (expression_code (calls_in here.now) (instance_of here.now) (expression_of e.now) (made_of made.old)).lines) }
     ensures value { IfOk result (λ v. v ≡ (expression_code (calls_in here.now) (instance_of here.now) (expression_of e.now) (made_of made.old)).value) }
     ensures made { OnOk result (made_of made.new ≡ (expression_code (calls_in here.now) (instance_of here.now) (expression_of e.now) (made_of made.old)).made) }
@@ -42,36 +48,14 @@ fn put_expression(alloc: Global, here: &Instance<'_>, made: &mut Made, lines: &m
     match e {
         Expr::Literal { value, of } => Ok(constant(*value, *of)),
         Expr::Variable(x) => put_variable(here, made, lines, *x),
-        Expr::Unary { op, of, a } => {
-            let a = put_expression(alloc, here, made, lines, a)?;
-            put_unary(made, lines, *op, *of, a)
-        }
-        Expr::Binary { op, of, a, b } => {
-            let a = put_expression(alloc, here, made, lines, a)?;
-            let b = put_expression(alloc, here, made, lines, b)?;
-            put_binary(made, lines, *op, *of, a.atom, b.atom)
-        }
+        Expr::Unary { .. }
+        | Expr::Binary { .. }
+        | Expr::Convert { .. }
+        | Expr::Load { .. }
+        | Expr::Builtin { .. }
+        | Expr::Ask { .. } => put_operation(alloc, here, made, lines, e),
         Expr::Both { .. } | Expr::Either { .. } | Expr::Choose { .. } => {
             put_alternative(alloc, here, made, lines, e)
-        }
-        Expr::Convert { to, a } => {
-            let a = put_expression(alloc, here, made, lines, a)?;
-            put_converted(made, lines, *to, a.atom)
-        }
-        Expr::Load {
-            site,
-            element,
-            root,
-            index,
-        } => {
-            let index = put_expression(alloc, here, made, lines, index)?;
-            let element = Element {
-                site: *site,
-                of: *element,
-                root: root_in(here, *root)?,
-                index: index.atom,
-            };
-            put_loaded(made, lines, element)
         }
         Expr::Assign { target, value } => put_assignment(alloc, here, made, lines, target, value),
         Expr::Update {
@@ -95,6 +79,57 @@ fn put_expression(alloc: Global, here: &Instance<'_>, made: &mut Made, lines: &m
             function,
             args,
         } => put_call(alloc, here, made, lines, *site, *function, args),
+        Expr::Then { a, b } => {
+            put_expression(alloc, here, made, lines, a)?;
+            put_expression(alloc, here, made, lines, b)
+        }
+    }
+}
+
+/// The lines of an operator, a conversion, a load, a built-in or a work-item function; of another
+/// expression there are none.
+#[cycle(lowering)]
+#[tactic(auto, using(crate::proofs::Lists::join_assoc, crate::proofs::Lists::join_none), unfolding(crate::specs::Code::expression_code))]
+fn put_operation(
+    alloc: Global,
+    here: &Instance<'_>,
+    made: &mut Made,
+    lines: &mut Vec<Line>,
+    e: &Expr,
+) -> Result<Value, Memory>
+    ensures lines { OnOk result (lines_of lines.new.items ≡ joined_to (lines_of lines.old.items) (expression_code (calls_in here.now) (instance_of here.now) (expression_of e.now) (made_of made.old)).lines) }
+    ensures value { IfOk result (λ v. v ≡ (expression_code (calls_in here.now) (instance_of here.now) (expression_of e.now) (made_of made.old)).value) }
+    ensures made { OnOk result (made_of made.new ≡ (expression_code (calls_in here.now) (instance_of here.now) (expression_of e.now) (made_of made.old)).made) }
+{
+    match e {
+        Expr::Unary { op, of, a } => {
+            let a = put_expression(alloc, here, made, lines, a)?;
+            put_unary(made, lines, *op, *of, a)
+        }
+        Expr::Binary { op, of, a, b } => {
+            let a = put_expression(alloc, here, made, lines, a)?;
+            let b = put_expression(alloc, here, made, lines, b)?;
+            put_binary(made, lines, *op, *of, a.atom, b.atom)
+        }
+        Expr::Convert { to, a } => {
+            let a = put_expression(alloc, here, made, lines, a)?;
+            put_converted(made, lines, *to, a.atom)
+        }
+        Expr::Load {
+            site,
+            element,
+            root,
+            index,
+        } => {
+            let index = put_expression(alloc, here, made, lines, index)?;
+            let element = Element {
+                site: *site,
+                of: *element,
+                root: root_in(here, *root)?,
+                index: index.atom,
+            };
+            put_loaded(made, lines, element)
+        }
         Expr::Builtin { f, of, args } => {
             let values = put_expressions(alloc, here, made, lines, args)?;
             put_builtin(alloc, made, lines, *f, *of, &values)
@@ -103,17 +138,20 @@ fn put_expression(alloc: Global, here: &Instance<'_>, made: &mut Made, lines: &m
             let dim = put_expression(alloc, here, made, lines, dim)?;
             put_answer(made, lines, *what, dim)
         }
-        Expr::Then { a, b } => {
-            put_expression(alloc, here, made, lines, a)?;
-            put_expression(alloc, here, made, lines, b)
-        }
+        _ => Err(Memory),
     }
 }
 
 /// The lines of `&&`, `||` or `?:`; of another expression there are none.
 #[cycle(lowering)]
 #[tactic(auto, using(crate::proofs::Lists::join_assoc, crate::proofs::Lists::join_none), unfolding(crate::specs::Code::expression_code))]
-fn put_alternative(alloc: Global, here: &Instance<'_>, made: &mut Made, lines: &mut Vec<Line>, e: &Expr) -> Result<Value, Memory>
+fn put_alternative(
+    alloc: Global,
+    here: &Instance<'_>,
+    made: &mut Made,
+    lines: &mut Vec<Line>,
+    e: &Expr,
+) -> Result<Value, Memory>
     ensures lines { OnOk result (lines_of lines.new.items ≡ joined_to (lines_of lines.old.items) (expression_code (calls_in here.now) (instance_of here.now) (expression_of e.now) (made_of made.old)).lines) }
     ensures value { IfOk result (λ v. v ≡ (expression_code (calls_in here.now) (instance_of here.now) (expression_of e.now) (made_of made.old)).value) }
     ensures made { OnOk result (made_of made.new ≡ (expression_code (calls_in here.now) (instance_of here.now) (expression_of e.now) (made_of made.old)).made) }
@@ -155,7 +193,13 @@ fn put_alternative(alloc: Global, here: &Instance<'_>, made: &mut Made, lines: &
 /// The lines of a branch of such an expression, with whether its value is not 0 where that is asked for.
 #[cycle(lowering)]
 #[tactic(auto, using(crate::proofs::Lists::join_assoc, crate::proofs::Lists::join_none), unfolding(crate::specs::Code::expression_code))]
-fn put_part(alloc: Global, here: &Instance<'_>, made: &mut Made, e: &Expr, is_truth: bool) -> Result<Part, Memory>
+fn put_part(
+    alloc: Global,
+    here: &Instance<'_>,
+    made: &mut Made,
+    e: &Expr,
+    is_truth: bool,
+) -> Result<Part, Memory>
     ensures lines { IfOk result (λ p. lines_of p.lines.items ≡ (part_code (calls_in here.now) (instance_of here.now) is_truth (expression_of e.now) (made_of made.old)).lines) }
     ensures value { IfOk result (λ p. p.value ≡ (part_code (calls_in here.now) (instance_of here.now) is_truth (expression_of e.now) (made_of made.old)).value) }
     ensures made { OnOk result (made_of made.new ≡ (part_code (calls_in here.now) (instance_of here.now) is_truth (expression_of e.now) (made_of made.old)).made) }
@@ -173,7 +217,14 @@ fn put_part(alloc: Global, here: &Instance<'_>, made: &mut Made, e: &Expr, is_tr
 /// The lines of an assignment.
 #[cycle(lowering)]
 #[tactic(auto, using(crate::proofs::Lists::join_assoc, crate::proofs::Lists::join_none), unfolding(crate::specs::Code::expression_code))]
-fn put_assignment(alloc: Global, here: &Instance<'_>, made: &mut Made, lines: &mut Vec<Line>, target: &Target, value: &Expr) -> Result<Value, Memory>
+fn put_assignment(
+    alloc: Global,
+    here: &Instance<'_>,
+    made: &mut Made,
+    lines: &mut Vec<Line>,
+    target: &Target,
+    value: &Expr,
+) -> Result<Value, Memory>
     ensures lines { OnOk result (lines_of lines.new.items ≡ joined_to (lines_of lines.old.items) (expression_code (calls_in here.now) (instance_of here.now) (assigned target.now (expression_of value.now)) (made_of made.old)).lines) }
     ensures value { IfOk result (λ v. v ≡ (expression_code (calls_in here.now) (instance_of here.now) (assigned target.now (expression_of value.now)) (made_of made.old)).value) }
     ensures made { OnOk result (made_of made.new ≡ (expression_code (calls_in here.now) (instance_of here.now) (assigned target.now (expression_of value.now)) (made_of made.old)).made) }
@@ -207,7 +258,15 @@ fn put_assignment(alloc: Global, here: &Instance<'_>, made: &mut Made, lines: &m
 /// The lines of a compound assignment, `++` or `--`.
 #[cycle(lowering)]
 #[tactic(auto, using(crate::proofs::Lists::join_assoc, crate::proofs::Lists::join_none), unfolding(crate::specs::Code::expression_code))]
-fn put_update(alloc: Global, here: &Instance<'_>, made: &mut Made, lines: &mut Vec<Line>, target: &Target, change: Change, value: &Expr) -> Result<Value, Memory>
+fn put_update(
+    alloc: Global,
+    here: &Instance<'_>,
+    made: &mut Made,
+    lines: &mut Vec<Line>,
+    target: &Target,
+    change: Change,
+    value: &Expr,
+) -> Result<Value, Memory>
     ensures lines { OnOk result (lines_of lines.new.items ≡ joined_to (lines_of lines.old.items) (expression_code (calls_in here.now) (instance_of here.now) (updated target.now change.op change.of change.back change.old (expression_of value.now)) (made_of made.old)).lines) }
     ensures value { IfOk result (λ v. v ≡ (expression_code (calls_in here.now) (instance_of here.now) (updated target.now change.op change.of change.back change.old (expression_of value.now)) (made_of made.old)).value) }
     ensures made { OnOk result (made_of made.new ≡ (expression_code (calls_in here.now) (instance_of here.now) (updated target.now change.op change.of change.back change.old (expression_of value.now)) (made_of made.old)).made) }
@@ -245,7 +304,13 @@ fn put_update(alloc: Global, here: &Instance<'_>, made: &mut Made, lines: &mut V
 /// The lines of expressions in order, and their values.
 #[cycle(lowering)]
 #[tactic(auto, using(crate::proofs::Lists::join_assoc, crate::proofs::Lists::join_none), unfolding(crate::specs::Code::expression_code))]
-fn put_expressions(alloc: Global, here: &Instance<'_>, made: &mut Made, lines: &mut Vec<Line>, list: &[Expr]) -> Result<Vec<Value>, Memory>
+fn put_expressions(
+    alloc: Global,
+    here: &Instance<'_>,
+    made: &mut Made,
+    lines: &mut Vec<Line>,
+    list: &[Expr],
+) -> Result<Vec<Value>, Memory>
     ensures lines { OnOk result (lines_of lines.new.items ≡ joined_to (lines_of lines.old.items) (operands_code (calls_in here.now) (instance_of here.now) (listed_expressions list.now) (made_of made.old)).lines) }
     ensures values { IfOk result (λ v. v.items ≡ (operands_code (calls_in here.now) (instance_of here.now) (listed_expressions list.now) (made_of made.old)).values) }
     ensures made { OnOk result (made_of made.new ≡ (operands_code (calls_in here.now) (instance_of here.now) (listed_expressions list.now) (made_of made.old)).made) }
@@ -263,7 +328,13 @@ fn put_expressions(alloc: Global, here: &Instance<'_>, made: &mut Made, lines: &
 /// The lines of an argument.
 #[cycle(lowering)]
 #[tactic(auto, using(crate::proofs::Lists::join_assoc, crate::proofs::Lists::join_none), unfolding(crate::specs::Code::expression_code))]
-fn put_argument(alloc: Global, here: &Instance<'_>, made: &mut Made, lines: &mut Vec<Line>, argument: &Arg) -> Result<Value, Memory>
+fn put_argument(
+    alloc: Global,
+    here: &Instance<'_>,
+    made: &mut Made,
+    lines: &mut Vec<Line>,
+    argument: &Arg,
+) -> Result<Value, Memory>
     ensures lines { OnOk result (lines_of lines.new.items ≡ joined_to (lines_of lines.old.items) (expression_code (calls_in here.now) (instance_of here.now) (argument_of argument.now) (made_of made.old)).lines) }
     ensures value { IfOk result (λ v. v ≡ (expression_code (calls_in here.now) (instance_of here.now) (argument_of argument.now) (made_of made.old)).value) }
     ensures made { OnOk result (made_of made.new ≡ (expression_code (calls_in here.now) (instance_of here.now) (argument_of argument.now) (made_of made.old)).made) }
@@ -277,7 +348,13 @@ fn put_argument(alloc: Global, here: &Instance<'_>, made: &mut Made, lines: &mut
 /// The lines of arguments in order, and their values; that of a pointer is its offset.
 #[cycle(lowering)]
 #[tactic(auto, using(crate::proofs::Lists::join_assoc, crate::proofs::Lists::join_none), unfolding(crate::specs::Code::expression_code))]
-fn put_arguments(alloc: Global, here: &Instance<'_>, made: &mut Made, lines: &mut Vec<Line>, list: &[Arg]) -> Result<Vec<Value>, Memory>
+fn put_arguments(
+    alloc: Global,
+    here: &Instance<'_>,
+    made: &mut Made,
+    lines: &mut Vec<Line>,
+    list: &[Arg],
+) -> Result<Vec<Value>, Memory>
     ensures lines { OnOk result (lines_of lines.new.items ≡ joined_to (lines_of lines.old.items) (operands_code (calls_in here.now) (instance_of here.now) (listed_arguments list.now) (made_of made.old)).lines) }
     ensures values { IfOk result (λ v. v.items ≡ (operands_code (calls_in here.now) (instance_of here.now) (listed_arguments list.now) (made_of made.old)).values) }
     ensures made { OnOk result (made_of made.new ≡ (operands_code (calls_in here.now) (instance_of here.now) (listed_arguments list.now) (made_of made.old)).made) }
@@ -295,7 +372,15 @@ fn put_arguments(alloc: Global, here: &Instance<'_>, made: &mut Made, lines: &mu
 /// The lines of a call, with the function's own in place.
 #[cycle(lowering)]
 #[tactic(auto, using(crate::proofs::Lists::join_assoc, crate::proofs::Lists::join_none), unfolding(crate::specs::Code::expression_code, crate::specs::Whole::call_code))]
-fn put_call(alloc: Global, here: &Instance<'_>, made: &mut Made, lines: &mut Vec<Line>, site: u32, function: u32, args: &[Arg]) -> Result<Value, Memory>
+fn put_call(
+    alloc: Global,
+    here: &Instance<'_>,
+    made: &mut Made,
+    lines: &mut Vec<Line>,
+    site: u32,
+    function: u32,
+    args: &[Arg],
+) -> Result<Value, Memory>
     ensures lines { OnOk result (lines_of lines.new.items ≡ joined_to (lines_of lines.old.items) (expression_code (calls_in here.now) (instance_of here.now) (Call site function (listed_roots args.now) (listed_arguments args.now)) (made_of made.old)).lines) }
     ensures value { IfOk result (λ v. v ≡ (expression_code (calls_in here.now) (instance_of here.now) (Call site function (listed_roots args.now) (listed_arguments args.now)) (made_of made.old)).value) }
     ensures made { OnOk result (made_of made.new ≡ (expression_code (calls_in here.now) (instance_of here.now) (Call site function (listed_roots args.now) (listed_arguments args.now)) (made_of made.old)).made) }
@@ -316,7 +401,13 @@ fn put_call(alloc: Global, here: &Instance<'_>, made: &mut Made, lines: &mut Vec
 /// The lines of the body of a function, and what a call of it gives.
 #[cycle(lowering)]
 #[tactic(auto, using(crate::proofs::Lists::join_assoc, crate::proofs::Lists::join_none), unfolding(crate::specs::Code::statement_code))]
-pub fn put_body(alloc: Global, here: &Instance<'_>, made: &mut Made, lines: &mut Vec<Line>, function: &Function) -> Result<Value, Memory>
+pub fn put_body(
+    alloc: Global,
+    here: &Instance<'_>,
+    made: &mut Made,
+    lines: &mut Vec<Line>,
+    function: &Function,
+) -> Result<Value, Memory>
     ensures lines { OnOk result (lines_of lines.new.items ≡ joined_to (lines_of lines.old.items) (body_code (calls_in here.now) (instance_of here.now) (function_of function.now) (made_of made.old)).lines) }
     ensures value { IfOk result (λ v. v ≡ (body_code (calls_in here.now) (instance_of here.now) (function_of function.now) (made_of made.old)).value) }
     ensures made { OnOk result (made_of made.new ≡ (body_code (calls_in here.now) (instance_of here.now) (function_of function.now) (made_of made.old)).made) }
@@ -331,7 +422,12 @@ pub fn put_body(alloc: Global, here: &Instance<'_>, made: &mut Made, lines: &mut
 /// The lines of the test or step of a loop, which may be absent; a test then is 1.
 #[cycle(lowering)]
 #[tactic(auto, using(crate::proofs::Lists::join_assoc, crate::proofs::Lists::join_none), unfolding(crate::specs::Code::statement_code))]
-fn put_optional(alloc: Global, here: &Instance<'_>, made: &mut Made, e: &Option<Expr>) -> Result<Part, Memory>
+fn put_optional(
+    alloc: Global,
+    here: &Instance<'_>,
+    made: &mut Made,
+    e: &Option<Expr>,
+) -> Result<Part, Memory>
     ensures lines { IfOk result (λ p. lines_of p.lines.items ≡ (optional_code (calls_in here.now) (instance_of here.now) (optional_expression e.now) (made_of made.old)).lines) }
     ensures value { IfOk result (λ p. p.value ≡ (optional_code (calls_in here.now) (instance_of here.now) (optional_expression e.now) (made_of made.old)).value) }
     ensures made { OnOk result (made_of made.new ≡ (optional_code (calls_in here.now) (instance_of here.now) (optional_expression e.now) (made_of made.old)).made) }
@@ -349,7 +445,14 @@ fn put_optional(alloc: Global, here: &Instance<'_>, made: &mut Made, e: &Option<
 /// is pending.
 #[cycle(lowering)]
 #[tactic(auto, using(crate::proofs::Lists::join_assoc, crate::proofs::Lists::join_none), unfolding(crate::specs::Code::statement_code))]
-fn put_statement(alloc: Global, here: &Instance<'_>, made: &mut Made, lines: &mut Vec<Line>, exit: u32, s: &Stmt) -> Result<(), Memory>
+fn put_statement(
+    alloc: Global,
+    here: &Instance<'_>,
+    made: &mut Made,
+    lines: &mut Vec<Line>,
+    exit: u32,
+    s: &Stmt,
+) -> Result<(), Memory>
     ensures lines { OnOk result (lines_of lines.new.items ≡ joined_to (lines_of lines.old.items) (statement_code (calls_in here.now) (instance_of here.now) exit (statement_of s.now) (made_of made.old)).lines) }
     ensures made { OnOk result (made_of made.new ≡ (statement_code (calls_in here.now) (instance_of here.now) exit (statement_of s.now) (made_of made.old)).made) }
 {
@@ -374,7 +477,15 @@ fn put_statement(alloc: Global, here: &Instance<'_>, made: &mut Made, lines: &mu
         Stmt::Loop { .. } => put_loop(alloc, here, made, lines, exit, s),
         Stmt::Switch { site, value, arms } => {
             let value = put_expression(alloc, here, made, lines, value)?;
-            put_cases(alloc, here, made, lines, exit, Cases { site: *site, value }, arms)
+            put_cases(
+                alloc,
+                here,
+                made,
+                lines,
+                exit,
+                Cases { site: *site, value },
+                arms,
+            )
         }
         Stmt::Break { .. } => put_exit(lines, exit, BREAKS),
         Stmt::Continue { .. } => put_exit(lines, exit, CONTINUES),
@@ -393,7 +504,15 @@ struct Cases {
 /// The lines of a `switch` behind its value.
 #[cycle(lowering)]
 #[tactic(auto, using(crate::proofs::Lists::join_assoc, crate::proofs::Lists::join_none), unfolding(crate::specs::Code::statement_code))]
-fn put_cases(alloc: Global, here: &Instance<'_>, made: &mut Made, lines: &mut Vec<Line>, exit: u32, of: Cases, arms: &[SwitchArm]) -> Result<(), Memory>
+fn put_cases(
+    alloc: Global,
+    here: &Instance<'_>,
+    made: &mut Made,
+    lines: &mut Vec<Line>,
+    exit: u32,
+    of: Cases,
+    arms: &[SwitchArm],
+) -> Result<(), Memory>
     ensures lines { OnOk result (lines_of lines.new.items ≡ joined_to (lines_of lines.old.items) (cases_code (calls_in here.now) (instance_of here.now) exit of.site of.value (listed_arms arms.now) (made_of made.old)).lines) }
     ensures made { OnOk result (made_of made.new ≡ (cases_code (calls_in here.now) (instance_of here.now) exit of.site of.value (listed_arms arms.now) (made_of made.old)).made) }
 {
@@ -414,7 +533,14 @@ fn put_cases(alloc: Global, here: &Instance<'_>, made: &mut Made, lines: &mut Ve
 /// The lines of a declaration.
 #[cycle(lowering)]
 #[tactic(auto, using(crate::proofs::Lists::join_assoc, crate::proofs::Lists::join_none), unfolding(crate::specs::Code::statement_code))]
-fn put_declared(alloc: Global, here: &Instance<'_>, made: &mut Made, lines: &mut Vec<Line>, var: u32, value: &Option<Expr>) -> Result<(), Memory>
+fn put_declared(
+    alloc: Global,
+    here: &Instance<'_>,
+    made: &mut Made,
+    lines: &mut Vec<Line>,
+    var: u32,
+    value: &Option<Expr>,
+) -> Result<(), Memory>
     ensures lines { OnOk result (lines_of lines.new.items ≡ joined_to (lines_of lines.old.items) (statement_code (calls_in here.now) (instance_of here.now) 0 (Declare var (optional_expression value.now)) (made_of made.old)).lines) }
     ensures made { OnOk result (made_of made.new ≡ (statement_code (calls_in here.now) (instance_of here.now) 0 (Declare var (optional_expression value.now)) (made_of made.old)).made) }
 {
@@ -433,7 +559,14 @@ fn put_declared(alloc: Global, here: &Instance<'_>, made: &mut Made, lines: &mut
 /// The lines of a `return`.
 #[cycle(lowering)]
 #[tactic(auto, using(crate::proofs::Lists::join_assoc, crate::proofs::Lists::join_none), unfolding(crate::specs::Code::statement_code))]
-fn put_returned(alloc: Global, here: &Instance<'_>, made: &mut Made, lines: &mut Vec<Line>, exit: u32, value: &Option<Expr>) -> Result<(), Memory>
+fn put_returned(
+    alloc: Global,
+    here: &Instance<'_>,
+    made: &mut Made,
+    lines: &mut Vec<Line>,
+    exit: u32,
+    value: &Option<Expr>,
+) -> Result<(), Memory>
     ensures lines { OnOk result (lines_of lines.new.items ≡ joined_to (lines_of lines.old.items) (statement_code (calls_in here.now) (instance_of here.now) exit (Return 0 (optional_expression value.now)) (made_of made.old)).lines) }
     ensures made { OnOk result (made_of made.new ≡ (statement_code (calls_in here.now) (instance_of here.now) exit (Return 0 (optional_expression value.now)) (made_of made.old)).made) }
 {
@@ -450,7 +583,14 @@ fn put_returned(alloc: Global, here: &Instance<'_>, made: &mut Made, lines: &mut
 /// The lines of an `if`; of another statement there are none.
 #[cycle(lowering)]
 #[tactic(auto, using(crate::proofs::Lists::join_assoc, crate::proofs::Lists::join_none), unfolding(crate::specs::Code::statement_code))]
-fn put_branches(alloc: Global, here: &Instance<'_>, made: &mut Made, lines: &mut Vec<Line>, exit: u32, s: &Stmt) -> Result<(), Memory>
+fn put_branches(
+    alloc: Global,
+    here: &Instance<'_>,
+    made: &mut Made,
+    lines: &mut Vec<Line>,
+    exit: u32,
+    s: &Stmt,
+) -> Result<(), Memory>
     ensures lines { OnOk result (lines_of lines.new.items ≡ joined_to (lines_of lines.old.items) (statement_code (calls_in here.now) (instance_of here.now) exit (statement_of s.now) (made_of made.old)).lines) }
     ensures made { OnOk result (made_of made.new ≡ (statement_code (calls_in here.now) (instance_of here.now) exit (statement_of s.now) (made_of made.old)).made) }
 {
@@ -475,7 +615,14 @@ fn put_branches(alloc: Global, here: &Instance<'_>, made: &mut Made, lines: &mut
 /// The lines behind `else`, if it is there.
 #[cycle(lowering)]
 #[tactic(auto, using(crate::proofs::Lists::join_assoc, crate::proofs::Lists::join_none), unfolding(crate::specs::Code::statement_code))]
-fn put_other(alloc: Global, here: &Instance<'_>, made: &mut Made, lines: &mut Vec<Line>, exit: u32, s: &Option<Box<Stmt>>) -> Result<(), Memory>
+fn put_other(
+    alloc: Global,
+    here: &Instance<'_>,
+    made: &mut Made,
+    lines: &mut Vec<Line>,
+    exit: u32,
+    s: &Option<Box<Stmt>>,
+) -> Result<(), Memory>
     ensures lines { OnOk result (lines_of lines.new.items ≡ joined_to (lines_of lines.old.items) (in_order (list_code (calls_in here.now) (instance_of here.now) exit false (optional_listed s.now) (made_of made.old))).lines) }
     ensures made { OnOk result (made_of made.new ≡ (in_order (list_code (calls_in here.now) (instance_of here.now) exit false (optional_listed s.now) (made_of made.old))).made) }
 {
@@ -488,7 +635,14 @@ fn put_other(alloc: Global, here: &Instance<'_>, made: &mut Made, lines: &mut Ve
 /// The lines of a loop; of another statement there are none.
 #[cycle(lowering)]
 #[tactic(auto, using(crate::proofs::Lists::join_assoc, crate::proofs::Lists::join_none), unfolding(crate::specs::Code::statement_code))]
-fn put_loop(alloc: Global, here: &Instance<'_>, made: &mut Made, lines: &mut Vec<Line>, exit: u32, s: &Stmt) -> Result<(), Memory>
+fn put_loop(
+    alloc: Global,
+    here: &Instance<'_>,
+    made: &mut Made,
+    lines: &mut Vec<Line>,
+    exit: u32,
+    s: &Stmt,
+) -> Result<(), Memory>
     ensures lines { OnOk result (lines_of lines.new.items ≡ joined_to (lines_of lines.old.items) (statement_code (calls_in here.now) (instance_of here.now) exit (statement_of s.now) (made_of made.old)).lines) }
     ensures made { OnOk result (made_of made.new ≡ (statement_code (calls_in here.now) (instance_of here.now) exit (statement_of s.now) (made_of made.old)).made) }
 {
@@ -532,14 +686,29 @@ struct Entered {
 /// The lines of an arm, which say whether the next one is fallen into.
 #[cycle(lowering)]
 #[tactic(auto, using(crate::proofs::Lists::join_assoc, crate::proofs::Lists::join_none), unfolding(crate::specs::Code::statement_code))]
-fn put_arm(alloc: Global, here: &Instance<'_>, made: &mut Made, lines: &mut Vec<Line>, exit: u32, entered: Entered, body: &[Stmt]) -> Result<Atom, Memory>
+fn put_arm(
+    alloc: Global,
+    here: &Instance<'_>,
+    made: &mut Made,
+    lines: &mut Vec<Line>,
+    exit: u32,
+    entered: Entered,
+    body: &[Stmt],
+) -> Result<Atom, Memory>
     ensures lines { OnOk result (lines_of lines.new.items ≡ joined_to (lines_of lines.old.items) (arm_code (calls_in here.now) (instance_of here.now) exit entered.site entered.chosen entered.fallen entered.number (listed_statements body.now) (made_of made.old)).lines) }
     ensures value { IfOk result (λ v. v ≡ (arm_code (calls_in here.now) (instance_of here.now) exit entered.site entered.chosen entered.fallen entered.number (listed_statements body.now) (made_of made.old)).value.atom) }
     ensures made { OnOk result (made_of made.new ≡ (arm_code (calls_in here.now) (instance_of here.now) exit entered.site entered.chosen entered.fallen entered.number (listed_statements body.now) (made_of made.old)).made) }
 {
     let number = int(i128::from(entered.number));
     let chosen = put_binary(made, lines, Bin::Eq, IntType::Int, entered.chosen, number)?;
-    let entry = put_binary(made, lines, Bin::Or, IntType::Int, entered.fallen, chosen.atom)?;
+    let entry = put_binary(
+        made,
+        lines,
+        Bin::Or,
+        IntType::Int,
+        entered.fallen,
+        chosen.atom,
+    )?;
     let mut inside = Vec::new(alloc);
     put_statements(alloc, here, made, &mut inside, exit, body)?;
     put_if(lines, entered.site, entry.atom, inside, Vec::new(alloc))?;
@@ -549,7 +718,15 @@ fn put_arm(alloc: Global, here: &Instance<'_>, made: &mut Made, lines: &mut Vec<
 /// The lines of the arms of a `switch`.
 #[cycle(lowering)]
 #[tactic(auto, using(crate::proofs::Lists::join_assoc, crate::proofs::Lists::join_none), unfolding(crate::specs::Code::statement_code))]
-fn put_arms(alloc: Global, here: &Instance<'_>, made: &mut Made, lines: &mut Vec<Line>, exit: u32, entered: Entered, arms: &[SwitchArm]) -> Result<(), Memory>
+fn put_arms(
+    alloc: Global,
+    here: &Instance<'_>,
+    made: &mut Made,
+    lines: &mut Vec<Line>,
+    exit: u32,
+    entered: Entered,
+    arms: &[SwitchArm],
+) -> Result<(), Memory>
     ensures lines { OnOk result (lines_of lines.new.items ≡ joined_to (lines_of lines.old.items) (arms_code (calls_in here.now) (instance_of here.now) exit entered.site entered.chosen entered.fallen entered.number (listed_arms arms.now) (made_of made.old)).lines) }
     ensures made { OnOk result (made_of made.new ≡ (arms_code (calls_in here.now) (instance_of here.now) exit entered.site entered.chosen entered.fallen entered.number (listed_arms arms.now) (made_of made.old)).made) }
 {
@@ -567,7 +744,14 @@ fn put_arms(alloc: Global, here: &Instance<'_>, made: &mut Made, lines: &mut Vec
 /// together; where a guarded one declares a variable, all that follow stand under its guard.
 #[cycle(lowering)]
 #[tactic(auto, using(crate::proofs::Lists::join_assoc, crate::proofs::Lists::join_none), unfolding(crate::specs::Code::statement_code))]
-fn put_statements(alloc: Global, here: &Instance<'_>, made: &mut Made, lines: &mut Vec<Line>, exit: u32, list: &[Stmt]) -> Result<(), Memory>
+fn put_statements(
+    alloc: Global,
+    here: &Instance<'_>,
+    made: &mut Made,
+    lines: &mut Vec<Line>,
+    exit: u32,
+    list: &[Stmt],
+) -> Result<(), Memory>
     ensures lines { OnOk result (lines_of lines.new.items ≡ joined_to (lines_of lines.old.items) (in_order (list_code (calls_in here.now) (instance_of here.now) exit false (listed_statements list.now) (made_of made.old))).lines) }
     ensures made { OnOk result (made_of made.new ≡ (in_order (list_code (calls_in here.now) (instance_of here.now) exit false (listed_statements list.now) (made_of made.old))).made) }
 {

@@ -16,7 +16,9 @@ use std::alloc::Global;
 use wg_num::{Bin, IntType, Memory, Un};
 
 pub const CONTINUES: i128 = 1;
+
 pub const BREAKS: i128 = 2;
+
 pub const RETURNS: i128 = 3;
 
 /// A loop: its site, whether its test comes first, its first way out, and the cell of what is
@@ -31,7 +33,12 @@ pub struct Round {
 
 /// The cell of a construct that has a way out, in which nothing is pending; else that around it.
 #[tactic(auto, using(crate::proofs::Lists::join_assoc, crate::proofs::Lists::join_none))]
-pub fn put_opened(made: &mut Made, lines: &mut Vec<Line>, way: Option<u32>, exit: u32) -> Result<u32, Memory>
+pub fn put_opened(
+    made: &mut Made,
+    lines: &mut Vec<Line>,
+    way: Option<u32>,
+    exit: u32,
+) -> Result<u32, Memory>
     ensures lines { OnOk result (lines_of lines.new.items ≡ joined_to (lines_of lines.old.items) (spec.opened way exit (made_of made.old)).lines) }
     ensures exit { IfOk result (λ c. c ≡ (spec.opened way exit (made_of made.old)).exit) }
     ensures made { OnOk result (made_of made.new ≡ (spec.opened way exit (made_of made.old)).made) }
@@ -48,11 +55,24 @@ pub fn put_opened(made: &mut Made, lines: &mut Vec<Line>, way: Option<u32>, exit
 
 /// A pending `continue` ends.
 #[tactic(auto, using(crate::proofs::Lists::join_assoc, crate::proofs::Lists::join_none))]
-pub fn put_settled(alloc: Global, made: &mut Made, lines: &mut Vec<Line>, site: u32, exit: u32) -> Result<(), Memory>
+pub fn put_settled(
+    alloc: Global,
+    made: &mut Made,
+    lines: &mut Vec<Line>,
+    site: u32,
+    exit: u32,
+) -> Result<(), Memory>
     ensures lines { OnOk result (lines_of lines.new.items ≡ joined_to (lines_of lines.old.items) (spec.settled site exit (made_of made.old)).lines) }
     ensures made { OnOk result (made_of made.new ≡ (spec.settled site exit (made_of made.old)).made) }
 {
-    let test = put_binary(made, lines, Bin::Eq, IntType::Int, Atom::Cell(exit), int(CONTINUES))?;
+    let test = put_binary(
+        made,
+        lines,
+        Bin::Eq,
+        IntType::Int,
+        Atom::Cell(exit),
+        int(CONTINUES),
+    )?;
     let mut yes = Vec::new(alloc);
     put_copy(&mut yes, exit, int(0))?;
     put_if(lines, site, test.atom, yes, Vec::new(alloc))
@@ -60,14 +80,28 @@ pub fn put_settled(alloc: Global, made: &mut Made, lines: &mut Vec<Line>, site: 
 
 /// What is pending behind a construct is pending in that around it, but for a `break`, which ends.
 #[tactic(auto, using(crate::proofs::Lists::join_assoc, crate::proofs::Lists::join_none))]
-pub fn put_outward(alloc: Global, made: &mut Made, lines: &mut Vec<Line>, way: Option<u32>, exit: u32, outer: u32) -> Result<(), Memory>
+pub fn put_outward(
+    alloc: Global,
+    made: &mut Made,
+    lines: &mut Vec<Line>,
+    way: Option<u32>,
+    exit: u32,
+    outer: u32,
+) -> Result<(), Memory>
     ensures lines { OnOk result (lines_of lines.new.items ≡ joined_to (lines_of lines.old.items) (spec.outward way exit outer (made_of made.old)).lines) }
     ensures made { OnOk result (made_of made.new ≡ (spec.outward way exit outer (made_of made.old)).made) }
 {
     match way {
         None => Ok(()),
         Some(site) => {
-            let test = put_binary(made, lines, Bin::Eq, IntType::Int, Atom::Cell(exit), int(BREAKS))?;
+            let test = put_binary(
+                made,
+                lines,
+                Bin::Eq,
+                IntType::Int,
+                Atom::Cell(exit),
+                int(BREAKS),
+            )?;
             let mut no = Vec::new(alloc);
             put_copy(&mut no, outer, Atom::Cell(exit))?;
             put_if(lines, site, test.atom, Vec::new(alloc), no)
@@ -77,11 +111,22 @@ pub fn put_outward(alloc: Global, made: &mut Made, lines: &mut Vec<Line>, way: O
 
 /// A loop, from the lines of its parts.
 #[tactic(auto, using(crate::proofs::Lists::join_assoc, crate::proofs::Lists::join_none))]
-pub fn put_round(alloc: Global, made: &mut Made, lines: &mut Vec<Line>, round: Round, tests: Part, steps: Vec<Line>, body: Vec<Line>) -> Result<(), Memory>
+pub fn put_round(
+    alloc: Global,
+    made: &mut Made,
+    lines: &mut Vec<Line>,
+    round: Round,
+    tests: Part,
+    steps: Vec<Line>,
+    body: Vec<Line>,
+) -> Result<(), Memory>
     ensures lines { OnOk result (lines_of lines.new.items ≡ joined_to (lines_of lines.old.items) (spec.round_code round.site round.test_first round.way round.exit (lines_of tests.lines.items) tests.value (lines_of steps.items) (lines_of body.items) (made_of made.old)).lines) }
     ensures made { OnOk result (made_of made.new ≡ (spec.round_code round.site round.test_first round.way round.exit (lines_of tests.lines.items) tests.value (lines_of steps.items) (lines_of body.items) (made_of made.old)).made) }
 {
-    let Part { lines: mut test, value } = tests;
+    let Part {
+        lines: mut test,
+        value,
+    } = tests;
     let mut body = body;
     match round.way {
         None => {
@@ -93,7 +138,13 @@ pub fn put_round(alloc: Global, made: &mut Made, lines: &mut Vec<Line>, round: R
             put_copy(&mut test, to, value.atom)?;
             let mut ask = Vec::new(alloc);
             put_copy(&mut ask, to, constant(0, value.of).atom)?;
-            put_if(&mut ask, site, Atom::Cell(round.exit), Vec::new(alloc), test)?;
+            put_if(
+                &mut ask,
+                site,
+                Atom::Cell(round.exit),
+                Vec::new(alloc),
+                test,
+            )?;
             put_settled(alloc, made, &mut body, site, round.exit)?;
             put_guarded(alloc, &mut body, site, round.exit, steps)?;
             put_loop(lines, round, ask, Atom::Cell(to), body)
@@ -102,7 +153,13 @@ pub fn put_round(alloc: Global, made: &mut Made, lines: &mut Vec<Line>, round: R
 }
 
 #[tactic(auto, using(kir::proofs::Rows::loop_listed))]
-fn put_loop(lines: &mut Vec<Line>, round: Round, test: Vec<Line>, answer: Atom, body: Vec<Line>) -> Result<(), Memory>
+fn put_loop(
+    lines: &mut Vec<Line>,
+    round: Round,
+    test: Vec<Line>,
+    answer: Atom,
+    body: Vec<Line>,
+) -> Result<(), Memory>
     ensures { OnOk result (lines_of lines.new.items ≡ joined_to (lines_of lines.old.items) (LoopThen round.site round.test_first (lines_of test.items) answer (lines_of body.items) NoLine)) }
 {
     put(
@@ -120,7 +177,13 @@ fn put_loop(lines: &mut Vec<Line>, round: Round, test: Vec<Line>, answer: Atom, 
 /// Whether the next arm of a switch is fallen into: this one was entered and, where it has a way
 /// out, nothing is pending.
 #[tactic(auto, using(crate::proofs::Lists::join_assoc, crate::proofs::Lists::join_none))]
-pub fn put_fallen(made: &mut Made, lines: &mut Vec<Line>, way: Option<u32>, exit: u32, entered: Value) -> Result<Atom, Memory>
+pub fn put_fallen(
+    made: &mut Made,
+    lines: &mut Vec<Line>,
+    way: Option<u32>,
+    exit: u32,
+    entered: Value,
+) -> Result<Atom, Memory>
     ensures lines { OnOk result (lines_of lines.new.items ≡ joined_to (lines_of lines.old.items) (spec.fallen_code way exit entered (made_of made.old)).lines) }
     ensures value { IfOk result (λ a. a ≡ (spec.fallen_code way exit entered (made_of made.old)).value.atom) }
     ensures made { OnOk result (made_of made.new ≡ (spec.fallen_code way exit entered (made_of made.old)).made) }
@@ -134,7 +197,14 @@ pub fn put_fallen(made: &mut Made, lines: &mut Vec<Line>, way: Option<u32>, exit
                 a: Atom::Cell(exit),
             };
             let clear = put_computed(made, lines, work, IntType::Int)?;
-            let fallen = put_binary(made, lines, Bin::And, IntType::Int, entered.atom, clear.atom)?;
+            let fallen = put_binary(
+                made,
+                lines,
+                Bin::And,
+                IntType::Int,
+                entered.atom,
+                clear.atom,
+            )?;
             Ok(fallen.atom)
         }
     }
@@ -142,7 +212,13 @@ pub fn put_fallen(made: &mut Made, lines: &mut Vec<Line>, way: Option<u32>, exit
 
 /// Lines in order, or guarded ones.
 #[tactic(auto, using(crate::proofs::Lists::join_none))]
-pub fn put_closed(alloc: Global, lines: &mut Vec<Line>, guard: Option<u32>, exit: u32, inside: Vec<Line>) -> Result<(), Memory>
+pub fn put_closed(
+    alloc: Global,
+    lines: &mut Vec<Line>,
+    guard: Option<u32>,
+    exit: u32,
+    inside: Vec<Line>,
+) -> Result<(), Memory>
     ensures { OnOk result (lines_of lines.new.items ≡ joined_to (lines_of lines.old.items) (closed guard exit (lines_of inside.items) NoLine)) }
 {
     match guard {

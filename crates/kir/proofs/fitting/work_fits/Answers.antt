@@ -1,4 +1,4 @@
-use Rattle.std.proofs.Common.{◌≡◌, sym, ap, ◌∙◌}
+use Rattle.std.proofs.Common.{sym, ap, ◌∙◌}
 use Rattle.cl_model.specs.Valid.{arity_of}
 use Rattle.kir.specs.Parts.{parts_of}
 use Rattle.kir.specs.Fits.{work_fits}

@@ -1,5 +1,5 @@
-use Rattle.std.proofs.Common.{◌≡◌, ◌++◌, length, map}
-use Rattle.kir.specs.Listed.{lines_of, cell_of}
+use Rattle.std.proofs.Common.{◌≡◌, length}
+use Rattle.kir.specs.Listed.{lines_of}
 use Rattle.kir.specs.Tree.{joined_to}
 use Rattle.kir_lower.specs.Actions.{initial_lines}
 use Rattle.kir_lower.proofs.actions.put_initial.Given as goal

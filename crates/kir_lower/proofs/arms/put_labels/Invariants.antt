@@ -1,8 +1,8 @@
-use Rattle.std.proofs.Common.{◌≡◌, ◌++◌, length, map}
-use Rattle.kir.specs.Listed.{lines_of, cell_of}
+use Rattle.std.proofs.Common.{◌≡◌, length}
+use Rattle.kir.specs.Listed.{lines_of}
 use Rattle.kir.specs.Tree.{joined_to}
 use Rattle.kir_lower.specs.Actions.{labels_code}
-use Rattle.kir_lower.specs.View.{made_of, instance_of, names_listed}
+use Rattle.kir_lower.specs.View.{made_of}
 use Rattle.kir_lower.proofs.arms.put_labels.Given as goal
 
 abbrev pub invariant-loop-label : goal.invariant-loop-label

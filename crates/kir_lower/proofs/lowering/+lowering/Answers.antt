@@ -1,4 +1,4 @@
-use Rattle.std.proofs.Common.{◌≡◌, List, is_some, ◌+◌, ◌*◌, ◌<◌, false, OnOk, IfOk, sym, ap, ◌∙◌, subst, arith}
+use Rattle.std.proofs.Common.{◌≡◌, List, is_some, ◌+◌, ◌*◌, ◌<◌, OnOk, IfOk, sym, ap, ◌∙◌, subst, arith}
 use Rattle.cl_model.specs.declared.program.Stmt.{Stmt}
 use Rattle.cl_model.specs.Tree as tree
 use Rattle.cl_model.specs.View.{expression_of, argument_of, listed_expressions, statement_of, listed_statements}
@@ -31,13 +31,14 @@ put_expressions-loop-e-preserved t c =
     let rest = ap listed_expressions c.in-Some.ensures.cases.0 in
     let first = expression_of c.in-Some.e.now in
     let others = listed_expressions c.in-Some.others.now in
-    let made = made_of c.loop-e.made in
-    (operand_lines (calls_in c.args.here.now) (instance_of c.args.here.now) (listed_expressions c.loop-e.rest.now) first others _ (lines_of c.loop-e.lines.items) (lines_of c.put_expression.new.lines.items) made (made_of c.put_expression.new.made)
-      rest c.loop-e.invariant.0 c.in_ok-value.ensures.lines c.in_ok-value.ensures.made,
-    operand_values (calls_in c.args.here.now) (instance_of c.args.here.now) (listed_expressions c.loop-e.rest.now) first others _ c.loop-e.values.items c.add.new.list.items c.in_ok-value.value made (made_of c.put_expression.new.made)
-      rest c.loop-e.invariant.1 c.in_ok-add.ensures c.in_ok-value.ensures.value c.in_ok-value.ensures.made,
-    operand_made (calls_in c.args.here.now) (instance_of c.args.here.now) (listed_expressions c.loop-e.rest.now) first others _ made (made_of c.put_expression.new.made) rest c.loop-e.invariant.2 c.in_ok-value.ensures.made,
-    behind_first (listed_expressions c.loop-e.rest.now) first others _ rest c.loop-e.invariant.3)
+    let made = made_of c.loop-e.made in (
+      operand_lines (calls_in c.args.here.now) (instance_of c.args.here.now) (listed_expressions c.loop-e.rest.now) first others _ (lines_of c.loop-e.lines.items) (lines_of c.put_expression.new.lines.items) made (made_of c.put_expression.new.made)
+          rest c.loop-e.invariant.0 c.in_ok-value.ensures.lines c.in_ok-value.ensures.made,
+      operand_values (calls_in c.args.here.now) (instance_of c.args.here.now) (listed_expressions c.loop-e.rest.now) first others _ c.loop-e.values.items c.add.new.list.items c.in_ok-value.value made (made_of c.put_expression.new.made)
+          rest c.loop-e.invariant.1 c.in_ok-add.ensures c.in_ok-value.ensures.value c.in_ok-value.ensures.made,
+      operand_made (calls_in c.args.here.now) (instance_of c.args.here.now) (listed_expressions c.loop-e.rest.now) first others _ made (made_of c.put_expression.new.made) rest c.loop-e.invariant.2 c.in_ok-value.ensures.made,
+      behind_first (listed_expressions c.loop-e.rest.now) first others _ rest c.loop-e.invariant.3,
+    )
 
 pub put_expressions-returns-clause-lines : goal.put_expressions-returns-clause-lines
 unfolding expression_code
@@ -50,13 +51,14 @@ put_arguments-loop-argument-preserved t c =
     let rest = ap listed_arguments c.in-Some.ensures.cases.0 in
     let first = argument_of c.in-Some.argument.now in
     let others = listed_arguments c.in-Some.others.now in
-    let made = made_of c.loop-argument.made in
-    (operand_lines (calls_in c.args.here.now) (instance_of c.args.here.now) (listed_arguments c.loop-argument.rest.now) first others _ (lines_of c.loop-argument.lines.items) (lines_of c.put_argument.new.lines.items) made (made_of c.put_argument.new.made)
-      rest c.loop-argument.invariant.0 c.in_ok-value.ensures.lines c.in_ok-value.ensures.made,
-    operand_values (calls_in c.args.here.now) (instance_of c.args.here.now) (listed_arguments c.loop-argument.rest.now) first others _ c.loop-argument.values.items c.add.new.list.items c.in_ok-value.value made (made_of c.put_argument.new.made)
-      rest c.loop-argument.invariant.1 c.in_ok-add.ensures c.in_ok-value.ensures.value c.in_ok-value.ensures.made,
-    operand_made (calls_in c.args.here.now) (instance_of c.args.here.now) (listed_arguments c.loop-argument.rest.now) first others _ made (made_of c.put_argument.new.made) rest c.loop-argument.invariant.2 c.in_ok-value.ensures.made,
-    behind_first (listed_arguments c.loop-argument.rest.now) first others _ rest c.loop-argument.invariant.3)
+    let made = made_of c.loop-argument.made in (
+      operand_lines (calls_in c.args.here.now) (instance_of c.args.here.now) (listed_arguments c.loop-argument.rest.now) first others _ (lines_of c.loop-argument.lines.items) (lines_of c.put_argument.new.lines.items) made (made_of c.put_argument.new.made)
+          rest c.loop-argument.invariant.0 c.in_ok-value.ensures.lines c.in_ok-value.ensures.made,
+      operand_values (calls_in c.args.here.now) (instance_of c.args.here.now) (listed_arguments c.loop-argument.rest.now) first others _ c.loop-argument.values.items c.add.new.list.items c.in_ok-value.value made (made_of c.put_argument.new.made)
+          rest c.loop-argument.invariant.1 c.in_ok-add.ensures c.in_ok-value.ensures.value c.in_ok-value.ensures.made,
+      operand_made (calls_in c.args.here.now) (instance_of c.args.here.now) (listed_arguments c.loop-argument.rest.now) first others _ made (made_of c.put_argument.new.made) rest c.loop-argument.invariant.2 c.in_ok-value.ensures.made,
+      behind_first (listed_arguments c.loop-argument.rest.now) first others _ rest c.loop-argument.invariant.3,
+    )
 
 pub put_arguments-returns-clause-lines : goal.put_arguments-returns-clause-lines
 unfolding expression_code
@@ -79,8 +81,8 @@ put_statements-returns-clause-lines t c =
     let left : List Stmt → Guarded = λ z. list_code (calls_in c.args.here.now) (instance_of c.args.here.now) c.args.exit (is_some c.loop-s.guard) (listed_statements z) (made_of c.loop-s.made) in
     subst (λ z. OnOk c.put_closed-2.result (lines_of c.put_closed-2.new.lines.items ≡ z))
     (sym (c.loop-s.invariant.0
-      ∙ ap (λ z. joined_to lines (closed c.loop-s.guard c.args.exit (joined_to inside (left z).inside) (left z).rest)) (empty_list c.loop-s.rest.now c.in_default.ensures.cases)
-      ∙ ap (λ z. joined_to lines (closed c.loop-s.guard c.args.exit z NoLine)) (join_none inside)))
+    ∙ ap (λ z. joined_to lines (closed c.loop-s.guard c.args.exit (joined_to inside (left z).inside) (left z).rest)) (empty_list c.loop-s.rest.now c.in_default.ensures.cases)
+    ∙ ap (λ z. joined_to lines (closed c.loop-s.guard c.args.exit z NoLine)) (join_none inside)))
     c.put_closed-2.ensures
 
 pub put_statement-returns-in-Block-clause-lines : goal.put_statement-returns-in-Block-clause-lines
@@ -122,9 +124,9 @@ put_expression-put_call-requires t c =
     let less : room (program_of c.args.here.now.program.now) c.args.here.now.depth + (2 * weight_among (listed_arguments c.deref-in-Call.result.now) + 4) < t = omega (arith, d, e) in
     (less, tt {0})
 
-pub put_expression-put_expressions-requires : goal.put_expression-put_expressions-requires
-put_expression-put_expressions-requires t c =
-    let d : room (program_of c.args.here.now.program.now) c.args.here.now.depth + (2 * weight_in (expression_of c.args.e.now) + 1) ≡ t = c.decreases in
+pub put_operation-put_expressions-requires : goal.put_operation-put_expressions-requires
+put_operation-put_expressions-requires t c =
+    let d : room (program_of c.args.here.now.program.now) c.args.here.now.depth + (2 * weight_in (expression_of c.args.e.now)) ≡ t = c.decreases in
     let e = ap weight_in (builtin_parts c.args.e.now c.in-Builtin.f c.in-Builtin.of c.in-Builtin.args c.deref-in-Builtin.result.now c.in-Builtin.is c.deref-in-Builtin.ensures.value) in
     let less : room (program_of c.args.here.now.program.now) c.args.here.now.depth + (2 * weight_among (listed_expressions c.deref-in-Builtin.result.now) + 2) < t = omega (arith, d, e) in
     (less, tt {0})
@@ -154,9 +156,9 @@ put_call-put_body-requires t c =
     let less : room (program_of there.program.now) there.depth + (2 * weight_of_all (function_of c.in_ok-called.called.now).body + 4) < t = omega (arith, d, h, k, w) in
     (less, tt {0})
 
-pub put_expression-returns-in_ok-values-in-Builtin-clause-lines : goal.put_expression-returns-in_ok-values-in-Builtin-clause-lines
+pub put_operation-returns-in_ok-values-in-Builtin-clause-lines : goal.put_operation-returns-in_ok-values-in-Builtin-clause-lines
 unfolding expression_code
-put_expression-returns-in_ok-values-in-Builtin-clause-lines t c =
+put_operation-returns-in_ok-values-in-Builtin-clause-lines t c =
     let lines = lines_of c.args.lines.now.items in
     let own = made_of c.args.made.now in
     let co = operands_code (calls_in c.args.here.now) (instance_of c.args.here.now) (listed_expressions c.deref-in-Builtin.result.now) own in
@@ -170,9 +172,9 @@ put_expression-returns-in_ok-values-in-Builtin-clause-lines t c =
     (behind_lines lines more co.lines (step values made).lines known.lines ∙ ap (λ (z : Code). joined_to lines (joined_to co.lines z.lines)) same ∙ ap (λ z. joined_to lines (expression_code (calls_in c.args.here.now) (instance_of c.args.here.now) z own).lines) (builtin_parts c.args.e.now c.in-Builtin.f c.in-Builtin.of c.in-Builtin.args c.deref-in-Builtin.result.now c.in-Builtin.is c.deref-in-Builtin.ensures.value))
     c.put_builtin.ensures.lines
 
-pub put_expression-returns-in_ok-values-in-Builtin-clause-value : goal.put_expression-returns-in_ok-values-in-Builtin-clause-value
+pub put_operation-returns-in_ok-values-in-Builtin-clause-value : goal.put_operation-returns-in_ok-values-in-Builtin-clause-value
 unfolding expression_code
-put_expression-returns-in_ok-values-in-Builtin-clause-value t c =
+put_operation-returns-in_ok-values-in-Builtin-clause-value t c =
     let lines = lines_of c.args.lines.now.items in
     let own = made_of c.args.made.now in
     let co = operands_code (calls_in c.args.here.now) (instance_of c.args.here.now) (listed_expressions c.deref-in-Builtin.result.now) own in
@@ -186,9 +188,9 @@ put_expression-returns-in_ok-values-in-Builtin-clause-value t c =
     (ap (behind co.lines) same ∙ ap (λ z. expression_code (calls_in c.args.here.now) (instance_of c.args.here.now) z own) (builtin_parts c.args.e.now c.in-Builtin.f c.in-Builtin.of c.in-Builtin.args c.deref-in-Builtin.result.now c.in-Builtin.is c.deref-in-Builtin.ensures.value))
     c.put_builtin.ensures.value
 
-pub put_expression-returns-in_ok-values-in-Builtin-clause-made : goal.put_expression-returns-in_ok-values-in-Builtin-clause-made
+pub put_operation-returns-in_ok-values-in-Builtin-clause-made : goal.put_operation-returns-in_ok-values-in-Builtin-clause-made
 unfolding expression_code
-put_expression-returns-in_ok-values-in-Builtin-clause-made t c =
+put_operation-returns-in_ok-values-in-Builtin-clause-made t c =
     let lines = lines_of c.args.lines.now.items in
     let own = made_of c.args.made.now in
     let co = operands_code (calls_in c.args.here.now) (instance_of c.args.here.now) (listed_expressions c.deref-in-Builtin.result.now) own in
@@ -256,12 +258,12 @@ put_call-returns-clause-lines t c =
     let set = parameter_lines there.base values in
     let known = c.in_ok-values.ensures in
     let same : behind set body ≡ calls here c.args.site c.args.function (argument_roots here (listed_roots c.args.args.now)) ca.values ca.made =
-        ap (λ p. behind set (body_code (call_code (program_of p) (names_of p) there.depth) at f behind_made)) c.in_ok-there.ensures.program
-        ∙ call_entered program names c.args.here.now.depth there.depth here at c.args.site c.args.function f (names_in c.in_ok-called.called.now) c.in_ok-roots.roots.items values made behind_made
-            c.in_ok-there.ensures.depth c.in_ok-called.ensures.plain c.in_ok-called.ensures.names c.in_ok-there.ensures.here c.in_ok-there.ensures.made
-        ∙ ap (λ z. calls here c.args.site c.args.function z values made) c.in_ok-roots.ensures
-        ∙ ap (λ z. calls here c.args.site c.args.function (argument_roots here (listed_roots c.args.args.now)) z made) (c.deref.ensures.value ∙ known.values)
-        ∙ ap (λ z. calls here c.args.site c.args.function (argument_roots here (listed_roots c.args.args.now)) ca.values z) known.made in
+    ap (λ p. behind set (body_code (call_code (program_of p) (names_of p) there.depth) at f behind_made)) c.in_ok-there.ensures.program
+    ∙ call_entered program names c.args.here.now.depth there.depth here at c.args.site c.args.function f (names_in c.in_ok-called.called.now) c.in_ok-roots.roots.items values made behind_made
+    c.in_ok-there.ensures.depth c.in_ok-called.ensures.plain c.in_ok-called.ensures.names c.in_ok-there.ensures.here c.in_ok-there.ensures.made
+    ∙ ap (λ z. calls here c.args.site c.args.function z values made) c.in_ok-roots.ensures
+    ∙ ap (λ z. calls here c.args.site c.args.function (argument_roots here (listed_roots c.args.args.now)) z made) (c.deref.ensures.value ∙ known.values)
+    ∙ ap (λ z. calls here c.args.site c.args.function (argument_roots here (listed_roots c.args.args.now)) ca.values z) known.made in
     subst (λ z. OnOk c.put_body.result (lines_of c.put_body.new.lines.items ≡ z))
     (behind_lines inside more set body.lines c.in_ok-put_parameters.ensures ∙ behind_lines lines inside ca.lines (joined_to set body.lines) known.lines ∙ ap (λ (z : Code). joined_to lines (joined_to ca.lines z.lines)) same)
     c.put_body.ensures.lines
@@ -288,12 +290,12 @@ put_call-returns-clause-value t c =
     let set = parameter_lines there.base values in
     let known = c.in_ok-values.ensures in
     let same : behind set body ≡ calls here c.args.site c.args.function (argument_roots here (listed_roots c.args.args.now)) ca.values ca.made =
-        ap (λ p. behind set (body_code (call_code (program_of p) (names_of p) there.depth) at f behind_made)) c.in_ok-there.ensures.program
-        ∙ call_entered program names c.args.here.now.depth there.depth here at c.args.site c.args.function f (names_in c.in_ok-called.called.now) c.in_ok-roots.roots.items values made behind_made
-            c.in_ok-there.ensures.depth c.in_ok-called.ensures.plain c.in_ok-called.ensures.names c.in_ok-there.ensures.here c.in_ok-there.ensures.made
-        ∙ ap (λ z. calls here c.args.site c.args.function z values made) c.in_ok-roots.ensures
-        ∙ ap (λ z. calls here c.args.site c.args.function (argument_roots here (listed_roots c.args.args.now)) z made) (c.deref.ensures.value ∙ known.values)
-        ∙ ap (λ z. calls here c.args.site c.args.function (argument_roots here (listed_roots c.args.args.now)) ca.values z) known.made in
+    ap (λ p. behind set (body_code (call_code (program_of p) (names_of p) there.depth) at f behind_made)) c.in_ok-there.ensures.program
+    ∙ call_entered program names c.args.here.now.depth there.depth here at c.args.site c.args.function f (names_in c.in_ok-called.called.now) c.in_ok-roots.roots.items values made behind_made
+    c.in_ok-there.ensures.depth c.in_ok-called.ensures.plain c.in_ok-called.ensures.names c.in_ok-there.ensures.here c.in_ok-there.ensures.made
+    ∙ ap (λ z. calls here c.args.site c.args.function z values made) c.in_ok-roots.ensures
+    ∙ ap (λ z. calls here c.args.site c.args.function (argument_roots here (listed_roots c.args.args.now)) z made) (c.deref.ensures.value ∙ known.values)
+    ∙ ap (λ z. calls here c.args.site c.args.function (argument_roots here (listed_roots c.args.args.now)) ca.values z) known.made in
     subst (λ (z : Code). IfOk c.put_body.result (λ v. v ≡ z.value))
     (same)
     c.put_body.ensures.value
@@ -320,12 +322,12 @@ put_call-returns-clause-made t c =
     let set = parameter_lines there.base values in
     let known = c.in_ok-values.ensures in
     let same : behind set body ≡ calls here c.args.site c.args.function (argument_roots here (listed_roots c.args.args.now)) ca.values ca.made =
-        ap (λ p. behind set (body_code (call_code (program_of p) (names_of p) there.depth) at f behind_made)) c.in_ok-there.ensures.program
-        ∙ call_entered program names c.args.here.now.depth there.depth here at c.args.site c.args.function f (names_in c.in_ok-called.called.now) c.in_ok-roots.roots.items values made behind_made
-            c.in_ok-there.ensures.depth c.in_ok-called.ensures.plain c.in_ok-called.ensures.names c.in_ok-there.ensures.here c.in_ok-there.ensures.made
-        ∙ ap (λ z. calls here c.args.site c.args.function z values made) c.in_ok-roots.ensures
-        ∙ ap (λ z. calls here c.args.site c.args.function (argument_roots here (listed_roots c.args.args.now)) z made) (c.deref.ensures.value ∙ known.values)
-        ∙ ap (λ z. calls here c.args.site c.args.function (argument_roots here (listed_roots c.args.args.now)) ca.values z) known.made in
+    ap (λ p. behind set (body_code (call_code (program_of p) (names_of p) there.depth) at f behind_made)) c.in_ok-there.ensures.program
+    ∙ call_entered program names c.args.here.now.depth there.depth here at c.args.site c.args.function f (names_in c.in_ok-called.called.now) c.in_ok-roots.roots.items values made behind_made
+    c.in_ok-there.ensures.depth c.in_ok-called.ensures.plain c.in_ok-called.ensures.names c.in_ok-there.ensures.here c.in_ok-there.ensures.made
+    ∙ ap (λ z. calls here c.args.site c.args.function z values made) c.in_ok-roots.ensures
+    ∙ ap (λ z. calls here c.args.site c.args.function (argument_roots here (listed_roots c.args.args.now)) z made) (c.deref.ensures.value ∙ known.values)
+    ∙ ap (λ z. calls here c.args.site c.args.function (argument_roots here (listed_roots c.args.args.now)) ca.values z) known.made in
     subst (λ (z : Code). OnOk c.put_body.result (made_of c.put_body.new.made ≡ z.made))
     (same)
     c.put_body.ensures.made

@@ -12,6 +12,9 @@ use Rattle.kir_lower.proofs.lowering.+lowering.Given as goal
 abbrev pub decreases-put_expression : goal.decreases-put_expression
 decreases-put_expression l = room (program_of l.here.now.program.now) l.here.now.depth + (2 * weight_in (expression_of l.e.now) + 1)
 
+abbrev pub decreases-put_operation : goal.decreases-put_operation
+decreases-put_operation l = room (program_of l.here.now.program.now) l.here.now.depth + (2 * weight_in (expression_of l.e.now))
+
 abbrev pub decreases-put_alternative : goal.decreases-put_alternative
 decreases-put_alternative l = room (program_of l.here.now.program.now) l.here.now.depth + (2 * weight_in (expression_of l.e.now))
 

@@ -1,14 +1,9 @@
-use Rattle.std.proofs.Common.{List, map, ap, ◌∙◌}
-use Rattle.wg_num.specs.declared.types.Place.{Place}
-use Rattle.cl_model.specs.declared.program.VarKind.{VarKind}
+use Rattle.std.proofs.Common.{map, ap, ◌∙◌}
 use Rattle.cl_model.specs.Calls as called
-use Rattle.cl_model.specs.Tree.{Table}
 use Rattle.cl_model.specs.Valid.{parameter_kinds}
 use Rattle.cl_model.specs.View.{program_of, table_of}
 use Rattle.kir.specs.Listed.{lines_of}
 use Rattle.kir.specs.Lowering.{names_of}
-use Rattle.kir.specs.Tree.{Lines, Kernel}
-use Rattle.kir_lower.specs.Made.{Made}
 use Rattle.kir_lower.specs.View.{made_of}
 use Rattle.kir_lower.specs.Whole.{kernel_code, lowered_of}
 use Rattle.kir_lower.proofs.Wholes.{kernel_parts}
@@ -22,4 +17,4 @@ returns-in-Some c =
     let known = c.in_ok-parts.ensures in
     c.in-Some.ensures.some
     ∙ kernel_parts c.in_ok-parts.parts.kinds.items (parameter_kinds (called.kernel_of program)) (made_of c.in_ok-parts.parts.made) code.made _ program.tables (lines_of c.in_ok-parts.parts.body.items) code.lines c.in_ok-sites.sites.items program.sites
-      known.kinds known.made (c.in_ok-tables.ensures ∙ ap (λ z. map table_of z) c.deref.ensures.value) known.body (c.in_ok-sites.ensures ∙ c.deref-2.ensures.value)
+    known.kinds known.made (c.in_ok-tables.ensures ∙ ap (λ z. map table_of z) c.deref.ensures.value) known.body (c.in_ok-sites.ensures ∙ c.deref-2.ensures.value)

@@ -1,6 +1,4 @@
-use Rattle.std.proofs.Common.{◌≡◌, ◌++◌, length, map}
-use Rattle.kir.specs.Listed.{lines_of, cell_of}
-use Rattle.kir.specs.Tree.{joined_to}
+use Rattle.std.proofs.Common.{◌≡◌, ◌++◌, length}
 use Rattle.kir_lower.specs.Whole.{own_roots}
 use Rattle.kir_lower.proofs.whole.own_roots.Given as goal
 

@@ -1,0 +1,7 @@
+pub mod Rows
+pub mod Onto
+pub mod Names
+pub mod Firsts
+pub mod Outlines
+pub mod Texts
+pub mod Held

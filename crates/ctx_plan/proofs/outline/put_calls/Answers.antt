@@ -1,0 +1,10 @@
+use Rattle.std.proofs.Common.{ap, ◌∙◌}
+use Rattle.std.proofs.lemmas.Result.{on_ok_weaker}
+use Rattle.cl_model.specs.Calls.{calls_in}
+use Rattle.cl_model.specs.View.{expression_of}
+use Rattle.ctx_plan.specs.Outline.{pieces_then}
+use Rattle.ctx_plan.proofs.Outlines.{calls_put}
+use Rattle.ctx_plan.proofs.outline.put_calls.Goals as goal
+
+pub returns : goal.returns
+returns c = on_ok_weaker c.put_expression.result (λ e rest. ap (λ xs. pieces_then xs rest) e ∙ calls_put (calls_in (expression_of c.args.e.now)) c.args.pieces.now.items rest) c.put_expression.ensures

@@ -1,0 +1,215 @@
+//! Which functions, statements and lines hold a barrier after inlining.
+
+ghost use Rattle.std.specs.Prelude.{◌≡◌, ◌∷◌, [], ◌++◌, false, length, map, replicate, IsTrue, IfOk, OnOk};
+ghost use Rattle.cl_model.specs.View.{statement_of, listed_statements, function_of};
+ghost use Rattle.kir.specs.Inlined.{holds, some_holds};
+ghost use Rattle.kir.specs.Tree.{NoLine};
+ghost use Rattle.kir.specs.Listed.{line_before, lines_of};
+ghost use Rattle.kir.specs.Cuts.{holds_barrier};
+ghost use Rattle.ctx_plan.specs.Points.{points_onto, all_onto, arms_onto, listed_arms, entry, point_holds, points_hold};
+ghost use Rattle.ctx_plan.specs.Sharing.{holding_of, bodies_after};
+
+use crate::outline::{Piece, put, put_expression, put_expressions, put_optional};
+use cl_model::{Function, Stmt, SwitchArm};
+use kir::Line;
+use std::alloc::Global;
+use wg_num::Memory;
+
+/// The entry of a list with this number; false where there is none.
+pub(crate) fn entry_of(list: &[bool], number: u32) -> bool
+    ensures { result ≡ entry list.now number }
+{
+    match list.get(number as usize) {
+        Some(entry) => *entry,
+        None => false,
+    }
+}
+
+#[cycle(points)]
+fn put_all_points(list: &[Stmt], points: &mut Vec<Piece>) -> Result<(), Memory>
+    ensures { OnOk result (points.new.items ≡ all_onto (listed_statements list.now) points.old.items) }
+{
+    for s in list {
+        put_points(s, points)?;
+    }
+    Ok(())
+}
+
+#[cycle(points)]
+fn put_arm_points(arms: &[SwitchArm], points: &mut Vec<Piece>) -> Result<(), Memory>
+    ensures { OnOk result (points.new.items ≡ arms_onto (listed_arms arms.now) points.old.items) }
+{
+    for arm in arms {
+        put_all_points(&arm.body, points)?;
+    }
+    Ok(())
+}
+
+/// Puts the calls and the barriers of a statement behind the points.
+#[cycle(points)]
+#[tactic(auto, using(crate::proofs::Rows::block_listed))]
+fn put_points(s: &Stmt, points: &mut Vec<Piece>) -> Result<(), Memory>
+    ensures { OnOk result (points.new.items ≡ points_onto (statement_of s.now) points.old.items) }
+{
+    match s {
+        Stmt::Do(e) => put_expression(e, points),
+        Stmt::Declare { value, .. } | Stmt::Return { value, .. } => put_optional(points, value),
+        Stmt::Fill { values, .. } => put_expressions(values, points),
+        Stmt::Block(list) => put_all_points(list, points),
+        Stmt::If { test, yes, no, .. } => {
+            put_expression(test, points)?;
+            put_points(yes, points)?;
+            match no {
+                None => Ok(()),
+                Some(no) => put_points(no, points),
+            }
+        }
+        Stmt::Loop {
+            test,
+            step,
+            body,
+            ..
+        } => {
+            put_optional(points, test)?;
+            put_optional(points, step)?;
+            put_points(body, points)
+        }
+        Stmt::Switch { value, arms, .. } => {
+            put_expression(value, points)?;
+            put_arm_points(arms, points)
+        }
+        Stmt::Break { .. } | Stmt::Continue { .. } => Ok(()),
+        Stmt::Barrier { .. } => put(points, Piece::Cut),
+    }
+}
+
+/// Whether the point is a barrier, or a call of a function that holds one.
+fn holds_at(inside: &[bool], point: &Piece) -> bool
+    ensures { result ≡ point_holds (entry inside.now) point.now }
+{
+    match point {
+        Piece::Declares(_) => false,
+        Piece::Cut => true,
+        Piece::Calls(_, function) => entry_of(inside, *function),
+        Piece::Block(_) => false,
+    }
+}
+
+/// Whether one of the points is.
+fn some_hold(inside: &[bool], points: &[Piece]) -> bool
+    ensures { result ≡ points_hold (entry inside.now) points.now }
+{
+    for point in points {
+        if holds_at(inside, point) {
+            return true;
+        }
+    }
+    false
+}
+
+/// Whether a barrier stands in the statement; `inside` says it of each function.
+pub(crate) fn statement_holds(alloc: Global, inside: &[bool], s: &Stmt) -> Result<bool, Memory>
+    ensures { IfOk result (λ b. b ≡ holds (entry inside.now) (statement_of s.now)) }
+{
+    let mut points = Vec::new(alloc);
+    put_points(s, &mut points)?;
+    Ok(some_hold(inside, &points))
+}
+
+/// Whether a barrier stands in the statements.
+fn statements_hold(alloc: Global, inside: &[bool], list: &[Stmt]) -> Result<bool, Memory>
+    ensures { IfOk result (λ b. b ≡ some_holds (entry inside.now) (listed_statements list.now)) }
+{
+    let mut points = Vec::new(alloc);
+    put_all_points(list, &mut points)?;
+    Ok(some_hold(inside, &points))
+}
+
+/// For each function whether a barrier stands in its body, where `inside` says it of those that it
+/// calls.
+fn bodies_hold(alloc: Global, inside: &[bool], functions: &[Function]) -> Result<Vec<bool>, Memory>
+    ensures { IfOk result (λ v. v.items ≡ bodies_after inside.now (map function_of functions.now)) }
+{
+    let mut list = Vec::new(alloc);
+    for function in functions {
+        let holds = statements_hold(alloc, inside, &function.body)?;
+        add_entry(&mut list, holds)?;
+    }
+    Ok(list)
+}
+
+pub(crate) fn add_entry(list: &mut Vec<bool>, entry: bool) -> Result<(), Memory>
+    ensures { OnOk result (list.new.items ≡ list.old.items ++ entry ∷ []) }
+{
+    match list.push(entry) {
+        Ok(()) => Ok(()),
+        Err(_) => Err(Memory),
+    }
+}
+
+/// So many entries that are false.
+pub(crate) fn no_entries(alloc: Global, count: usize) -> Result<Vec<bool>, Memory>
+    ensures { IfOk result (λ v. v.items ≡ replicate count false) }
+{
+    let mut list = Vec::new(alloc);
+    for _entry in 0..count {
+        add_entry(&mut list, false)?;
+    }
+    Ok(list)
+}
+
+/// Whether the entries are the same.
+fn same_entries(a: &[bool], b: &[bool]) -> bool
+    ensures { IsTrue result → a.now ≡ b.now }
+{
+    if a.len() != b.len() {
+        return false;
+    }
+    for i in 0..a.len() {
+        if a[i] != b[i] {
+            return false;
+        }
+    }
+    true
+}
+
+/// For each function whether a barrier stands in its body after inlining. No function leads back to
+/// itself, so calls nest less deep than there are functions.
+pub(crate) fn functions_hold(alloc: Global, functions: &[Function]) -> Result<Vec<bool>, Memory>
+    ensures { IfOk result (λ v. v.items ≡ holding_of (map function_of functions.now)) }
+{
+    let mut inside = no_entries(alloc, functions.len())?;
+    for _depth in 0..functions.len() {
+        let next = bodies_hold(alloc, &inside, functions)?;
+        if same_entries(&next, &inside) {
+            return Ok(next);
+        }
+        inside = next;
+    }
+    Ok(inside)
+}
+
+/// Whether a barrier stands among the lines.
+#[cycle(lines)]
+pub(crate) fn lines_hold(lines: &[Line]) -> bool
+    ensures { result ≡ holds_barrier (lines_of lines.now) }
+{
+    for line in lines {
+        if line_holds(line) {
+            return true;
+        }
+    }
+    false
+}
+
+#[cycle(lines)]
+fn line_holds(line: &Line) -> bool
+    ensures { result ≡ holds_barrier (line_before line.now NoLine) }
+{
+    match line {
+        Line::Set { .. } | Line::Load { .. } | Line::Store { .. } | Line::Clear { .. } => false,
+        Line::If { yes, no, .. } => lines_hold(yes) || lines_hold(no),
+        Line::Loop { test, body, .. } => lines_hold(test) || lines_hold(body),
+        Line::Barrier { .. } => true,
+    }
+}

@@ -1,0 +1,108 @@
+//! The making of the plan of a kernel.
+
+ghost use Rattle.std.specs.Prelude.{◌≡◌, ◌*◌, ◌+◌, filter, map, sum, IfOk};
+ghost use Rattle.wg_num.specs.Bytes as bytes;
+ghost use Rattle.cl_model.specs.View.{array_of, program_of};
+ghost use Rattle.cl_model.specs.Objects as objects;
+ghost use Rattle.kir.specs.View.{kernel_of};
+ghost use Rattle.ctx_plan.specs.Made.{private_of, bytes_among, plan_of};
+ghost use Rattle.ctx_plan.specs.View.{varying_of, planned_of};
+
+use crate::cells::{Homes, homes_of};
+use crate::holding::functions_hold;
+use crate::keeping::named_across;
+use crate::plan::Plan;
+use crate::sharing::{sharing_of, sum_of};
+use cl_model::{Array, Program, Space};
+use diverge::Varying;
+use kir::Kernel;
+use std::alloc::Global;
+use wg_num::{IntType, Memory};
+
+/// How many bytes a value of the type has.
+fn size_of(of: IntType) -> u64
+    ensures { result ≡ bytes.size_of of }
+{
+    match of {
+        IntType::Bool | IntType::Char | IntType::Uchar => 1,
+        IntType::Short | IntType::Ushort => 2,
+        IntType::Int | IntType::Uint => 4,
+        IntType::Long | IntType::Ulong => 8,
+    }
+}
+
+fn product_of(a: u64, b: u64) -> Result<u64, Memory>
+    ensures { IfOk result (λ p. p ≡ a * b) }
+{
+    match a.checked_mul(b) {
+        Some(product) => Ok(product),
+        None => Err(Memory),
+    }
+}
+
+/// The bytes of an array.
+fn array_bytes(array: &Array) -> Result<u64, Memory>
+    ensures { IfOk result (λ n. n ≡ objects.array_bytes (array_of array.now)) }
+{
+    let mut bytes = size_of(array.element);
+    for dim in &array.dims {
+        bytes = product_of(bytes, *dim)?;
+    }
+    Ok(bytes)
+}
+
+/// The bytes of a private array; none of another.
+fn bytes_of(array: &Array) -> Result<u32, Memory>
+    ensures { IfOk result (λ n. n ≡ private_of (array_of array.now)) }
+{
+    if array.space != Space::Private {
+        return Ok(0);
+    }
+    let bytes = array_bytes(array)?;
+    match u32::try_from(bytes) {
+        Ok(bytes) => Ok(bytes),
+        Err(_) => Err(Memory),
+    }
+}
+
+/// The bytes of the private arrays together.
+fn private_bytes(arrays: &[Array]) -> Result<u32, Memory>
+    ensures { IfOk result (λ n. n ≡ bytes_among (map array_of arrays.now)) }
+{
+    let mut sum: u32 = 0;
+    for array in arrays {
+        let bytes = bytes_of(array)?;
+        sum = sum_of(sum, bytes)?;
+    }
+    Ok(sum)
+}
+
+/// The plan of a kernel that comes from the program, whose varying variables are given: a variable
+/// that crosses has a once slot of its own where it does not vary, and a column where it varies,
+/// which variables of disjoint scopes share; a keep has a column of its own. Memory where it was
+/// refused, or a number has no room.
+pub fn plan(
+    alloc: Global,
+    kernel: &Kernel,
+    program: &Program,
+    varying: &Varying,
+) -> Result<Plan, Memory>
+    ensures { IfOk result (λ p. planned_of p ≡ plan_of (program_of program.now) (kernel_of kernel.now) (varying_of varying.now)) }
+{
+    let inside = functions_hold(alloc, &program.functions)?;
+    let sharing = sharing_of(alloc, program, varying, &inside)?;
+    let keeps = named_across(alloc, kernel.cells.len(), &kernel.body)?;
+    let homes = homes_of(alloc, &sharing, varying, &kernel.cells, &keeps)?;
+    let private_bytes = private_bytes(&kernel.arrays)?;
+    let Homes {
+        list,
+        columns,
+        slots,
+    } = homes;
+    Ok(Plan {
+        homes: list,
+        columns,
+        slots,
+        private_bytes,
+    })
+}
