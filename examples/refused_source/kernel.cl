@@ -1,0 +1,4 @@
+__kernel void inc(__global int *a)
+{
+  a[get_global_id(0)] = b + 1;
+}
