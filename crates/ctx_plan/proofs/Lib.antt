@@ -4,4 +4,5 @@ pub mod Names
 pub mod Firsts
 pub mod Outlines
 pub mod Texts
+pub mod Counted
 pub mod Held

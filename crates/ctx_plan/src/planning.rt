@@ -6,6 +6,7 @@ ghost use Rattle.cl_model.specs.View.{array_of, program_of};
 ghost use Rattle.cl_model.specs.Objects as objects;
 ghost use Rattle.kir.specs.View.{kernel_of};
 ghost use Rattle.ctx_plan.specs.Made.{private_of, bytes_among, plan_of};
+ghost use Rattle.ctx_plan.specs.Planned.{IsCounted};
 ghost use Rattle.ctx_plan.specs.View.{varying_of, planned_of};
 
 use crate::cells::{Homes, homes_of};
@@ -82,6 +83,19 @@ fn private_bytes(arrays: &[Array]) -> Result<u32, Memory>
 /// which variables of disjoint scopes share; a keep has a column of its own. Memory where it was
 /// refused, or a number has no room.
 pub fn plan(
+    alloc: Global,
+    kernel: &Kernel,
+    program: &Program,
+    varying: &Varying,
+) -> Result<Plan, Memory>
+    ensures made { IfOk result (λ p. planned_of p ≡ plan_of (program_of program.now) (kernel_of kernel.now) (varying_of varying.now)) }
+    ensures counted { IfOk result (λ p. IsCounted (kernel_of kernel.now) (planned_of p)) }
+{
+    let plan = made_plan(alloc, kernel, program, varying)?;
+    Ok(plan)
+}
+
+fn made_plan(
     alloc: Global,
     kernel: &Kernel,
     program: &Program,

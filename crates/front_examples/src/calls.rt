@@ -21,16 +21,15 @@ const CALLS: [Call; 4] = [
     },
 ];
 
+// Two functions of the calls, and whether the second leads back to the first.
+const ASKED: [(u32, u32, bool); 4] = [(1, 2, true), (3, 1, true), (1, 3, false), (7, 7, true)];
+
 #[test]
 fn follows_calls(rt: HostRuntime) -> Result<(), Fail> {
-    let rows = rows_of(rt.alloc(), &CALLS).map_err(|_| "out of memory")?;
-    let around = leads_back(rt.alloc(), &CALLS, &rows, 1, 2).map_err(|_| "out of memory")?;
-    assert!(rt; around);
-    let inwards = leads_back(rt.alloc(), &CALLS, &rows, 3, 1).map_err(|_| "out of memory")?;
-    assert!(rt; inwards);
-    let outwards = leads_back(rt.alloc(), &CALLS, &rows, 1, 3).map_err(|_| "out of memory")?;
-    assert!(rt; !outwards);
-    let alone = leads_back(rt.alloc(), &CALLS, &rows, 7, 7).map_err(|_| "out of memory")?;
-    assert!(rt; alone);
+    let rows = rows_of(rt.alloc(), &CALLS)?;
+    for (from, to, wanted) in ASKED {
+        let found = leads_back(rt.alloc(), &CALLS, &rows, from, to)?;
+        assert!(rt; found == wanted, "at {from} {to}");
+    }
     Ok(())
 }

@@ -10,7 +10,7 @@ use wg_num::{IntType, Place, Word};
 const PLACE: Place = Place { line: 1, column: 1 };
 
 fn word(heap: Global, name: &str) -> Result<Word, Fail> {
-    Ok(Word::new(heap, name.as_bytes()).map_err(|_| "out of memory")?)
+    Ok(Word::new(heap, name.as_bytes())?)
 }
 
 fn array(
@@ -53,22 +53,30 @@ fn one() -> Expr {
     }
 }
 
+// A value behind a box, with what is kept beside it.
+fn boxed_beside<T: Drop, K: Drop>(heap: Global, value: T, kept: K) -> Result<(Box<T>, K), Fail> {
+    let value = Box::new(heap, value)?;
+    Ok((value, kept))
+}
+
 fn when(heap: Global, test: Expr, yes: Stmt) -> Result<Stmt, Fail> {
+    let (yes, test) = boxed_beside(heap, yes, test)?;
     Ok(Stmt::If {
         site: 0,
         test,
-        yes: Box::new(heap, yes)?,
+        yes,
         no: None,
     })
 }
 
 fn again(heap: Global, body: Stmt) -> Result<Stmt, Fail> {
+    let (body, _) = boxed_beside(heap, body, ())?;
     Ok(Stmt::Loop {
         site: 0,
         test_first: true,
         test: None,
         step: None,
-        body: Box::new(heap, body)?,
+        body,
     })
 }
 
@@ -142,9 +150,9 @@ fn totals_count_each_call(rt: HostRuntime) -> Result<(), Fail> {
             called: middle,
         },
     ];
-    let sums = totals(heap, 100, &[5, 3, 1], &calls).map_err(|_| "out of memory")?;
+    let sums = totals(heap, 100, &[5, 3, 1], &calls)?;
     assert!(rt; sums.as_slice() == [5, 8, 17].as_slice());
-    let capped = totals(heap, 10, &[5, 3, 1], &calls).map_err(|_| "out of memory")?;
+    let capped = totals(heap, 10, &[5, 3, 1], &calls)?;
     assert!(rt; capped.as_slice() == [5, 8, 10].as_slice());
     Ok(())
 }
@@ -167,7 +175,7 @@ fn with_array(heap: Global, count: u32, space: Space, rows: u64) -> Result<Funct
 fn limit(heap: Global, nodes: u32, kernel: Function) -> Result<Option<Fault>, Fail> {
     let tree = unit(heap, nodes)?;
     let whole = program(heap, kernel)?;
-    Ok(limit_of(heap, &tree, &[], &whole).map_err(|_| "out of memory")?)
+    Ok(limit_of(heap, &tree, &[], &whole)?)
 }
 
 // A loop around an `if` that calls function 1 in its test, and that function.
@@ -183,7 +191,7 @@ fn calling(heap: Global) -> Result<Vec<Function>, Fail> {
 #[test]
 fn heights_go_through_calls(rt: HostRuntime) -> Result<(), Fail> {
     let heap = rt.alloc();
-    let found = heights(heap, 18, &calling(heap)?).map_err(|_| "out of memory")?;
+    let found = heights(heap, 18, &calling(heap)?)?;
     assert!(rt; found.as_slice() == [5, 3].as_slice());
     Ok(())
 }
@@ -191,7 +199,7 @@ fn heights_go_through_calls(rt: HostRuntime) -> Result<(), Fail> {
 #[test]
 fn heights_stop_at_the_cap(rt: HostRuntime) -> Result<(), Fail> {
     let heap = rt.alloc();
-    let found = heights(heap, 4, &calling(heap)?).map_err(|_| "out of memory")?;
+    let found = heights(heap, 4, &calling(heap)?)?;
     assert!(rt; found.as_slice() == [4, 3].as_slice());
     Ok(())
 }
@@ -211,36 +219,28 @@ fn memory_is_by_space(rt: HostRuntime) -> Result<(), Fail> {
     Ok(())
 }
 
-#[test]
-fn depth_is_limited(rt: HostRuntime) -> Result<(), Fail> {
-    let heap = rt.alloc();
-    assert!(rt; limit(heap, 3, nested(heap, 16)?)? == None);
-    assert!(rt; limit(heap, 3, nested(heap, 17)?)? == Some(Fault::BarriersTooDeep));
-    Ok(())
-}
+// Kernels by the nodes of their block, the `if` statements around their barrier and the rows of their array, each with
+// the limit that it is above.
+const LIMITS: [(u32, u32, Option<(Space, u64)>, Option<Fault>); 8] = [
+    (3, 16, None, None),
+    (3, 17, None, Some(Fault::BarriersTooDeep)),
+    (16384, 0, None, None),
+    (16385, 17, None, Some(Fault::KernelTooLarge)),
+    (3, 0, Some((Space::Private, 2)), None),
+    (3, 17, Some((Space::Private, 3)), Some(Fault::PrivateMemory)),
+    (3, 0, Some((Space::Local, 8)), None),
+    (3, 0, Some((Space::Local, 9)), Some(Fault::LocalMemory)),
+];
 
 #[test]
-fn weight_is_limited(rt: HostRuntime) -> Result<(), Fail> {
+fn kernels_are_limited(rt: HostRuntime) -> Result<(), Fail> {
     let heap = rt.alloc();
-    assert!(rt; limit(heap, 16384, nested(heap, 0)?)? == None);
-    assert!(rt; limit(heap, 16385, nested(heap, 17)?)? == Some(Fault::KernelTooLarge));
-    Ok(())
-}
-
-#[test]
-fn private_memory_is_limited(rt: HostRuntime) -> Result<(), Fail> {
-    let heap = rt.alloc();
-    assert!(rt; limit(heap, 3, with_array(heap, 0, Space::Private, 2)?)? == None);
-    assert!(rt;
-        limit(heap, 3, with_array(heap, 17, Space::Private, 3)?)? == Some(Fault::PrivateMemory)
-    );
-    Ok(())
-}
-
-#[test]
-fn local_memory_is_limited(rt: HostRuntime) -> Result<(), Fail> {
-    let heap = rt.alloc();
-    assert!(rt; limit(heap, 3, with_array(heap, 0, Space::Local, 8)?)? == None);
-    assert!(rt; limit(heap, 3, with_array(heap, 0, Space::Local, 9)?)? == Some(Fault::LocalMemory));
+    for (nodes, count, array, wanted) in LIMITS {
+        let kernel = match array {
+            None => nested(heap, count)?,
+            Some((space, rows)) => with_array(heap, count, space, rows)?,
+        };
+        assert!(rt; limit(heap, nodes, kernel)? == wanted, "at {nodes} {count}");
+    }
     Ok(())
 }

@@ -1,13 +1,12 @@
-use cl_meaning::{Each, Kind, Meaning, Reach};
-use cl_model::{Root, Space};
 use cl_scope::{
-    Callee, Environment, callee_of, enter, is_declared, is_flag, later, leave, meaning_of, restore,
-    start,
+    Callee, Environment, callee_of, enter, is_declared, is_flag, later, leave, meaning_of,
+    name_kind, restore, start,
 };
 use cl_tree::{Form, Tree};
 use std::alloc::Global;
+use std::fmt::Write;
 use std::test::Fail;
-use wg_num::{IntType, Memory, Place, Word};
+use wg_num::{Memory, Place, Word};
 
 const PLACES: [Place; 2] = [Place { line: 1, column: 1 }, Place { line: 1, column: 7 }];
 
@@ -65,6 +64,12 @@ fn function(alloc: Global) -> Result<Tree, Fail> {
     node(alloc, Form::FunctionNode, "f", parts)
 }
 
+/// What is visible at the start of a unit, behind a box: a test lets it go by one call.
+fn begun(alloc: Global, unit: &Tree) -> Result<Box<Environment>, Fail> {
+    let environment = start(alloc, unit)?;
+    Ok(Box::new(alloc, environment)?)
+}
+
 /// Walks through a tree, whose parts have no kinds.
 fn walk(alloc: Global, environment: &mut Environment, tree: &Tree) -> Result<(), Memory> {
     let saved = enter(alloc, environment, tree)?;
@@ -78,98 +83,118 @@ fn walk(alloc: Global, environment: &mut Environment, tree: &Tree) -> Result<(),
     leave(alloc, environment, inner.labels, tree, &[], &PLACES)
 }
 
+/// What names are declared to be, as text.
+fn meanings(alloc: Global, environment: &Environment, names: &[&str]) -> Result<String, Fail> {
+    let mut text = String::new(alloc);
+    for name in names {
+        let meaning = meaning_of(environment, name.as_bytes());
+        write!(text, "{meaning:?};")?;
+    }
+    Ok(text)
+}
+
+/// Whether f is a function of one parameter, no variable is left, and `barrier` is known.
+fn knows_function(environment: &Environment) -> bool {
+    let parameters = match callee_of(environment, b"f") {
+        Some(Callee::Defined { signature, .. }) => signature.parameters.len(),
+        _ => 0,
+    };
+    let known = matches!(callee_of(environment, b"barrier"), Some(Callee::Known(_)));
+    is_declared(environment, b"f") && environment.variables.is_empty() && parameters == 1 && known
+}
+
 #[test]
 fn a_function_is_visible_and_its_variables_are_gone(rt: HostRuntime) -> Result<(), Fail> {
     let heap = rt.alloc();
     let unit = one(heap, Form::UnitNode, "", function(heap)?)?;
-    let mut environment = start(heap, &unit)?;
-    assert_eq!(rt; meaning_of(&environment, b"f"), None);
+    let mut environment = begun(heap, &unit)?;
+    assert_eq!(rt; meanings(heap, &environment, &["f"])?.as_str(), "None;");
     walk(heap, &mut environment, &unit)?;
-    assert_eq!(rt;
-        meaning_of(&environment, b"f"),
-        Some(Meaning::Function { number: 0 })
-    );
-    assert_eq!(rt; meaning_of(&environment, b"a"), None);
-    assert_eq!(rt; meaning_of(&environment, b"x"), None);
-    assert!(rt; is_declared(&environment, b"f"));
-    assert!(rt; environment.variables.is_empty());
-    let parameters = match callee_of(&environment, b"f") {
-        Some(Callee::Defined { signature, .. }) => signature.parameters.len(),
-        _ => 0,
-    };
-    assert_eq!(rt; parameters, 1);
-    assert!(rt; matches!(callee_of(&environment, b"barrier"), Some(Callee::Known(_))));
+    let found = meanings(heap, &environment, &["f", "a", "x"])?;
+    assert_eq!(rt; found.as_str(), "Some(Function { number: 0 });None;None;");
+    assert!(rt; knows_function(&environment));
     Ok(())
+}
+
+/// What x means at the end of a function, how many variables its body has, and what x means behind it.
+fn inside(alloc: Global, environment: &mut Environment, tree: &Tree) -> Result<String, Fail> {
+    let saved = enter(alloc, environment, tree)?;
+    for part in &tree.parts {
+        walk(alloc, environment, part)?;
+        later(alloc, environment, tree.form, false, part, None)?;
+    }
+    let within = meaning_of(environment, b"x");
+    let inner = restore(environment, saved);
+    let count = match &inner.body {
+        Some(body) => body.variables.len(),
+        None => 0,
+    };
+    let behind = meaning_of(environment, b"x");
+    Ok(format!(in alloc; "{within:?};{count};{behind:?}")?)
 }
 
 #[test]
 fn a_function_has_variables_inside(rt: HostRuntime) -> Result<(), Fail> {
     let heap = rt.alloc();
     let tree = function(heap)?;
-    let unit = leaf(heap, Form::UnitNode, "")?;
-    let mut environment = start(heap, &unit)?;
-    let saved = enter(heap, &mut environment, &tree)?;
-    for part in &tree.parts {
-        walk(heap, &mut environment, part)?;
-        later(heap, &mut environment, tree.form, false, part, None)?;
-    }
-    let scalar = Meaning::Scalar {
-        of: IntType::Int,
-        constant: false,
-        number: 1,
-    };
-    assert_eq!(rt; meaning_of(&environment, b"x"), Some(scalar));
-    let inner = restore(&mut environment, saved);
-    let count = match &inner.body {
-        Some(body) => body.variables.len(),
-        None => 0,
-    };
-    assert_eq!(rt; count, 2);
-    assert_eq!(rt; meaning_of(&environment, b"x"), None);
+    let mut environment = begun(heap, &leaf(heap, Form::UnitNode, "")?)?;
+    let found = inside(heap, &mut environment, &tree)?;
+    let wanted = "Some(Scalar { of: Int, constant: false, number: 1 });2;None";
+    assert_eq!(rt; found.as_str(), wanted);
     Ok(())
+}
+
+/// `constant int t[2][3];`
+fn table(alloc: Global) -> Result<Tree, Fail> {
+    let rows = leaf(alloc, Form::NumberNode, "2")?;
+    let columns = leaf(alloc, Form::NumberNode, "3")?;
+    let table = two(alloc, Form::DeclaratorNode, "t [ ] [ ]", rows, columns)?;
+    declaration(alloc, table)
+}
+
+/// How many bytes the only table has.
+fn table_bytes(environment: &Environment) -> Option<usize> {
+    match environment.tables.as_slice() {
+        [table] => Some(table.bytes.len()),
+        _ => None,
+    }
 }
 
 #[test]
 fn a_table_has_rows_and_bytes(rt: HostRuntime) -> Result<(), Fail> {
     let heap = rt.alloc();
-    let rows = leaf(heap, Form::NumberNode, "2")?;
-    let columns = leaf(heap, Form::NumberNode, "3")?;
-    let table = two(heap, Form::DeclaratorNode, "t [ ] [ ]", rows, columns)?;
-    let line = declaration(heap, table)?;
-    let mut environment = start(heap, &leaf(heap, Form::UnitNode, "")?)?;
+    let line = table(heap)?;
+    let mut environment = begun(heap, &leaf(heap, Form::UnitNode, "")?)?;
     walk(heap, &mut environment, &line)?;
-    let array = Meaning::Array {
-        space: Space::Constant,
-        element: IntType::Int,
-        constant: false,
-        root: Root::Constant(0),
-        each: Each::Row { length: 3 },
-    };
-    assert_eq!(rt; meaning_of(&environment, b"t"), Some(array));
-    assert_eq!(rt; environment.tables.len(), 1);
-    let bytes = match environment.tables.first() {
-        Some(table) => table.bytes.len(),
-        None => 0,
-    };
-    assert_eq!(rt; bytes, 24);
+    let found = meanings(heap, &environment, &["t"])?;
+    let wanted =
+        "Some(Array { space: Constant, element: Int, constant: false, root: Constant(0), each: Row { length: 3 } });";
+    assert_eq!(rt; found.as_str(), wanted);
+    assert_eq!(rt; table_bytes(&environment), Some(24));
     Ok(())
+}
+
+/// Whether a name is a flag in front of a call, in it, with its kind there, and behind it.
+fn flags(alloc: Global, environment: &mut Environment, call: &Tree) -> Result<String, Fail> {
+    let name = b"CLK_LOCAL_MEM_FENCE";
+    let before = is_flag(environment, name);
+    let saved = enter(alloc, environment, call)?;
+    let within = is_flag(environment, name);
+    let kind = name_kind(environment, name);
+    let _inner = restore(environment, saved);
+    let behind = is_flag(environment, name);
+    Ok(format!(in alloc; "{before} {within} {kind:?} {behind}")?)
 }
 
 #[test]
 fn flags_are_known_in_a_fence(rt: HostRuntime) -> Result<(), Fail> {
     let heap = rt.alloc();
     let call = leaf(heap, Form::CallNode, "barrier ( )")?;
-    let mut environment = start(heap, &leaf(heap, Form::UnitNode, "")?)?;
-    let name = b"CLK_LOCAL_MEM_FENCE";
-    assert!(rt; !is_flag(&environment, name));
-    let saved = enter(heap, &mut environment, &call)?;
-    assert!(rt; is_flag(&environment, name));
-    let number = Kind::Number {
-        of: IntType::Uint,
-        reach: Reach::Value,
-    };
-    assert_eq!(rt; cl_scope::name_kind(&environment, name), Some(number));
-    let _inner = restore(&mut environment, saved);
-    assert!(rt; !is_flag(&environment, name));
+    let mut environment = begun(heap, &leaf(heap, Form::UnitNode, "")?)?;
+    let found = flags(heap, &mut environment, &call)?;
+    assert_eq!(rt;
+        found.as_str(),
+        "false true Some(Number { of: Uint, reach: Value }) false"
+    );
     Ok(())
 }

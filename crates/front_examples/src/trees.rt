@@ -109,35 +109,45 @@ fn stops_at_the_first_token_that_no_unit_has_there(rt: HostRuntime) -> Result<()
     Ok(())
 }
 
+// The piece, so many times.
+fn add(text: &mut String, piece: &str, times: u32) -> Result<(), Fail> {
+    for _ in 0..times {
+        text.push_str(piece)?;
+    }
+    Ok(())
+}
+
+// A text with one piece so many times in front of a 1, and another behind it.
+fn around(alloc: Global, front: &str, open: &str, close: &str, times: u32) -> Result<String, Fail> {
+    let mut text = String::from_str(alloc, front)?;
+    add(&mut text, open, times)?;
+    text.push_str("1")?;
+    add(&mut text, close, times)?;
+    text.push_str(";")?;
+    Ok(text)
+}
+
+// What stands in front, the pieces around a 1, how many there are of each, what stands behind, and the number.
+const NESTED: [(&str, &str, &str, u32, &str, u32); 3] = [
+    (
+        "__kernel void p(__global int *a) { a[0] = ",
+        "(",
+        ")",
+        300,
+        " }",
+        302,
+    ),
+    ("int x = ", "", "+1", 300, "", 302),
+    ("int x = ", "(", ")", 251, "", 0),
+];
+
 #[test]
 fn refuses_nesting(rt: HostRuntime) -> Result<(), Fail> {
-    let alloc = rt.alloc();
-    let mut text = String::from_str(alloc, "__kernel void p(__global int *a) { a[0] = ")?;
-    for _ in 0..300 {
-        text.push_str("(")?;
+    for (front, open, close, times, back, number) in NESTED {
+        let mut text = around(rt.alloc(), front, open, close, times)?;
+        text.push_str(back)?;
+        assert_eq!(rt; verdict(rt.alloc(), text.as_str())?.0, number, "at {front}");
     }
-    text.push_str("1")?;
-    for _ in 0..300 {
-        text.push_str(")")?;
-    }
-    text.push_str("; }")?;
-    assert_eq!(rt; verdict(alloc, text.as_str())?.0, 302);
-    let mut sum = String::from_str(alloc, "int x = 1")?;
-    for _ in 0..300 {
-        sum.push_str("+1")?;
-    }
-    sum.push_str(";")?;
-    assert_eq!(rt; verdict(alloc, sum.as_str())?.0, 302);
-    let mut deep = String::from_str(alloc, "int x = ")?;
-    for _ in 0..251 {
-        deep.push_str("(")?;
-    }
-    deep.push_str("1")?;
-    for _ in 0..251 {
-        deep.push_str(")")?;
-    }
-    deep.push_str(";")?;
-    assert_eq!(rt; verdict(alloc, deep.as_str())?, (0, 0));
     Ok(())
 }
 
@@ -202,14 +212,6 @@ fn makes_the_tree_of_the_grammar(rt: HostRuntime) -> Result<(), Fail> {
     Ok(())
 }
 
-// The piece, so many times.
-fn add(text: &mut String, piece: &str, times: u32) -> Result<(), Fail> {
-    for _ in 0..times {
-        text.push_str(piece)?;
-    }
-    Ok(())
-}
-
 // 65,536 tokens, as many as macros may leave: short declarations.
 fn many_items(alloc: Global) -> Result<String, Fail> {
     let mut text = String::new(alloc);
@@ -240,21 +242,35 @@ fn many_elements(alloc: Global) -> Result<String, Fail> {
     Ok(text)
 }
 
+// One of the three.
+fn many(alloc: Global, number: u32) -> Result<String, Fail> {
+    match number {
+        0 => many_items(alloc),
+        1 => many_deep_statements(alloc),
+        _ => many_elements(alloc),
+    }
+}
+
+// How many tokens a source has, the time in which they are read, and the last token of their unit.
+fn measured(rt: &HostRuntime, source: &str) -> Result<(usize, Duration, u32), Fail> {
+    let all = tokens(rt.alloc(), source.as_bytes())?;
+    if all.len() > 1_000_000 {
+        return Err("too many tokens".into());
+    }
+    let start = Instant::now(rt)?;
+    let tree = parse(rt.alloc(), &all)?;
+    let time = start.elapsed(rt)?;
+    Ok((all.len(), time, tree.last))
+}
+
 #[test]
 fn reads_as_many_tokens_as_there_may_be_in_less_than_a_second(rt: HostRuntime) -> Result<(), Fail> {
-    let alloc = rt.alloc();
-    let sources = [
-        many_items(alloc)?,
-        many_deep_statements(alloc)?,
-        many_elements(alloc)?,
-    ];
-    for source in &sources {
-        let all = tokens(alloc, source.as_bytes())?;
-        assert_eq!(rt; all.len(), 65_536);
-        let start = Instant::now(&rt)?;
-        let tree = parse(alloc, &all)?;
-        assert!(rt; start.elapsed(&rt)? < Duration::from_secs(1));
-        assert!(rt; tree.last == 65_535);
+    for number in 0..3 {
+        let source = many(rt.alloc(), number)?;
+        let (count, time, last) = measured(&rt, source.as_str())?;
+        assert_eq!(rt; count, 65_536);
+        assert!(rt; time < Duration::from_secs(1));
+        assert_eq!(rt; last, 65_535);
     }
     Ok(())
 }
