@@ -2,6 +2,16 @@
 #![tactic(auto)]
 
 #[cfg(test)]
+mod barriers;
+#[cfg(test)]
+mod example;
+#[cfg(test)]
+mod faults;
+#[cfg(test)]
 mod launches;
 #[cfg(test)]
-mod rows;
+mod refusals;
+#[cfg(test)]
+mod texts;
+#[cfg(test)]
+mod values;

@@ -1,89 +1,63 @@
--- Launches that are accepted can run.
-use Rattle.std.proofs.Common.{◌≡◌, ℕ, zero, suc, ◌+◌, ◌<◌, ◌≤◌, ◌==◌, true, false, List, [], ◌∷◌, ◌++◌, length, map, take, drop, get_or, Some, None, refl, sym, ◌∙◌, ap, ap₂, subst, arith}
+-- Launches that are accepted are ready, and fit their kernels.
+use Rattle.std.proofs.Common.{◌≡◌, ℕ, zero, suc, ◌+◌, ◌<◌, ◌≤◌, List, [], ◌∷◌, ◌++◌, length, map, take, drop, get_or, Some, None, refl, sym, ◌∙◌, ap, ap₂, subst, arith}
 use Rattle.std.proofs.Math.Seq.{take-suc, drop-cons}
 use Rattle.std.specs.Prelude.{All}
-use Rattle.std.specs.List.{list_any}
-use Rattle.std.proofs.lemmas.Bool.{or_parts, eqb-true}
-use Rattle.std.proofs.lemmas.List.{length-map, map-append, get_or-map}
+use Rattle.std.proofs.lemmas.List.{map-append, get_or-map}
 use Rattle.std.proofs.lemmas.List.Elements.{All-push}
-use Rattle.wg_num.specs.declared.types.IntType.{IntType}
-use Rattle.cl_model.specs.declared.program.Root.{Root}
-use Rattle.cl_model.specs.declared.program.Space.TheVariants as spaces
-use Rattle.cl_model.specs.declared.program.VarKind.TheVariants.{Pointer}
-use Rattle.cl_model.specs.declared.launch.Bound.{Bound}
-use Rattle.cl_model.specs.declared.launch.Bound.TheVariants as bound
 use Rattle.cl_model.specs.declared.launch.Launch.{Launch as Bindings}
-use Rattle.cl_model.specs.Sizes.{Launch, offset_at}
+use Rattle.cl_model.specs.Sizes.{Launch}
 use Rattle.cl_model.specs.View.{launch_of}
-use Rattle.cl_model.specs.declared.program.Program.{Program}
-use Rattle.cl_piece.specs.View.{unit_of}
-use Rattle.launch_file.specs.declared.text.BufferText.{BufferText}
-use Rattle.launch_file.specs.declared.text.ArgText.{ArgText}
-use Rattle.launch_file.specs.declared.text.ArgText.TheVariants as arg
-use Rattle.launch_file.specs.Binding as spec
-use Rattle.launch_file.specs.Refusals.{is_named}
-use Rattle.launch_file.specs.Texts.{Text, Part}
-use Rattle.launch_file.proofs.Accepted.{Accepts, accepts, sizes_fit, SizesFit, number_in, not_not}
-use Rattle.wg_top.specs.Kernels.{first_refusal, or_later}
-use Rattle.wg_top.specs.Runnable.{IsBuilt, needs_in}
-use Rattle.wg_top.proofs.ProgramLemmas.{OnePointer, one_pointer}
 use Rattle.cl_meaning.specs.Typed.{Unit'}
-use Rattle.cl_model.specs.declared.program.VarKind.{VarKind}
-use Rattle.wg_top.specs.Launches.{DimensionCanRun, CanRun, IsReady}
+use Rattle.lane_code.specs.Fits.{LaunchFits}
+use Rattle.lane_code.specs.View.{plain_of}
+use Rattle.launch_file.specs.declared.text.BufferText.{BufferText}
+use Rattle.launch_file.specs.Binding as spec
+use Rattle.launch_file.specs.declared.text.LaunchPart.{LaunchPart}
+use Rattle.launch_file.specs.Texts.{Text, Part, part_of}
+use Rattle.launch_file.specs.Values.{HasOneLength}
+use Rattle.launch_file.proofs.Accepted.{accepts}
+use Rattle.wg_top.specs.declared.compile.Compiled.{Compiled}
+use Rattle.wg_top.specs.Units.{needs_in, first_refusal, or_later}
+use Rattle.wg_top.specs.Launches.{HasLimits, IsReady, AllFit}
+use Rattle.wg_top.proofs.FitLemmas.{AreSmall, fits_kernel}
 
--- the one argument is a buffer that is there
-record OneBuffer (buffers : List BufferText) (args : List ArgText) : Type 0 where
-  number : ℕ
-  is : map (spec.bound_of buffers) args ≡ bound.Buffer number ∷ []
-  within : number < length buffers
+-- the offsets of a bound launch
+small : (launch : Bindings) → spec.AreOffsets launch.offset → AreSmall (launch_of launch)
+small launch offsets zero lt = offsets.0
+small launch offsets (suc zero) lt = offsets.1
+small launch offsets (suc (suc zero)) lt = offsets.2
+small launch offsets (suc (suc (suc d))) lt = absurd (omega arith)
 
-not_unlisted : (name : List ℕ) (buffers : List BufferText) → spec.is_unlisted buffers (arg.Buffer name) ≡ false → list_any (is_named name) buffers ≡ true
-not_unlisted name buffers listed = not_not (list_any (is_named name) buffers) listed
-
-one_buffer : (element : IntType) (root : Root) (buffers : List BufferText) (args : List ArgText) → (length args == 1) ≡ true → spec.some_pair spec.kind_wrong (Pointer spaces.Global element root ∷ []) args ≡ false → list_any (spec.is_unlisted buffers) args ≡ false → OneBuffer buffers args
-one_buffer element root buffers [] count kinds listed = absurd (let e : false ≡ true = count in let never : ⊥ = cc e in never)
-one_buffer element root buffers (arg.Buffer name ∷ []) count kinds listed =
-    record { number = spec.number_of name buffers; is = refl; within = number_in name buffers (not_unlisted name buffers (or_parts (spec.is_unlisted buffers (arg.Buffer name)) false listed).0) }
-one_buffer element root buffers (arg.Value z ∷ []) count kinds listed = absurd (let e : true ≡ false = kinds in let never : ⊥ = cc e in never)
-one_buffer element root buffers (arg.Local z ∷ []) count kinds listed = absurd (let e : true ≡ false = kinds in let never : ⊥ = cc e in never)
-one_buffer element root buffers (a ∷ b ∷ more) count kinds listed = absurd (let long : length (a ∷ b ∷ more) ≡ 1 = eqb-true (length (a ∷ b ∷ more)) 1 count in omega arith)
-
--- the sizes in each dimension
-dimensions_run : (turns : ℕ) (buffers : List BufferText) (part : Part) → spec.sizes_wrong part ≡ false → (d : ℕ) → d < 3 → DimensionCanRun (spec.launch_in turns buffers part) d
-dimensions_run turns buffers part right zero lt = let fit = sizes_fit part right in record { some_local = fit.first.some_local; some_global = fit.first.some_global; divides = fit.first.divides }
-dimensions_run turns buffers part right (suc zero) lt = let fit = sizes_fit part right in record { some_local = fit.second.some_local; some_global = fit.second.some_global; divides = fit.second.divides }
-dimensions_run turns buffers part right (suc (suc zero)) lt = let fit = sizes_fit part right in record { some_local = fit.third.some_local; some_global = fit.third.some_global; divides = fit.third.divides }
-dimensions_run turns buffers part right (suc (suc (suc d))) lt = absurd (omega arith)
-
-the_buffer : (kinds : List VarKind) (buffers : List BufferText) (args : List ArgText) → OnePointer kinds → (length args == length kinds) ≡ true → spec.some_pair spec.kind_wrong kinds args ≡ false → list_any (spec.is_unlisted buffers) args ≡ false → OneBuffer buffers args
-the_buffer kinds buffers args one count wrong listed =
-    one_buffer one.element one.root buffers args (subst (λ (ks : List VarKind). (length args == length ks) ≡ true) one.is count) (subst (λ (ks : List VarKind). spec.some_pair spec.kind_wrong ks args ≡ false) one.is wrong) listed
-
-launch_runs : (needs : spec.Needs) → OnePointer needs.kinds → (turns : ℕ) (buffers : List BufferText) (part : Part) → Accepts needs buffers part → offset_at (spec.three_offsets part.offset) 0 ≤ 9223372036854775807 → CanRun (spec.launch_in turns buffers part)
-launch_runs needs pointer turns buffers part ok offset =
-    let one = the_buffer needs.kinds buffers part.args pointer ok.count ok.kinds ok.listed in
-    let fit = sizes_fit part ok.sizes in
-    record {
-      dimensions = dimensions_run turns buffers part ok.sizes;
-      group_limit = fit.group;
-      item_limit = fit.items;
-      offset = offset;
-      buffer = one.number;
-      args = one.is;
-      is_there = let long : length (map (λ b. spec.count_of b.bytes) buffers) ≡ length buffers = length-map buffers (λ b. spec.count_of b.bytes) in omega (arith, one.within);
-    }
-
--- a launch that was bound is ready
-pub is_ready : (u : Unit') → IsBuilt u → (text : Text) (part : Part) (launch : Bindings) → spec.Binds (needs_in u) text part launch → spec.AreOffsets launch.offset → IsReady text.buffers launch
-is_ready u built text part launch binds offsets =
+-- a launch that was bound fits its kernel
+pub is_fit : (needs : spec.Needs) (text : Text) (part : Part) (launch : Bindings) → HasOneLength part → spec.Binds needs text part launch → spec.AreOffsets launch.offset → LaunchFits needs.kinds 0 (launch_of launch)
+is_fit needs text part launch one binds offsets =
     let same = binds.is_its.is_its in
-    let offset : offset_at (spec.three_offsets part.offset) 0 ≤ 9223372036854775807 = subst (λ (l : Launch). offset_at l.offset 0 ≤ 9223372036854775807) same offsets.0 in
+    subst (λ (l : Launch). LaunchFits needs.kinds 0 l) (sym same)
+    (fits_kernel needs text.turns text.buffers part (accepts needs text.buffers part binds.accepted) one (subst (λ (l : Launch). AreSmall l) same (small launch offsets)))
+
+-- and is ready
+pub is_ready : (needs : spec.Needs) (text : Text) (part : Part) (launch : Bindings) → HasOneLength part → spec.Binds needs text part launch → spec.AreOffsets launch.offset → IsReady text.buffers launch
+is_ready needs text part launch one binds offsets =
+    let fit = is_fit needs text part launch one binds offsets in
     record {
-      can = subst (λ (l : Launch). CanRun l) (sym same) (launch_runs (needs_in u) (one_pointer u built) text.turns text.buffers part (accepts (needs_in u) text.buffers part binds.accepted) offset);
-      lengths = ap (λ l. l.lengths) same;
+      limits = record { dimensions = fit.dimensions; group_limit = fit.group_limit; item_limit = fit.item_limit };
+      lengths = ap (λ l. l.lengths) binds.is_its.is_its;
       loads = binds.is_its.loads;
       saves = binds.is_its.saves;
     }
+
+-- one more launch that fits
+fit-snoc : (cs : List Compiled) (ls : List Bindings) (c : Compiled) (l : Bindings) → AllFit cs ls → LaunchFits (plain_of c.group).params 0 (launch_of l) → AllFit (cs ++ c ∷ []) (ls ++ l ∷ [])
+fit-snoc [] [] c l all one = (one, tt)
+fit-snoc (d ∷ cs) (m ∷ ls) c l all one = (all.0, fit-snoc cs ls c l all.1 one)
+fit-snoc [] (m ∷ ls) c l all one = absurd all
+fit-snoc (d ∷ cs) [] c l all one = absurd all
+
+pub more_fit : (kernels : List Compiled) (k : ℕ) (c : Compiled) (list new : List Bindings) (l : Bindings) → k < length kernels → c ≡ get_or kernels k c → new ≡ list ++ l ∷ [] → AllFit (take k kernels) list → LaunchFits (plain_of c.group).params 0 (launch_of l) → AllFit (take (k + 1) kernels) new
+more_fit kernels k c list new l lt is pushed all one =
+    let next : k + 1 ≡ suc k = omega arith in
+    let taken : take (k + 1) kernels ≡ take k kernels ++ c ∷ [] = ap (λ n. take n kernels) next ∙ (take-suc kernels k c lt ∙ ap (λ d. take k kernels ++ d ∷ []) (sym is)) in
+    subst (λ (ls : List Bindings). AllFit (take (k + 1) kernels) ls) (sym pushed) (subst (λ (cs : List Compiled). AllFit cs (list ++ l ∷ [])) (sym taken) (fit-snoc (take k kernels) list c l all one))
 
 -- the launches from a place on
 from_place : (buffers : List BufferText) (parts : List Part) (units : List Unit') (k : ℕ) (part : Part) (u : Unit') → k < length parts → k < length units → part ≡ get_or parts k part → u ≡ get_or units k u
@@ -120,6 +94,8 @@ all_ready buffers list new launch is all one = subst (λ (l : List Bindings). Al
 pub at_place : {X Y : Type 0} (view : X → Y) (xs : List X) (k : ℕ) (x : X) → k < length xs → x ≡ get_or xs k x → view x ≡ get_or (map view xs) k (view x)
 at_place view xs k x lt is = ap view is ∙ sym (get_or-map view xs k x (view x) lt)
 
--- what holds of each holds of one
-pub built_at : (programs : List Program) (k : ℕ) (p : Program) → k < length programs → p ≡ get_or programs k p → All (λ q. IsBuilt (unit_of q)) programs → IsBuilt (unit_of p)
-built_at programs k p lt is all = subst (λ (q : Program). IsBuilt (unit_of q)) (sym is) (all k p lt)
+-- each launch of a file has the form of one
+pub part_has : (list : List LaunchPart) (k : ℕ) (d : Part) → k < length list → All (λ p. HasOneLength (part_of p)) list → HasOneLength (get_or (map part_of list) k d)
+part_has [] k d lt all = absurd (omega arith)
+part_has (p ∷ list) zero d lt all = all 0 p (omega arith)
+part_has (p ∷ list) (suc k) d lt all = part_has list k d (omega arith) (λ n e less. all (suc n) e (omega arith))

@@ -10,12 +10,12 @@ use Rattle.command_words.specs.Command.{Files}
 use Rattle.launch_file.specs.Binding.{loads_of, saves_of}
 use Rattle.launch_file.specs.Texts.{Text}
 use Rattle.wg_top.specs.declared.RunError.{RunError}
-use Rattle.wg_top.specs.declared.RunError.TheVariants.{Failed, Absent, Source, Launch, Range, Memory}
+use Rattle.wg_top.specs.declared.RunError.TheVariants.{Failed, Absent, Source, Launch, Range, Parted, Turns, Memory}
 use Rattle.wg_top.specs.declared.Summary.{Summary}
 use Rattle.cl_meaning.specs.Typed.{Unit'}
 use Rattle.wg_front.specs.Front.{HasUnit}
-use Rattle.wg_top.specs.Causes.{Standing, Stands, SourceLoaded, RunRead, RunBound, BuffersLoaded, HasRun, Cause, LeavesFiles, IsDone}
-use Rattle.wg_top.specs.Runnable.{AreCompiled}
+use Rattle.wg_top.specs.Causes.{Standing, Stands, SourceLoaded, RunRead, RunBound, BuffersLoaded, IsStopped, RunStopped, HasRun, Cause, ReadingCause, LeavesFiles, IsDone}
+use Rattle.wg_top.specs.Units.{AreCompiled}
 use Rattle.wg_top.specs.Stages.{TextRead, LaunchCause, ProgramCause, BackCause, LeavesOthers, IsRun}
 
 -- counts that stand over two calls
@@ -43,43 +43,44 @@ rose_over : (a b c : ℕ) → a ≤ b → b ≤ c → Rose b c → Rose a c
 rose_over a b c ab bc rose small = elim (cases_lt b last_count) [ inl lt ↦ let up : b < c = rose lt in omega arith | inr ge ↦ omega arith ]
 
 -- a refusal while the launch file is read
-pub launch_cause : (old mid new : Standing) (ask : Files) (bytes : List ℕ) (e : RunError) → SourceLoaded old.files ask.source bytes → mid.files ≡ old.files → Stands old mid → Stands mid new → LaunchCause mid new ask.launch ask.lanes ask.turns e → Cause old new ask e
+pub launch_cause : (old mid new : Standing) (ask : Files) (bytes : List ℕ) (e : RunError) → SourceLoaded old.files ask.source bytes → mid.files ≡ old.files → Stands old mid → Stands mid new → LaunchCause mid new ask.launch ask.lanes ask.turns e → ReadingCause old new ask e
 launch_cause old mid new ask bytes Failed loaded same before after c = rose_over old.faults mid.faults new.faults before.faults after.faults c
 launch_cause old mid new ask bytes Absent loaded same before after c =
-    (rose_over old.misses mid.misses new.misses before.misses after.misses c.0, inr (inl (bytes, loaded, subst (λ (f : Option FileMap). LacksFile f ask.launch) same c.1)))
+    (rose_over old.misses mid.misses new.misses before.misses after.misses c.0, inr (bytes, loaded, subst (λ (f : Option FileMap). LacksFile f ask.launch) same c.1))
 launch_cause old mid new ask bytes (Launch number) loaded same before after c =
-    inl (record { source_bytes = bytes; source_loaded = loaded; launch_bytes = c.bytes; launch_loaded = subst (λ (f : Option FileMap). HasFileStart f ask.launch 1048577 c.bytes) same c.loaded; refused = c.refused })
+    record { source_bytes = bytes; source_loaded = loaded; launch_bytes = c.bytes; launch_loaded = subst (λ (f : Option FileMap). HasFileStart f ask.launch 1048577 c.bytes) same c.loaded; refused = c.refused }
 launch_cause old mid new ask bytes Memory loaded same before after c = tt
 launch_cause old mid new ask bytes _ loaded same before after c = absurd c
 
 -- a refusal of the source's bytes
-pub program_cause : (old new : Standing) (ask : Files) (bytes : List ℕ) (text : Text) (e : RunError) → TextRead old.files ask.launch ask.lanes ask.turns text → SourceLoaded old.files ask.source bytes → ProgramCause bytes text e → Cause old new ask e
+pub program_cause : (old new : Standing) (ask : Files) (bytes : List ℕ) (text : Text) (e : RunError) → TextRead old.files ask.launch ask.lanes ask.turns text → SourceLoaded old.files ask.source bytes → ProgramCause bytes text e → ReadingCause old new ask e
 program_cause old new ask bytes text (Source number place) read loaded c =
     record { text = text; source_bytes = bytes; source_loaded = loaded; launch_bytes = read.bytes; launch_loaded = read.loaded; reads = read.reads; fault = c }
 program_cause old new ask bytes text Memory read loaded c = tt
 program_cause old new ask bytes text _ read loaded c = absurd c
 
+-- a launch that is not done, on the files of before
+stopped : (files later : Option FileMap) (ask : Files) (text : Text) (s : List Unit') (e : RunError) → RunRead files ask text s → later ≡ files → IsStopped later text s e → RunStopped files ask e
+stopped files later ask text s e read same c = record { text = text; units = s; read = read; stopped = subst (λ (f : Option FileMap). IsStopped f text s e) same c }
+
+-- a refusal while all is read is one of the run
+pub reading_cause : (old new : Standing) (ask : Files) (e : RunError) → ReadingCause old new ask e → Cause old new ask e
+reading_cause old new ask Failed c = c
+reading_cause old new ask Absent c = (c.0, inl c.1)
+reading_cause old new ask (Source number place) c = c
+reading_cause old new ask (Launch number) c = inl c
+reading_cause old new ask Memory c = tt
+reading_cause old new ask _ c = absurd c
+
 -- a refusal once all is read
 pub back_cause : (old mid new : Standing) (ask : Files) (text : Text) (s : List Unit') (e : RunError) → RunRead old.files ask text s → mid.files ≡ old.files → Stands old mid → Stands mid new → BackCause mid new text s e → Cause old new ask e
 back_cause old mid new ask text s Failed read same before after c = rose_over old.faults mid.faults new.faults before.faults after.faults c
 back_cause old mid new ask text s Absent read same before after c =
-    (rose_over old.misses mid.misses new.misses before.misses after.misses c.0, inr (inr (text, s, record { read = read; accepted = c.1 }, subst (λ (f : Option FileMap). LacksOneFile f (loads_of text.buffers)) same c.2)))
+    (rose_over old.misses mid.misses new.misses before.misses after.misses c.0, inr (text, s, record { read = read; accepted = c.1 }, subst (λ (f : Option FileMap). LacksOneFile f (loads_of text.buffers)) same c.2))
 back_cause old mid new ask text s (Launch number) read same before after c = inr (record { text = text; units = s; read = read; refused = c })
-back_cause old mid new ask text s (Range number several group item place) read same before after c = record {
-  text = text;
-  units = s;
-  read = record { read = read; accepted = c.accepted };
-  before = c.before;
-  loaded = subst (λ (f : Option FileMap). BuffersLoaded f text c.before) same c.loaded;
-  earlier = c.earlier;
-  launch = c.launch;
-  later = c.later;
-  goes = c.goes;
-  number_is = c.number_is;
-  several_is = c.several_is;
-  group_is = c.group_is;
-  place_is = c.place_is;
-}
+back_cause old mid new ask text s (Range number several group item place) read same before after c = stopped old.files mid.files ask text s (Range number several group item place) read same c
+back_cause old mid new ask text s (Parted number several group item place) read same before after c = stopped old.files mid.files ask text s (Parted number several group item place) read same c
+back_cause old mid new ask text s (Turns number several) read same before after c = stopped old.files mid.files ask text s (Turns number several) read same c
 back_cause old mid new ask text s Memory read same before after c = tt
 back_cause old mid new ask text s _ read same before after c = absurd c
 
@@ -105,6 +106,8 @@ leaves_files old mid new ask text s Absent read same left = left ∙ same
 leaves_files old mid new ask text s (Source number place) read same left = left ∙ same
 leaves_files old mid new ask text s (Launch number) read same left = left ∙ same
 leaves_files old mid new ask text s (Range number several group item place) read same left = left ∙ same
+leaves_files old mid new ask text s (Parted number several group item place) read same left = left ∙ same
+leaves_files old mid new ask text s (Turns number several) read same left = left ∙ same
 leaves_files old mid new ask text s Memory read same left = left ∙ same
 
 -- a run that is done
@@ -120,3 +123,12 @@ is_done old mid new ask text s summary read same run = record {
   groups = run.groups;
   items = run.items;
 }
+
+-- a command that runs nothing leaves the files
+pub leaves_read : (old new : Standing) (ask : Files) (e : RunError) → new.files ≡ old.files → ReadingCause old new ask e → LeavesFiles old new ask e
+leaves_read old new ask Failed same c = inl same
+leaves_read old new ask Absent same c = same
+leaves_read old new ask (Source number place) same c = same
+leaves_read old new ask (Launch number) same c = same
+leaves_read old new ask Memory same c = same
+leaves_read old new ask _ same c = absurd c

@@ -1,5 +1,5 @@
 -- A run whose files are there and accepted, where no fault rises, is done, or wants memory.
-use Rattle.std.proofs.Common.{◌≡◌, ℕ, ◌+◌, ◌*◌, List, [], ◌∷◌, ◌++◌, take, Option, Some, None, inl, inr, sym, ◌∙◌, ap, ap₂, subst, arith}
+use Rattle.std.proofs.Common.{◌≡◌, ℕ, Bool, List, take, Option, Some, None, inl, inr, sym, ◌∙◌, ap, ap₂, subst, arith}
 use Rattle.std.specs.Prelude.{◌⊎◌, Contains}
 use Rattle.wg_outside.specs.Counts.{Rose}
 use Rattle.wg_outside.specs.Files.{FileMap, HasFileStart, LacksFile, told_file}
@@ -11,16 +11,20 @@ use Rattle.launch_file.specs.Refusals.{Reads}
 use Rattle.launch_file.specs.Texts.{Text}
 use Rattle.launch_file.proofs.Unique.{one_text, read_or_refused}
 use Rattle.wg_top.specs.declared.RunError.{RunError}
-use Rattle.wg_top.specs.declared.RunError.TheVariants.{Failed, Absent, Source, Launch, Range, Memory}
+use Rattle.wg_top.specs.declared.RunError.TheVariants.{Failed, Absent, Source, Launch, Range, Parted, Turns, Memory}
 use Rattle.cl_meaning.specs.Typed.{Unit'}
 use Rattle.wg_front.specs.Front.{HasUnit}
-use Rattle.wg_top.specs.Kernels.{bind_refusal}
-use Rattle.wg_top.specs.Launches.{launches_in, IsWithin, AreWithin, GoesOutside}
-use Rattle.wg_top.specs.Causes.{Standing, Cause, Accepted, LacksName, IsSourceFault}
-use Rattle.wg_top.specs.Runnable.{AreCompiled}
+use Rattle.lane_code.specs.declared.end.RunEnd.{RunEnd}
+use Rattle.lane_code.specs.declared.end.RunEnd.TheVariants as run
+use Rattle.lane_code.specs.Program.{Plain}
+use Rattle.wg_top.specs.Middle.{programs_in}
+use Rattle.wg_top.specs.Units.{AreCompiled, bind_refusal}
+use Rattle.wg_top.specs.Launches.{launches_in, LaunchesRan, EndsSo}
+use Rattle.wg_top.specs.Causes.{Standing, Cause, BuffersLoaded, RunStopped, Accepted, LacksName, IsSourceFault}
 use Rattle.wg_top.specs.Lines.{status_of}
 use Rattle.wg_top.specs.Ends.{Outside, Ends}
 use Rattle.wg_front.proofs.FrontLemmas.{refused_or_unit}
+use Rattle.wg_top.proofs.LaunchLemmas.{done_only}
 use Rattle.wg_top.proofs.ProgramLemmas.{one_units, no_refused}
 
 -- what is loaded of a file that is told
@@ -50,18 +54,12 @@ pub same_units : (bytes others : List ℕ) (text other : Text) (us vs : List Uni
 same_units bytes others text other us vs same_bytes same x y =
     one_units bytes text.defines text.list us vs x (subst (λ (t : Text). AreCompiled bytes t.defines t.list vs) (sym same) (subst (λ (b : List ℕ). AreCompiled b other.defines other.list vs) (sym same_bytes) y))
 
--- one of the launches is within its buffer
-within_at : (before : List ModelLaunch) (launch : ModelLaunch) (after : List ModelLaunch) → AreWithin (before ++ (launch ∷ after)) → IsWithin launch
-within_at [] launch after are = are.0
-within_at (first ∷ before) launch after are = within_at before launch after are.1
-
--- launches within their buffers do not go outside
-pub no_outside : (launches before : List ModelLaunch) (launch : ModelLaunch) (after : List ModelLaunch) (item : ℕ) → GoesOutside launches before launch after item → AreWithin launches → ⊥
-no_outside launches before launch after item goes are =
-    let within : IsWithin launch = within_at before launch after (subst (λ (ls : List ModelLaunch). AreWithin ls) goes.are are) in
-    let here = within item goes.outside.within in
-    let out = goes.outside.outside in
-    omega arith
+-- launches that are all done are not refused
+pub none_refused : (several : Bool) (ps : List Plain) (launches : List ModelLaunch) (before after : List (List ℕ)) (e : RunError) → LaunchesRan ps launches before after → EndsSo several ps launches before e → ⊥
+none_refused several ps launches before after (Range number s group item place) ran ends = let e = done_only ps launches before after ends.1.behind (run.Range group item ends.1.site) ran ends.1.ends in let never : ⊥ = cc e in never
+none_refused several ps launches before after (Parted number s group item place) ran ends = let e = done_only ps launches before after ends.1.behind (run.Parted group item ends.1.site) ran ends.1.ends in let never : ⊥ = cc e in never
+none_refused several ps launches before after (Turns number s) ran ends = let e = done_only ps launches before after ends.1.behind run.Turns ran ends.1.ends in let never : ⊥ = cc e in never
+none_refused several ps launches before after _ ran ends = ends
 
 -- the launch file that was loaded is the one that is there
 read_text : (files : Option FileMap) (ask : Files) (text read : Text) (s : List Unit') (bytes : List ℕ) → Accepted files ask text s → HasFileStart files ask.launch 1048577 bytes → Reads bytes ask.lanes ask.turns read → read ≡ text
@@ -70,16 +68,29 @@ read_text files ask text read s bytes all loaded is =
 
 none_lacked : (files : Option FileMap) (ask : Files) (text : Text) (s : List Unit') → Accepted files ask text s → LacksName files ask → ⊥
 none_lacked files ask text s all lacks = elim lacks [
-  | inl first ↦ not_lacked files ask.source all.source_bytes all.source_told first
-  | inr more ↦ elim more [
-    | inl second ↦ not_lacked files ask.launch all.launch_bytes all.launch_told second.2
-    | inr third ↦
-        let same : third.0 ≡ text = read_text files ask text third.0 s third.2.read.launch_bytes all third.2.read.launch_loaded third.2.read.reads in
-        let one : LacksOneFile files (loads_of text.buffers) = subst (λ (t : Text). LacksOneFile files (loads_of t.buffers)) same third.3 in
-        let told = all.buffers_told one.name one.is_load in
-        not_lacked files one.name told.0 told.1 one.lacks
+  | inl texts ↦ elim texts [
+    | inl first ↦ not_lacked files ask.source all.source_bytes all.source_told first
+    | inr second ↦ not_lacked files ask.launch all.launch_bytes all.launch_told second.2
   ]
+  | inr third ↦
+      let same : third.0 ≡ text = read_text files ask text third.0 s third.2.read.launch_bytes all third.2.read.launch_loaded third.2.read.reads in
+      let one : LacksOneFile files (loads_of text.buffers) = subst (λ (t : Text). LacksOneFile files (loads_of t.buffers)) same third.3 in
+      let told = all.buffers_told one.name one.is_load in
+      not_lacked files one.name told.0 told.1 one.lacks
 ]
+
+-- no launch of theirs is refused
+none_stopped : (files : Option FileMap) (ask : Files) (text : Text) (s : List Unit') (e : RunError) → Accepted files ask text s → RunStopped files ask e → ⊥
+none_stopped files ask text s e all stopped =
+    let read = stopped.read in
+    let same : stopped.text ≡ text = read_text files ask text stopped.text s read.launch_bytes all read.launch_loaded read.reads in
+    let bytes : read.source_bytes ≡ take 262145 all.source_bytes = start_is files ask.source 262145 read.source_bytes all.source_bytes all.source_told read.source_loaded in
+    let units : stopped.units ≡ s = same_units read.source_bytes (take 262145 all.source_bytes) stopped.text text stopped.units s bytes same read.compiled all.compiled in
+    let before = stopped.stopped.before in
+    let loaded : BuffersLoaded files text before = subst (λ (t : Text). BuffersLoaded files t before) same stopped.stopped.loaded in
+    let ends : EndsSo text.several (programs_in text s) (launches_in text) before e = subst (λ (us : List Unit'). EndsSo text.several (programs_in text us) (launches_in text) before e) units (subst (λ (t : Text). EndsSo t.several (programs_in t stopped.units) (launches_in t) before e) same stopped.stopped.ends) in
+    let done = all.done before loaded in
+    none_refused text.several (programs_in text s) (launches_in text) before done.0 e done.1 ends
 
 pub complete : (old new : Standing) (ask : Files) (text : Text) (s : List Unit') (e : RunError) (n : ℕ) → Accepted old.files ask text s → (Rose old.faults new.faults → ⊥) → n ≡ status_of e → Cause old new ask e → (n ≡ 0) ⊎ (n ≡ 8)
 complete old new ask text s Failed n all quiet is cause = absurd (quiet cause)
@@ -99,9 +110,9 @@ complete old new ask text s (Launch number) n all quiet is cause = absurd (elim 
       let e : Some number ≡ None = sym unbound.refused ∙ (ap₂ bind_refusal same units ∙ all.accepted) in
       let never : ⊥ = cc e in never
 ])
-complete old new ask text s (Range launch several group item place) n all quiet is cause =
-    let same = read_text old.files ask text cause.text s cause.read.read.launch_bytes all cause.read.read.launch_loaded cause.read.read.reads in
-    absurd (no_outside (launches_in cause.text) cause.earlier cause.launch cause.later item cause.goes (subst (λ (t : Text). AreWithin (launches_in t)) (sym same) all.in_range))
+complete old new ask text s (Range launch several group item place) n all quiet is cause = absurd (none_stopped old.files ask text s (Range launch several group item place) all cause)
+complete old new ask text s (Parted launch several group item place) n all quiet is cause = absurd (none_stopped old.files ask text s (Parted launch several group item place) all cause)
+complete old new ask text s (Turns launch several) n all quiet is cause = absurd (none_stopped old.files ask text s (Turns launch several) all cause)
 complete old new ask text s Memory n all quiet is cause = inr is
 
 pub ends_complete : (old new : Outside) (ask : Files) (text : Text) (s : List Unit') (n : ℕ) → Ends old new ask n → Accepted old.store.files ask text s → (Rose old.store.faults new.store.faults → ⊥) → (Rose old.out.faults new.out.faults → ⊥) → (n ≡ 0) ⊎ (n ≡ 8)

@@ -4,22 +4,28 @@ use Rattle.std.specs.Prelude.{◌⊎◌, is_some, Contains}
 use Rattle.wg_num.specs.declared.types.Place.{Place}
 use Rattle.wg_outside.specs.Counts.{Rose}
 use Rattle.wg_outside.specs.Files.{FileMap, HasFileStart, LacksFile}
-use Rattle.buffer_io.specs.Loads.{AllStartAs, StartsAs, LacksOneFile}
+use Rattle.buffer_io.specs.Loads.{AllStartAs, StartsAs, LacksOneFile, fitted}
 use Rattle.command_words.specs.Command.{Files}
 use Rattle.launch_file.specs.Binding.{loads_of, lengths_of}
 use Rattle.launch_file.specs.Refusals.{Reads}
 use Rattle.launch_file.specs.Texts.{Text}
 use Rattle.launch_file.proofs.Unique.{read_or_refused}
 use Rattle.wg_top.specs.declared.RunError.{RunError}
-use Rattle.wg_top.specs.declared.RunError.TheVariants.{Failed, Absent, Source, Launch, Range, Memory}
+use Rattle.wg_top.specs.declared.RunError.TheVariants.{Failed, Absent, Source, Launch, Range, Parted, Turns, Memory}
 use Rattle.wg_top.specs.declared.Summary.{Summary}
 use Rattle.cl_meaning.specs.Typed.{Unit'}
-use Rattle.wg_top.specs.Kernels.{bind_refusal}
-use Rattle.wg_top.specs.Launches.{launches_in, AreWithin}
-use Rattle.wg_top.specs.Causes.{Standing, SourceLoaded, LaunchLoaded, RunRead, RunBound, BuffersLoaded, TextRefused, BindRefused, SourceRefused, IsOutOfRange, Finds, Cause, IsDone}
+use Rattle.cl_model.specs.Sizes.{Launch as ModelLaunch}
+use Rattle.lane_code.specs.declared.end.RunEnd.{RunEnd}
+use Rattle.lane_code.specs.declared.end.RunEnd.TheVariants as run
+use Rattle.lane_code.specs.Program.{Plain}
+use Rattle.wg_top.specs.Middle.{programs_in}
+use Rattle.wg_top.specs.Units.{bind_refusal}
+use Rattle.wg_top.specs.Launches.{launches_in, LaunchesRan, EndsBehind, EndsSo}
+use Rattle.wg_top.specs.Causes.{Standing, SourceLoaded, LaunchLoaded, RunRead, RunBound, BuffersLoaded, TextRefused, BindRefused, SourceRefused, RunStopped, Finds, Cause, IsDone}
 use Rattle.wg_top.specs.Lines.{status_of}
 use Rattle.wg_top.specs.Ends.{Outside, Ends}
-use Rattle.wg_top.proofs.CompleteLemmas.{same_text, same_units, no_fault, no_outside}
+use Rattle.wg_top.proofs.CompleteLemmas.{same_text, same_units, no_fault, none_refused}
+use Rattle.wg_top.proofs.LaunchLemmas.{one_end}
 use Rattle.wg_top.proofs.EndLemmas.{status_above}
 
 -- how far a run comes by its files
@@ -30,8 +36,8 @@ data Found (files : Option FileMap) (ask : Files) : Type 0 where
   bad_source : (number : ℕ) (place : Place) → SourceRefused files ask number place → Found files ask
   bad_bind : (number : ℕ) → BindRefused files ask number → Found files ask
   no_buffer : (text : Text) (s : List Unit') → RunBound files ask text s → LacksOneFile files (loads_of text.buffers) → Found files ask
-  outside : (launch : ℕ) (several : Bool) (group item : ℕ) (place : Place) → IsOutOfRange files ask launch several group item place → Found files ask
-  fits : (text : Text) (s : List Unit') → RunBound files ask text s → (before : List (List ℕ)) → BuffersLoaded files text before → AreWithin (launches_in text) → Found files ask
+  stopped : (e : RunError) → RunStopped files ask e → Found files ask
+  fits : (text : Text) (s : List Unit') → RunBound files ask text s → (before after : List (List ℕ)) → BuffersLoaded files text before → LaunchesRan (programs_in text s) (launches_in text) before after → Found files ask
 
 -- the status that it leads to
 status_at : (files : Option FileMap) (ask : Files) → Found files ask → ℕ
@@ -41,8 +47,8 @@ status_at files ask (bad_launch xn x) = 4
 status_at files ask (bad_source xn xq x) = 3
 status_at files ask (bad_bind xn x) = 4
 status_at files ask (no_buffer xt xs xr x) = 9
-status_at files ask (outside xk xm xg xi xp x) = 5
-status_at files ask (fits xt xs xr xb xl x) = 0
+status_at files ask (stopped xe x) = status_of xe
+status_at files ask (fits xt xs xr xb xa xl x) = 0
 
 -- a name that is absent was not loaded
 lacks_loaded : (fs : FileMap) (name : List ℕ) (most : ℕ) (bytes : List ℕ) → LacksFile (Some fs) name → HasFileStart (Some fs) name most bytes → ⊥
@@ -95,10 +101,70 @@ buffer_differs fs ask text other s t before a lacks b started =
     let one : LacksOneFile (Some fs) (loads_of other.buffers) = subst (λ (x : Text). LacksOneFile (Some fs) (loads_of x.buffers)) same lacks in
     lacks_started fs (lengths_of other.buffers) (loads_of other.buffers) before one.name started one.is_load one.lacks
 
-range_differs : (fs : FileMap) (ask : Files) (number : ℕ) (several : Bool) (group item : ℕ) (place : Place) → IsOutOfRange (Some fs) ask number several group item place → (text : Text) (s : List Unit') → RunBound (Some fs) ask text s → AreWithin (launches_in text) → ⊥
-range_differs fs ask number several group item place out text s bound within =
-    let same = two_texts fs ask out.text text out.units s out.read.read bound.read in
-    no_outside (launches_in out.text) out.earlier out.launch out.later item out.goes (subst (λ (x : Text). AreWithin (launches_in x)) (sym same) within)
+-- what is loaded is the same
+same_started : (fs : FileMap) (size : ℕ) (load : Option (List ℕ)) (x y : List ℕ) → StartsAs (Some fs) size load x → StartsAs (Some fs) size load y → x ≡ y
+same_started fs size None x y a b = a ∙ sym b
+same_started fs size (Some name) x y a b = a.2 ∙ (ap (fitted size) (same_start fs name size a.0 b.0 a.1 b.1) ∙ sym b.2)
+
+same_before : (fs : FileMap) (sizes : List ℕ) (loads : List (Option (List ℕ))) (x y : List (List ℕ)) → AllStartAs (Some fs) sizes loads x → AllStartAs (Some fs) sizes loads y → x ≡ y
+same_before fs [] [] [] [] a b = refl
+same_before fs (size ∷ sizes) (load ∷ loads) (x ∷ xs) (y ∷ ys) a b = ap₂ (λ z zs. z ∷ zs) (same_started fs size load x y a.0 b.0) (same_before fs sizes loads xs ys a.1 b.1)
+same_before fs [] [] [] (y ∷ ys) a b = absurd b
+same_before fs [] [] (x ∷ xs) ys a b = absurd a
+same_before fs [] (load ∷ loads) xs ys a b = absurd a
+same_before fs (size ∷ sizes) [] xs ys a b = absurd a
+same_before fs (size ∷ sizes) (load ∷ loads) [] ys a b = absurd a
+same_before fs (size ∷ sizes) (load ∷ loads) (x ∷ xs) [] a b = absurd b
+
+-- the status of an end
+abbrev status_for : RunEnd → ℕ
+status_for run.Done = 0
+status_for (run.Range g i s) = 5
+status_for (run.Parted g i s) = 6
+status_for run.Turns = 7
+
+-- the end that a refusal says
+record SaysEnd (ps : List Plain) (launches : List ModelLaunch) (before : List (List ℕ)) (e : RunError) : Type 0 where
+  behind : ℕ
+  end : RunEnd
+  ends : EndsBehind ps launches before behind end
+  other : end ≡ run.Done → ⊥
+  status_is : status_of e ≡ status_for end
+
+says_end : (several : Bool) (ps : List Plain) (launches : List ModelLaunch) (before : List (List ℕ)) (e : RunError) → EndsSo several ps launches before e → SaysEnd ps launches before e
+says_end several ps launches before (Range number s group item place) ends = record { behind = ends.1.behind; end = run.Range group item ends.1.site; ends = ends.1.ends; other = λ h. (let never : ⊥ = cc h in never); status_is = refl }
+says_end several ps launches before (Parted number s group item place) ends = record { behind = ends.1.behind; end = run.Parted group item ends.1.site; ends = ends.1.ends; other = λ h. (let never : ⊥ = cc h in never); status_is = refl }
+says_end several ps launches before (Turns number s) ends = record { behind = ends.1.behind; end = run.Turns; ends = ends.1.ends; other = λ h. (let never : ⊥ = cc h in never); status_is = refl }
+says_end several ps launches before _ ends = absurd ends
+
+one_refusal : (several : Bool) (ps : List Plain) (launches : List ModelLaunch) (before : List (List ℕ)) (e d : RunError) → EndsSo several ps launches before e → EndsSo several ps launches before d → status_of e ≡ status_of d
+one_refusal several ps launches before e d a b =
+    let x = says_end several ps launches before e a in
+    let y = says_end several ps launches before d b in
+    x.status_is ∙ (ap status_for (one_end ps launches before x.behind y.behind x.end y.end x.ends y.ends x.other y.other) ∙ sym y.status_is)
+
+-- a launch that is not done, by another reading of the same files
+ends_again : (fs : FileMap) (ask : Files) (e : RunError) (x : RunStopped (Some fs) ask e) (text : Text) (s : List Unit') (before : List (List ℕ)) → RunRead (Some fs) ask text s → BuffersLoaded (Some fs) text before → EndsSo text.several (programs_in text s) (launches_in text) before e
+ends_again fs ask e x text s before read loaded =
+    let same = two_texts fs ask x.text text x.units s x.read read in
+    let units = two_units fs ask x.text text x.units s x.read read in
+    let mine : BuffersLoaded (Some fs) text x.stopped.before = subst (λ (t : Text). BuffersLoaded (Some fs) t x.stopped.before) same x.stopped.loaded in
+    let one : x.stopped.before ≡ before = same_before fs (lengths_of text.buffers) (loads_of text.buffers) x.stopped.before before mine loaded in
+    subst (λ (b : List (List ℕ)). EndsSo text.several (programs_in text s) (launches_in text) b e) one
+    (subst (λ (us : List Unit'). EndsSo text.several (programs_in text us) (launches_in text) x.stopped.before e) units
+    (subst (λ (t : Text). EndsSo t.several (programs_in t x.units) (launches_in t) x.stopped.before e) same x.stopped.ends))
+
+stops_differ : (fs : FileMap) (ask : Files) (e : RunError) → RunStopped (Some fs) ask e → (text : Text) (s : List Unit') (before after : List (List ℕ)) → RunBound (Some fs) ask text s → BuffersLoaded (Some fs) text before → LaunchesRan (programs_in text s) (launches_in text) before after → ⊥
+stops_differ fs ask e x text s before after bound loaded ran =
+    none_refused text.several (programs_in text s) (launches_in text) before after e ran (ends_again fs ask e x text s before bound.read loaded)
+
+stops_agree : (fs : FileMap) (ask : Files) (e d : RunError) → RunStopped (Some fs) ask e → RunStopped (Some fs) ask d → status_of e ≡ status_of d
+stops_agree fs ask e d x y =
+    one_refusal y.text.several (programs_in y.text y.units) (launches_in y.text) y.stopped.before e d (ends_again fs ask e x y.text y.units y.stopped.before y.read y.stopped.loaded) y.stopped.ends
+
+-- a launch that is not done has its buffers, and no refusal at binding
+bound_of : (files : Option FileMap) (ask : Files) (e : RunError) (x : RunStopped files ask e) → RunBound files ask x.text x.units
+bound_of files ask e x = record { read = x.read; accepted = x.stopped.accepted }
 
 -- two ways to come as far have one status
 agree_on : (fs : FileMap) (ask : Files) (x y : Found (Some fs) ask) → status_at (Some fs) ask x ≡ status_at (Some fs) ask y
@@ -109,88 +175,90 @@ agree_on fs ask (no_source x) (bad_launch yn y) = absurd (lacks_loaded fs ask.so
 agree_on fs ask (no_source x) (bad_source yn yq y) = absurd (lacks_loaded fs ask.source 262145 _ x y.source_loaded)
 agree_on fs ask (no_source x) (bad_bind yn y) = absurd (lacks_loaded fs ask.source 262145 _ x y.read.source_loaded)
 agree_on fs ask (no_source x) (no_buffer yt ys yr y) = refl
-agree_on fs ask (no_source x) (outside yk ym yg yi yp y) = absurd (lacks_loaded fs ask.source 262145 _ x y.read.read.source_loaded)
-agree_on fs ask (no_source x) (fits yt ys yr yb yl y) = absurd (lacks_loaded fs ask.source 262145 _ x yr.read.source_loaded)
+agree_on fs ask (no_source x) (stopped ye y) = absurd (lacks_loaded fs ask.source 262145 _ x y.read.source_loaded)
+agree_on fs ask (no_source x) (fits yt ys yr yb ya yl y) = absurd (lacks_loaded fs ask.source 262145 _ x yr.read.source_loaded)
 agree_on fs ask (no_launch xb xl x) (no_source y) = refl
 agree_on fs ask (no_launch xb xl x) (no_launch yb yl y) = refl
 agree_on fs ask (no_launch xb xl x) (bad_launch yn y) = absurd (lacks_loaded fs ask.launch 1048577 _ x y.launch_loaded)
 agree_on fs ask (no_launch xb xl x) (bad_source yn yq y) = absurd (lacks_loaded fs ask.launch 1048577 _ x y.launch_loaded)
 agree_on fs ask (no_launch xb xl x) (bad_bind yn y) = absurd (lacks_loaded fs ask.launch 1048577 _ x y.read.launch_loaded)
 agree_on fs ask (no_launch xb xl x) (no_buffer yt ys yr y) = refl
-agree_on fs ask (no_launch xb xl x) (outside yk ym yg yi yp y) = absurd (lacks_loaded fs ask.launch 1048577 _ x y.read.read.launch_loaded)
-agree_on fs ask (no_launch xb xl x) (fits yt ys yr yb yl y) = absurd (lacks_loaded fs ask.launch 1048577 _ x yr.read.launch_loaded)
+agree_on fs ask (no_launch xb xl x) (stopped ye y) = absurd (lacks_loaded fs ask.launch 1048577 _ x y.read.launch_loaded)
+agree_on fs ask (no_launch xb xl x) (fits yt ys yr yb ya yl y) = absurd (lacks_loaded fs ask.launch 1048577 _ x yr.read.launch_loaded)
 agree_on fs ask (bad_launch xn x) (no_source y) = absurd (lacks_loaded fs ask.source 262145 _ y x.source_loaded)
 agree_on fs ask (bad_launch xn x) (no_launch yb yl y) = absurd (lacks_loaded fs ask.launch 1048577 _ y x.launch_loaded)
 agree_on fs ask (bad_launch xn x) (bad_launch yn y) = refl
 agree_on fs ask (bad_launch xn x) (bad_source yn yq y) = absurd (launch_differs fs ask _ _ _ x y.launch_loaded y.reads)
 agree_on fs ask (bad_launch xn x) (bad_bind yn y) = refl
 agree_on fs ask (bad_launch xn x) (no_buffer yt ys yr y) = absurd (launch_differs fs ask _ _ _ x yr.read.launch_loaded yr.read.reads)
-agree_on fs ask (bad_launch xn x) (outside yk ym yg yi yp y) = absurd (launch_differs fs ask _ _ _ x y.read.read.launch_loaded y.read.read.reads)
-agree_on fs ask (bad_launch xn x) (fits yt ys yr yb yl y) = absurd (launch_differs fs ask _ _ _ x yr.read.launch_loaded yr.read.reads)
+agree_on fs ask (bad_launch xn x) (stopped ye y) = absurd (launch_differs fs ask _ _ _ x y.read.launch_loaded y.read.reads)
+agree_on fs ask (bad_launch xn x) (fits yt ys yr yb ya yl y) = absurd (launch_differs fs ask _ _ _ x yr.read.launch_loaded yr.read.reads)
 agree_on fs ask (bad_source xn xq x) (no_source y) = absurd (lacks_loaded fs ask.source 262145 _ y x.source_loaded)
 agree_on fs ask (bad_source xn xq x) (no_launch yb yl y) = absurd (lacks_loaded fs ask.launch 1048577 _ y x.launch_loaded)
 agree_on fs ask (bad_source xn xq x) (bad_launch yn y) = absurd (launch_differs fs ask _ _ _ y x.launch_loaded x.reads)
 agree_on fs ask (bad_source xn xq x) (bad_source yn yq y) = refl
 agree_on fs ask (bad_source xn xq x) (bad_bind yn y) = absurd (source_differs fs ask _ _ _ _ x y.read)
 agree_on fs ask (bad_source xn xq x) (no_buffer yt ys yr y) = absurd (source_differs fs ask _ _ _ _ x yr.read)
-agree_on fs ask (bad_source xn xq x) (outside yk ym yg yi yp y) = absurd (source_differs fs ask _ _ _ _ x y.read.read)
-agree_on fs ask (bad_source xn xq x) (fits yt ys yr yb yl y) = absurd (source_differs fs ask _ _ _ _ x yr.read)
+agree_on fs ask (bad_source xn xq x) (stopped ye y) = absurd (source_differs fs ask _ _ _ _ x y.read)
+agree_on fs ask (bad_source xn xq x) (fits yt ys yr yb ya yl y) = absurd (source_differs fs ask _ _ _ _ x yr.read)
 agree_on fs ask (bad_bind xn x) (no_source y) = absurd (lacks_loaded fs ask.source 262145 _ y x.read.source_loaded)
 agree_on fs ask (bad_bind xn x) (no_launch yb yl y) = absurd (lacks_loaded fs ask.launch 1048577 _ y x.read.launch_loaded)
 agree_on fs ask (bad_bind xn x) (bad_launch yn y) = refl
 agree_on fs ask (bad_bind xn x) (bad_source yn yq y) = absurd (source_differs fs ask _ _ _ _ y x.read)
 agree_on fs ask (bad_bind xn x) (bad_bind yn y) = refl
 agree_on fs ask (bad_bind xn x) (no_buffer yt ys yr y) = absurd (bind_differs fs ask _ _ _ x yr)
-agree_on fs ask (bad_bind xn x) (outside yk ym yg yi yp y) = absurd (bind_differs fs ask _ _ _ x y.read)
-agree_on fs ask (bad_bind xn x) (fits yt ys yr yb yl y) = absurd (bind_differs fs ask _ _ _ x yr)
+agree_on fs ask (bad_bind xn x) (stopped ye y) = absurd (bind_differs fs ask _ _ _ x (bound_of (Some fs) ask ye y))
+agree_on fs ask (bad_bind xn x) (fits yt ys yr yb ya yl y) = absurd (bind_differs fs ask _ _ _ x yr)
 agree_on fs ask (no_buffer xt xs xr x) (no_source y) = refl
 agree_on fs ask (no_buffer xt xs xr x) (no_launch yb yl y) = refl
 agree_on fs ask (no_buffer xt xs xr x) (bad_launch yn y) = absurd (launch_differs fs ask _ _ _ y xr.read.launch_loaded xr.read.reads)
 agree_on fs ask (no_buffer xt xs xr x) (bad_source yn yq y) = absurd (source_differs fs ask _ _ _ _ y xr.read)
 agree_on fs ask (no_buffer xt xs xr x) (bad_bind yn y) = absurd (bind_differs fs ask _ _ _ y xr)
 agree_on fs ask (no_buffer xt xs xr x) (no_buffer yt ys yr y) = refl
-agree_on fs ask (no_buffer xt xs xr x) (outside yk ym yg yi yp y) = absurd (buffer_differs fs ask _ _ _ _ _ xr x y.read y.loaded)
-agree_on fs ask (no_buffer xt xs xr x) (fits yt ys yr yb yl y) = absurd (buffer_differs fs ask _ _ _ _ _ xr x yr yl)
-agree_on fs ask (outside xk xm xg xi xp x) (no_source y) = absurd (lacks_loaded fs ask.source 262145 _ y x.read.read.source_loaded)
-agree_on fs ask (outside xk xm xg xi xp x) (no_launch yb yl y) = absurd (lacks_loaded fs ask.launch 1048577 _ y x.read.read.launch_loaded)
-agree_on fs ask (outside xk xm xg xi xp x) (bad_launch yn y) = absurd (launch_differs fs ask _ _ _ y x.read.read.launch_loaded x.read.read.reads)
-agree_on fs ask (outside xk xm xg xi xp x) (bad_source yn yq y) = absurd (source_differs fs ask _ _ _ _ y x.read.read)
-agree_on fs ask (outside xk xm xg xi xp x) (bad_bind yn y) = absurd (bind_differs fs ask _ _ _ y x.read)
-agree_on fs ask (outside xk xm xg xi xp x) (no_buffer yt ys yr y) = absurd (buffer_differs fs ask _ _ _ _ _ yr y x.read x.loaded)
-agree_on fs ask (outside xk xm xg xi xp x) (outside yk ym yg yi yp y) = refl
-agree_on fs ask (outside xk xm xg xi xp x) (fits yt ys yr yb yl y) = absurd (range_differs fs ask _ _ _ _ _ x _ _ yr y)
-agree_on fs ask (fits xt xs xr xb xl x) (no_source y) = absurd (lacks_loaded fs ask.source 262145 _ y xr.read.source_loaded)
-agree_on fs ask (fits xt xs xr xb xl x) (no_launch yb yl y) = absurd (lacks_loaded fs ask.launch 1048577 _ y xr.read.launch_loaded)
-agree_on fs ask (fits xt xs xr xb xl x) (bad_launch yn y) = absurd (launch_differs fs ask _ _ _ y xr.read.launch_loaded xr.read.reads)
-agree_on fs ask (fits xt xs xr xb xl x) (bad_source yn yq y) = absurd (source_differs fs ask _ _ _ _ y xr.read)
-agree_on fs ask (fits xt xs xr xb xl x) (bad_bind yn y) = absurd (bind_differs fs ask _ _ _ y xr)
-agree_on fs ask (fits xt xs xr xb xl x) (no_buffer yt ys yr y) = absurd (buffer_differs fs ask _ _ _ _ _ yr y xr xl)
-agree_on fs ask (fits xt xs xr xb xl x) (outside yk ym yg yi yp y) = absurd (range_differs fs ask _ _ _ _ _ y _ _ xr x)
-agree_on fs ask (fits xt xs xr xb xl x) (fits yt ys yr yb yl y) = refl
+agree_on fs ask (no_buffer xt xs xr x) (stopped ye y) = absurd (buffer_differs fs ask _ _ _ _ _ xr x (bound_of (Some fs) ask ye y) y.stopped.loaded)
+agree_on fs ask (no_buffer xt xs xr x) (fits yt ys yr yb ya yl y) = absurd (buffer_differs fs ask _ _ _ _ _ xr x yr yl)
+agree_on fs ask (stopped xe x) (no_source y) = absurd (lacks_loaded fs ask.source 262145 _ y x.read.source_loaded)
+agree_on fs ask (stopped xe x) (no_launch yb yl y) = absurd (lacks_loaded fs ask.launch 1048577 _ y x.read.launch_loaded)
+agree_on fs ask (stopped xe x) (bad_launch yn y) = absurd (launch_differs fs ask _ _ _ y x.read.launch_loaded x.read.reads)
+agree_on fs ask (stopped xe x) (bad_source yn yq y) = absurd (source_differs fs ask _ _ _ _ y x.read)
+agree_on fs ask (stopped xe x) (bad_bind yn y) = absurd (bind_differs fs ask _ _ _ y (bound_of (Some fs) ask xe x))
+agree_on fs ask (stopped xe x) (no_buffer yt ys yr y) = absurd (buffer_differs fs ask _ _ _ _ _ yr y (bound_of (Some fs) ask xe x) x.stopped.loaded)
+agree_on fs ask (stopped xe x) (stopped ye y) = stops_agree fs ask xe ye x y
+agree_on fs ask (stopped xe x) (fits yt ys yr yb ya yl y) = absurd (stops_differ fs ask xe x yt ys yb ya yr yl y)
+agree_on fs ask (fits xt xs xr xb xa xl x) (no_source y) = absurd (lacks_loaded fs ask.source 262145 _ y xr.read.source_loaded)
+agree_on fs ask (fits xt xs xr xb xa xl x) (no_launch yb yl y) = absurd (lacks_loaded fs ask.launch 1048577 _ y xr.read.launch_loaded)
+agree_on fs ask (fits xt xs xr xb xa xl x) (bad_launch yn y) = absurd (launch_differs fs ask _ _ _ y xr.read.launch_loaded xr.read.reads)
+agree_on fs ask (fits xt xs xr xb xa xl x) (bad_source yn yq y) = absurd (source_differs fs ask _ _ _ _ y xr.read)
+agree_on fs ask (fits xt xs xr xb xa xl x) (bad_bind yn y) = absurd (bind_differs fs ask _ _ _ y xr)
+agree_on fs ask (fits xt xs xr xb xa xl x) (no_buffer yt ys yr y) = absurd (buffer_differs fs ask _ _ _ _ _ yr y xr xl)
+agree_on fs ask (fits xt xs xr xb xa xl x) (stopped ye y) = absurd (stops_differ fs ask ye y xt xs xb xa xr xl x)
+agree_on fs ask (fits xt xs xr xb xa xl x) (fits yt ys yr yb ya yl y) = refl
 
 -- what is found is how far a run comes
 found : (files : Option FileMap) (ask : Files) (e : RunError) → Finds files ask e → (f : Found files ask) × (status_at files ask f ≡ status_of e)
 unfolding status_at
 found files ask Failed finds = absurd finds
 found files ask Absent finds = elim finds [
-  | inl first ↦ (no_source first, refl)
-  | inr more ↦ elim more [
-    | inl second ↦ (no_launch second.0 second.1 second.2, refl)
-    | inr third ↦ (no_buffer third.0 third.1 third.2 third.3, refl)
+  | inl texts ↦ elim texts [
+    | inl first ↦ (no_source first, refl)
+    | inr second ↦ (no_launch second.0 second.1 second.2, refl)
   ]
+  | inr third ↦ (no_buffer third.0 third.1 third.2 third.3, refl)
 ]
 found files ask (Source number place) finds = (bad_source number place finds, refl)
 found files ask (Launch number) finds = elim finds [
   | inl unread ↦ (bad_launch number unread, refl)
   | inr unbound ↦ (bad_bind number unbound, refl)
 ]
-found files ask (Range launch several group item place) finds = (outside launch several group item place finds, refl)
+found files ask (Range launch several group item place) finds = (stopped (Range launch several group item place) finds, refl)
+found files ask (Parted launch several group item place) finds = (stopped (Parted launch several group item place) finds, refl)
+found files ask (Turns launch several) finds = (stopped (Turns launch several) finds, refl)
 found files ask Memory finds = absurd finds
 
 -- a run that is done comes to its end
 found_done : (files new : Option FileMap) (ask : Files) (summary : Summary) → IsDone files new ask summary → (f : Found files ask) × (status_at files ask f ≡ 0)
 unfolding status_at
-found_done files new ask summary done = (fits done.text done.units done.read done.run.before done.run.loaded done.run.in_range, refl)
+found_done files new ask summary done = (fits done.text done.units done.read done.run.before done.after done.run.loaded done.run.ran, refl)
 
 -- two findings have one status
 one_status : (fs : FileMap) (ask : Files) (e d : RunError) → Finds (Some fs) ask e → Finds (Some fs) ask d → status_of e ≡ status_of d
@@ -213,6 +281,8 @@ refusal fs old new ask e Absent n told finds quiet is cause = inl (is ∙ one_st
 refusal fs old new ask e (Source number place) n told finds quiet is cause = inl (is ∙ one_status fs ask (Source number place) e (subst (λ (f : Option FileMap). Finds f ask (Source number place)) told cause) finds)
 refusal fs old new ask e (Launch number) n told finds quiet is cause = inl (is ∙ one_status fs ask (Launch number) e (subst (λ (f : Option FileMap). Finds f ask (Launch number)) told cause) finds)
 refusal fs old new ask e (Range launch several group item place) n told finds quiet is cause = inl (is ∙ one_status fs ask (Range launch several group item place) e (subst (λ (f : Option FileMap). Finds f ask (Range launch several group item place)) told cause) finds)
+refusal fs old new ask e (Parted launch several group item place) n told finds quiet is cause = inl (is ∙ one_status fs ask (Parted launch several group item place) e (subst (λ (f : Option FileMap). Finds f ask (Parted launch several group item place)) told cause) finds)
+refusal fs old new ask e (Turns launch several) n told finds quiet is cause = inl (is ∙ one_status fs ask (Turns launch several) e (subst (λ (f : Option FileMap). Finds f ask (Turns launch several)) told cause) finds)
 refusal fs old new ask e Memory n told finds quiet is cause = inr is
 
 told_exact : (fs : FileMap) (old new : Outside) (ask : Files) (e : RunError) (n : ℕ) → old.store.files ≡ Some fs → Ends old new ask n → Finds (Some fs) ask e → (Rose old.store.faults new.store.faults → ⊥) → (n ≡ status_of e) ⊎ (n ≡ 8)

@@ -1,64 +1,65 @@
--- One more launch that ran.
-use Rattle.std.proofs.Common.{◌≡◌, ℕ, suc, ◌+◌, ◌/◌, ◌<◌, List, [], ◌∷◌, ◌++◌, length, map, take, drop, get_or, set, refl, sym, ◌∙◌, ap, Option, Some, None, subst, arith}
-use Rattle.std.specs.Prelude.{All, IfNone}
-use Rattle.std.proofs.Math.Seq.{take-suc, drop-cons, map-set_same}
-use Rattle.std.proofs.lemmas.List.{take-append-drop, map-append, length-map, length-take-le, get_or-map, get_or_default, map-set}
-use Rattle.cl_model.specs.Sizes.{Launch, group_count, group_size, item_count}
-use Rattle.cl_meaning.specs.Typed.{Unit'}
-use Rattle.element_kernel.specs.Kernels.{Change, value_after}
-use Rattle.wg_top.specs.Runnable.{change_in, changed_by, element_after}
-use Rattle.wg_top.specs.Launches.{LaunchRan, LaunchesRan, IsWithin, AreWithin, all_groups, all_items, GoesOutside, StopsOutside, CanRun, target, target_size}
-use Rattle.wg_top.specs.Items.{IsFirstOutside, AreInside, ItemsRan}
+-- Launches one after the other.
+use Rattle.std.proofs.Common.{◌≡◌, ℕ, zero, suc, ◌+◌, ◌<◌, ◌≤◌, Bool, List, [], ◌∷◌, ◌++◌, length, map, take, drop, get_or, Option, Some, None, refl, sym, zero-add, add_assoc, ◌∙◌, ap, subst, arith}
+use Rattle.std.specs.Prelude.{All, slice_get, slice_index_or, sum}
+use Rattle.std.proofs.Math.Seq.{take-suc, drop-cons}
+use Rattle.std.proofs.lemmas.List.{take-append-drop, map-append, length-map, length-take-le, get_or_default}
+use Rattle.wg_num.specs.declared.types.Place.{Place}
+use Rattle.cl_model.specs.declared.launch.Bound.{Bound}
+use Rattle.cl_model.specs.declared.launch.Bound.TheVariants as bound
+use Rattle.cl_model.specs.Objects.{local_arguments}
+use Rattle.cl_model.specs.Sizes.{Launch, group_count, item_count}
+use Rattle.lane_code.specs.declared.end.RunEnd.{RunEnd}
+use Rattle.lane_code.specs.declared.end.RunEnd.TheVariants as run
+use Rattle.lane_code.specs.Program.{Plain}
+use Rattle.lane_code.specs.Run.{program_end}
+use Rattle.wg_top.proofs.SumLemmas.{sum-cons}
+use Rattle.wg_top.specs.declared.RunError.{RunError}
+use Rattle.wg_top.specs.declared.RunError.TheVariants as error
+use Rattle.wg_top.specs.Launches.{launch_end, LaunchRan, LaunchesRan, EndsBehind, EndsSo, refusal_of, site_place, start_place, all_groups, all_items}
 
--- what follows from what is said where there is no value
-pub none_then : {X : Type 0} (r : Option X) (P Q : Type 0) → IfNone r P → (P → Q) → IfNone r Q
-none_then None P Q p f = f p
-none_then (Some x) P Q p f = tt
+-- what a program means
+pub end_is : (p : Plain) (launch : Launch) (before : List (List ℕ)) (end : RunEnd) → (program_end p launch before).end ≡ end → (launch_end p launch before).end ≡ end
+unfolding launch_end
+end_is p launch before end h = h
 
--- what a launch's kernel does, where it is known
-pub change_is : (u : Unit') (c : Change) → Some c ≡ change_in u → value_after c ≡ element_after u
-change_is u c e = ap changed_by e
-
--- the buffer of a launch, in a list of things that have bytes
-module _ {A : Type 0} (view : A → List ℕ) (xs : List A) (i : ℕ) (x : A) (is : x ≡ get_or xs i x) where
-  -- bytes of the same length in its place
-  pub lengths_kept : (y : A) → length (view y) ≡ length (view x) → map (λ b. length (view b)) (set xs i y) ≡ map (λ b. length (view b)) xs
-  lengths_kept y same = map-set_same (λ b. length (view b)) xs i y x (same ∙ ap (λ b. length (view b)) is)
-
-  -- it has the size that the launch says
-  size_is : (lengths : List ℕ) → map (λ b. length (view b)) xs ≡ lengths → i < length lengths → length (view x) ≡ get_or lengths i 0
-  size_is lengths sizes there =
-      let counted : length lengths ≡ length xs = ap length (sym sizes) ∙ length-map xs (λ b. length (view b)) in
-      ap (λ b. length (view b)) is ∙ (sym (get_or-map (λ b. length (view b)) xs i x 0 (omega arith)) ∙ ap (λ l. get_or l i 0) sizes)
-
-  -- its bytes among those of all
-  bytes_are : i < length xs → view x ≡ get_or (map view xs) i []
-  bytes_are there = ap view is ∙ sym (get_or-map view xs i x [] there)
-
-  module _ (launch : Launch) (sizes : map (λ b. length (view b)) xs ≡ launch.lengths) (at : i ≡ target launch) (there : i < length launch.lengths) where
-    pub target_size_is : length (view x) ≡ target_size launch
-    target_size_is = size_is launch.lengths sizes there ∙ ap (λ k. get_or launch.lengths k 0) at
-
-    -- the launch ran on it
-    pub launch_ran : (s : Unit') (y : A) (bytes : List ℕ) → view y ≡ bytes → ItemsRan (element_after s) launch (item_count launch) (view x) bytes → LaunchRan s launch (map view xs) (map view (set xs i y))
-    launch_ran s y bytes shown ran =
-        let counted : length launch.lengths ≡ length xs = ap length (sym sizes) ∙ length-map xs (λ b. length (view b)) in
-        record {
-          bytes = bytes;
-          ran = subst (λ (before : List ℕ). ItemsRan (element_after s) launch (item_count launch) before bytes) (bytes_are (omega arith) ∙ ap (λ k. get_or (map view xs) k []) at) ran;
-          after_is = map-set view xs i y ∙ (ap (set (map view xs) i) shown ∙ ap (λ k. set (map view xs) k bytes) at);
-        }
+pub leaves_is : (p : Plain) (launch : Launch) (before after : List (List ℕ)) → (program_end p launch before).buffers ≡ after → (launch_end p launch before).buffers ≡ after
+unfolding launch_end
+leaves_is p launch before after h = h
 
 -- one more launch behind others
-ran-snoc : (units : List Unit') (u : Unit') (launches : List Launch) (launch : Launch) (before mid after : List (List ℕ)) → LaunchesRan units launches before mid → LaunchRan u launch mid after → LaunchesRan (units ++ u ∷ []) (launches ++ launch ∷ []) before after
-ran-snoc [] u [] launch before mid after ran one = (after, subst (λ (b : List (List ℕ)). LaunchRan u launch b after) ran one, refl)
-ran-snoc (v ∷ units) u (first ∷ launches) launch before mid after ran one = (ran.0, ran.1, ran-snoc units u launches launch ran.0 mid after ran.2 one)
-ran-snoc [] u (first ∷ launches) launch before mid after ran one = absurd ran
-ran-snoc (v ∷ units) u [] launch before mid after ran one = absurd ran
+ran-snoc : (ps : List Plain) (p : Plain) (launches : List Launch) (launch : Launch) (before mid after : List (List ℕ)) → LaunchesRan ps launches before mid → LaunchRan p launch mid after → LaunchesRan (ps ++ p ∷ []) (launches ++ launch ∷ []) before after
+ran-snoc [] p [] launch before mid after ran one = (after, subst (λ (b : List (List ℕ)). LaunchRan p launch b after) ran one, refl)
+ran-snoc (q ∷ ps) p (first ∷ launches) launch before mid after ran one = (ran.0, ran.1, ran-snoc ps p launches launch ran.0 mid after ran.2 one)
+ran-snoc [] p (first ∷ launches) launch before mid after ran one = absurd ran
+ran-snoc (q ∷ ps) p [] launch before mid after ran one = absurd ran
 
-within-snoc : (launches : List Launch) (launch : Launch) → AreWithin launches → IsWithin launch → AreWithin (launches ++ launch ∷ [])
-within-snoc [] launch are is = (is, tt)
-within-snoc (first ∷ launches) launch are is = (are.0, within-snoc launches launch are.1 is)
+-- an end behind others
+ends-behind : (ps : List Plain) (p : Plain) (qs : List Plain) (launches : List Launch) (launch : Launch) (later : List Launch) (before mid : List (List ℕ)) (end : RunEnd) → LaunchesRan ps launches before mid → (launch_end p launch mid).end ≡ end → EndsBehind (ps ++ (p ∷ qs)) (launches ++ (launch ∷ later)) before (length launches) end
+ends-behind [] p qs [] launch later before mid end ran is = subst (λ (b : List (List ℕ)). (launch_end p launch b).end ≡ end) ran is
+ends-behind (q ∷ ps) p qs (first ∷ launches) launch later before mid end ran is = (ran.0, ran.1, ends-behind ps p qs launches launch later ran.0 mid end ran.2 is)
+ends-behind [] p qs (first ∷ launches) launch later before mid end ran is = absurd ran
+ends-behind (q ∷ ps) p qs [] launch later before mid end ran is = absurd ran
+
+-- launches that are all done do not end otherwise
+pub done_only : (ps : List Plain) (launches : List Launch) (before after : List (List ℕ)) (behind : ℕ) (end : RunEnd) → LaunchesRan ps launches before after → EndsBehind ps launches before behind end → end ≡ run.Done
+done_only [] [] before after behind end ran ends = absurd ends
+done_only (p ∷ ps) (launch ∷ launches) before after zero end ran ends = sym ends ∙ ran.1.done
+done_only (p ∷ ps) (launch ∷ launches) before after (suc behind) end ran ends =
+    let same : ends.0 ≡ ran.0 = sym ends.1.leaves ∙ ran.1.leaves in
+    done_only ps launches ran.0 after behind end ran.2 (subst (λ (b : List (List ℕ)). EndsBehind ps launches b behind end) same ends.2)
+done_only [] (launch ∷ launches) before after behind end ran ends = absurd ran
+done_only (p ∷ ps) [] before after behind end ran ends = absurd ran
+
+-- two ends that are not Done are one
+pub one_end : (ps : List Plain) (launches : List Launch) (before : List (List ℕ)) (n m : ℕ) (x y : RunEnd) → EndsBehind ps launches before n x → EndsBehind ps launches before m y → (x ≡ run.Done → ⊥) → (y ≡ run.Done → ⊥) → x ≡ y
+one_end [] launches before n m x y a b not_x not_y = absurd a
+one_end (p ∷ ps) [] before n m x y a b not_x not_y = absurd a
+one_end (p ∷ ps) (launch ∷ launches) before zero zero x y a b not_x not_y = sym a ∙ b
+one_end (p ∷ ps) (launch ∷ launches) before zero (suc m) x y a b not_x not_y = absurd (not_x (sym a ∙ b.1.done))
+one_end (p ∷ ps) (launch ∷ launches) before (suc n) zero x y a b not_x not_y = absurd (not_y (sym b ∙ a.1.done))
+one_end (p ∷ ps) (launch ∷ launches) before (suc n) (suc m) x y a b not_x not_y =
+    let same : b.0 ≡ a.0 = sym b.1.leaves ∙ a.1.leaves in
+    one_end ps launches a.0 n m x y a.2 (subst (λ (bs : List (List ℕ)). EndsBehind ps launches bs m y) same b.2) not_x not_y
 
 groups-snoc : (launches : List Launch) (launch : Launch) → all_groups (launches ++ launch ∷ []) ≡ all_groups launches + group_count launch
 groups-snoc [] launch = omega arith
@@ -68,45 +69,99 @@ items-snoc : (launches : List Launch) (launch : Launch) → all_items (launches 
 items-snoc [] launch = omega arith
 items-snoc (first ∷ launches) launch = omega (arith, items-snoc launches launch)
 
--- what holds of each launch holds of one
-pub can_at : {X : Type 0} (view : X → Launch) (xs : List X) (k : ℕ) (x : X) → k < length xs → x ≡ get_or xs k x → All (λ l. CanRun (view l)) xs → CanRun (view x)
-can_at view xs k x lt is all = subst (λ (y : _). CanRun (view y)) (sym is) (all k x lt)
-
--- a launch that was read twice
-pub read_twice : {X : Type 0} (xs : List X) (k : ℕ) (x y : X) → k < length xs → x ≡ get_or xs k x → y ≡ get_or xs k y → x ≡ y
-read_twice xs k x y lt first second = first ∙ (get_or_default xs k x y lt ∙ sym second)
-
--- the first launches, one more
-module _ {X : Type 0} (view : X → Launch) (xs : List X) (k : ℕ) (x : X) (lt : k < length xs) (is : x ≡ get_or xs k x) where
-  more : map view (take (k + 1) xs) ≡ map view (take k xs) ++ view x ∷ []
-  more =
+-- the first of some things, one more
+module _ {X : Type 0} (xs : List X) (k : ℕ) (x : X) (lt : k < length xs) (is : x ≡ get_or xs k x) where
+  more : {P : Type 0} (view : X → P) → map view (take (k + 1) xs) ≡ map view (take k xs) ++ view x ∷ []
+  more view =
       let next : k + 1 ≡ suc k = omega arith in
       ap (λ n. map view (take n xs)) next ∙ (ap (map view) (take-suc xs k x lt ∙ ap (λ y. take k xs ++ y ∷ []) (sym is)) ∙ map-append view (take k xs) (x ∷ []))
 
-  pub more_ran : (units next : List Unit') (u : Unit') → next ≡ units ++ u ∷ [] → (before mid after : List (List ℕ)) → LaunchesRan units (map view (take k xs)) before mid → LaunchRan u (view x) mid after → LaunchesRan next (map view (take (k + 1) xs)) before after
-  more_ran units next u are before mid after ran one =
-      subst (λ (us : List Unit'). LaunchesRan us (map view (take (k + 1) xs)) before after) (sym are)
-      (subst (λ (ls : List Launch). LaunchesRan (units ++ u ∷ []) ls before after) (sym more) (ran-snoc units u (map view (take k xs)) (view x) before mid after ran one))
+  split : {P : Type 0} (view : X → P) → map view xs ≡ map view (take k xs) ++ (view x ∷ map view (drop (suc k) xs))
+  split view = ap (map view) (sym (take-append-drop k xs)) ∙ (map-append view (take k xs) (drop k xs) ∙ ap (λ ys. map view (take k xs) ++ map view ys) (drop-cons xs k x lt ∙ ap (λ y. y ∷ drop (suc k) xs) (sym is)))
 
-  pub more_within : AreWithin (map view (take k xs)) → IsWithin (view x) → AreWithin (map view (take (k + 1) xs))
-  more_within are one = subst (λ (ls : List Launch). AreWithin ls) (sym more) (within-snoc (map view (take k xs)) (view x) are one)
+  pub more_groups : (view : X → Launch) → all_groups (map view (take (k + 1) xs)) ≡ all_groups (map view (take k xs)) + group_count (view x)
+  more_groups view = ap all_groups (more view) ∙ groups-snoc (map view (take k xs)) (view x)
 
-  pub more_groups : all_groups (map view (take (k + 1) xs)) ≡ all_groups (map view (take k xs)) + group_count (view x)
-  more_groups = ap all_groups more ∙ groups-snoc (map view (take k xs)) (view x)
+  pub more_items : (view : X → Launch) → all_items (map view (take (k + 1) xs)) ≡ all_items (map view (take k xs)) + item_count (view x)
+  more_items view = ap all_items (more view) ∙ items-snoc (map view (take k xs)) (view x)
 
-  pub more_items : all_items (map view (take (k + 1) xs)) ≡ all_items (map view (take k xs)) + item_count (view x)
-  more_items = ap all_items more ∙ items-snoc (map view (take k xs)) (view x)
+  module _ (program : X → Plain) (launch : X → Launch) where
+    -- it is done, too
+    pub more_ran : (before mid after : List (List ℕ)) → LaunchesRan (map program (take k xs)) (map launch (take k xs)) before mid → LaunchRan (program x) (launch x) mid after → LaunchesRan (map program (take (k + 1) xs)) (map launch (take (k + 1) xs)) before after
+    more_ran before mid after ran one =
+        subst (λ (ps : List Plain). LaunchesRan ps (map launch (take (k + 1) xs)) before after) (sym (more program))
+        (subst (λ (ls : List Launch). LaunchesRan (map program (take k xs) ++ program x ∷ []) ls before after) (sym (more launch)) (ran-snoc (map program (take k xs)) (program x) (map launch (take k xs)) (launch x) before mid after ran one))
 
-  split : map view xs ≡ map view (take k xs) ++ (view x ∷ map view (drop (suc k) xs))
-  split = ap (map view) (sym (take-append-drop k xs)) ∙ (map-append view (take k xs) (drop k xs) ∙ ap (λ ys. map view (take k xs) ++ map view ys) (drop-cons xs k x lt ∙ ap (λ y. y ∷ drop (suc k) xs) (sym is)))
+    -- it ends so, behind the others
+    ends_there : (before mid : List (List ℕ)) (end : RunEnd) → LaunchesRan (map program (take k xs)) (map launch (take k xs)) before mid → (launch_end (program x) (launch x) mid).end ≡ end → EndsBehind (map program xs) (map launch xs) before k end
+    ends_there before mid end ran is =
+        let many : length (map launch (take k xs)) ≡ k = length-map (take k xs) launch ∙ length-take-le k xs (omega arith) in
+        subst (λ (n : ℕ). EndsBehind (map program xs) (map launch xs) before n end) many
+        (subst (λ (ps : List Plain). EndsBehind ps (map launch xs) before (length (map launch (take k xs))) end) (sym (split program))
+        (subst (λ (ls : List Launch). EndsBehind (map program (take k xs) ++ (program x ∷ map program (drop (suc k) xs))) ls before (length (map launch (take k xs))) end) (sym (split launch))
+        (ends-behind (map program (take k xs)) (program x) (map program (drop (suc k) xs)) (map launch (take k xs)) (launch x) (map launch (drop (suc k) xs)) before mid end ran is)))
 
-  -- its item is the first outside
-  pub stops : (item group : ℕ) → AreWithin (map view (take k xs)) → IsFirstOutside (view x) item (target_size (view x)) → group ≡ item / group_size (view x) → StopsOutside (map view xs) k group item
-  stops item group are outside group_is = record {
-    before = map view (take k xs);
-    launch = view x;
-    after = map view (drop (suc k) xs);
-    goes = record { are = split; earlier = are; outside = outside };
-    number_is = sym (length-map (take k xs) view ∙ length-take-le k xs (omega arith));
-    group_is = group_is;
-  }
+    get-behind : {P : Type 0} (ps : List P) (p : P) (qs : List P) → slice_get (ps ++ (p ∷ qs)) (length ps) ≡ Some p
+    get-behind [] p qs = refl
+    get-behind (q ∷ ps) p qs = get-behind ps p qs
+
+    program_there : slice_get (map program xs) k ≡ Some (program x)
+    program_there =
+        let many : length (map program (take k xs)) ≡ k = length-map (take k xs) program ∙ length-take-le k xs (omega arith) in
+        ap (λ ps. slice_get ps k) (split program) ∙ (ap (λ n. slice_get (map program (take k xs) ++ (program x ∷ map program (drop (suc k) xs))) n) (sym many) ∙ get-behind (map program (take k xs)) (program x) (map program (drop (suc k) xs)))
+
+    place_there : (site : ℕ) → slice_index_or (program x).sites site start_place ≡ site_place (slice_get (map program xs) k) site
+    place_there site = ap (λ o. site_place o site) (sym program_there)
+
+    -- the refusal that it leads to
+    pub ends_so : (several : Bool) (before mid : List (List ℕ)) (end : RunEnd) (e : RunError) → LaunchesRan (map program (take k xs)) (map launch (take k xs)) before mid → (launch_end (program x) (launch x) mid).end ≡ end → refusal_of end (k + 1) several (program x).sites ≡ Some e → EndsSo several (map program xs) (map launch xs) before e
+    ends_so several before mid run.Done e ran is refused = let never : ⊥ = cc refused in absurd never
+    ends_so several before mid (run.Range group item site) e ran is refused =
+        let same : error.Range (k + 1) several group item (slice_index_or (program x).sites site start_place) ≡ e = cc refused in
+        subst (λ (d : RunError). EndsSo several (map program xs) (map launch xs) before d) same (refl, record { behind = k; site = site; ends = ends_there before mid (run.Range group item site) ran is; number_is = refl; place_is = place_there site })
+    ends_so several before mid (run.Parted group item site) e ran is refused =
+        let same : error.Parted (k + 1) several group item (slice_index_or (program x).sites site start_place) ≡ e = cc refused in
+        subst (λ (d : RunError). EndsSo several (map program xs) (map launch xs) before d) same (refl, record { behind = k; site = site; ends = ends_there before mid (run.Parted group item site) ran is; number_is = refl; place_is = place_there site })
+    ends_so several before mid run.Turns e ran is refused =
+        let same : error.Turns (k + 1) several ≡ e = cc refused in
+        subst (λ (d : RunError). EndsSo several (map program xs) (map launch xs) before d) same (refl, record { behind = k; ends = ends_there before mid run.Turns ran is; number_is = refl })
+
+-- where none is refused, it is done
+pub done_is : (end : RunEnd) (number : ℕ) (several : Bool) (sites : List Place) → refusal_of end number several sites ≡ None → end ≡ run.Done
+done_is run.Done number several sites none = refl
+done_is (run.Range group item site) number several sites none = let never : ⊥ = cc none in absurd never
+done_is (run.Parted group item site) number several sites none = let never : ⊥ = cc none in absurd never
+done_is run.Turns number several sites none = let never : ⊥ = cc none in absurd never
+
+-- what holds of each holds of one
+pub holds_at : {X : Type 0} (P : X → Type 0) (xs : List X) (k : ℕ) (x : X) → k < length xs → x ≡ get_or xs k x → All P xs → P x
+holds_at P xs k x lt is all = subst P (sym is) (all k x lt)
+
+-- one that was read twice
+pub read_twice : {X : Type 0} (xs : List X) (k : ℕ) (x y : X) → k < length xs → x ≡ get_or xs k x → y ≡ get_or xs k y → x ≡ y
+read_twice xs k x y lt first second = first ∙ (get_or_default xs k x y lt ∙ sym second)
+
+-- ---- local memory
+
+-- the bytes of the arguments so far, and one more
+local-append : (xs ys : List Bound) → sum (local_arguments (xs ++ ys)) ≡ sum (local_arguments xs) + sum (local_arguments ys)
+local-append [] ys = sym (zero-add (sum (local_arguments ys)))
+local-append (bound.Buffer b ∷ xs) ys = local-append xs ys
+local-append (bound.Value v ∷ xs) ys = local-append xs ys
+local-append (bound.Local n ∷ xs) ys =
+    sum-cons n (local_arguments (xs ++ ys)) ∙ (ap (λ k. n + k) (local-append xs ys) ∙ (sym (add_assoc n (sum (local_arguments xs)) (sum (local_arguments ys))) ∙ ap (λ k. k + sum (local_arguments ys)) (sym (sum-cons n (local_arguments xs)))))
+
+more_local : (xs : List Bound) (k : ℕ) (x : Bound) → k < length xs → x ≡ get_or xs k x → sum (local_arguments (take (k + 1) xs)) ≡ sum (local_arguments (take k xs)) + sum (local_arguments (x ∷ []))
+more_local xs k x lt is =
+    let next : k + 1 ≡ suc k = omega arith in
+    ap (λ n. sum (local_arguments (take n xs))) next ∙ (ap (λ ys. sum (local_arguments ys)) (take-suc xs k x lt ∙ ap (λ y. take k xs ++ y ∷ []) (sym is)) ∙ local-append (take k xs) (x ∷ []))
+
+-- the same, by any default
+pub more_local_at : (xs : List Bound) (k : ℕ) (d : Bound) → k < length xs → sum (local_arguments (take (k + 1) xs)) ≡ sum (local_arguments (take k xs)) + sum (local_arguments (get_or xs k d ∷ []))
+more_local_at xs k d lt = more_local xs k (get_or xs k d) lt (get_or_default xs k d (get_or xs k d) lt)
+
+-- ---- the lengths of buffers
+
+pub lengths_twice : {X : Type 0} (f : X → List ℕ) (xs : List X) → map (λ (b : List ℕ). length b) (map f xs) ≡ map (λ x. length (f x)) xs
+lengths_twice f [] = refl
+lengths_twice f (x ∷ xs) = ap (λ ns. length (f x) ∷ ns) (lengths_twice f xs)

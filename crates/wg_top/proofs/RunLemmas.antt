@@ -1,11 +1,10 @@
 -- The launches of a launch file over its buffers.
-use Rattle.std.proofs.Common.{◌≡◌, ℕ, zero, suc, ◌+◌, ◌-◌, ◌<◌, ◌≤◌, true, false, List, [], ◌∷◌, length, map, take, replicate, get_or, Option, Some, None, refl, sym, ◌∙◌, ap, ap₂, subst, arith}
+use Rattle.std.proofs.Common.{◌≡◌, ℕ, zero, suc, ◌+◌, ◌-◌, ◌<◌, ◌≤◌, Bool, true, false, List, [], ◌∷◌, length, map, take, replicate, get_or, Option, Some, None, refl, sym, ◌∙◌, ap, ap₂, subst, arith}
 use Rattle.std.specs.Prelude.{All, IfSome, IsUtf8}
 use Rattle.std.specs.List.{list_any}
 use Rattle.std.proofs.lemmas.Bool.{or_parts}
-use Rattle.std.proofs.lemmas.List.{length-append, length-take, length-replicate, length-map}
+use Rattle.std.proofs.lemmas.List.{length-append, length-take, length-replicate, length-map, get_or-map}
 use Rattle.std.proofs.lemmas.List.Elements.{All-map, All-weaker}
-use Rattle.wg_num.specs.declared.types.Place.{Place}
 use Rattle.wg_outside.specs.Files.{FileMap}
 use Rattle.buffer_io.specs.Loads.{StartsAs, AllStartAs, fitted}
 use Rattle.buffer_io.specs.Saves.{AreApart, AllSavedAs, KeepsAllBut, StopsAt}
@@ -13,18 +12,27 @@ use Rattle.cl_prep.proofs.Tables.{bytes_same}
 use Rattle.cl_model.specs.declared.launch.Launch.{Launch as Bindings}
 use Rattle.launch_file.specs.declared.text.BufferText.{BufferText}
 use Rattle.cl_model.specs.Sizes.{Launch}
+use Rattle.cl_model.specs.Fitting.{FitBuffers}
+use Rattle.group_run.specs.declared.launcher.Launcher.{Launcher}
 use Rattle.cl_model.specs.View.{launch_of}
 use Rattle.launch_file.specs.Binding.{lengths_of, loads_of, saves_of, count_of}
 use Rattle.launch_file.specs.Texts.{Text}
 use Rattle.launch_file.specs.Refusals.{saved_again, saved_twice, is_this}
 use Rattle.launch_file.specs.Values.{HasTexts}
+use Rattle.lane_code.specs.Program.{Plain}
+use Rattle.lane_code.specs.View.{plain_of}
+use Rattle.wg_top.specs.declared.RunError.{RunError}
+use Rattle.wg_top.specs.declared.RunError.TheVariants.{Failed, Absent, Source, Launch as Refused, Range, Parted, Turns, Memory}
 use Rattle.wg_top.specs.declared.Summary.{Summary}
+use Rattle.wg_top.specs.declared.compile.Compiled.{Compiled}
 use Rattle.cl_meaning.specs.Typed.{Unit'}
-use Rattle.wg_top.specs.Runnable.{launch_place}
-use Rattle.wg_top.specs.Kernels.{bind_refusal}
-use Rattle.wg_top.specs.Causes.{BuffersLoaded, HasRun}
-use Rattle.wg_top.specs.Stages.{IsOutside, SaveStopped, IsRun}
-use Rattle.wg_top.specs.Launches.{IsReady, CanRun, launches_in, LaunchesRan, AreWithin, StopsOutside, all_groups, all_items}
+use Rattle.cl_piece.specs.View.{unit_of}
+use Rattle.wg_top.specs.Middle.{IsCompiledAt, group_in, programs_in}
+use Rattle.wg_top.specs.Units.{bind_refusal}
+use Rattle.wg_top.specs.Causes.{Standing, BuffersLoaded, IsStopped, HasRun}
+use Rattle.wg_top.specs.Stages.{BackCause, LeavesOthers, SaveStopped, IsRun}
+use Rattle.wg_top.proofs.MeaningLemmas.{AreLike, ran_like, so_like}
+use Rattle.wg_top.specs.Launches.{IsReady, HasLimits, launches_in, LaunchesRan, EndsSo, all_groups, all_items}
 
 -- the first launch is ready
 pub ready_first : (buffers : List BufferText) (launches : List Bindings) (first : Bindings) → All (λ l. IsReady buffers l) launches → 1 ≤ length launches → first ≡ get_or launches 0 first → IsReady buffers first
@@ -74,9 +82,9 @@ apart (b ∷ bs) none zero (suc j) name li lj ei ej = absurd (first_apart b bs n
 apart (b ∷ bs) none (suc i) zero name li lj ei ej = absurd (first_apart b bs name i (or_parts (saved_again b.save bs) (saved_twice bs) none).0 ej (omega arith) ei)
 apart (b ∷ bs) none (suc i) (suc j) name li lj ei ej = ap suc (apart bs (or_parts (saved_again b.save bs) (saved_twice bs) none).1 i j name (omega arith) (omega arith) ei ej)
 
--- each launch that is ready can run
-pub can_run : (buffers : List BufferText) (launches : List Bindings) → All (λ l. IsReady buffers l) launches → All (λ l. CanRun (launch_of l)) launches
-can_run buffers launches all = All-weaker (λ l. IsReady buffers l) (λ l. CanRun (launch_of l)) (λ l ready. ready.can) launches all
+-- each launch that is ready has its limits
+pub have_limits : (buffers : List BufferText) (launches : List Bindings) → All (λ l. IsReady buffers l) launches → All (λ l. HasLimits (launch_of l)) launches
+have_limits buffers launches all = All-weaker (λ l. IsReady buffers l) (λ l. HasLimits (launch_of l)) (λ l ready. ready.limits) launches all
 
 -- buffers of the first launch's lengths have those of each
 pub sizes_of_each : (buffers : List BufferText) (launches : List Bindings) (first : Bindings) (sizes : List ℕ) → All (λ l. IsReady buffers l) launches → IsReady buffers first → sizes ≡ first.lengths.items → All (λ l. sizes ≡ l.lengths.items) launches
@@ -87,43 +95,39 @@ pub as_many : {A : Type 0} (f : A → List ℕ) (new old : List A) (buffers : Li
 as_many f new old buffers first ready kept sizes =
     sym (length-map new (λ v. length (f v))) ∙ (ap length kept ∙ (ap length sizes ∙ (ap length ready.lengths ∙ (length-map buffers (λ b. count_of b.bytes) ∙ (sym (length-map buffers (λ b. b.save)) ∙ sym (ap length ready.saves))))))
 
--- the number of a launch is one of theirs
-pub stops_within : {X : Type 0} (view : X → Launch) (xs : List X) (number group item : ℕ) → StopsOutside (map view xs) number group item → number < length xs
-stops_within view xs number group item s =
-    let all : length (map view xs) ≡ length xs = length-map xs view in
-    let split : length (map view xs) ≡ length s.before + suc (length s.after) = ap length s.goes.are ∙ length-append s.before (s.launch ∷ s.after) in
-    omega (arith, s.number_is)
-
 -- the buffers of the first launch are those of the file
 pub loaded_of : (files : Option FileMap) (text : Text) (first : Bindings) (before : List (List ℕ)) → IsReady text.buffers first → AllStartAs files first.lengths.items first.loads.items before → BuffersLoaded files text before
 loaded_of files text first before ready loaded =
     subst (λ (ls : List (Option (List ℕ))). AllStartAs files (lengths_of text.buffers) ls before) ready.loads (subst (λ (ns : List ℕ). AllStartAs files ns first.loads.items before) ready.lengths loaded)
 
--- an item that comes to an element outside its buffer
-pub is_outside : (files : Option FileMap) (text : Text) (s : List Unit') (before : List (List ℕ)) (launches : List Launch) (number group item : ℕ) (place : Place) → place ≡ launch_place s number → bind_refusal text s ≡ None → BuffersLoaded files text before → launches ≡ launches_in text → StopsOutside launches number group item → IsOutside files text s (number + 1) text.several group item place
-is_outside files text s before launches number group item place placed accepted loaded same stops =
-    let there = subst (λ (ls : List Launch). StopsOutside ls number group item) same stops in
-    record {
-      accepted = accepted;
-      before = before;
-      loaded = loaded;
-      earlier = there.before;
-      launch = there.launch;
-      later = there.after;
-      goes = there.goes;
-      number_is = ap (λ n. n + 1) there.number_is;
-      several_is = refl;
-      group_is = there.group_is;
-      place_is = placed ∙ ap (launch_place s) there.number_is;
-    }
+-- the programs of the kernels
+pub programs_are : (width : ℕ) (kernels : List Compiled) → All (IsCompiledAt width) kernels → AreLike (map (group_in width) (map (λ c. unit_of c.program) kernels)) (map (λ c. plain_of c.group) kernels)
+programs_are width [] all = tt
+programs_are width (c ∷ kernels) all = ((all 0 c (omega arith)).group, programs_are width kernels (λ k d lt. all (suc k) d (omega arith)))
+
+-- a launch that is not done
+pub is_stopped : (old new : Standing) (text : Text) (units : List Unit') (before : List (List ℕ)) (programs : List Plain) (launches : List Launch) (e : RunError) → bind_refusal text units ≡ None → BuffersLoaded old.files text before → AreLike (programs_in text units) programs → launches ≡ launches_in text → EndsSo text.several programs launches before e → BackCause old new text units e
+is_stopped old new text units before programs launches (Range number several group item place) accepted loaded same are ends =
+    record { accepted = accepted; before = before; loaded = loaded; ends = so_like text.several (programs_in text units) programs (launches_in text) before (Range number several group item place) same (subst (λ (ls : List Launch). EndsSo text.several programs ls before (Range number several group item place)) are ends) }
+is_stopped old new text units before programs launches (Parted number several group item place) accepted loaded same are ends =
+    record { accepted = accepted; before = before; loaded = loaded; ends = so_like text.several (programs_in text units) programs (launches_in text) before (Parted number several group item place) same (subst (λ (ls : List Launch). EndsSo text.several programs ls before (Parted number several group item place)) are ends) }
+is_stopped old new text units before programs launches (Turns number several) accepted loaded same are ends =
+    record { accepted = accepted; before = before; loaded = loaded; ends = so_like text.several (programs_in text units) programs (launches_in text) before (Turns number several) same (subst (λ (ls : List Launch). EndsSo text.several programs ls before (Turns number several)) are ends) }
+is_stopped old new text units before programs launches _ accepted loaded same are ends = absurd ends
+
+-- it leaves all files
+pub stopped_leaves : (old new : Standing) (text : Text) (units : List Unit') (several : Bool) (before : List (List ℕ)) (programs : List Plain) (launches : List Launch) (e : RunError) → new.files ≡ old.files → EndsSo several programs launches before e → LeavesOthers old new text units e
+stopped_leaves old new text units several before programs launches (Range number s group item place) same ends = same
+stopped_leaves old new text units several before programs launches (Parted number s group item place) same ends = same
+stopped_leaves old new text units several before programs launches (Turns number s) same ends = same
+stopped_leaves old new text units several before programs launches _ same ends = absurd ends
 
 -- the launches ran
-pub has_run : (files : Option FileMap) (text : Text) (s : List Unit') (before after : List (List ℕ)) (launches : List Launch) → BuffersLoaded files text before → launches ≡ launches_in text → AreWithin launches → LaunchesRan s launches before after → HasRun files text s after
-has_run files text s before after launches loaded same within ran = record {
+pub has_run : (files : Option FileMap) (text : Text) (units : List Unit') (before after : List (List ℕ)) (programs : List Plain) (launches : List Launch) → BuffersLoaded files text before → AreLike (programs_in text units) programs → launches ≡ launches_in text → LaunchesRan programs launches before after → HasRun files text units after
+has_run files text units before after programs launches loaded same are ran = record {
   before = before;
   loaded = loaded;
-  in_range = subst (λ (ls : List Launch). AreWithin ls) same within;
-  ran = subst (λ (ls : List Launch). LaunchesRan s ls before after) same ran;
+  ran = ran_like (programs_in text units) programs (launches_in text) before after same (subst (λ (ls : List Launch). LaunchesRan programs ls before after) are ran);
 }
 
 -- a save failed
@@ -147,3 +151,26 @@ is_run old mid new text s saves after summary launches accepted stays same run s
   groups = groups ∙ ap all_groups are;
   items = items ∙ ap all_items are;
 }
+
+-- ---- the launches that were made ready
+
+-- seen twice
+pub map_twice : {X Y Z : Type 0} (f : Y → Z) (g : X → Y) (xs : List X) → map (λ x. f (g x)) xs ≡ map f (map g xs)
+map_twice f g [] = refl
+map_twice f g (x ∷ xs) = ap (λ ys. f (g x) ∷ ys) (map_twice f g xs)
+
+-- each is over these buffers
+ready_each : (buffers : List BufferText) (launchers : List Launcher) (launches : List Bindings) → map (λ q. q.launch) launchers ≡ launches → All (IsReady buffers) launches → (k : ℕ) (d : Launcher) → k < length launchers → IsReady buffers (get_or launchers k d).launch
+ready_each buffers launchers launches same all k d lt =
+    let launch : Launcher → Bindings = λ q. q.launch in
+    subst (λ (l : Bindings). IsReady buffers l) (get_or-map launch launchers k d d.launch lt)
+    ((subst (λ (ls : List Bindings). All (IsReady buffers) ls) (sym same) all) k d.launch (omega (arith, length-map launchers launch)))
+
+pub ready_launcher : (buffers : List BufferText) (launchers : List Launcher) (launches : List Bindings) (x : Launcher) → map (λ q. q.launch) launchers ≡ launches → All (IsReady buffers) launches → 1 ≤ length launches → x ≡ get_or launchers 0 x → IsReady buffers x.launch
+ready_launcher buffers launchers launches x same all some is =
+    let launch : Launcher → Bindings = λ q. q.launch in
+    let many : length launchers ≡ length launches = sym (length-map launchers launch) ∙ ap length same in
+    subst (λ (q : Launcher). IsReady buffers q.launch) (sym is) (ready_each buffers launchers launches same all 0 x (omega arith))
+
+pub buffers_fit : (buffers : List BufferText) (launchers : List Launcher) (launches : List Bindings) (bytes : List (List ℕ)) → map (λ q. q.launch) launchers ≡ launches → All (IsReady buffers) launches → map (λ (b : List ℕ). length b) bytes ≡ lengths_of buffers → All (λ q. FitBuffers (launch_of q.launch) bytes) launchers
+buffers_fit buffers launchers launches bytes same all sizes k d lt = sizes ∙ sym (ready_each buffers launchers launches same all k d lt).lengths

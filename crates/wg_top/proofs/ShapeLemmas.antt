@@ -7,7 +7,7 @@ use Rattle.std.specs.Prelude.{slice_index}
 use Rattle.cl_model.specs.declared.launch.Launch.{Launch as Bindings}
 use Rattle.cl_model.specs.Sizes.{product}
 use Rattle.cl_model.specs.View.{launch_of}
-use Rattle.wg_top.specs.Launches.{CanRun}
+use Rattle.wg_top.specs.Launches.{HasLimits}
 
 -- a count times some is at least the count
 pub times_some : (n m : ℕ) → 1 ≤ m → n ≤ n * m
@@ -77,7 +77,7 @@ pub record ThreeFit (a b c x y z : ℕ) : Type 0 where
   pub local_some : 1 ≤ x
   pub first : a / x * x ≤ 2 ^ 24
 
-pub three_fit : (launch : Bindings) → CanRun (launch_of launch) → ThreeFit (slice_index launch.global 0) (slice_index launch.global 1) (slice_index launch.global 2) (slice_index launch.local 0) (slice_index launch.local 1) (slice_index launch.local 2)
+pub three_fit : (launch : Bindings) → HasLimits (launch_of launch) → ThreeFit (slice_index launch.global 0) (slice_index launch.global 1) (slice_index launch.global 2) (slice_index launch.local 0) (slice_index launch.local 1) (slice_index launch.local 2)
 three_fit launch can =
     let one = can.dimensions zero (omega arith) in
     let two = can.dimensions (suc zero) (omega arith) in

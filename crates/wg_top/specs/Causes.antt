@@ -1,24 +1,22 @@
 -- Why a run ends as it does.
-use Rattle.std.specs.Prelude.{◌≡◌, ◌+◌, ◌/◌, ◌<◌, ◌≤◌, ◌⊎◌, ⊤, ℕ, Bool, All, List, [], ◌∷◌, length, map, take, Option, Some, None, Contains}
+use Rattle.std.specs.Prelude.{◌≡◌, ◌≤◌, ◌⊎◌, ⊤, ℕ, List, take, Option, Some, None, Contains}
 use Rattle.wg_num.specs.declared.types.Place.{Place}
 use Rattle.wg_outside.specs.Counts.{Rose}
 use Rattle.wg_outside.specs.Files.{FileMap, HasFileStart, LacksFile, told_file}
 use Rattle.buffer_io.specs.Loads.{AllStartAs, LacksOneFile}
 use Rattle.buffer_io.specs.Saves.{AllSavedAs, KeepsAllBut, StopsAt}
-use Rattle.cl_prep.specs.declared.prep.Define.{Define}
-use Rattle.cl_model.specs.Sizes.{Launch as ModelLaunch, group_size}
 use Rattle.command_words.specs.Command.{Files}
 use Rattle.launch_file.specs.Refusals.{Reads, IsRefused}
 use Rattle.launch_file.specs.Binding.{loads_of, saves_of, lengths_of}
-use Rattle.launch_file.specs.Texts.{Text, Part}
+use Rattle.launch_file.specs.Texts.{Text}
 use Rattle.wg_top.specs.declared.RunError.{RunError}
-use Rattle.wg_top.specs.declared.RunError.TheVariants.{Failed, Absent, Source, Launch, Range, Memory}
+use Rattle.wg_top.specs.declared.RunError.TheVariants.{Failed, Absent, Source, Launch, Range, Parted, Turns, Memory}
 use Rattle.wg_top.specs.declared.Summary.{Summary}
 use Rattle.cl_meaning.specs.Typed.{Unit'}
 use Rattle.wg_front.specs.Front.{HasUnit, StandsAt}
-use Rattle.wg_top.specs.Runnable.{AreCompiled, IsFirstRefused, launch_place}
-use Rattle.wg_top.specs.Kernels.{bind_refusal}
-use Rattle.wg_top.specs.Launches.{launches_in, LaunchesRan, AreWithin, GoesOutside, all_groups, all_items}
+use Rattle.wg_top.specs.Units.{AreCompiled, IsFirstRefused, bind_refusal}
+use Rattle.wg_top.specs.Launches.{launches_in, LaunchesRan, EndsSo, all_groups, all_items}
+use Rattle.wg_top.specs.Middle.{programs_in}
 
 -- a store at one moment
 pub record Standing : Type 0 where
@@ -43,7 +41,7 @@ SourceLoaded files source bytes = HasFileStart files source 262145 bytes
 abbrev pub LaunchLoaded : Option FileMap → List ℕ → List ℕ → Type 0
 LaunchLoaded files launch bytes = HasFileStart files launch 1048577 bytes
 
--- the source and the launch file were loaded, the launch file with the options says this, and the source has a unit, and these typed units with the kernels of the launches, which run today
+-- the source and the launch file were loaded, the launch file with the options says this, and the source has a unit, and these typed units with the kernels of the launches
 pub record RunRead (files : Option FileMap) (ask : Files) (text : Text) (units : List Unit') : Type 0 where
   pub source_bytes : List ℕ
   pub source_loaded : SourceLoaded files ask.source source_bytes
@@ -73,7 +71,7 @@ pub record BindRefused (files : Option FileMap) (ask : Files) (number : ℕ) : T
   pub read : RunRead files ask text units
   pub refused : bind_refusal text units ≡ Some number
 
--- the condition of that number stands of the source at that place: a source without a unit comes first, then the first launch whose kernel is at fault or does not run today
+-- the condition of that number stands of the source at that place: a source without a unit comes first, then the first launch whose kernel is at fault
 abbrev pub IsSourceFault : List ℕ → Text → ℕ → Place → Type 0
 IsSourceFault bytes text number place = StandsAt bytes text.defines number place ⊎ IsFirstRefused bytes text.defines text.list number place
 
@@ -87,32 +85,33 @@ pub record SourceRefused (files : Option FileMap) (ask : Files) (number : ℕ) (
   pub reads : Reads launch_bytes ask.lanes ask.turns text
   pub fault : IsSourceFault source_bytes text number place
 
--- where files are told, a name that was to be loaded is not among them: the source, or the launch file where the source is there, or a buffer's file where all was read
+-- where files are told, the source is not among them, or the launch file where the source is there
+abbrev pub LacksText : Option FileMap → Files → Type 0
+LacksText files ask = LacksFile files ask.source ⊎ ((bytes : List ℕ) × SourceLoaded files ask.source bytes × LacksFile files ask.launch)
+
+-- where files are told, a name that was to be loaded is not among them: the source, or the launch file, or a buffer's file where all was read
 abbrev pub LacksName : Option FileMap → Files → Type 0
 LacksName files ask =
-    LacksFile files ask.source
-    ⊎ ((bytes : List ℕ) × SourceLoaded files ask.source bytes × LacksFile files ask.launch)
+    LacksText files ask
     ⊎ ((text : Text) × (units : List Unit') × RunBound files ask text units × LacksOneFile files (loads_of text.buffers))
 
 -- the buffers of the launch file were loaded: these
 abbrev pub BuffersLoaded : Option FileMap → Text → List (List ℕ) → Type 0
 BuffersLoaded files text before = AllStartAs files (lengths_of text.buffers) (loads_of text.buffers) before
 
--- all was read and the buffers were loaded, and in the launch with that number an item came to an element that does not lie within the launch's buffer, at the place of the first access; launches count from 1
-pub record IsOutOfRange (files : Option FileMap) (ask : Files) (number : ℕ) (several : Bool) (group item : ℕ) (place : Place) : Type 0 where
-  pub text : Text
-  pub units : List Unit'
-  pub read : RunBound files ask text units
+-- no condition stands on the launches, the buffers were loaded, and a launch ends as the refusal says
+pub record IsStopped (files : Option FileMap) (text : Text) (units : List Unit') (error : RunError) : Type 0 where
+  pub accepted : bind_refusal text units ≡ None
   pub before : List (List ℕ)
   pub loaded : BuffersLoaded files text before
-  pub earlier : List ModelLaunch
-  pub launch : ModelLaunch
-  pub later : List ModelLaunch
-  pub goes : GoesOutside (launches_in text) earlier launch later item
-  pub number_is : number ≡ length earlier + 1
-  pub several_is : several ≡ text.several
-  pub group_is : group ≡ item / group_size launch
-  pub place_is : place ≡ launch_place units (length earlier)
+  pub ends : EndsSo text.several (programs_in text units) (launches_in text) before error
+
+-- all was read, and that holds of what was read
+pub record RunStopped (files : Option FileMap) (ask : Files) (error : RunError) : Type 0 where
+  pub text : Text
+  pub units : List Unit'
+  pub read : RunRead files ask text units
+  pub stopped : IsStopped files text units error
 
 -- the cause of a refusal that the files decide, without faults and want of memory
 abbrev pub Finds : Option FileMap → Files → RunError → Type 0
@@ -120,7 +119,9 @@ Finds files ask Failed = ⊥
 Finds files ask Absent = LacksName files ask
 Finds files ask (Source number place) = SourceRefused files ask number place
 Finds files ask (Launch number) = TextRefused files ask number ⊎ BindRefused files ask number
-Finds files ask (Range launch several group item place) = IsOutOfRange files ask launch several group item place
+Finds files ask (Range launch several group item place) = RunStopped files ask (Range launch several group item place)
+Finds files ask (Parted launch several group item place) = RunStopped files ask (Parted launch several group item place)
+Finds files ask (Turns launch several) = RunStopped files ask (Turns launch several)
 Finds files ask Memory = ⊥
 
 -- the cause of each refusal
@@ -130,14 +131,24 @@ Cause old new ask Absent = Rose old.misses new.misses × Finds old.files ask Abs
 Cause old new ask (Source number place) = Finds old.files ask (Source number place)
 Cause old new ask (Launch number) = Finds old.files ask (Launch number)
 Cause old new ask (Range launch several group item place) = Finds old.files ask (Range launch several group item place)
+Cause old new ask (Parted launch several group item place) = Finds old.files ask (Parted launch several group item place)
+Cause old new ask (Turns launch several) = Finds old.files ask (Turns launch several)
 Cause old new ask Memory = ⊤
 
--- all was read and the buffers were loaded, each item of each launch was in range, and the launches ran
+-- the cause of a refusal of a command that runs nothing
+abbrev pub ReadingCause : Standing → Standing → Files → RunError → Type 0
+ReadingCause old new ask Failed = Rose old.faults new.faults
+ReadingCause old new ask Absent = Rose old.misses new.misses × LacksText old.files ask
+ReadingCause old new ask (Source number place) = SourceRefused old.files ask number place
+ReadingCause old new ask (Launch number) = TextRefused old.files ask number
+ReadingCause old new ask Memory = ⊤
+ReadingCause old new ask _ = ⊥
+
+-- the buffers were loaded, and the launches are done
 pub record HasRun (files : Option FileMap) (text : Text) (units : List Unit') (after : List (List ℕ)) : Type 0 where
   pub before : List (List ℕ)
   pub loaded : BuffersLoaded files text before
-  pub in_range : AreWithin (launches_in text)
-  pub ran : LaunchesRan units (launches_in text) before after
+  pub ran : LaunchesRan (programs_in text units) (launches_in text) before after
 
 -- saving had begun: the launches ran, the buffers before one are saved, and those behind it and all other names are as before
 pub record SaveFailed (old new : Option FileMap) (ask : Files) : Type 0 where
@@ -166,7 +177,7 @@ pub record IsDone (old new : Option FileMap) (ask : Files) (summary : Summary) :
   pub groups : summary.groups ≡ all_groups (launches_in text)
   pub items : summary.items ≡ all_items (launches_in text)
 
--- the store tells its files, has those that the run loads, the source has a unit and the launches' kernels run today, no condition stands on the launch file, and each item's element lies within its buffer
+-- the store tells its files, has those that the run loads, the source has a unit and the launches' kernels, no condition stands on the launch file, and each launch is done on the buffers that those before it leave
 pub record Accepted (files : Option FileMap) (ask : Files) (text : Text) (units : List Unit') : Type 0 where
   pub source_bytes : List ℕ
   pub launch_bytes : List ℕ
@@ -177,4 +188,4 @@ pub record Accepted (files : Option FileMap) (ask : Files) (text : Text) (units 
   pub unit : HasUnit (take 262145 source_bytes) text.defines
   pub compiled : AreCompiled (take 262145 source_bytes) text.defines text.list units
   pub accepted : bind_refusal text units ≡ None
-  pub in_range : AreWithin (launches_in text)
+  pub done : (before : List (List ℕ)) → BuffersLoaded files text before → (after : List (List ℕ)) × LaunchesRan (programs_in text units) (launches_in text) before after

@@ -5,11 +5,15 @@ use Rattle.wg_outside.specs.Counts.{Rose}
 use Rattle.wg_outside.specs.Files.{FileMap}
 use Rattle.wg_outside.specs.Bytes.{AppendsPrefix}
 use Rattle.wg_top.specs.declared.RunError.{RunError}
-use Rattle.wg_top.specs.declared.RunError.TheVariants.{Failed, Source, Memory}
+use Rattle.wg_top.specs.declared.RunError.TheVariants.{Failed, Absent}
 use Rattle.command_words.specs.Command.{Files, Request, run, plan, code, sample, TakesWords, AskFor}
 use Rattle.wg_top.specs.declared.Summary.{Summary}
-use Rattle.wg_top.specs.Causes.{Standing, standing, Cause, LeavesFiles, IsDone}
-use Rattle.wg_top.specs.Lines.{IsSaid, done_line, error_line, status_of}
+use Rattle.launch_file.specs.Texts.{Text}
+use Rattle.cl_meaning.specs.Typed.{Unit'}
+use Rattle.wg_top.specs.Causes.{Standing, standing, Cause, ReadingCause, RunRead, LeavesFiles, IsDone}
+use Rattle.wg_top.specs.Shown.{Showing, plan_shown, code_shown, Shows}
+use Rattle.wg_top.specs.Sample.{IsSample, SampleCause}
+use Rattle.wg_top.specs.Lines.{IsSaid, done_line, sample_line, error_line, status_of}
 
 -- a sink at one moment
 pub record SinkStanding : Type 0 where
@@ -83,21 +87,82 @@ pub record EndsSaying (old new : Outside) (line : List ℕ) : Type 0 where
 abbrev pub usage_line : List ℕ
 usage_line = codes "wgcc: usage\n"
 
--- the refusal of what is not built
-abbrev pub not_built : RunError
-not_built = Source 0 (record { line = 1; column = 1 })
+-- all was read, and these are the texts of its launches
+pub record ShownRead (files : Option FileMap) (ask : Files) (show : Showing) (shown : List ℕ) : Type 0 where
+  pub text : Text
+  pub units : List Unit'
+  pub read : RunRead files ask text units
+  pub shows : Shows show text units shown
 
--- what is asked for is not built, and its line names this as the source; or memory ran out
-abbrev pub EndsUnbuilt : Outside → Outside → List ℕ → ℕ → Type 0
-EndsUnbuilt old new file status =
-    ((status ≡ 3) × EndsSaying old new (error_line file not_built)) ⊎ ((status ≡ 8) × EndsSaying old new (error_line file Memory))
+-- the texts are on `out`
+pub record EndsShown (old new : Outside) (ask : Files) (show : Showing) (status : ℕ) : Type 0 where
+  pub shown : List ℕ
+  pub status_is : status ≡ 0
+  pub read : ShownRead old.store.files ask show shown
+  pub files_stay : new.store.files ≡ old.store.files
+  pub said : Appends old.out.written new.out.written shown
+  pub err_stays : new.err ≡ old.err
 
--- how a command ends: `run` as its launches do, and the others are not built
+-- the texts could not be put on `out`
+pub record EndsUnshown (old new : Outside) (ask : Files) (show : Showing) (status : ℕ) : Type 0 where
+  pub shown : List ℕ
+  pub status_is : status ≡ 1
+  pub read : ShownRead old.store.files ask show shown
+  pub files_stay : new.store.files ≡ old.store.files
+  pub failed : Rose old.out.faults new.out.faults
+  pub part : AppendsPrefix old.out.written new.out.written shown
+  pub said : Says old.err new.err (error_line ask.source Failed)
+
+-- the command is refused, with its cause, its status and its line
+pub record EndsUnread (old new : Outside) (ask : Files) (status : ℕ) : Type 0 where
+  pub error : RunError
+  pub status_is : status ≡ status_of error
+  pub cause : ReadingCause old.store new.store ask error
+  pub files_stay : new.store.files ≡ old.store.files
+  pub said : Says old.err new.err (error_line ask.source error)
+  pub out_stays : new.out ≡ old.out
+
+-- how a command ends that runs nothing
+abbrev pub EndsShowing : Outside → Outside → Files → Showing → ℕ → Type 0
+EndsShowing old new ask show status = EndsShown old new ask show status ⊎ EndsUnshown old new ask show status ⊎ EndsUnread old new ask status
+
+-- the sample's line is on `out`
+pub record EndsSampled (old_out new_out old_err new_err : SinkStanding) (number status : ℕ) : Type 0 where
+  pub sum : ℕ
+  pub status_is : status ≡ 0
+  pub sample : IsSample number sum
+  pub said : Appends old_out.written new_out.written (sample_line number sum)
+  pub err_stays : new_err ≡ old_err
+
+-- the sample's line could not be put on `out`
+pub record EndsUnsampled (old_out new_out old_err new_err : SinkStanding) (number status : ℕ) : Type 0 where
+  pub sum : ℕ
+  pub status_is : status ≡ 1
+  pub sample : IsSample number sum
+  pub failed : Rose old_out.faults new_out.faults
+  pub part : AppendsPrefix old_out.written new_out.written (sample_line number sum)
+  pub said : Says old_err new_err (error_line (codes "sample.cl") Failed)
+
+-- the launch is refused, by no fault of a store
+pub record EndsNoSample (old_out new_out old_err new_err : SinkStanding) (number status : ℕ) : Type 0 where
+  pub error : RunError
+  pub status_is : status ≡ status_of error
+  pub cause : SampleCause number error
+  pub no_fault : (error ≡ Failed → ⊥) × (error ≡ Absent → ⊥)
+  pub said : Says old_err new_err (error_line (codes "sample.cl") error)
+  pub out_stays : new_out ≡ old_out
+
+-- how the sample ends, which leaves the store alone
+abbrev pub EndsSample : SinkStanding → SinkStanding → SinkStanding → SinkStanding → ℕ → ℕ → Type 0
+EndsSample old_out new_out old_err new_err number status =
+    EndsSampled old_out new_out old_err new_err number status ⊎ EndsUnsampled old_out new_out old_err new_err number status ⊎ EndsNoSample old_out new_out old_err new_err number status
+
+-- how a command ends
 abbrev pub EndsAsked : Outside → Outside → Request → ℕ → Type 0
 EndsAsked old new (run ask) status = Ends old new ask status
-EndsAsked old new (plan ask) status = EndsUnbuilt old new ask.source status
-EndsAsked old new (code ask) status = EndsUnbuilt old new ask.source status
-EndsAsked old new (sample number) status = EndsUnbuilt old new (codes "sample") status
+EndsAsked old new (plan ask) status = EndsShowing old new ask plan_shown status
+EndsAsked old new (code ask) status = EndsShowing old new ask code_shown status
+EndsAsked old new (sample number) status = (new.store ≡ old.store) × EndsSample old.out new.out old.err new.err number status
 
 -- nothing went to `out` but a first part of a line, where its faults rose
 abbrev pub KeepsOut : SinkStanding → SinkStanding → Type 0

@@ -1,9 +1,10 @@
-pub mod Runnable
-pub mod Items
-pub mod Shapes
+pub mod Middle
+pub mod Units
+pub mod Given
 pub mod Launches
-pub mod Kernels
 pub mod Lines
 pub mod Causes
 pub mod Stages
+pub mod Shown
+pub mod Sample
 pub mod Ends

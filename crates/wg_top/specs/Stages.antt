@@ -1,24 +1,21 @@
 -- Why one stage of a run ends as it does.
-use Rattle.std.specs.Prelude.{◌≡◌, ◌+◌, ◌/◌, ◌⊎◌, ⊤, ℕ, Bool, List, length, Option, Some, None}
-use Rattle.wg_num.specs.declared.types.Place.{Place}
+use Rattle.std.specs.Prelude.{◌≡◌, ◌⊎◌, ⊤, ℕ, List, Option, Some, None}
 use Rattle.wg_outside.specs.Counts.{Rose}
 use Rattle.wg_outside.specs.Files.{FileMap, LacksFile}
 use Rattle.buffer_io.specs.Loads.{LacksOneFile}
 use Rattle.buffer_io.specs.Saves.{AllSavedAs, KeepsAllBut, StopsAt}
-use Rattle.cl_model.specs.Sizes.{Launch as ModelLaunch, group_size}
 use Rattle.launch_file.specs.Refusals.{Reads, IsRefused}
 use Rattle.launch_file.specs.Binding.{loads_of, saves_of}
 use Rattle.cl_prep.specs.declared.prep.Define.{Define}
 use Rattle.wg_front.specs.Compiled.{IsFaulty}
 use Rattle.launch_file.specs.Texts.{Text, Part}
 use Rattle.wg_top.specs.declared.RunError.{RunError}
-use Rattle.wg_top.specs.declared.RunError.TheVariants.{Failed, Absent, Source, Launch, Range, Memory}
+use Rattle.wg_top.specs.declared.RunError.TheVariants.{Failed, Absent, Source, Launch, Range, Parted, Turns, Memory}
 use Rattle.wg_top.specs.declared.Summary.{Summary}
 use Rattle.cl_meaning.specs.Typed.{Unit'}
-use Rattle.wg_top.specs.Runnable.{IsNotBuilt, IsFirstRefused, launch_place}
-use Rattle.wg_top.specs.Kernels.{bind_refusal}
-use Rattle.wg_top.specs.Launches.{launches_in, GoesOutside, all_groups, all_items}
-use Rattle.wg_top.specs.Causes.{Standing, LaunchLoaded, IsSourceFault, BuffersLoaded, HasRun}
+use Rattle.wg_top.specs.Units.{IsFirstRefused, bind_refusal}
+use Rattle.wg_top.specs.Launches.{launches_in, all_groups, all_items}
+use Rattle.wg_top.specs.Causes.{Standing, LaunchLoaded, IsSourceFault, IsStopped, HasRun}
 
 -- the launch file was loaded, and says this with the options
 pub record TextRead (files : Option FileMap) (launch : List ℕ) (lanes turns : Option ℕ) (text : Text) : Type 0 where
@@ -48,7 +45,7 @@ ProgramCause bytes text _ = ⊥
 
 -- the cause of a refusal of a launch's kernel, once the source has a unit
 abbrev pub KernelCause : List ℕ → List Define → (kernel : List ℕ) → RunError → Type 0
-KernelCause bytes defines kernel (Source number place) = IsFaulty bytes defines kernel number place ⊎ IsNotBuilt bytes defines kernel number place
+KernelCause bytes defines kernel (Source number place) = IsFaulty bytes defines kernel number place
 KernelCause bytes defines kernel Memory = ⊤
 KernelCause bytes defines kernel _ = ⊥
 
@@ -64,26 +61,14 @@ BindCause text units (Launch number) = bind_refusal text units ≡ Some number
 BindCause text units Memory = ⊤
 BindCause text units _ = ⊥
 
--- the launches are accepted, the buffers were loaded, and in the launch with that number an item came to an element outside its buffer
-pub record IsOutside (files : Option FileMap) (text : Text) (units : List Unit') (number : ℕ) (several : Bool) (group item : ℕ) (place : Place) : Type 0 where
-  pub accepted : bind_refusal text units ≡ None
-  pub before : List (List ℕ)
-  pub loaded : BuffersLoaded files text before
-  pub earlier : List ModelLaunch
-  pub launch : ModelLaunch
-  pub later : List ModelLaunch
-  pub goes : GoesOutside (launches_in text) earlier launch later item
-  pub number_is : number ≡ length earlier + 1
-  pub several_is : several ≡ text.several
-  pub group_is : group ≡ item / group_size launch
-  pub place_is : place ≡ launch_place units (length earlier)
-
 -- the cause of a refusal once all is read
 abbrev pub BackCause : Standing → Standing → Text → List Unit' → RunError → Type 0
 BackCause old new text units Failed = Rose old.faults new.faults
 BackCause old new text units Absent = Rose old.misses new.misses × (bind_refusal text units ≡ None) × LacksOneFile old.files (loads_of text.buffers)
 BackCause old new text units (Launch number) = bind_refusal text units ≡ Some number
-BackCause old new text units (Range launch several group item place) = IsOutside old.files text units launch several group item place
+BackCause old new text units (Range launch several group item place) = IsStopped old.files text units (Range launch several group item place)
+BackCause old new text units (Parted launch several group item place) = IsStopped old.files text units (Parted launch several group item place)
+BackCause old new text units (Turns launch several) = IsStopped old.files text units (Turns launch several)
 BackCause old new text units Memory = ⊤
 BackCause old new text units _ = ⊥
 

@@ -1,114 +1,242 @@
 // The launches of a launch file, one after the other, over its buffers.
-ghost use Rattle.std.specs.Prelude.{◌≡◌, ◌≤◌, ◌<◌, All, map, length, IfOk, IfErr, IfSome, IfNone};
-ghost use Rattle.cl_model.specs.View.{launch_of};
+ghost use Rattle.std.specs.Prelude.{◌≡◌, ◌<◌, ◌≤◌, ◌+◌, ℕ, All, List, None, IfOk, IfErr, OnOk, length, map, IsTrue, ◌↔◌, ◌∷◌, [], sum, min, slice_index_or};
+ghost use Rattle.cl_model.specs.View.{launch_of, buffers_of};
+ghost use Rattle.cl_model.specs.Sizes.{group_count, item_count};
+ghost use Rattle.cl_model.specs.Fitting.{FitBuffers};
+ghost use Rattle.cl_model.specs.Objects.{local_arguments};
 ghost use Rattle.cl_piece.specs.View.{unit_of};
-ghost use Rattle.wg_top.specs.Runnable.{IsBuilt};
-ghost use Rattle.wg_top.specs.Items.{IsFirstOutside};
-ghost use Rattle.wg_top.specs.Shapes.{FitsShape, HasShape};
-ghost use Rattle.wg_top.specs.Launches.{LaunchRan, LaunchesRan, IsWithin, AreWithin, StopsOutside, CanRun, target, target_size, all_groups, all_items};
+ghost use Rattle.lane_code.specs.View.{plain_of};
+ghost use Rattle.lane_code.specs.Fits.{LaunchFits};
+ghost use Rattle.launch_file.specs.Texts.{text_of};
+ghost use Rattle.wg_top.specs.Middle.{IsCompiledAt};
+ghost use Rattle.wg_top.specs.Units.{bind_refusal};
+ghost use Rattle.wg_top.specs.Given.{IsText};
+ghost use Rattle.wg_top.specs.Stages.{BindCause};
+ghost use Rattle.wg_top.specs.Launches.{launches_in, HasLimits, IsReady, AllFit, LaunchesRan, EndsSo, refusal_of, start_place, all_groups, all_items};
 
-use crate::Summary;
-use crate::items::{Shape, run_items};
-use cl_model::{Bound, Launch, Program};
-use element_kernel::change_of;
+use crate::compile::Compiled;
+use crate::{RunError, Summary};
+use cl_model::{Bound, Buffers, Launch};
+use group_run::Launcher;
+use lane_code::RunEnd;
+use launch_bind::bind;
+use launch_file::{LaunchError, LaunchText};
+use std::alloc::Global;
+use wg_num::{Memory, Place};
 
-/// Where a run left its buffers: the number of a launch, counted from 0, and those of an item and
-/// its group in it.
-#[derive(Clone, Copy)]
-pub(crate) struct Outside {
-    pub(crate) launch: usize,
-    pub(crate) group: u64,
-    pub(crate) item: u64,
+// The most bytes of local memory that a group has.
+const LOCAL_MOST: u64 = 65_536;
+
+// The place of a site that there is not.
+const START: Place = Place { line: 1, column: 1 };
+
+/// The launches, each bound to its own kernel.
+pub(crate) fn bind_each(
+    alloc: Global,
+    kernels: &[Compiled],
+    text: &LaunchText,
+) -> Result<Vec<Launch>, RunError>
+    requires text { IsText text.now }
+    requires as_many { length kernels.now ≡ length text.now.list.items }
+    requires passes { All (IsCompiledAt (text_of text.now).lanes) kernels.now }
+    ensures launches { IfOk result (λ v. map launch_of v.items ≡ launches_in (text_of text.now)) }
+    ensures ready { IfOk result (λ v. All (IsReady text.now.buffers.items) v.items) }
+    ensures fit { IfOk result (λ v. AllFit kernels.now v.items) }
+    ensures accepted { IfOk result (λ v. bind_refusal (text_of text.now) (map (λ c. unit_of c.program) kernels.now) ≡ None) }
+    ensures err { IfErr result (BindCause (text_of text.now) (map (λ c. unit_of c.program) kernels.now)) }
+{
+    let mut list = Vec::new(alloc);
+    for which in 0..text.list.len() {
+        match bind(alloc, &kernels[which].program, text, which) {
+            Ok(launch) => {
+                if list.push(launch).is_err() {
+                    return Err(RunError::Memory);
+                }
+            }
+            Err(LaunchError::Fault { number }) => return Err(RunError::Launch { number }),
+            Err(LaunchError::Memory) => return Err(RunError::Memory),
+        }
+    }
+    Ok(list)
 }
 
-fn shape_of(launch: &Launch) -> Shape
-    requires { CanRun (launch_of launch.now) }
-    ensures fits { FitsShape result }
-    ensures same { HasShape (launch_of launch.now) result }
+// The groups and the items of one launch.
+fn counts(launch: &Launch) -> Summary
+    requires { HasLimits (launch_of launch.now) }
+    ensures groups { result.groups ≡ group_count (launch_of launch.now) }
+    ensures items { result.items ≡ item_count (launch_of launch.now) }
+    ensures few_groups { result.groups ≤ 16777216 }
+    ensures few_items { result.items ≤ 16777216 }
 {
-    let groups = launch.global[0] / launch.local[0];
     let columns = launch.global[1] / launch.local[1];
     let planes = launch.global[2] / launch.local[2];
-    let all_groups = groups * (columns * planes);
+    let rows = launch.global[0] / launch.local[0];
+    let groups = rows * (columns * planes);
     let size = launch.local[0] * (launch.local[1] * launch.local[2]);
-    Shape {
-        offset: launch.offset[0],
+    Summary {
         groups,
-        local: launch.local[0],
-        all_groups,
-        size,
-        items: all_groups * size,
+        items: groups * size,
     }
 }
 
-// The number of the launch's buffer.
-fn target_of(launch: &Launch) -> usize
-    requires { CanRun (launch_of launch.now) }
-    ensures is { result ≡ target (launch_of launch.now) }
-    ensures within { result < length launch.now.lengths.items }
-{
-    match launch.args.first() {
-        Some(Bound::Buffer(number)) => *number as usize,
-        _ => unreachable!(),
-    }
-}
-
-// Runs one launch on its buffer, and answers the first item outside it.
-fn run_launch(
-    list: &mut Vec<Vec<u8>>,
-    launch: &Launch,
-    shape: Shape,
-    program: &Program,
-) -> Option<u64>
-    requires can { CanRun (launch_of launch.now) }
-    requires fits { FitsShape shape }
-    requires same { HasShape (launch_of launch.now) shape }
-    requires sizes { map (λ b. length b.items) list.old.items ≡ launch.now.lengths.items }
-    requires built { IsBuilt (unit_of program.now) }
-    ensures sizes { map (λ b. length b.items) list.new.items ≡ map (λ b. length b.items) list.old.items }
-    ensures outside { IfSome result (λ i. IsFirstOutside (launch_of launch.now) i (target_size (launch_of launch.now))) }
-    ensures within { IfNone result (IsWithin (launch_of launch.now)) }
-    ensures ran { IfNone result (LaunchRan (unit_of program.now) (launch_of launch.now) (map (λ b. b.items) list.old.items) (map (λ b. b.items) list.new.items)) }
-{
-    let number = target_of(launch);
-    match change_of(program) {
-        Some(change) => run_items(&mut list[number], shape, change),
-        None => unreachable!(),
-    }
-}
-
-/// Runs the launches in order, each with its kernel, on the buffers that the one before it left, and answers how
-/// many groups and items they have, or the first item whose element lies outside its buffer.
-pub(crate) fn run_launches(
-    list: &mut Vec<Vec<u8>>,
-    launches: &[Launch],
-    programs: &[Program],
-) -> Result<Summary, Outside>
-    requires can { All (λ l. CanRun (launch_of l)) launches.now }
-    requires sizes { All (λ l. map (λ b. length b.items) list.old.items ≡ l.lengths.items) launches.now }
+/// The groups and the items of the launches together.
+pub(crate) fn count_all(launches: &[Launch]) -> Summary
+    requires limits { All (λ l. HasLimits (launch_of l)) launches.now }
     requires few { length launches.now ≤ 16 }
-    requires as_many { length programs.now ≡ length launches.now }
-    requires built { All (λ p. IsBuilt (unit_of p)) programs.now }
-    ensures sizes { map (λ b. length b.items) list.new.items ≡ map (λ b. length b.items) list.old.items }
-    ensures within { IfOk result (λ s. AreWithin (map launch_of launches.now)) }
-    ensures ran { IfOk result (λ s. LaunchesRan (map unit_of programs.now) (map launch_of launches.now) (map (λ b. b.items) list.old.items) (map (λ b. b.items) list.new.items)) }
-    ensures groups { IfOk result (λ s. s.groups ≡ all_groups (map launch_of launches.now)) }
-    ensures items { IfOk result (λ s. s.items ≡ all_items (map launch_of launches.now)) }
-    ensures outside { IfErr result (λ o. StopsOutside (map launch_of launches.now) o.launch o.group o.item) }
+    ensures groups { result.groups ≡ all_groups (map launch_of launches.now) }
+    ensures items { result.items ≡ all_items (map launch_of launches.now) }
 {
     let mut groups = 0u64;
     let mut items = 0u64;
     for k in 0..launches.len() {
-        let shape = shape_of(&launches[k]);
-        if let Some(item) = run_launch(list, &launches[k], shape, &programs[k]) {
-            return Err(Outside {
-                launch: k,
-                group: item / shape.size,
-                item,
-            });
-        }
-        groups += shape.all_groups;
-        items += shape.items;
+        let own = counts(&launches[k]);
+        groups += own.groups;
+        items += own.items;
     }
-    Ok(Summary { groups, items })
+    Summary { groups, items }
+}
+
+// So many bytes, and no more than one above the most that a group has.
+fn capped(sum: u64, bytes: u64) -> u64
+    ensures { result ≡ min (sum + bytes) 65537 }
+{
+    if bytes > LOCAL_MOST || sum > LOCAL_MOST {
+        LOCAL_MOST + 1
+    } else {
+        (sum + bytes).min(LOCAL_MOST + 1)
+    }
+}
+
+// The bytes of local memory that an argument gives.
+fn local_bytes_of(arg: Bound) -> u64
+    ensures { result ≡ sum (local_arguments (arg ∷ [])) }
+{
+    match arg {
+        Bound::Local(bytes) => bytes,
+        Bound::Buffer(_) => 0,
+        Bound::Value(_) => 0,
+    }
+}
+
+// Whether the local arrays of a kernel and the local arguments of a launch have room together.
+fn has_room(locals: &[u64], args: &[Bound]) -> bool
+    ensures { IsTrue result ↔ (sum locals.now + sum (local_arguments args.now) ≤ 65536) }
+{
+    let mut bytes = 0u64;
+    for own in locals {
+        bytes = capped(bytes, *own);
+    }
+    for k in 0..args.len() {
+        bytes = capped(bytes, local_bytes_of(args[k]));
+    }
+    bytes <= LOCAL_MOST
+}
+
+// The kernel's program made ready for the launch; `Memory` also where the local memory of its groups
+// has no room.
+fn prepare_one(alloc: Global, kernel: Compiled, launch: Launch) -> Result<Launcher, Memory>
+    requires { LaunchFits (plain_of kernel.group).params 0 (launch_of launch) }
+    ensures program { IfOk result (λ l. l.program ≡ kernel.group) }
+    ensures launch { IfOk result (λ l. l.launch ≡ launch) }
+{
+    let Compiled {
+        program,
+        kernel,
+        varying,
+        plan,
+        group,
+    } = kernel;
+    drop(program);
+    drop(kernel);
+    drop(varying);
+    drop(plan);
+    if has_room(&group.locals, &launch.args) {
+        Launcher::prepare(alloc, group, launch)
+    } else {
+        drop(group);
+        Err(Memory)
+    }
+}
+
+/// The programs of the kernels, each made ready for its launch.
+pub(crate) fn prepare_each(
+    alloc: Global,
+    kernels: Vec<Compiled>,
+    launches: Vec<Launch>,
+) -> Result<Vec<Launcher>, Memory>
+    requires { AllFit kernels.items launches.items }
+    ensures programs { IfOk result (λ v. map (λ l. plain_of l.program) v.items ≡ map (λ c. plain_of c.group) kernels.items) }
+    ensures launches { IfOk result (λ v. map (λ l. l.launch) v.items ≡ launches.items) }
+{
+    let mut launchers = Vec::new(alloc);
+    let mut rest = launches.into_iter();
+    for kernel in kernels {
+        let Some(launch) = rest.next() else {
+            drop(kernel);
+            return Ok(launchers);
+        };
+        let launcher = prepare_one(alloc, kernel, launch)?;
+        if launchers.push(launcher).is_err() {
+            return Err(Memory);
+        }
+    }
+    Ok(launchers)
+}
+
+// The place of a site.
+fn place_of(sites: &[Place], site: u32) -> Place
+    ensures { result ≡ slice_index_or sites.now site start_place }
+{
+    match sites.get(site as usize) {
+        Some(place) => *place,
+        None => START,
+    }
+}
+
+// The refusal of a run whose launch with that number, counted from 1, ends so; none where it is done.
+fn refusal(end: RunEnd, launch: u32, several: bool, sites: &[Place]) -> Option<RunError>
+    ensures { result ≡ refusal_of end launch several sites.now }
+{
+    match end {
+        RunEnd::Done => None,
+        RunEnd::Range { group, item, site } => Some(RunError::Range {
+            launch,
+            several,
+            group,
+            item,
+            place: place_of(sites, site),
+        }),
+        RunEnd::Parted { group, item, site } => Some(RunError::Parted {
+            launch,
+            several,
+            group,
+            item,
+            place: place_of(sites, site),
+        }),
+        RunEnd::Turns => Some(RunError::Turns { launch, several }),
+    }
+}
+
+/// Runs the launches in order, each on the buffers that the one before it left, up to the first that
+/// is not done, and answers its refusal.
+pub(crate) fn run_each(
+    launchers: &mut Vec<Launcher>,
+    buffers: &mut Buffers,
+    several: bool,
+) -> Result<(), RunError>
+    requires fit { All (λ l. FitBuffers (launch_of l.launch) (buffers_of buffers.old)) launchers.old.items }
+    requires few { length launchers.old.items ≤ 16 }
+    ensures ran { OnOk result (LaunchesRan (map (λ l. plain_of l.program) launchers.old.items) (map (λ l. launch_of l.launch) launchers.old.items) (buffers_of buffers.old) (buffers_of buffers.new)) }
+    ensures stops { IfErr result (EndsSo several (map (λ l. plain_of l.program) launchers.old.items) (map (λ l. launch_of l.launch) launchers.old.items) (buffers_of buffers.old)) }
+    ensures launchers { launchers.new.items ≡ launchers.old.items }
+    ensures lengths { map (λ b. length b.items) buffers.new.list.items ≡ map (λ b. length b.items) buffers.old.list.items }
+{
+    for k in 0..launchers.len() {
+        let launcher = &mut launchers[k];
+        let end = launcher.run(buffers);
+        if let Some(error) = refusal(end, k as u32 + 1, several, &launcher.program().sites) {
+            return Err(error);
+        }
+    }
+    Ok(())
 }

@@ -1,5 +1,4 @@
-//! The top call: from words to a status, from files to files. Today it runs the kernels that set
-//! each work-item's own element of one buffer, in launches of any launch file.
+//! The top call: from words to a status, from files to files, through all passes of the compiler.
 #![tactic(auto)]
 
 ghost use Rattle.std.specs.Prelude.{◌≡◌, ◌≤◌, ◌⊎◌, List, map, string_bytes, is_some, true, IfOk};
@@ -9,20 +8,27 @@ ghost use Rattle.wg_outside.specs.Counts.{Rose};
 ghost use Rattle.wg_top.specs.Causes.{Accepted, Finds};
 ghost use Rattle.wg_top.specs.declared.RunError.{RunError};
 ghost use Rattle.cl_meaning.specs.Typed.{Unit'};
-ghost use Rattle.wg_top.specs.Ends.{sink_standing, outside, AreWords, Ends, EndsUnbuilt, EndsAsked, EndsSaying, KeepsOut, SaysLine, usage_line};
+ghost use Rattle.wg_top.specs.Ends.{sink_standing, outside, AreWords, Ends, EndsShowing, EndsSample, EndsAsked, EndsSaying, KeepsOut, SaysLine, usage_line};
+ghost use Rattle.wg_top.specs.Shown.{showing};
 ghost use Rattle.wg_top.specs.Lines.{status_of};
 
+use crate::sample::{SAMPLE, sample_sum};
+use crate::texts::{Shown, show_source};
 use command_words::{FileWords, Words, WordsError, read_words};
 use std::alloc::Global;
 use wg_num::Place;
 use wg_outside::{Failed, Sink, Store};
 
-mod items;
+mod compile;
 mod launches;
 mod lines;
 mod programs;
+mod reading;
 mod run;
+mod sample;
+mod texts;
 
+pub use compile::{Compiled, compile_program};
 pub use run::run_source;
 
 /// Why a run is refused.
@@ -42,7 +48,7 @@ pub enum RunError {
         number: u16,
     },
     /// In that launch, counted from 1, a work-item, by the number of its group and its own number
-    /// in the launch, came to an element outside the buffer, at the access of that place of the
+    /// in the launch, came to an element outside its object, at the access of that place of the
     /// source. `several` says whether the launch file lists its launches.
     Range {
         launch: u32,
@@ -50,6 +56,20 @@ pub enum RunError {
         group: u64,
         item: u64,
         place: Place,
+    },
+    /// In that launch a work-item waits at the barrier of that place, to which others of its group
+    /// cannot come.
+    Parted {
+        launch: u32,
+        several: bool,
+        group: u64,
+        item: u64,
+        place: Place,
+    },
+    /// The work-items of that launch would begin more loop iterations than they may.
+    Turns {
+        launch: u32,
+        several: bool,
     },
     Memory,
 }
@@ -61,12 +81,6 @@ pub struct Summary {
     pub items: u64,
 }
 
-// The refusal of a command, or of a source, that does not run yet.
-pub(crate) const NOT_BUILT: RunError = RunError::Source {
-    number: 0,
-    place: Place { line: 1, column: 1 },
-};
-
 fn status(error: &RunError) -> u8
     ensures { result ≡ status_of error.now }
 {
@@ -76,6 +90,8 @@ fn status(error: &RunError) -> u8
         RunError::Source { .. } => 3,
         RunError::Launch { .. } => 4,
         RunError::Range { .. } => 5,
+        RunError::Parted { .. } => 6,
+        RunError::Turns { .. } => 7,
         RunError::Memory => 8,
     }
 }
@@ -115,7 +131,58 @@ fn run_and_say<S: Store, O: Sink, E: Sink>(
     }
 }
 
-// Does what is asked for; a command other than `run` is not built yet.
+// Prints the texts of the kernels of all launches.
+fn show_and_say<S: Store, O: Sink, E: Sink>(
+    alloc: Global,
+    shown: Shown,
+    files: FileWords,
+    store: &mut S,
+    out: &mut O,
+    err: &mut E,
+) -> u8
+    ensures { EndsShowing
+        (outside S.files S.faults S.misses O.written O.faults E.written E.faults store.old out.old err.old)
+        (outside S.files S.faults S.misses O.written O.faults E.written E.faults store.new out.new err.new)
+        (files_of files.entry) (showing shown) result }
+{
+    match show_source(alloc, shown, files, store) {
+        Ok(text) => match out.put(&text) {
+            Ok(()) => 0,
+            Err(Failed) => {
+                lines::say_error(err, files.source, &RunError::Failed);
+                1
+            }
+        },
+        Err(error) => {
+            lines::say_error(err, files.source, &error);
+            status(&error)
+        }
+    }
+}
+
+// Runs the sample, and prints its line.
+fn sample_and_say<O: Sink, E: Sink>(alloc: Global, number: u32, out: &mut O, err: &mut E) -> u8
+    ensures { EndsSample
+        (sink_standing O.written O.faults out.old) (sink_standing O.written O.faults out.new)
+        (sink_standing E.written E.faults err.old) (sink_standing E.written E.faults err.new)
+        number result }
+{
+    match sample_sum(alloc, number) {
+        Ok(sum) => match lines::say_sample(out, number, sum) {
+            Ok(()) => 0,
+            Err(Failed) => {
+                lines::say_error(err, SAMPLE, &RunError::Failed);
+                1
+            }
+        },
+        Err(error) => {
+            lines::say_error(err, SAMPLE, &error);
+            status(&error)
+        }
+    }
+}
+
+// Does what is asked for.
 fn do_words<S: Store, O: Sink, E: Sink>(
     alloc: Global,
     words: Words,
@@ -130,14 +197,9 @@ fn do_words<S: Store, O: Sink, E: Sink>(
 {
     match words {
         Words::Run(files) => run_and_say(alloc, files, store, out, err),
-        Words::Plan(files) | Words::Code(files) => {
-            lines::say_error(err, files.source, &NOT_BUILT);
-            status(&NOT_BUILT)
-        }
-        Words::Sample(_) => {
-            lines::say_error(err, "sample", &NOT_BUILT);
-            status(&NOT_BUILT)
-        }
+        Words::Plan(files) => show_and_say(alloc, Shown::Plan, files, store, out, err),
+        Words::Code(files) => show_and_say(alloc, Shown::Code, files, store, out, err),
+        Words::Sample(number) => sample_and_say(alloc, number, out, err),
     }
 }
 
@@ -146,9 +208,10 @@ fn do_words<S: Store, O: Sink, E: Sink>(
 /// then the launch file, then the buffers, runs the launches in order, saves the buffers in order,
 /// and puts one line on `out`. Where a step is refused, that ends the call with its status and its
 /// line on `err`: 1 for a fault, 2 for words that the command does not take, 3 for a source, 4 for a
-/// launch file, 5 for an access out of range, 8 for want of memory, which may come at each step, and
-/// 9 for a file that is not there. `plan`, `code` and `sample` are taken as words, and refused with
-/// status 3, for they are not built yet.
+/// launch file, 5 for an access out of range, 6 for work-items that part at a barrier, 7 for more
+/// loop iterations than the launch's turns, 8 for want of memory, which may come at each step before
+/// the launches run, and 9 for a file that is not there. `plan` and `code` read and compile as `run`
+/// does and put a text on `out`; `sample` runs a stored launch and puts the sum of its words there.
 pub fn wgcc<S: Store, O: Sink, E: Sink>(
     alloc: Global,
     words: &[String],

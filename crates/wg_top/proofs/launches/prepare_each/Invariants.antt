@@ -1,0 +1,12 @@
+use Rattle.std.proofs.Common.{◌≡◌, ◌++◌, map}
+use Rattle.std.specs.Vec.Iter.{into_iter_items}
+use Rattle.lane_code.specs.View.{plain_of}
+use Rattle.wg_top.specs.Launches.{AllFit}
+use Rattle.wg_top.proofs.launches.prepare_each.Given as goal
+
+abbrev pub invariant-loop-kernel : goal.invariant-loop-kernel
+invariant-loop-kernel l = record {
+  fit : AllFit (into_iter_items l.kernel-iterator) (into_iter_items l.rest);
+  programs : map (λ q. plain_of q.program) l.launchers.items ++ map (λ c. plain_of c.group) (into_iter_items l.kernel-iterator) ≡ map (λ c. plain_of c.group) l.fn.kernels.items;
+  launches : map (λ q. q.launch) l.launchers.items ++ into_iter_items l.rest ≡ l.fn.launches.items;
+}

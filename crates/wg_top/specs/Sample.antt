@@ -1,0 +1,58 @@
+-- The launch that the program makes itself.
+use Rattle.std.specs.Prelude.{◌≡◌, ◌⊎◌, ℕ, zero, suc, ◌+◌, ◌*◌, ◌%◌, List, [], ◌∷◌, Some, None, sum, codes}
+use Rattle.wg_outside.specs.Files.{FileMap, file_in}
+use Rattle.buffer_io.specs.Words.{words_of, bytes_of_words}
+use Rattle.command_words.specs.Command.{Files}
+use Rattle.wg_top.specs.declared.Summary.{Summary}
+use Rattle.wg_top.specs.declared.sample.TheConstants.{REVERSED, SUMMED, GREATEST, LAUNCH}
+use Rattle.wg_top.specs.declared.RunError.{RunError}
+use Rattle.wg_top.specs.declared.RunError.TheVariants.{Memory}
+use Rattle.wg_top.specs.Causes.{Standing, Cause, IsDone}
+
+-- the source of the sample with that number
+abbrev pub source_at : ℕ → List ℕ
+source_at zero = REVERSED.now
+source_at (suc zero) = SUMMED.now
+source_at (suc (suc n)) = GREATEST.now
+
+-- so many words of a sample, from the one with this number on
+unfoldable pub words_from : (number k count : ℕ) → List ℕ
+words_from number k zero = []
+words_from number k (suc count) = (number + k * 2654435769) % 4294967296 ∷ words_from number (suc k) count
+
+-- the files of a sample: the source, the launch file and the words with which its buffer starts
+abbrev pub sample_files : ℕ → FileMap
+sample_files number =
+    (codes "sample.cl", source_at (number % 3)) ∷ (codes "sample.toml", LAUNCH.now) ∷ (codes "a.bin", bytes_of_words (words_from number 0 65536)) ∷ []
+
+-- what its run asks for
+abbrev pub sample_ask : Files
+sample_ask = record { source = codes "sample.cl"; launch = codes "sample.toml"; lanes = None; turns = None }
+
+-- the sum of the words that bytes spell, as a word
+abbrev pub words_sum : List ℕ → ℕ
+words_sum bytes = sum (words_of bytes) % 4294967296
+
+-- a file `a.out` is among the files, and its words have that sum
+pub record IsSaved (files : FileMap) (sum : ℕ) : Type 0 where
+  pub bytes : List ℕ
+  pub there : file_in files (codes "a.out") ≡ Some bytes
+  pub sum_is : sum ≡ words_sum bytes
+
+-- the launch of that number is done, and the words that it leaves have that sum
+pub record IsSample (number sum : ℕ) : Type 0 where
+  pub files : FileMap
+  pub summary : Summary
+  pub done : IsDone (Some (sample_files number)) (Some files) sample_ask summary
+  pub saved : IsSaved files sum
+
+-- the run of the sample is refused, by what its files say
+pub record SampleRefused (number : ℕ) (error : RunError) : Type 0 where
+  pub old : Standing
+  pub new : Standing
+  pub files : old.files ≡ Some (sample_files number)
+  pub cause : Cause old new sample_ask error
+
+-- or memory ran out
+abbrev pub SampleCause : ℕ → RunError → Type 0
+SampleCause number error = (error ≡ Memory) ⊎ SampleRefused number error

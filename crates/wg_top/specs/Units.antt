@@ -1,0 +1,45 @@
+-- The typed units of a launch file's launches.
+use Rattle.std.specs.Prelude.{◌≡◌, ◌⊎◌, ⊤, ℕ, List, [], ◌∷◌, Option, None, Some}
+use Rattle.wg_num.specs.declared.types.Place.{Place}
+use Rattle.cl_prep.specs.declared.prep.Define.{Define}
+use Rattle.cl_meaning.specs.Typed.{Unit'}
+use Rattle.launch_file.specs.declared.text.BufferText.{BufferText}
+use Rattle.launch_file.specs.Binding.{Needs, launch_refusal}
+use Rattle.launch_file.specs.Texts.{Text, Part}
+use Rattle.launch_bind.specs.Needed.{needs_of_kernel}
+use Rattle.wg_front.specs.Compiled.{IsCompiled, IsFaulty}
+
+-- what the launches of a unit's kernel must meet
+abbrev pub needs_in : Unit' → Needs
+needs_in u = needs_of_kernel u.functions u.kernel
+
+-- for each launch, the source has that typed unit with the launch's kernel
+abbrev pub AreCompiled : List ℕ → List Define → List Part → List Unit' → Type 0
+AreCompiled source defines [] [] = ⊤
+AreCompiled source defines (part ∷ parts) (u ∷ us) = IsCompiled source defines part.kernel u × AreCompiled source defines parts us
+AreCompiled source defines _ _ = ⊥
+
+-- the source has a typed unit with that kernel
+pub record Compiles (source : List ℕ) (defines : List Define) (kernel : List ℕ) : Type 0 where
+  pub typed : Unit'
+  pub compiled : IsCompiled source defines kernel typed
+
+-- the kernel of the first launch that is at fault
+abbrev pub IsFirstRefused : List ℕ → List Define → List Part → ℕ → Place → Type 0
+IsFirstRefused source defines [] number place = ⊥
+IsFirstRefused source defines (part ∷ parts) number place =
+    IsFaulty source defines part.kernel number place ⊎ (Compiles source defines part.kernel × IsFirstRefused source defines parts number place)
+
+-- what is there, or what comes later
+abbrev pub or_later : Option ℕ → Option ℕ → Option ℕ
+or_later None later = later
+or_later (Some n) later = Some n
+
+-- the number of the first condition that stands on the launches, in order, each for its own kernel
+abbrev pub first_refusal : List BufferText → List Part → List Unit' → Option ℕ
+first_refusal buffers (part ∷ parts) (u ∷ us) = or_later (launch_refusal (needs_in u) buffers part) (first_refusal buffers parts us)
+first_refusal buffers _ _ = None
+
+-- the same for a launch file
+abbrev pub bind_refusal : Text → List Unit' → Option ℕ
+bind_refusal text units = first_refusal text.buffers text.list units

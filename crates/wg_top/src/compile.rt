@@ -1,0 +1,72 @@
+//! A typed program through the passes to the program of a work-group.
+
+ghost use Rattle.std.specs.Prelude.{◌≡◌, IfOk};
+ghost use Rattle.wg_num.specs.Operators.{lanes_of};
+ghost use Rattle.cl_piece.specs.View.{unit_of};
+ghost use Rattle.kir.specs.View.{kernel_of};
+ghost use Rattle.ctx_plan.specs.View.{planned_of};
+ghost use Rattle.lane_code.specs.View.{plain_of};
+ghost use Rattle.wg_top.specs.Middle.{IsLike, group_with, IsCompiledAt};
+
+use cl_model::Program;
+use ctx_plan::Plan;
+use ctx_plan::planning::plan;
+use diverge::{Varying, analyse};
+use item_loops::build;
+use kir::Kernel;
+use kir_lower::lower;
+use lane_code::GroupProgram;
+use regions::split;
+use std::alloc::Global;
+use wg_num::{Memory, Width, Word};
+
+/// A kernel as each pass leaves it: the typed program, the kernel without calls, which variables
+/// vary, where its cells are kept between its regions, and the program of a work-group.
+#[derive(Drop)]
+pub struct Compiled {
+    pub program: Program,
+    pub kernel: Kernel,
+    pub varying: Varying,
+    pub plan: Plan,
+    pub group: GroupProgram,
+}
+
+// The program of a work-group from a kernel and its plan.
+fn group_of(
+    alloc: Global,
+    kernel: &Kernel,
+    plan: &Plan,
+    name: &Word,
+    width: Width,
+) -> Result<GroupProgram, Memory>
+    ensures like { IfOk result (λ g. IsLike (group_with (lanes_of width) (kernel_of kernel.now) (planned_of plan.now)) (plain_of g)) }
+    ensures name { IfOk result (λ g. g.kernel ≡ name.now) }
+{
+    let tree = split(alloc, kernel)?;
+    build(alloc, &tree, plan, kernel, name, width)
+}
+
+/// The kernel of a typed program, whose name is given, at a lane width; `Memory` also where a number
+/// of a pass has no room.
+pub fn compile_program(
+    alloc: Global,
+    program: Program,
+    name: &Word,
+    width: Width,
+) -> Result<Compiled, Memory>
+    ensures program { IfOk result (λ c. unit_of c.program ≡ unit_of program) }
+    ensures passes { IfOk result (λ c. IsCompiledAt (lanes_of width) c) }
+    ensures name { IfOk result (λ c. c.group.kernel ≡ name.now) }
+{
+    let kernel = lower(alloc, &program)?;
+    let varying = analyse(alloc, &program)?;
+    let plan = plan(alloc, &kernel, &program, &varying)?;
+    let group = group_of(alloc, &kernel, &plan, name, width)?;
+    Ok(Compiled {
+        program,
+        kernel,
+        varying,
+        plan,
+        group,
+    })
+}
