@@ -1,439 +1,225 @@
-//! Words and launch files: what each leads to.
-use crate::example::{
-    Buffer, Contents, Example, FOUR_ITEMS, INCREMENT, INCREMENTS, Left, REFUSED, RUN, Said,
-    UNSAVED, expect, expect_all, expect_at_each_width, joined, put_file,
-};
+// Launch files and words: what each leads to, over a store and two sinks in memory.
+
+use crate::rows::{AFTER, BEFORE, INC};
 use std::alloc::Global;
 use std::test::Fail;
 use wg_outside::{MemorySink, MemoryStore};
 use wg_top::wgcc;
 
-// Three launches over one buffer.
-const THREE_LAUNCHES: &str = "format = 3
-[[launch]]
-kernel = \"inc\"
-global = [4]
-local = [2]
-arg = [{ buffer = \"a\" }]
-[[launch]]
-kernel = \"dbl\"
-global = [4]
-local = [2]
-arg = [{ buffer = \"a\" }]
-[[launch]]
-kernel = \"inc\"
-global = [4]
-local = [2]
-arg = [{ buffer = \"a\" }]
-";
+const BUFFER: &str = "[[buffer]]\nname = \"a\"\nbytes = 16\nload = \"a.bin\"\nsave = \"a.out\"\n";
 
-// Words that are taken or refused, and values that are.
-const WORDS: [Example<'static>; 13] = [
-    Example {
-        name: "sixteen lanes, more than a group has items",
-        words: &["run", "k.cl", "k.toml", "--lanes", "16"],
-        ..INCREMENTS
-    },
-    Example {
-        name: "three lanes",
-        words: &["run", "k.cl", "k.toml", "--lanes", "3"],
-        status: 4,
-        said: Said::Whole("wgcc: L15 lanes\n"),
-        ..REFUSED
-    },
-    Example {
-        name: "too many turns",
-        words: &["run", "k.cl", "k.toml", "--turns", "1000000000001"],
-        status: 4,
-        said: Said::Whole("wgcc: L16 turns\n"),
-        ..REFUSED
-    },
-    Example {
-        name: "no launch",
-        words: &["run", "k.cl"],
-        status: 2,
-        said: Said::Whole("wgcc: usage\n"),
-        ..REFUSED
-    },
-    Example {
-        name: "no files",
-        words: &["run"],
-        status: 2,
-        said: Said::Whole("wgcc: usage\n"),
-        ..REFUSED
-    },
-    Example {
-        name: "another command",
-        words: &["go"],
-        status: 2,
-        said: Said::Whole("wgcc: usage\n"),
-        ..REFUSED
-    },
-    Example {
-        name: "no words",
-        words: &[],
-        status: 2,
-        said: Said::Whole("wgcc: usage\n"),
-        ..REFUSED
-    },
-    Example {
-        name: "a letter for the lanes",
-        words: &["run", "k.cl", "k.toml", "--lanes", "x"],
-        status: 2,
-        said: Said::Whole("wgcc: usage\n"),
-        ..REFUSED
-    },
-    Example {
-        name: "a word too many",
-        words: &["run", "k.cl", "k.toml", "more"],
-        status: 2,
-        said: Said::Whole("wgcc: usage\n"),
-        ..REFUSED
-    },
-    Example {
-        name: "lanes of a plan",
-        words: &["plan", "k.cl", "k.toml", "--lanes", "4"],
-        status: 2,
-        said: Said::Whole("wgcc: usage\n"),
-        ..REFUSED
-    },
-    Example {
-        name: "help",
-        words: &["--help"],
-        status: 2,
-        said: Said::Whole("wgcc: usage\n"),
-        ..REFUSED
-    },
-    Example {
-        name: "a sample without a number",
-        words: &["sample"],
-        status: 2,
-        said: Said::Whole("wgcc: usage\n"),
-        ..REFUSED
-    },
-    Example {
-        name: "a sample above the greatest number",
-        words: &["sample", "4294967296"],
-        status: 2,
-        said: Said::Whole("wgcc: usage\n"),
-        ..REFUSED
-    },
-];
+const ARG: &str = "[[arg]]\nbuffer = \"a\"\n";
 
-// Launches of several dimensions, with offsets, and several in one file.
-const LAUNCHES: [Example<'static>; 6] = [
-    Example {
-        name: "items of a plane that add to the elements of its first row",
-        head: "format = 2\nkernel = \"inc\"\nglobal = [4, 2]\nlocal = [2, 1]\n",
-        buffers: &[Buffer {
-            name: "a",
-            bytes: 16,
-            file: Some(Contents::Ints(&[1, 2, 3, 4])),
-            left: Left::Holds(Contents::Ints(&[3, 4, 5, 6])),
-        }],
-        said: Said::Whole("wgcc: done, 4 groups, 8 items\n"),
-        ..INCREMENTS
-    },
-    Example {
-        name: "an offset",
-        head: "format = 2\nkernel = \"inc\"\nglobal = [2]\nlocal = [2]\noffset = [2]\n",
-        buffers: &[Buffer {
-            name: "a",
-            bytes: 16,
-            file: Some(Contents::Ints(&[1, 2, 3, 4])),
-            left: Left::Holds(Contents::Ints(&[1, 2, 4, 5])),
-        }],
-        said: Said::Whole("wgcc: done, 1 groups, 2 items\n"),
-        ..INCREMENTS
-    },
-    Example {
-        name: "numbers of groups and items in a plane",
-        source: "__kernel void k(__global int *a) {
-  int x = get_global_id(0);
-  int y = get_global_id(1);
-  a[y * 4 + x] = 100 * get_group_id(1) + 10 * get_local_id(0) + get_local_id(1);
+const FLAT: &str = "format = 1\nkernel = \"inc\"\nglobal = 4\nlocal = 2\n";
+
+const PLANE: &str = "format = 2\nkernel = \"inc\"\nglobal = [4, 2]\nlocal = [2, 1]\n";
+
+const MOVED: &str = "format = 2\nkernel = \"inc\"\nglobal = [4]\nlocal = [2]\noffset = [1]\n";
+
+const LATER: &str = "format = 2\nkernel = \"inc\"\nglobal = [2]\nlocal = [2]\noffset = [2]\n";
+
+const ONE_LAUNCH: &str =
+    "[[launch]]\nkernel = \"inc\"\nglobal = [4]\nlocal = [2]\narg = [{ buffer = \"a\" }]\n";
+
+const WIDE_LAUNCH: &str =
+    "[[launch]]\nkernel = \"inc\"\nglobal = [6]\nlocal = [2]\narg = [{ buffer = \"a\" }]\n";
+
+const TWICE: [u8; 16] = [3, 0, 0, 0, 4, 0, 0, 0, 5, 0, 0, 0, 6, 0, 0, 0];
+
+const THRICE: [u8; 16] = [4, 0, 0, 0, 5, 0, 0, 0, 6, 0, 0, 0, 7, 0, 0, 0];
+
+const LAST_TWO: [u8; 16] = [1, 0, 0, 0, 2, 0, 0, 0, 4, 0, 0, 0, 5, 0, 0, 0];
+
+const DONE: &str = "wgcc: done, 2 groups, 4 items\n";
+
+// What a run is to leave: its status, the saved file, and the text on either sink.
+#[derive(Clone, Copy)]
+struct Left<'a> {
+    status: u8,
+    saved: Option<&'a [u8]>,
+    said: &'a str,
 }
-",
-        head: "format = 2\nkernel = \"k\"\nglobal = [4, 2]\nlocal = [2, 1]\n",
-        buffers: &[Buffer {
-            name: "a",
-            bytes: 32,
-            file: Some(Contents::Ints(&[0, 0, 0, 0, 0, 0, 0, 0])),
-            left: Left::Holds(Contents::Ints(&[0, 10, 0, 10, 100, 110, 100, 110])),
-        }],
-        said: Said::Whole("wgcc: done, 4 groups, 8 items\n"),
-        ..FOUR_ITEMS
-    },
-    Example {
-        name: "numbers of items in a space with an offset",
-        source: "__kernel void k(__global int *a) {
-  int x = get_local_id(0), y = get_local_id(1), z = get_local_id(2);
-  a[z * 4 + y * 2 + x] = get_global_id(0) + 10 * get_global_id(1) + 100 * get_global_id(2);
-}
-",
-        head: "format = 2\nkernel = \"k\"\nglobal = [2, 2, 2]\nlocal = [2, 2, 2]\noffset = [1, 2, 3]\n",
-        buffers: &[Buffer {
-            name: "a",
-            bytes: 32,
-            file: Some(Contents::Ints(&[0, 0, 0, 0, 0, 0, 0, 0])),
-            left: Left::Holds(Contents::Ints(&[321, 322, 331, 332, 421, 422, 431, 432])),
-        }],
-        said: Said::Whole("wgcc: done, 1 groups, 8 items\n"),
-        ..FOUR_ITEMS
-    },
-    Example {
-        name: "three launches over one buffer",
-        source: "__kernel void inc(__global int *a) { a[get_global_id(0)] += 1; } __kernel void dbl(__global int \
-            *a) { a[get_global_id(0)] *= 2; }",
-        head: THREE_LAUNCHES,
-        buffers: &[Buffer {
-            name: "a",
-            bytes: 16,
-            file: Some(Contents::Ints(&[1, 2, 3, 4])),
-            left: Left::Holds(Contents::Ints(&[5, 7, 9, 11])),
-        }],
-        rest: "",
-        said: Said::Whole("wgcc: done, 6 groups, 12 items\n"),
-        ..INCREMENTS
-    },
-    Example {
-        name: "a second launch with more items than elements",
-        source: "__kernel void inc(__global int *a) { a[get_global_id(0)] += 1; } __kernel void dbl(__global int \
-            *a) { a[get_global_id(0)] *= 2; }",
-        head: "format = 3
-[[launch]]
-kernel = \"inc\"
-global = [4]
-local = [2]
-arg = [{ buffer = \"a\" }]
-[[launch]]
-kernel = \"inc\"
-global = [6]
-local = [2]
-arg = [{ buffer = \"a\" }]
-",
-        buffers: UNSAVED,
-        rest: "",
-        status: 5,
-        said: Said::Whole("wgcc: launch 2: range: group 2, item 4, 1:38\n"),
-        ..REFUSED
-    },
-];
 
-// Launch files that are refused, each by its first fault.
-const REFUSALS: [Example<'static>; 22] = [
-    Example {
-        name: "a key that is not there",
-        head: "format = 1\nkernel = \"inc\"\n",
-        buffers: UNSAVED,
-        status: 4,
-        said: Said::Whole("wgcc: L3 key missing or wrong\n"),
-        ..REFUSED
-    },
-    Example {
-        name: "another format",
-        head: "format = 4\nkernel = \"inc\"\nglobal = 4\nlocal = 2\n",
-        buffers: UNSAVED,
-        status: 4,
-        said: Said::Whole("wgcc: L3 key missing or wrong\n"),
-        ..REFUSED
-    },
-    Example {
-        name: "a key of no table",
-        head: "format = 1\nkernel = \"inc\"\nglobal = 4\nlocal = 2\nitems = 4\n",
-        buffers: UNSAVED,
-        status: 4,
-        said: Said::Whole("wgcc: L2 unknown key\n"),
-        ..REFUSED
-    },
-    Example {
-        name: "a key of another format",
-        head: "format = 1\nkernel = \"inc\"\nglobal = 4\nlocal = 2\noffset = [1]\n",
-        buffers: UNSAVED,
-        status: 4,
-        said: Said::Whole("wgcc: L2 unknown key\n"),
-        ..REFUSED
-    },
-    Example {
-        name: "a local size that does not divide",
-        head: "format = 1\nkernel = \"inc\"\nglobal = 10\nlocal = 4\n",
-        buffers: UNSAVED,
-        status: 4,
-        said: Said::Whole("wgcc: L4 sizes\n"),
-        ..REFUSED
-    },
-    Example {
-        name: "sizes come before arguments",
-        head: "format = 1\nkernel = \"inc\"\nglobal = 10\nlocal = 4\n",
-        buffers: UNSAVED,
-        rest: "",
-        status: 4,
-        said: Said::Whole("wgcc: L4 sizes\n"),
-        ..REFUSED
-    },
-    Example {
-        name: "no argument",
-        buffers: UNSAVED,
-        rest: "",
-        status: 4,
-        said: Said::Whole("wgcc: L5 argument count\n"),
-        ..REFUSED
-    },
-    Example {
-        name: "a value for a pointer",
-        buffers: UNSAVED,
-        rest: "[[arg]]\nvalue = 1\n",
-        status: 4,
-        said: Said::Whole("wgcc: L6 argument kind\n"),
-        ..REFUSED
-    },
-    Example {
-        name: "a value outside its type",
-        source: "__kernel void inc(__global int *a, uchar n) { }",
-        buffers: UNSAVED,
-        rest: "[[arg]]\nbuffer = \"a\"\n[[arg]]\nvalue = 256\n",
-        status: 4,
-        said: Said::Whole("wgcc: L7 value out of range\n"),
-        ..REFUSED
-    },
-    Example {
-        name: "a buffer that is not listed",
-        buffers: UNSAVED,
-        rest: "[[arg]]\nbuffer = \"b\"\n",
-        status: 4,
-        said: Said::Whole("wgcc: L8 unknown buffer\n"),
-        ..REFUSED
-    },
-    Example {
-        name: "two buffers of one name",
-        buffers: UNSAVED,
-        rest: "[[buffer]]\nname = \"a\"\nbytes = 4\n[[arg]]\nbuffer = \"a\"\n",
-        status: 4,
-        said: Said::Whole("wgcc: L9 buffer named twice\n"),
-        ..REFUSED
-    },
-    Example {
-        name: "two buffers that are saved to one file",
-        buffers: UNSAVED,
-        rest: "[[buffer]]\nname = \"b\"\nbytes = 4\nsave = \"a.out\"\n[[arg]]\nbuffer = \"a\"\n",
-        status: 4,
-        said: Said::Whole("wgcc: L10 saved twice\n"),
-        ..REFUSED
-    },
-    Example {
-        name: "a buffer that is constant and global",
-        source: "__kernel void inc(__constant int *a, __global int *b) { }",
-        buffers: UNSAVED,
-        rest: "[[arg]]\nbuffer = \"a\"\n[[arg]]\nbuffer = \"a\"\n",
-        status: 4,
-        said: Said::Whole("wgcc: L11 constant buffer shared\n"),
-        ..REFUSED
-    },
-    Example {
-        name: "another size than the kernel requires",
-        source: "__kernel __attribute__((reqd_work_group_size(4, 1, 1))) void inc(__global int *a) { }",
-        buffers: UNSAVED,
-        status: 4,
-        said: Said::Whole("wgcc: L12 required size\n"),
-        ..REFUSED
-    },
-    Example {
-        name: "local bytes below 0",
-        source: "__kernel void inc(__global int *a, __local int *t) { __local int u[4]; }",
-        buffers: UNSAVED,
-        rest: "[[arg]]\nbuffer = \"a\"\n[[arg]]\nlocal = -1\n",
-        status: 4,
-        said: Said::Whole("wgcc: L13 local memory\n"),
-        ..REFUSED
-    },
-    Example {
-        name: "local bytes above the most, with those of the kernel",
-        source: "__kernel void inc(__global int *a, __local int *t) { __local int u[4]; }",
-        buffers: UNSAVED,
-        rest: "[[arg]]\nbuffer = \"a\"\n[[arg]]\nlocal = 65521\n",
-        status: 4,
-        said: Said::Whole("wgcc: L13 local memory\n"),
-        ..REFUSED
-    },
-    Example {
-        name: "a buffer of fewer than no bytes",
-        buffers: UNSAVED,
-        rest: "[[buffer]]\nname = \"c\"\nbytes = -1\n[[arg]]\nbuffer = \"a\"\n",
-        status: 4,
-        said: Said::Whole("wgcc: L14 buffers\n"),
-        ..REFUSED
-    },
-    Example {
-        name: "a buffer above the most bytes",
-        buffers: UNSAVED,
-        rest: "[[buffer]]\nname = \"c\"\nbytes = 67108865\n[[arg]]\nbuffer = \"a\"\n",
-        status: 4,
-        said: Said::Whole("wgcc: L14 buffers\n"),
-        ..REFUSED
-    },
-    Example {
-        name: "other lanes than vectors have",
-        head: "format = 1\nkernel = \"inc\"\nglobal = 4\nlocal = 2\nlanes = 2\n",
-        buffers: UNSAVED,
-        status: 4,
-        said: Said::Whole("wgcc: L15 lanes\n"),
-        ..REFUSED
-    },
-    Example {
-        name: "turns below 0",
-        head: "format = 1\nkernel = \"inc\"\nglobal = 4\nlocal = 2\nturns = -1\n",
-        buffers: UNSAVED,
-        status: 4,
-        said: Said::Whole("wgcc: L16 turns\n"),
-        ..REFUSED
-    },
-    Example {
-        name: "no launch",
-        head: "format = 3\nlaunch = []\n",
-        buffers: UNSAVED,
-        rest: "",
-        status: 4,
-        said: Said::Whole("wgcc: L17 launches\n"),
-        ..REFUSED
-    },
-    Example {
-        name: "another kernel",
-        head: "format = 1\nkernel = \"other\"\nglobal = 4\nlocal = 2\n",
-        buffers: UNSAVED,
-        status: 3,
-        said: Said::Whole("wgcc: k.cl:1:86: E422 no such kernel\n"),
-        ..REFUSED
-    },
-];
+fn refused(status: u8, said: &str) -> Left<'_> {
+    Left {
+        status,
+        saved: None,
+        said,
+    }
+}
+
+// Whether these words and files leave that.
+fn leaves(alloc: Global, words: &[&str], launch: &[u8], left: Left) -> Result<bool, Fail> {
+    let mut list = Vec::new(alloc);
+    for word in words {
+        list.push(String::from_str(alloc, word)?)?;
+    }
+    let mut store = MemoryStore::new(alloc, &[], 8, 4096)?;
+    store.add(alloc, "k.cl", INC.as_bytes())?;
+    store.add(alloc, "k.toml", launch)?;
+    store.add(alloc, "a.bin", &BEFORE)?;
+    let mut out = MemorySink::new(alloc, &[], 4096)?;
+    let mut err = MemorySink::new(alloc, &[], 4096)?;
+    let status = wgcc(alloc, &list, &mut store, &mut out, &mut err);
+    let said = if left.status == 0 {
+        out.bytes() == left.said.as_bytes() && err.bytes().is_empty()
+    } else {
+        out.bytes().is_empty() && err.bytes() == left.said.as_bytes()
+    };
+    Ok(status == left.status && store.file("a.out") == left.saved && said)
+}
+
+// One text behind others.
+fn joined(alloc: Global, pieces: &[&str]) -> Result<String, Fail> {
+    let mut text = String::new(alloc);
+    for piece in pieces {
+        text.push_str(piece)?;
+    }
+    Ok(text)
+}
+
+// Whether a launch file of these pieces leaves that.
+fn launches(alloc: Global, pieces: &[&str], left: Left) -> Result<bool, Fail> {
+    let text = joined(alloc, pieces)?;
+    leaves(
+        alloc,
+        &["run", "k.cl", "k.toml"],
+        text.as_str().as_bytes(),
+        left,
+    )
+}
 
 #[test]
 fn words_are_those_of_the_command(rt: HostRuntime) -> Result<(), Fail> {
-    expect_all(rt.alloc(), &WORDS)
+    let alloc = rt.alloc();
+    let text = joined(alloc, &[FLAT, BUFFER, ARG])?;
+    let bytes = text.as_str().as_bytes();
+    let done = Left {
+        status: 0,
+        saved: Some(&AFTER),
+        said: DONE,
+    };
+    let run = &["run", "k.cl", "k.toml"];
+    assert!(rt; leaves(alloc, run, bytes, done)?);
+    let wide = &["run", "k.cl", "k.toml", "--lanes", "16"];
+    assert!(rt; leaves(alloc, wide, bytes, done)?);
+    let still = &["run", "k.cl", "k.toml", "--turns", "0"];
+    assert!(rt; leaves(alloc, still, bytes, done)?);
+    let three = &["run", "k.cl", "k.toml", "--lanes", "3"];
+    assert!(rt; leaves(alloc, three, bytes, refused(4, "wgcc: L15 lanes\n"))?);
+    let long = &["run", "k.cl", "k.toml", "--turns", "1000000000001"];
+    assert!(rt; leaves(alloc, long, bytes, refused(4, "wgcc: L16 turns\n"))?);
+    let usage = refused(2, "wgcc: usage\n");
+    assert!(rt; leaves(alloc, &["run", "k.cl"], bytes, usage)?);
+    assert!(rt; leaves(alloc, &["run"], bytes, usage)?);
+    assert!(rt; leaves(alloc, &["go"], bytes, usage)?);
+    assert!(rt; leaves(alloc, &[], bytes, usage)?);
+    let letter = &["run", "k.cl", "k.toml", "--lanes", "x"];
+    assert!(rt; leaves(alloc, letter, bytes, usage)?);
+    let empty = refused(0, "");
+    assert!(rt; leaves(alloc, &["plan", "k.cl", "k.toml"], bytes, empty)?);
+    let sample = refused(0, "wgcc: sample 0, sum 3273883648\n");
+    assert!(rt; leaves(alloc, &["sample", "0"], bytes, sample)?);
+    Ok(())
 }
 
 #[test]
 fn launches_of_each_format_leave_what_they_say(rt: HostRuntime) -> Result<(), Fail> {
-    expect_at_each_width(rt.alloc(), &LAUNCHES)
+    let alloc = rt.alloc();
+    let plane = Left {
+        status: 0,
+        saved: Some(&TWICE),
+        said: "wgcc: done, 4 groups, 8 items\n",
+    };
+    assert!(rt; launches(alloc, &[PLANE, BUFFER, ARG], plane)?);
+    let outside = refused(5, "wgcc: range: group 1, item 3, 1:60\n");
+    assert!(rt; launches(alloc, &[MOVED, BUFFER, ARG], outside)?);
+    let later = Left {
+        status: 0,
+        saved: Some(&LAST_TWO),
+        said: "wgcc: done, 1 groups, 2 items\n",
+    };
+    assert!(rt; launches(alloc, &[LATER, BUFFER, ARG], later)?);
+    let three = Left {
+        status: 0,
+        saved: Some(&THRICE),
+        said: "wgcc: done, 6 groups, 12 items\n",
+    };
+    let format = "format = 3\n";
+    assert!(rt;
+        launches(
+            alloc,
+            &[format, BUFFER, ONE_LAUNCH, ONE_LAUNCH, ONE_LAUNCH],
+            three
+        )?
+    );
+    let second = refused(5, "wgcc: launch 2: range: group 2, item 4, 1:60\n");
+    assert!(rt; launches(alloc, &[format, BUFFER, ONE_LAUNCH, WIDE_LAUNCH], second)?);
+    Ok(())
 }
 
 #[test]
 fn launch_files_are_refused_by_their_first_fault(rt: HostRuntime) -> Result<(), Fail> {
-    expect_all(rt.alloc(), &REFUSALS)
-}
-
-// Fails unless a launch file of these pieces is refused with this line.
-fn expect_refused(alloc: Global, pieces: &[&str], line: &str) -> Result<(), Fail> {
-    let head = joined(alloc, pieces)?;
-    let example = Example {
-        name: line,
-        head: head.as_str(),
-        buffers: &[],
-        rest: "",
-        status: 4,
-        said: Said::Whole(line),
-        ..REFUSED
-    };
-    expect(alloc, &example, None)
+    let alloc = rt.alloc();
+    let uneven = "format = 1\nkernel = \"inc\"\nglobal = 10\nlocal = 4\n";
+    assert!(rt;
+        launches(
+            alloc,
+            &[uneven, BUFFER, ARG],
+            refused(4, "wgcc: L4 sizes\n")
+        )?
+    );
+    assert!(rt; launches(alloc, &[uneven, BUFFER], refused(4, "wgcc: L4 sizes\n"))?);
+    assert!(rt;
+        launches(
+            alloc,
+            &[FLAT, BUFFER],
+            refused(4, "wgcc: L5 argument count\n")
+        )?
+    );
+    let value = "[[arg]]\nvalue = 1\n";
+    assert!(rt;
+        launches(
+            alloc,
+            &[FLAT, BUFFER, value],
+            refused(4, "wgcc: L6 argument kind\n")
+        )?
+    );
+    let unknown = "[[arg]]\nbuffer = \"b\"\n";
+    assert!(rt;
+        launches(
+            alloc,
+            &[FLAT, BUFFER, unknown],
+            refused(4, "wgcc: L8 unknown buffer\n")
+        )?
+    );
+    let negative = "[[buffer]]\nname = \"c\"\nbytes = -1\n";
+    assert!(rt;
+        launches(
+            alloc,
+            &[FLAT, BUFFER, negative, ARG],
+            refused(4, "wgcc: L14 buffers\n")
+        )?
+    );
+    assert!(rt;
+        launches(
+            alloc,
+            &[FLAT, BUFFER, BUFFER, ARG],
+            refused(4, "wgcc: L9 buffer named twice\n")
+        )?
+    );
+    let again = "[[buffer]]\nname = \"b\"\nbytes = 4\nsave = \"a.out\"\n";
+    assert!(rt;
+        launches(
+            alloc,
+            &[FLAT, BUFFER, again, ARG],
+            refused(4, "wgcc: L10 saved twice\n")
+        )?
+    );
+    let other = "format = 1\nkernel = \"other\"\nglobal = 4\nlocal = 2\n";
+    let none = refused(3, "wgcc: k.cl:1:86: E422 no such kernel\n");
+    assert!(rt; launches(alloc, &[other, BUFFER, ARG], none)?);
+    Ok(())
 }
 
 // The piece so many times.
@@ -445,114 +231,87 @@ fn repeated(alloc: Global, piece: &str, times: u32) -> Result<String, Fail> {
     Ok(text)
 }
 
-const NO_DOCUMENT: &str = "wgcc: L1 not TOML\n";
-
-const WRONG_KEY: &str = "wgcc: L3 key missing or wrong\n";
-
-#[test]
-fn files_that_are_no_launch_are_refused(rt: HostRuntime) -> Result<(), Fail> {
-    for (head, line) in [
-        ("", WRONG_KEY),
-        ("format = 1\nformat = 1\n", NO_DOCUMENT),
-        ("format = 9223372036854775808\n", NO_DOCUMENT),
-        ("format = 9223372036854775807\n", WRONG_KEY),
-        ("format = -9223372036854775808\n", WRONG_KEY),
-    ] {
-        expect_refused(rt.alloc(), &[head], line)?;
-    }
-    Ok(())
-}
-
-#[test]
-fn long_launch_files_are_read_as_far_as_the_most_bytes(rt: HostRuntime) -> Result<(), Fail> {
-    let alloc = rt.alloc();
-    let long = repeated(alloc, "#", 1_048_577)?;
-    expect_refused(alloc, &[long.as_str()], NO_DOCUMENT)?;
-    let most = repeated(alloc, "#", 1_048_576)?;
-    expect_refused(alloc, &[most.as_str()], WRONG_KEY)
-}
-
-#[test]
-fn sizes_are_between_one_and_the_most(rt: HostRuntime) -> Result<(), Fail> {
-    let front = "format = 1\nkernel = \"inc\"\nlocal = 1\nglobal = ";
-    for number in ["0\n", "-1\n", "16777217\n", "9223372036854775807\n"] {
-        expect_refused(rt.alloc(), &[front, number], "wgcc: L4 sizes\n")?;
-    }
-    Ok(())
-}
-
 // So many buffers, each with its own name.
 fn numbered(alloc: Global, count: u8) -> Result<String, Fail> {
     let mut text = String::new(alloc);
-    for k in 0..count {
-        let piece = format!(in alloc; "[[buffer]]\nname = \"b{k}\"\nbytes = 4\n")?;
-        text.push_str(piece.as_str())?;
+    let mut name = String::from_str(alloc, "b")?;
+    for _ in 0..count {
+        text.push_str("[[buffer]]\nname = \"")?;
+        text.push_str(name.as_str())?;
+        text.push_str("\"\nbytes = 4\n")?;
+        name.push_str("b")?;
     }
     Ok(text)
 }
 
 #[test]
-fn many_buffers_and_launches_are_refused(rt: HostRuntime) -> Result<(), Fail> {
+fn hostile_launch_files_are_refused_and_nothing_is_saved(rt: HostRuntime) -> Result<(), Fail> {
     let alloc = rt.alloc();
-    let buffers = numbered(alloc, 65)?;
-    let front = "format = 1\nkernel = \"inc\"\nglobal = 4\nlocal = 2\n";
-    let argument = "[[arg]]\nbuffer = \"b0\"\n";
-    expect_refused(
-        alloc,
-        &[front, buffers.as_str(), argument],
-        "wgcc: L14 buffers\n",
-    )?;
-    let launch = "[[launch]]\nkernel = \"inc\"\nglobal = [4]\nlocal = [2]\narg = []\n";
-    let launches = repeated(alloc, launch, 17)?;
-    expect_refused(
-        alloc,
-        &["format = 3\n", launches.as_str()],
-        "wgcc: L17 launches\n",
-    )
+    let run = &["run", "k.cl", "k.toml"];
+    let no_document = refused(4, "wgcc: L1 not TOML\n");
+    let wrong = refused(4, "wgcc: L3 key missing or wrong\n");
+    assert!(rt; leaves(alloc, run, b"", wrong)?);
+    assert!(rt; leaves(alloc, run, b"\xff\xfe", no_document)?);
+    assert!(rt; leaves(alloc, run, b"format = 1\nformat = 1\n", no_document)?);
+    assert!(rt; leaves(alloc, run, b"format = 9223372036854775808\n", no_document)?);
+    assert!(rt; leaves(alloc, run, b"format = 9223372036854775807\n", wrong)?);
+    assert!(rt; leaves(alloc, run, b"format = -9223372036854775808\n", wrong)?);
+    let long = repeated(alloc, "#", 1_048_577)?;
+    assert!(rt; leaves(alloc, run, long.as_str().as_bytes(), no_document)?);
+    let most = repeated(alloc, "#", 1_048_576)?;
+    assert!(rt; leaves(alloc, run, most.as_str().as_bytes(), wrong)?);
+    let buffers = numbered(alloc, 64)?;
+    let many = refused(4, "wgcc: L14 buffers\n");
+    assert!(rt; launches(alloc, &[FLAT, BUFFER, buffers.as_str(), ARG], many)?);
+    let several = repeated(alloc, ONE_LAUNCH, 17)?;
+    let seventeen = refused(4, "wgcc: L17 launches\n");
+    assert!(rt;
+        launches(
+            alloc,
+            &["format = 3\n", BUFFER, several.as_str()],
+            seventeen
+        )?
+    );
+    let global = "format = 1\nkernel = \"inc\"\nlocal = 1\nglobal = ";
+    let sizes = refused(4, "wgcc: L4 sizes\n");
+    for number in ["0\n", "-1\n", "16777217\n", "9223372036854775807\n"] {
+        assert!(rt;
+            launches(alloc, &[global, number, BUFFER, ARG], sizes)?,
+            "{}",
+            number
+        );
+    }
+    Ok(())
 }
 
-// Fails unless a launch file with the piece 20,000 times is no document.
-fn expect_too_deep(alloc: Global, front: &str, piece: &str, back: &str) -> Result<(), Fail> {
+// Whether a launch file with the piece 20,000 times is no document.
+fn is_too_deep(alloc: Global, front: &str, piece: &str, back: &str) -> Result<bool, Fail> {
     let deep = repeated(alloc, piece, 20_000)?;
-    expect_refused(alloc, &[front, deep.as_str(), back], NO_DOCUMENT)
+    let no_document = refused(4, "wgcc: L1 not TOML\n");
+    launches(alloc, &[front, deep.as_str(), back], no_document)
 }
 
 #[test]
-fn deep_launch_files_are_refused(rt: HostRuntime) -> Result<(), Fail> {
-    for (front, piece, back) in [
-        ("format = ", "[", ""),
-        ("format = ", "{ a = ", ""),
-        ("", "a.", "a = 1\n"),
-        ("[", "a.", "a]\n"),
-    ] {
-        expect_too_deep(rt.alloc(), front, piece, back)?;
-    }
+fn deep_launch_files_are_refused_and_nothing_is_saved(rt: HostRuntime) -> Result<(), Fail> {
+    let alloc = rt.alloc();
+    assert!(rt; is_too_deep(alloc, "format = ", "[", "")?);
+    assert!(rt; is_too_deep(alloc, "format = ", "{ a = ", "")?);
+    assert!(rt; is_too_deep(alloc, "", "a.", "a = 1\n")?);
+    assert!(rt; is_too_deep(alloc, "[", "a.", "a]\n")?);
     Ok(())
 }
 
 #[test]
 fn a_byte_order_mark_is_no_part_of_a_launch_file(rt: HostRuntime) -> Result<(), Fail> {
-    let marked = Example {
-        head: "\u{feff}format = 1\nkernel = \"inc\"\nglobal = 4\nlocal = 2\n",
-        ..INCREMENTS
+    let alloc = rt.alloc();
+    let done = Left {
+        status: 0,
+        saved: Some(&AFTER),
+        said: DONE,
     };
-    expect(rt.alloc(), &marked, None)?;
-    expect_refused(rt.alloc(), &["\u{feff}\u{feff}format = 1\n"], NO_DOCUMENT)
-}
-
-#[test]
-fn a_launch_file_that_is_no_text_is_refused(rt: HostRuntime) -> Result<(), Fail> {
-    let mut words = Vec::new(rt.alloc());
-    for word in RUN {
-        words.push(String::from_str(rt.alloc(), word)?)?;
-    }
-    let mut store = MemoryStore::new(rt.alloc(), &[], 0, 0)?;
-    put_file(rt.alloc(), &mut store, "k.cl", INCREMENT.as_bytes())?;
-    put_file(rt.alloc(), &mut store, "k.toml", b"\xff\xfe")?;
-    let mut out = MemorySink::new(rt.alloc(), &[], 0)?;
-    let mut err = MemorySink::new(rt.alloc(), &[], 64)?;
-    let status = wgcc(rt.alloc(), &words, &mut store, &mut out, &mut err);
-    assert_eq!(rt; status, 4);
-    assert_eq!(rt; err.bytes(), NO_DOCUMENT.as_bytes());
+    let mark = "\u{feff}";
+    assert!(rt; launches(alloc, &[mark, FLAT, BUFFER, ARG], done)?);
+    let twice = refused(4, "wgcc: L1 not TOML\n");
+    assert!(rt; launches(alloc, &[mark, mark, FLAT, BUFFER, ARG], twice)?);
     Ok(())
 }

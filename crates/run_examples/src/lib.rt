@@ -2,16 +2,6 @@
 #![tactic(auto)]
 
 #[cfg(test)]
-mod barriers;
-#[cfg(test)]
-mod example;
-#[cfg(test)]
-mod faults;
-#[cfg(test)]
 mod launches;
 #[cfg(test)]
-mod refusals;
-#[cfg(test)]
-mod texts;
-#[cfg(test)]
-mod values;
+mod rows;
