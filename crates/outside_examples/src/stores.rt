@@ -1,8 +1,8 @@
-use wg_outside::{Failed, FolderStore, LoadError, MemorySink, MemoryStore, Sink, StdSink, Store};
 use std::alloc::Global;
 use std::io::ErrorKind;
 use std::test::Fail;
 use std::{fs, io};
+use wg_outside::{Failed, FolderStore, LoadError, MemorySink, MemoryStore, Sink, StdSink, Store};
 
 // What a store answers of a name, by the bound alone.
 fn loads<S: Store>(alloc: Global, store: &mut S, name: &str) -> Result<Vec<u8>, LoadError> {
