@@ -4,4 +4,4 @@ mod Lowering
 mod Past
 mod Patch
 pub mod Roots
-mod Tallies
+pub mod Tallies
