@@ -36,18 +36,20 @@ use Rattle.back_top.proofs.Chain.{built_in_outcomes}
 pub built_by : (Does : RegionOf → PlainCode → Type 0) (code : RegionOf → PlainCode) (tree : Tree) (chain : Chain) → EachRegion (λ r. Does r (code r)) tree → IsBuilt (λ r c. c ≡ code r) tree chain → IsBuilt Does tree chain
 built_by Does code NoRegion NoWork all built = tt
 built_by Does code (RegionThen region rest) (CodeThen c behind) all built = (subst (λ x. Does region x) (sym built.0) all.0, built_by Does code rest behind all.1 built.1)
-built_by Does code (VoteThen test agreed refused mixed rest) (VoteWork t a r m behind) all built =
-    (subst (λ x. Does test x) (sym built.0) all.0,
-    built_by Does code agreed a all.2 built.1,
-    built_by Does code refused r all.3 built.2,
-    subst (λ x. Does mixed x) (sym built.3) all.1,
-    built_by Does code rest behind all.4 built.4)
-built_by Does code (LoopThen first test body others rest) (LoopWork f t b o behind) all built =
-    (built.0,
-    built_by Does code test t all.1 built.1,
-    built_by Does code body b all.2 built.2,
-    subst (λ x. Does others x) (sym built.3) all.0,
-    built_by Does code rest behind all.3 built.4)
+built_by Does code (VoteThen test agreed refused mixed rest) (VoteWork t a r m behind) all built = (
+  subst (λ x. Does test x) (sym built.0) all.0,
+  built_by Does code agreed a all.2 built.1,
+  built_by Does code refused r all.3 built.2,
+  subst (λ x. Does mixed x) (sym built.3) all.1,
+  built_by Does code rest behind all.4 built.4,
+)
+built_by Does code (LoopThen first test body others rest) (LoopWork f t b o behind) all built = (
+  built.0,
+  built_by Does code test t all.1 built.1,
+  built_by Does code body b all.2 built.2,
+  subst (λ x. Does others x) (sym built.3) all.0,
+  built_by Does code rest behind all.3 built.4,
+)
 built_by Does code NoRegion (CodeThen c behind) all built = absurd built
 built_by Does code NoRegion (VoteWork t a r m behind) all built = absurd built
 built_by Does code NoRegion (LoopWork f t b o behind) all built = absurd built

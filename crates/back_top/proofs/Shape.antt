@@ -174,16 +174,20 @@ has_barrier (StoreThen at element root index from rest) h = has_barrier rest h
 has_barrier (ClearThen array rest) h = has_barrier rest h
 has_barrier (IfThen at test chosen other rest) h =
     elim (or_cases (holds_barrier chosen) (holds_barrier other || holds_barrier rest) h) [
-      inl y ↦ (let f = has_barrier chosen y in (f.0, omega (arith, f.1)))
-    | inr n ↦ elim (or_cases (holds_barrier other) (holds_barrier rest) n) [
-        inl y ↦ (let f = has_barrier other y in (f.0, omega (arith, f.1)))
-      | inr m ↦ (let f = has_barrier rest m in (f.0, omega (arith, f.1))) ] ]
+      | inl y ↦ (let f = has_barrier chosen y in (f.0, omega (arith, f.1)))
+      | inr n ↦ elim (or_cases (holds_barrier other) (holds_barrier rest) n) [
+        | inl y ↦ (let f = has_barrier other y in (f.0, omega (arith, f.1)))
+        | inr m ↦ (let f = has_barrier rest m in (f.0, omega (arith, f.1)))
+      ]
+    ]
 has_barrier (LoopThen at first test answer body rest) h =
     elim (or_cases (holds_barrier test) (holds_barrier body || holds_barrier rest) h) [
-      inl y ↦ (let f = has_barrier test y in (f.0, omega (arith, f.1)))
-    | inr n ↦ elim (or_cases (holds_barrier body) (holds_barrier rest) n) [
-        inl y ↦ (let f = has_barrier body y in (f.0, omega (arith, f.1)))
-      | inr m ↦ (let f = has_barrier rest m in (f.0, omega (arith, f.1))) ] ]
+      | inl y ↦ (let f = has_barrier test y in (f.0, omega (arith, f.1)))
+      | inr n ↦ elim (or_cases (holds_barrier body) (holds_barrier rest) n) [
+        | inl y ↦ (let f = has_barrier body y in (f.0, omega (arith, f.1)))
+        | inr m ↦ (let f = has_barrier rest m in (f.0, omega (arith, f.1)))
+      ]
+    ]
 has_barrier (BarrierThen at rest) h = (at, omega (arith, once_self at))
 
 none_held : (b : Test) → (b ≡ true → ⊥) → b ≡ false
