@@ -1,0 +1,4 @@
+pub mod Crossing
+pub mod Cuts
+pub mod Holding
+pub mod Outlined
