@@ -1,3 +1,4 @@
+pub mod Crosses
 pub mod Crossing
 pub mod Cuts
 pub mod Holding
