@@ -107,6 +107,9 @@ module _ (inside : ℕ → Test) where
   marks_only (BlockThen inner rest) l x e =
       ⊎_elim (λ c. inl (inl c)) (λ h. ⊎_elim (λ c. inl (inr c)) (λ k. inr k) (marks_only rest l x h)) (marks_only inner (mark_crossing inside rest l) x e)
 
+pub crossing_length : (inside : List Test) (f : Function) → length (crossing_of inside f) ≡ length f.variables
+crossing_length inside f = mark_length (entry inside) (function_outline (entry inside) f) (replicate (length f.variables) false) ∙ replicate_length (length f.variables)
+
 -- of a function: exactly the variables of its own that cross
 pub entry_crosses : (inside : List Test) (f : Function) (x : ℕ) → entry (crossing_of inside f) x ≡ true → CrossesIn (entry inside) (function_outline (entry inside) f) x
 entry_crosses inside f x e = ⊎_elim (λ c. c) (λ k. absurd (entry_none (length f.variables) x k)) (marks_only (entry inside) (function_outline (entry inside) f) (replicate (length f.variables) false) x e)
