@@ -5,4 +5,5 @@ pub mod Holding
 pub mod Once
 pub mod Outlined
 pub mod Placing
+pub mod Scopes
 pub mod Shared
