@@ -2,6 +2,7 @@ pub mod Crosses
 pub mod Crossing
 pub mod Cuts
 pub mod Holding
+pub mod Homes
 pub mod Once
 pub mod Outlined
 pub mod Placing
