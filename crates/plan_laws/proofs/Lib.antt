@@ -6,5 +6,6 @@ pub mod Homes
 pub mod Once
 pub mod Outlined
 pub mod Placing
+pub mod Plan
 pub mod Scopes
 pub mod Shared

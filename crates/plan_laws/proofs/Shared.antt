@@ -29,7 +29,7 @@ row_last [] y (suc k) e = absurd (omega (arith, e))
 row_last (x ∷ xs) y zero e = absurd (omega (arith, e))
 row_last (x ∷ xs) y (suc k) e = row_last xs y k (omega (arith, e))
 
-entry_both : (n : ℕ) (a second : List Test) (x : ℕ) → entry (both n a second) x ≡ (entry a x && entry second (n + x))
+pub entry_both : (n : ℕ) (a second : List Test) (x : ℕ) → entry (both n a second) x ≡ (entry a x && entry second (n + x))
 entry_both n [] second x = refl
 entry_both n (b ∷ a) second zero = let q : n + 0 ≡ n = omega arith in ap (λ k. b && entry second k) (sym q)
 entry_both n (b ∷ a) second (suc x) = let q : n + 1 + x ≡ n + suc x = omega arith in entry_both (n + 1) a second x ∙ ap (λ k. entry a x && entry second k) q
