@@ -89,7 +89,7 @@ uint_value : (n : ℕ) → n < 2 ^ 32 → IsValue types.Uint (pos n)
 unfolding half modulus
 uint_value n h = record { low = omega (arith, ints); high = omega (arith, ints, h) }
 
-zero_wraps : (t : IntType) → wrap_of t (pos 0) ≡ pos 0
+pub zero_wraps : (t : IntType) → wrap_of t (pos 0) ≡ pos 0
 unfolding wrap_of half modulus
 zero_wraps types.Bool = refl
 zero_wraps types.Char = refl

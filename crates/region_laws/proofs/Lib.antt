@@ -1,1 +1,3 @@
 pub mod CellValues
+pub mod View
+pub mod LaneValues
