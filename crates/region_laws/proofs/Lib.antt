@@ -1,3 +1,4 @@
 pub mod CellValues
 pub mod View
 pub mod LaneValues
+pub mod Frames
