@@ -2,3 +2,4 @@ pub mod CellValues
 pub mod View
 pub mod LaneValues
 pub mod Frames
+pub mod Standing
