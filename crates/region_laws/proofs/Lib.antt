@@ -3,3 +3,4 @@ pub mod View
 pub mod LaneValues
 pub mod Frames
 pub mod Standing
+pub mod Atoms
