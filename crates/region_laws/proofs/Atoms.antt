@@ -65,6 +65,16 @@ module _ (kernel : Kernel) (width : ℕ) (f : Frame) (atoms : List Atom) (counts
   pub entry_bank : (c : ℕ) (of : IntType) → type_of_cell (slice_get kernel.cells c) ≡ Some of → some_reads c atoms ≡ true → (cell_at f.cells c).at.bank ≡ bank_of of
   entry_bank c of e named = let x = framed.entries c (cell_at f.cells c) (cell_entry c of e named) in x.bank ∙ ap bank_of (entry_type c of e named)
 
+  -- a constant
+  pub const_is : (next : Free) (value : ℤ) (was : IntType) (r : Registers) → HeldAt f width r0 next (Const value was) → Above f width r0 r → IsOperand next (Const value was) was r
+  const_is next value was r held above =
+      let bank = register_bank next was in
+      record {
+        typed = refl;
+        bank = bank;
+        holds = λ l cells lt read. above (register_at next was) l lt (ap is_lane bank ∙ type_lane was) (subst (λ b. number_in f.scratch b < (register_at next was).number) (sym bank) held.0) ∙ held.1 l lt;
+      }
+
   pub operand_is : (next : Free) (a : Atom) (of : IntType) (r : Registers) → atom_type kernel a ≡ Some of → ((c : ℕ) → reads c a ≡ true → some_reads c atoms ≡ true) → HeldAt f width r0 next a → Above f width r0 r → IsOperand next a of r
   operand_is next (CellAtom c) of r e named held above =
       let known = named c (eq-eqb c c refl) in
@@ -77,16 +87,7 @@ module _ (kernel : Kernel) (width : ℕ) (f : Frame) (atoms : List Atom) (counts
     where
       go : (b : Test) → cond b (Some was) None ≡ Some of → IsOperand next (Const value was) of r
       go false h = absurd (none-some of h)
-      go true h =
-          let same : was ≡ of = same_Some was of h in
-          let bank = register_bank next was in
-          record {
-            typed = same;
-            bank = bank ∙ ap bank_of same;
-            holds = λ l cells lt read.
-                above (register_at next was) l lt (ap is_lane bank ∙ type_lane was) (subst (λ b. number_in f.scratch b < (register_at next was).number) (sym bank) held.0)
-                ∙ held.1 l lt ∙ ap (λ t. lane_in t value) same;
-          }
+      go true h = subst (λ t. IsOperand next (Const value was) t r) (same_Some was of h) (const_is next value was r held above)
 
   -- a register for what is on its way is no cell's
   pub scratch_differs : (c : ℕ) (op : Operand) (of : IntType) → slice_index_or f.cells c None ≡ Some op → Differ op.at (register_at f.scratch of)

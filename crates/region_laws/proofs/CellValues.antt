@@ -132,14 +132,14 @@ zero_one types.Ulong false = refl
 answer_value : (to t : IntType) (b : Test) → IsValue to (wrap_of t (number_of b))
 answer_value to t b = subst (λ z. IsValue to z) (zero_one to b ∙ sym (zero_one t b)) (IsValue-wrap to (number_of b))
 
-unary_value : (op : Un) (of : IntType) (a : ℤ) → IsValue (unary_type op of) (unary_of op of a)
+pub unary_value : (op : Un) (of : IntType) (a : ℤ) → IsValue (unary_type op of) (unary_of op of a)
 unfolding unary_of
 unary_value un.Plus of a = IsValue-wrap of (unary_exact un.Plus a)
 unary_value un.Minus of a = IsValue-wrap of (unary_exact un.Minus a)
 unary_value un.Flip of a = IsValue-wrap of (unary_exact un.Flip a)
 unary_value un.Not of a = answer_value types.Int of (Rattle.std.specs.Ordering.int_eq a (pos 0))
 
-binary_value : (op : Bin) (of : IntType) (a b : ℤ) → IsValue (binary_type op of) (binary_of op of a b)
+pub binary_value : (op : Bin) (of : IntType) (a b : ℤ) → IsValue (binary_type op of) (binary_of op of a b)
 unfolding binary_of
 binary_value bin.Add of a b = IsValue-wrap of (binary_exact bin.Add of a b)
 binary_value bin.Sub of a b = IsValue-wrap of (binary_exact bin.Sub of a b)

@@ -13,7 +13,7 @@ use Rattle.wg_num.specs.declared.types.Fun.{Fun}
 use Rattle.wg_num.specs.Wrap.{IsValue, IsCongruent, residue, width_bits, modulus, half, bits_of, value_of, wrap_of}
 use Rattle.wg_num.specs.Operators.{is_shift, amount_of, unary_of, binary_of, binary_exact}
 use Rattle.wg_num.specs.Builtins.{builtin_of}
-use Rattle.wg_num.proofs.WrapLaws.{residue-lt, residue_congruent, residue_unique, congruent_trans, congruent_divides, wrap_value, value-bits, IsValue-wrap}
+use Rattle.wg_num.proofs.WrapLaws.{residue-lt, residue_congruent, residue_unique, congruent_trans, congruent_divides, wrap_value, value-bits, IsValue-wrap, wrap_congruent}
 use Rattle.wg_num.proofs.ByteLaws.{value-low_half}
 use Rattle.wg_num.proofs.OperatorLaws.{IsValue-unary, IsValue-binary}
 use Rattle.lane_values.specs.Lanes.{lane, right_value, unary_lane, binary_lane, builtin_lane, convert_lane}
@@ -145,11 +145,11 @@ zero_lane t z v = go (nat_eq (lane_in t z) 0) refl (is_zero z) refl
 pub unary_is : (op : Un) (t : IntType) (a : ℤ) → IsValue t a → unary_lane (bits_for t) op t (lane_in t a) ≡ lane_in t (unary_of op t a)
 unary_is op t a v = ap (λ x. lane (bits_for t) (unary_of op t x)) (value_lane t a v)
 
-right_plain : (op : Bin) (t : IntType) (q : ℕ) → is_shift op ≡ false → right_value op t q ≡ value_of t q
+pub right_plain : (op : Bin) (t : IntType) (q : ℕ) → is_shift op ≡ false → right_value op t q ≡ value_of t q
 unfolding right_value
 right_plain op t q e = ap (λ b. cond b (pos q) (value_of t q)) e
 
-right_raw : (op : Bin) (t : IntType) (q : ℕ) → is_shift op ≡ true → right_value op t q ≡ pos q
+pub right_raw : (op : Bin) (t : IntType) (q : ℕ) → is_shift op ≡ true → right_value op t q ≡ pos q
 unfolding right_value
 right_raw op t q e = ap (λ b. cond b (pos q) (value_of t q)) e
 
@@ -204,3 +204,25 @@ amount_lane t Narrow b e = let w = width_in t in sym (residue_same (width_bits t
 amount_lane t Wide b e = let w = width_in t in sym (residue_same (width_bits t) (2 ^ 64) w.2.0 (pos (lane 64 b)) b w.0 w.2.1 (lane_congruent 64 b (omega arith)))
 amount_lane t Rattle.lane_code.specs.declared.step.Bank.TheVariants.Mask b e = absurd (true≢false (sym e))
 amount_lane t Rattle.lane_code.specs.declared.step.Bank.TheVariants.Scalar b e = absurd (true≢false (sym e))
+
+long_congruent : (v : ℤ) → IsCongruent (2 ^ 64) (wrap_of types.Long v) v
+unfolding modulus
+long_congruent v = wrap_congruent types.Long v refl
+
+uint_congruent : (v : ℤ) → IsCongruent (2 ^ 32) (wrap_of types.Uint v) v
+unfolding modulus
+uint_congruent v = wrap_congruent types.Uint v refl
+
+-- an amount that is brought into the operator's bank shifts as far
+pub amount_wrap : (of : IntType) (v : ℤ) → amount_of of (wrap_of (amount_type of) v) ≡ amount_of of v
+amount_wrap of v = go (is_wide of) refl
+  where
+    long : IsCongruent (2 ^ 64) (wrap_of types.Long v) v
+    long = long_congruent v
+
+    uint : IsCongruent (2 ^ 32) (wrap_of types.Uint v) v
+    uint = uint_congruent v
+
+    go : (w : Test) → is_wide of ≡ w → amount_of of (wrap_of (cond w types.Long types.Uint) v) ≡ amount_of of v
+    go true e = let w = width_in of in sym (residue_same (width_bits of) (2 ^ 64) w.2.0 (wrap_of types.Long v) v w.0 w.2.1 long)
+    go false e = let w = width_in of in sym (residue_same (width_bits of) (2 ^ 32) w.1.0 (wrap_of types.Uint v) v w.0 w.1.1 uint)

@@ -4,3 +4,4 @@ pub mod LaneValues
 pub mod Frames
 pub mod Standing
 pub mod Atoms
+pub mod Work
