@@ -5,3 +5,4 @@ pub mod Frames
 pub mod Standing
 pub mod Atoms
 pub mod Work
+pub mod Works

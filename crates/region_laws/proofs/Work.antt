@@ -147,12 +147,12 @@ module _ (kernel : Kernel) (launch : Launch) (width group first : ℕ) (f : Fram
       → G (code_end Mine code t p st)
 
   -- the entry of a cell that takes values of a type
-  record Target (to : ℕ) (kind : IntType) : Type 0 where
-    entry : slice_index_or f.cells to None ≡ Some (cell_at f.cells to)
-    is : (cell_at f.cells to).of ≡ kind
-    bank : (cell_at f.cells to).at.bank ≡ bank_of kind
+  pub record Target (to : ℕ) (kind : IntType) : Type 0 where
+    pub entry : slice_index_or f.cells to None ≡ Some (cell_at f.cells to)
+    pub is : (cell_at f.cells to).of ≡ kind
+    pub bank : (cell_at f.cells to).at.bank ≡ bank_of kind
 
-  target : (to : ℕ) (kind : IntType) → cell_takes kernel to (Some kind) ≡ true → some_reads to atoms ≡ true → Target to kind
+  pub target : (to : ℕ) (kind : IntType) → cell_takes kernel to (Some kind) ≡ true → some_reads to atoms ≡ true → Target to kind
   target to kind takes named =
       let e = has_type_is kind (type_of_cell (slice_get kernel.cells to)) takes in
       record { entry = cell_entry kernel width f atoms counts r0 framed to kind e named; is = entry_type kernel width f atoms counts r0 framed to kind e named; bank = entry_bank kernel width f atoms counts r0 framed to kind e named }
@@ -300,7 +300,7 @@ module _ (kernel : Kernel) (launch : Launch) (width group first : ℕ) (f : Fram
         there = λ l ltl d o h ne. done.there l ltl d o h ne ∙ w.there o.at l ltl (entry_lane kernel width f atoms counts r0 framed d o h) (scratch_differs kernel width f atoms counts r0 framed d o of h);
       }
 
-  some_type : (o : Option IntType) → Rattle.kir.specs.Fits.has_some_type o ≡ true → (t : IntType) × (o ≡ Some t)
+  pub some_type : (o : Option IntType) → Rattle.kir.specs.Fits.has_some_type o ≡ true → (t : IntType) × (o ≡ Some t)
   some_type None e = absurd (true≢false (sym e))
   some_type (Some t) e = (t, refl)
 
