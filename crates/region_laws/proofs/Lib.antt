@@ -6,3 +6,5 @@ pub mod Standing
 pub mod Atoms
 pub mod Work
 pub mod Works
+pub mod Through
+pub mod Soundness
