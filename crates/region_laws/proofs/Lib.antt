@@ -6,5 +6,7 @@ pub mod Standing
 pub mod Atoms
 pub mod Work
 pub mod Works
+pub mod Masks
 pub mod Through
 pub mod Soundness
+pub mod Sounds

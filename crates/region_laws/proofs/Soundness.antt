@@ -59,61 +59,8 @@ use Rattle.region_laws.proofs.Standing.{SameCells, SameOuter, same_outer, cond_e
 use Rattle.region_laws.proofs.Atoms.{IsOperand, operand_is, cell_entry}
 use Rattle.region_laws.proofs.Work.{Worked, Gives, some_type}
 use Rattle.region_laws.proofs.Works.{work_runs}
+use Rattle.region_laws.proofs.Masks.{some_is, none_below, no_lane, and_false, branch_done, branch_idle, and_same, flip_cond, standing}
 use Rattle.region_laws.proofs.Through.{joined_none, no_line_is, run_through, through}
-
--- ---- tests on masks
-
--- some lane below n is set where one is
-pub some_there : (n : ℕ) (m : ℕ → Test) (l : ℕ) → l < n → m l ≡ true → some_below n m ≡ true
-some_there zero m l lt e = absurd (omega arith)
-some_there (suc n) m l lt e = ⊎_elim (λ same. or_right (some_below n m) (m n) (ap m (sym same) ∙ e)) (λ ne. or_left (some_below n m) (m n) (some_there n m l (omega arith) e)) (cases_eq l n)
-
-pub none_there : (n : ℕ) (m : ℕ → Test) → ((l : ℕ) → l < n → m l ≡ false) → some_below n m ≡ false
-none_there zero m none = refl
-none_there (suc n) m none = ap₂ (λ x y. x || y) (none_there n m (λ l lt. none l (omega arith))) (none n (omega arith))
-
-pub none_below : (n : ℕ) (m : ℕ → Test) → some_below n m ≡ false → (l : ℕ) → l < n → m l ≡ false
-none_below n m e l lt = ⊎_elim (λ t. absurd (true≢false (sym (some_there n m l lt t) ∙ e))) (λ f. f) (cases_Bool (m l))
-
--- what a step asks of a mask is asked of its lanes
-pub some_is : (n : ℕ) (mask : List Test) (m : ℕ → Test) → length mask ≡ n → ((l : ℕ) → l < n → slice_index_or mask l false ≡ m l) → is_some_set mask ≡ some_below n m
-some_is n mask m len same = go (is_some_set mask) refl
-  where
-    go : (b : Test) → is_some_set mask ≡ b → is_some_set mask ≡ some_below n m
-    go true e = let one = some_set_is mask e in e ∙ sym (some_there n m one.0 (let w = one.1 in omega arith) (sym (same one.0 (let w = one.1 in omega arith)) ∙ one.2))
-    go false e = e ∙ sym (none_there n m (λ l lt. sym (same l lt) ∙ none_set_is mask e l))
-
--- a lane of `no` has answered 0, and is none of `yes`
-no_lane : (a y : Test) → (a && not (a && y)) ≡ true → (a ≡ true) × (y ≡ false)
-no_lane true true e = absurd (true≢false (sym e))
-no_lane true false e = (refl, refl)
-no_lane false y e = absurd (true≢false (sym e))
-
-and_false : (a y : Test) → y ≡ false → (a && y) ≡ false
-and_false true y e = e
-and_false false y e = refl
-
--- where the lanes stand behind both branches
-branch_done : (a y : Test) (x z : Tasks) → a ≡ true → cond (a && not (a && y)) x (cond (a && y) x z) ≡ x
-branch_done true true x z e = refl
-branch_done true false x z e = refl
-branch_done false y x z e = absurd (true≢false (sym e))
-
-branch_idle : (a y : Test) (x z u : Tasks) → a ≡ false → cond (a && not (a && y)) x (cond (a && y) x (cond a z u)) ≡ u
-branch_idle true y x z u e = absurd (true≢false e)
-branch_idle false y x z u e = refl
-
-and_same : (b : Test) → (b && b) ≡ b
-and_same true = refl
-and_same false = refl
-
-flip_cond : {A : Type 0} → (b : Test) (x y : A) → cond b x y ≡ cond (not b) y x
-flip_cond true x y = refl
-flip_cond false x y = refl
-
-standing : (b : Test) (x task : Tasks) → (b ≡ true → task ≡ x) → task ≡ cond b x task
-standing true x task h = h refl
-standing false x task h = refl
 
 module _ (kernel : Kernel) (launch : Launch) (width : ℕ) (chunk : ChunkOf kernel launch width) (turns : ℕ) (w0 : Stage Item) (g0 : Group) (f : Frame) (counts : Counts) (r0 : Registers) (ground : Ground kernel launch w0)
   (atoms : List Atom) (framed : IsFramed kernel f atoms) (code : List Step) (valid : is_code counts code ≡ true) (Good : Ended → Type 0) (Sites : ℕ → Type 0) (Goal : Tasks) (closed : Closed kernel launch width chunk turns w0 Sites Goal Good) where
@@ -171,21 +118,21 @@ module _ (kernel : Kernel) (launch : Launch) (width : ℕ) (chunk : ChunkOf kern
     pub stores : (site : ℕ) (element : IntType) (root : Root) (index from : Atom) → Accesses (StoreThen site element root index from) (λ next m. step.Store site element (root_at f.arrays root) (operand f.cells next index).at (operand f.cells (past_atom next index) from).at (mask_reg m))
     pub clears : (array : ℕ) → Accesses (ClearThen array) (λ next m. step.Clear (slice_index_or f.arrays array 0) (mask_reg m))
 
-  in_width : (l : ℕ) → IsLane chunk.lanes l → l < width
+  pub in_width : (l : ℕ) → IsLane chunk.lanes l → l < width
   in_width l lane = let e = chunk.is_chunk.width_is in let lt = lane.0 in omega arith
 
   -- the same names of tasks
-  named : (t : ℕ) (T T' : ℕ → Tasks) (st : State) (w : Stage Item) → ((l : ℕ) → IsLane chunk.lanes l → T l ≡ T' l) → At t T st w → At t T' st w
+  pub named : (t : ℕ) (T T' : ℕ → Tasks) (st : State) (w : Stage Item) → ((l : ℕ) → IsLane chunk.lanes l → T l ≡ T' l) → At t T st w → At t T' st w
   named t T T' st w same sim = sim_names kernel launch width chunk turns w0 g0 f counts r0 ground t T T' st w same sim
 
-  same_masks : (free : ℕ) (st st' : State) → st'.registers.masks ≡ st.registers.masks → SameMasks free st st'
+  pub same_masks : (free : ℕ) (st st' : State) → st'.registers.masks ≡ st.registers.masks → SameMasks free st st'
   same_masks free st st' e r l lt ltl = ap (λ rows. slice_index_or (slice_index_or rows r []) l false) e
 
-  masks_then : (free : ℕ) (a b c : State) → SameMasks free a b → SameMasks free b c → SameMasks free a c
+  pub masks_then : (free : ℕ) (a b c : State) → SameMasks free a b → SameMasks free b c → SameMasks free a c
   masks_then free a b c ab bc r l lt ltl = bc r l lt ltl ∙ ab r l lt ltl
 
   -- lanes at the end of lines go on to what is behind
-  pass_end : (t : ℕ) (b : ℕ → Test) (T : ℕ → Tasks) (at : Place) (k : Tasks) (st : State) (w : Stage Item) → ((l : ℕ) → IsLane chunk.lanes l → b l ≡ true → T l ≡ LinesAt at NoLine k) → At t T st w → (w' : Stage Item) × At t (λ l. cond (b l) k (T l)) st w'
+  pub pass_end : (t : ℕ) (b : ℕ → Test) (T : ℕ → Tasks) (at : Place) (k : Tasks) (st : State) (w : Stage Item) → ((l : ℕ) → IsLane chunk.lanes l → b l ≡ true → T l ≡ LinesAt at NoLine k) → At t T st w → (w' : Stage Item) × At t (λ l. cond (b l) k (T l)) st w'
   pass_end t b T at k st w stand sim =
       sim_go kernel launch width chunk turns w0 g0 f counts r0 ground t T (λ l. k) st st w b (LinesAt at NoLine k) (same_outer st) sim.shape (λ x l lt e more. refl)
       (λ l lane set s good ag. (s.cells, refl, λ c op e live. ag c op e (live_leads c (LinesAt at NoLine k) k past_end refl live)))
@@ -282,7 +229,7 @@ module _ (kernel : Kernel) (launch : Launch) (width : ℕ) (chunk : ChunkOf kern
 
   -- ---- accesses
 
-  access_sound : (first : Lines → Lines) (here : Free → ℕ → Step) (more : List Atom) → Accesses first here → (rest : Lines)
+  pub access_sound : (first : Lines → Lines) (here : Free → ℕ → Step) (more : List Atom) → Accesses first here → (rest : Lines)
       → ((m free p : ℕ) (next : Free) → lines_code f m free p next (first rest) ≡ here next m ∷ lines_code f m free (p + 1) (past next more) rest)
       → ((tail : Lines) → joined_to (first rest) tail ≡ first (joined_to rest tail)) → ((at : Place) → past_lines (first rest) at ≡ past_lines rest (Behind ∷ at))
       → ((next : Free) → Fit (first rest) next → Fit (first NoLine) next × Fit rest (past next more)) → Sound rest → Sound (first rest)
@@ -307,28 +254,28 @@ module _ (kernel : Kernel) (launch : Launch) (width : ℕ) (chunk : ChunkOf kern
   -- ---- masks
 
   -- a step that writes a mask
-  masks_step : (t p to : ℕ) (s : Step) (st : State) (lanes : List Test) → slice_get code p ≡ Some s → act (kernel_chunk kernel launch width chunk.group chunk.first) s st ≡ On (with_registers st (with_mask st.registers (mask_reg to) lanes)) → Shaped counts width st.registers
+  pub masks_step : (t p to : ℕ) (s : Step) (st : State) (lanes : List Test) → slice_get code p ≡ Some s → act (kernel_chunk kernel launch width chunk.group chunk.first) s st ≡ On (with_registers st (with_mask st.registers (mask_reg to) lanes)) → Shaped counts width st.registers
       → is_below counts (mask_reg to) ≡ true → length lanes ≡ width
       → ((after : Registers) → Masked counts width st.registers to (λ l. slice_index_or lanes l false) after → Good (end_from t (p + 1) (with_registers st after))) → Good (end_from t p st)
   masks_step t p to s st lanes at does shape lt len go =
       on_step (kernel_chunk kernel launch width chunk.group chunk.first) code Good t p s st (with_registers st (with_mask st.registers (mask_reg to) lanes)) at does (go (with_mask st.registers (mask_reg to) lanes) (mask_masked counts width st.registers shape to lanes lt len))
 
-  masked_sim : (t to : ℕ) (T : ℕ → Tasks) (st : State) (w : Stage Item) (value : ℕ → Test) (after : Registers) → Masked counts width st.registers to value after → At t T st w → At t T (with_registers st after) w
+  pub masked_sim : (t to : ℕ) (T : ℕ → Tasks) (st : State) (w : Stage Item) (value : ℕ → Test) (after : Registers) → Masked counts width st.registers to value after → At t T st w → At t T (with_registers st after) w
   masked_sim t to T st w value after m sim =
       sim_as kernel launch width chunk turns w0 g0 f counts r0 ground t T T st (with_registers st after) w (λ l lane. refl) (record { group = refl; buffers = refl }) m.shape (λ x l lt b more. m.numbers x l) (λ l lane c op e. m.numbers op.at l) sim
 
-  masked_below : (to free : ℕ) (st : State) (value : ℕ → Test) (after : Registers) → free ≤ to → Masked counts width st.registers to value after → SameMasks free st (with_registers st after)
+  pub masked_below : (to free : ℕ) (st : State) (value : ℕ → Test) (after : Registers) → free ≤ to → Masked counts width st.registers to value after → SameMasks free st (with_registers st after)
   masked_below to free st value after le m r l lt ltl = m.there r l ltl (λ e. absurd (omega arith))
 
   -- the lanes of a mask whose answer is not 0
-  abbrev yes_at : State → Reg → ℕ → Test
+  abbrev pub yes_at : State → Reg → ℕ → Test
   yes_at st x l = not (nat_eq (value_at st.registers x l) 0)
 
-  type_there : (o : Option IntType) → has_some_type o ≡ true → (ty : IntType) × (o ≡ Some ty)
+  pub type_there : (o : Option IntType) → has_some_type o ≡ true → (ty : IntType) × (o ≡ Some ty)
   type_there None e = absurd (true≢false (sym e))
   type_there (Some ty) e = (ty, refl)
 
-  test_runs : (next : Free) (atom : Atom) (ty : IntType) (m to p t : ℕ) (st : State) → slice_get code p ≡ Some (test_step f next atom to m) → IsOperand kernel width f atoms counts r0 framed next atom ty st.registers → Shaped counts width st.registers
+  pub test_runs : (next : Free) (atom : Atom) (ty : IntType) (m to p t : ℕ) (st : State) → slice_get code p ≡ Some (test_step f next atom to m) → IsOperand kernel width f atoms counts r0 framed next atom ty st.registers → Shaped counts width st.registers
       → ((after : Registers) → Masked counts width st.registers to (λ l. mask_at st.registers m l && yes_at st (operand f.cells next atom).at l) after → Good (end_from t (p + 1) (with_registers st after))) → Good (end_from t p st)
   test_runs next atom ty m to p t st at one shape go =
       let x = (operand f.cells next atom).at in
@@ -349,7 +296,7 @@ module _ (kernel : Kernel) (launch : Launch) (width : ℕ) (chunk : ChunkOf kern
       }))
 
   -- the answer of a lane is its item's
-  yes_is : (next : Free) (atom : Atom) (ty : IntType) (st : State) (l : ℕ) (s : Item) (task : Tasks) → IsOperand kernel width f atoms counts r0 framed next atom ty st.registers → atom_type kernel atom ≡ Some ty → l < width → IsGood kernel (chunk.lanes.first + l) s → Agrees f st.registers l task s.cells
+  pub yes_is : (next : Free) (atom : Atom) (ty : IntType) (st : State) (l : ℕ) (s : Item) (task : Tasks) → IsOperand kernel width f atoms counts r0 framed next atom ty st.registers → atom_type kernel atom ≡ Some ty → l < width → IsGood kernel (chunk.lanes.first + l) s → Agrees f st.registers l task s.cells
       → ((c : ℕ) → reads c atom ≡ true → live_now c task ≡ true) → yes_at st (operand f.cells next atom).at l ≡ not (is_zero (atom_value s.cells atom))
   yes_is next atom ty st l s task one typed lt good ag live =
       ap (λ n. not (nat_eq n 0)) (one.holds l s.cells lt (λ c op e rd. ag c op e (live c rd)))
@@ -553,10 +500,10 @@ module _ (kernel : Kernel) (launch : Launch) (width : ℕ) (chunk : ChunkOf kern
   -- ---- loops
 
   -- the parts of a loop in the code: its body stands at p1, its test behind the body
-  abbrev test_place : (body : Lines) (next : Free) (free p1 : ℕ) → ℕ
+  abbrev pub test_place : (body : Lines) (next : Free) (free p1 : ℕ) → ℕ
   test_place body next free p1 = p1 + length (lines_code f free (free + 1) p1 next body)
 
-  abbrev ask_place : (test body : Lines) (next : Free) (free p1 : ℕ) → ℕ
+  abbrev pub ask_place : (test body : Lines) (next : Free) (free p1 : ℕ) → ℕ
   ask_place test body next free p1 = test_place body next free p1 + length (lines_code f free (free + 1) (test_place body next free p1) (past next (atoms_in body)) test)
 
   pub record HasLoop (test : Lines) (answer : Atom) (body : Lines) (next : Free) (free p1 : ℕ) : Type 0 where
@@ -701,7 +648,7 @@ module _ (kernel : Kernel) (launch : Launch) (width : ℕ) (chunk : ChunkOf kern
         turn_sound sound_b has n t (λ t' lt. loop_from sound_t sound_b has t t' lt) c T st w t (omega arith) ready strict go
 
     -- from where a loop is entered
-    enter_sound : Whole test → Whole body → HasLoop test answer body next free p1 → (first : Test) (site : ℕ) (rest : Lines) (K : Tasks) → k ≡ LinesAt (Behind ∷ at) rest K → (t : ℕ) (a : ℕ → Test) (T : ℕ → Tasks) (st : State) (w : Stage Item)
+    pub enter_sound : Whole test → Whole body → HasLoop test answer body next free p1 → (first : Test) (site : ℕ) (rest : Lines) (K : Tasks) → k ≡ LinesAt (Behind ∷ at) rest K → (t : ℕ) (a : ℕ → Test) (T : ℕ → Tasks) (st : State) (w : Stage Item)
         → Lanes free t a T (LinesAt at (LoopThen site first test answer body rest) K) st w → Onward a k T free st t (ask_at + 1 + 1) → Good (end_from t (cond first (test_place body next free p1) (ask_at + 1)) st)
     enter_sound sound_t sound_b has true site rest K e t a T st w ready go =
         let r = sim_go kernel launch width chunk turns w0 g0 f counts r0 ground t T (λ l. Testing 0) st st w a (LinesAt at (LoopThen site true test answer body rest) K) (same_outer st) ready.sim.shape (λ x l lt e more. refl)
@@ -732,3 +679,75 @@ module _ (kernel : Kernel) (launch : Launch) (width : ℕ) (chunk : ChunkOf kern
             let there = where_is refl in
             begins (with_tasks s (Beginning 1)) (ap (tasks_next kernel launch s) (h ∙ there) ∙ ap (λ x. Begins (with_tasks s (LinesAt (IntoBody ∷ at) body (LinesAt (IntoTest ∷ at) test (AnswerAt at test answer body 1 x))))) (sym e))
             (refl, λ c op i live. ag c op i (ap (live_now c) there ∙ live_leads c (LinesAt at (LoopThen site false test answer body rest) K) (iteration at test answer body 1 (LinesAt (Behind ∷ at) rest K)) into_body refl (subst (λ x. live_now c (LinesAt (IntoBody ∷ at) body (LinesAt (IntoTest ∷ at) test (AnswerAt at test answer body 1 x))) ≡ true) e live)))
+
+  pub loop_sound : (site : ℕ) (first : Test) (test : Lines) (answer : Atom) (body rest : Lines) → Whole test → Whole body → Sound rest → Sound (LoopThen site first test answer body rest)
+  loop_sound site first test answer body rest sound_t sound_b sound = record {
+    by = λ m free p t next a T at tail k st w has fit below lanes ahead go.
+        let p1 = p + 2 in
+        let bs = lines_code f free (free + 1) p1 next body in
+        let next1 = past next (atoms_in body) in
+        let p2 = p1 + length bs in
+        let ts = lines_code f free (free + 1) p2 next1 test in
+        let next2 = past next1 (atoms_in test) in
+        let y = p2 + length ts in
+        let ends = turn_code f free next2 p1 answer in
+        let next3 = past_atom next2 answer in
+        let p3 = y + 1 + 1 in
+        let rc = lines_code f m free p3 next3 rest in
+        let entry = if first then p2 else y + 1 in
+        let mine = kernel_chunk kernel launch width chunk.group chunk.first in
+        let two : p + 1 + 1 ≡ p1 = omega arith in
+        let has_b = subst (λ n. HasAt code n (bs ++ (ts ++ (ends ++ rc)))) two has.1.1 in
+        let has_t = has_back code p1 bs (ts ++ (ends ++ rc)) has_b in
+        let has_e = has_back code p2 ts (ends ++ rc) has_t in
+        let f1 = and_parts (Rattle.kir.specs.Fits.is_site kernel site && lines_fit kernel test && has_some_type (atom_type kernel answer) && lines_fit kernel body) (lines_fit kernel rest) fit.fits in
+        let f2 = and_parts (Rattle.kir.specs.Fits.is_site kernel site && lines_fit kernel test && has_some_type (atom_type kernel answer)) (lines_fit kernel body) f1.0 in
+        let f3 = and_parts (Rattle.kir.specs.Fits.is_site kernel site && lines_fit kernel test) (has_some_type (atom_type kernel answer)) f2.0 in
+        let f4 = and_parts (Rattle.kir.specs.Fits.is_site kernel site) (lines_fit kernel test) f3.0 in
+        let behind_body = λ (c : ℕ) (e : some_reads c (atoms_in test ++ (answer ∷ atoms_in rest)) ≡ true). fit.names c (some_right c (atoms_in body) (atoms_in test ++ (answer ∷ atoms_in rest)) e) in
+        let behind_test = λ (c : ℕ) (e : some_reads c (answer ∷ atoms_in rest) ≡ true). behind_body c (some_right c (atoms_in test) (answer ∷ atoms_in rest) e) in
+        let held1 = held_right f width r0 next (atoms_in body) (atoms_in test ++ (answer ∷ atoms_in rest)) fit.held in
+        let held2 = held_right f width r0 next1 (atoms_in test) (answer ∷ atoms_in rest) held1 in
+        let K = LinesAt (Behind ∷ at) (joined_to rest tail) k in
+        let on : ComesTo Goal K = come_trans Goal (LinesAt (past_lines rest (Behind ∷ at)) tail k) K (through rest tail (Behind ∷ at) k) ahead in
+        let loop : HasLoop test answer body next free p1 = record {
+          has_body = has_front code p1 bs _ has_b;
+          has_test = has_front code p2 ts _ has_t;
+          has_turn = has_front code y ends rc has_e;
+          fit_body = record { fits = f2.1; names = λ c e. fit.names c (some_left c (atoms_in body) _ e); held = held_left f width r0 next (atoms_in body) (atoms_in test ++ (answer ∷ atoms_in rest)) fit.held; sites = λ s h. fit.sites s (omega arith) };
+          fit_test = record { fits = f4.1; names = λ c e. behind_body c (some_left c (atoms_in test) _ e); held = held_left f width r0 next1 (atoms_in test) (answer ∷ atoms_in rest) held1; sites = λ s h. fit.sites s (omega arith) };
+          typed = type_there (atom_type kernel answer) f3.1;
+          names = λ c e. behind_test c (or_left (reads c answer) (some_reads c (atoms_in rest)) e);
+          held = held2.0;
+        } in
+        let s = step.MaskAnd (mask_reg free) (mask_reg m) (mask_reg m) in
+        let w1 = and_parts (is_below counts (mask_reg free) && nat_lt 0 free && is_below counts (mask_reg m)) (is_below counts (mask_reg m)) (code_well counts code p s valid has.0) in
+        let w2 = and_parts (is_below counts (mask_reg free) && nat_lt 0 free) (is_below counts (mask_reg m)) w1.0 in
+        let w3 = and_parts (is_below counts (mask_reg free)) (nat_lt 0 free) w2.0 in
+        let lm = mask_length counts width st.registers lanes.sim.shape m w1.1 in
+        let fn = λ (x : Test) (z : Test). x && z in
+        let ms = mask_of st.registers (mask_reg m) in
+        masks_step t p free s st (zip2 fn ms ms) has.0 refl lanes.sim.shape w3.0 (length-zip2 fn ms ms refl ∙ lm) (λ after k1.
+        let st1 = with_registers st after in
+        let kept1 = masked_below free free st _ after (omega arith) k1 in
+        ahead_step mine code Good t (p + 1) entry (step.Jump entry) st1 st1 has.1.0 refl (past_head first p2 (y + 1) (p + 1) (omega arith) (omega arith))
+        (enter_sound test answer body next free p1 at K on sound_t sound_b loop first site (joined_to rest tail) k refl t a T st1 w
+        (record {
+          mask = λ l lt. k1.here l lt ∙ get_or-zip2 fn ms ms l false false false (let h = lm in omega arith) (let h = lm in omega arith) ∙ and_same (mask_at st.registers m l) ∙ lanes.mask l lt;
+          alive = lanes.alive;
+          sim = masked_sim t free T st w _ after k1 lanes.sim;
+          stand = lanes.stand;
+        })
+        (λ t4 st4 w4 le4 sim4 masks4.
+        let len : p3 + length rc ≡ p + length (s ∷ step.Jump entry ∷ (bs ++ (ts ++ (ends ++ rc)))) = omega (arith, length-append bs (ts ++ (ends ++ rc)), length-append ts (ends ++ rc), length-append ends rc) in
+        let kept = masks_then free st st1 st4 kept1 masks4 in
+        rest_sound rest sound m free p3 t4 t (p + length (s ∷ step.Jump entry ∷ (bs ++ (ts ++ (ends ++ rc))))) next3 a T (λ l. cond (a l) K (T l)) (Behind ∷ at) tail k st st4 w4
+        has_e.1.1
+        (record { fits = f1.1; names = λ c e. behind_test c (or_right (reads c answer) (some_reads c (atoms_in rest)) e); held = held2.1; sites = λ s h. fit.sites s (omega arith) }) below
+        (record { mask = λ l lt. kept m l below lt ∙ lanes.mask l lt; alive = lanes.alive; sim = sim4; stand = λ l lane set. cond_set (a l) K (T l) set })
+        le4 len kept (λ l unset. cond_unset (a l) K (T l) unset) ahead go)));
+  }
+    where
+      past_head : (b : Test) (x z n : ℕ) → n < x → n < z → n < cond b x z
+      past_head true x z n h h' = h
+      past_head false x z n h h' = h'
