@@ -10,3 +10,4 @@ pub mod Masks
 pub mod Through
 pub mod Soundness
 pub mod Sounds
+pub mod Objects
