@@ -11,3 +11,4 @@ pub mod Through
 pub mod Soundness
 pub mod Sounds
 pub mod Objects
+pub mod Loads
