@@ -288,3 +288,83 @@ module _ (kernel : Kernel) (launch : Launch) (width : ℕ) (chunk : ChunkOf kern
                       let apart : c ≡ to → ⊥ = λ h. eqb-false to c ne (sym h) in
                       wrote.there op.at l lt (entry_lane kernel width f atoms counts r0 framed c op at_c) (framed.apart c to op (cell_at f.cells to) apart at_c entry)
                       ∙ ag c op at_c (live_leads c before after past_load (ne_eqb c to apart) live)
+
+  -- so a load does, whatever its root names
+  pub load_runs : (site to : ℕ) (element : IntType) (r : Root) (index : Atom) → Accesses kernel launch width chunk turns w0 g0 f counts r0 ground atoms framed code valid Good Sites Goal closed (LoadThen site to element r index)
+      (λ next m. step.Load site element (root_at f.arrays r) (operand f.cells next index).at (cell_at f.cells to).at (mask_reg m))
+  load_runs site to element r index m p t next a T at rest k st w has fit lanes go =
+      by (reached (length (local_arrays (shell_of kernel))) launch (root_at f.arrays r))
+      (subst (λ x. IsObject kernel launch chunk.group r (reached (length (local_arrays (shell_of kernel))) launch (root_at x r))) (sym arrays_are) (load_reaches kernel launch ground.fits chunk.group r element can)) refl
+    where
+      mine : Rattle.lane_code.specs.Acts.Chunk
+      mine = kernel_chunk kernel launch width chunk.group chunk.first
+
+      toreg : Reg
+      toreg = (cell_at f.cells to).at
+
+      ireg : Reg
+      ireg = (operand f.cells next index).at
+
+      s : Step
+      s = step.Load site element (root_at f.arrays r) ireg toreg (mask_reg m)
+
+      f1 : (is_site kernel site && can_load kernel r element && has_type types.Long (atom_type kernel index) ≡ true) × (cell_takes kernel to (Some element) ≡ true)
+      f1 = and_parts (is_site kernel site && can_load kernel r element && has_type types.Long (atom_type kernel index)) (cell_takes kernel to (Some element)) (and_parts (is_site kernel site && can_load kernel r element && has_type types.Long (atom_type kernel index) && cell_takes kernel to (Some element)) true fit.fits).0
+
+      f2 : (is_site kernel site && can_load kernel r element ≡ true) × (has_type types.Long (atom_type kernel index) ≡ true)
+      f2 = and_parts (is_site kernel site && can_load kernel r element) (has_type types.Long (atom_type kernel index)) f1.0
+
+      can : can_load kernel r element ≡ true
+      can = (and_parts (is_site kernel site) (can_load kernel r element) f2.0).1
+
+      active : List Test
+      active = mask_of st.registers (mask_reg m)
+
+      places : List ℕ
+      places = lanes_of st.registers ireg
+
+      wells : (is_below counts ireg && is_below counts toreg ≡ true) × (is_below counts (mask_reg m) ≡ true)
+      wells = and_parts (is_below counts ireg && is_below counts toreg) (is_below counts (mask_reg m)) (code_well counts code p s valid has)
+
+      active_length : length active ≡ width
+      active_length = mask_length counts width st.registers lanes.sim.shape m wells.1
+
+      places_length : length places ≡ width
+      places_length =
+          let bank = (operand_is kernel width f atoms counts r0 framed next index types.Long st.registers (has_type_is types.Long (atom_type kernel index) f2.1) (λ c e. fit.names c (or_right (nat_eq c to) (reads c index || false) (or_left (reads c index) false e))) fit.held.1.0 lanes.sim.above).bank in
+          lanes_length counts width st.registers lanes.sim.shape ireg (ap is_lane bank) (and_parts (is_below counts ireg) (is_below counts toreg) wells.0).0
+
+      -- one object for all lanes
+      shared : (bytes : List ℕ) → act mine s st ≡ loads st site toreg (mask_reg m) (lowest (faults (size_of element) (length bytes) active places)) (gathered (bits_in toreg.bank) element bytes active places)
+          → ((l : ℕ) → IsLane chunk.lanes l → (i : Item) → IsGood kernel (chunk.lanes.first + l) i → bytes_of w.memory (object_at kernel launch i r) ≡ bytes) → Good (EndFrom t p st)
+      shared bytes does is =
+          let flen = length-zip2 (is_fault (size_of element) (length bytes)) active places (active_length ∙ sym places_length) ∙ active_length in
+          let vlen = length-zip2 (lane_from (bits_in toreg.bank) element bytes) active places (active_length ∙ sym places_length) ∙ active_length in
+          load_common site to element r index m p t next a T at rest k st w has fit lanes (λ l. bytes) (faults (size_of element) (length bytes) active places) (gathered (bits_in toreg.bank) element bytes active places) does flen vlen
+          (λ l lt. get_or-zip2 (is_fault (size_of element) (length bytes)) active places l false 0 false (let h = active_length in omega arith) (let h = places_length in omega arith))
+          (λ l lt. get_or-zip2 (lane_from (bits_in toreg.bank) element bytes) active places l false 0 0 (let h = active_length in omega arith) (let h = places_length in omega arith))
+          is go
+
+      -- one of its own for each lane
+      own : (n : ℕ) → n < length (Rattle.cl_model.specs.Objects.private_sizes (shell_of kernel)) → ((i : Item) → object_at kernel launch i r ≡ first_private (shell_of kernel) launch i.number + n) → act mine s st ≡ load_at mine st site element ireg toreg (mask_reg m) (Own n) → Good (EndFrom t p st)
+      own n lt is does =
+          let rows = slice_index_or st.group.privates n [] in
+          let objects = window [] rows chunk.first width in
+          let olen = window_length [] rows chunk.first width in
+          let flen = own_faults_length (size_of element) active places objects (active_length ∙ sym places_length) (active_length ∙ sym olen) ∙ active_length in
+          let vlen = own_loaded_length (bits_in toreg.bank) element active places objects (active_length ∙ sym places_length) (active_length ∙ sym olen) ∙ active_length in
+          load_common site to element r index m p t next a T at rest k st w has fit lanes (λ l. slice_index_or rows (chunk.first + l) []) (own_faults (size_of element) active places objects) (own_loaded (bits_in toreg.bank) element active places objects) does flen vlen
+          (λ l ltl. own_faults_read (size_of element) active places objects l (let h = active_length in omega arith) (let h = places_length in omega arith) (let h = olen in omega arith)
+          ∙ ap (λ (bs : List ℕ). is_fault (size_of element) (length bs) (mask_at st.registers m l) (value_at st.registers ireg l)) (window_read [] rows chunk.first width l [] ltl))
+          (λ l ltl. own_loaded_read (bits_in toreg.bank) element active places objects l (let h = active_length in omega arith) (let h = places_length in omega arith) (let h = olen in omega arith)
+          ∙ ap (λ (bs : List ℕ). lane_from (bits_in toreg.bank) element bs (mask_at st.registers m l) (value_at st.registers ireg l)) (window_read [] rows chunk.first width l [] ltl))
+          (λ l lane i good.
+          ap (bytes_of w.memory) (is i ∙ ap (λ x. first_private (shell_of kernel) launch x + n) (number_is l i good))
+          ∙ lanes.sim.mirrors.privates n (chunk.first + l) lt (lane_item l lane))
+          go
+
+      by : (o : Reached) → IsObject kernel launch chunk.group r o → reached (length (local_arrays (shell_of kernel))) launch (root_at f.arrays r) ≡ o → Good (EndFrom t p st)
+      by _ (a_buffer b lt is) e = shared (slice_index_or st.buffers b []) (ap (load_at mine st site element ireg toreg (mask_reg m)) e) (λ l lane i good. ap (bytes_of w.memory) (is i) ∙ lanes.sim.mirrors.same_buffers b lt)
+      by _ (a_table n lt is) e = shared (slice_index_or mine.tables n []) (ap (load_at mine st site element ireg toreg (mask_reg m)) e) (λ l lane i good. ap (bytes_of w.memory) (is i) ∙ lanes.sim.mirrors.tables n lt)
+      by _ (a_local n lt is) e = shared (slice_index_or st.group.locals n []) (ap (load_at mine st site element ireg toreg (mask_reg m)) e) (λ l lane i good. ap (bytes_of w.memory) (is i (in_group l i lane good)) ∙ lanes.sim.mirrors.locals n lt)
+      by _ (an_own n lt is) e = own n lt is (ap (load_at mine st site element ireg toreg (mask_reg m)) e)
