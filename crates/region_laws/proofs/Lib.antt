@@ -1,0 +1,14 @@
+pub mod CellValues
+pub mod View
+pub mod LaneValues
+pub mod Frames
+pub mod Standing
+pub mod Atoms
+pub mod Work
+pub mod Works
+pub mod Masks
+pub mod Through
+pub mod Soundness
+pub mod Sounds
+pub mod Objects
+pub mod Loads

@@ -1,0 +1,4 @@
+pub mod Values
+pub mod View
+pub mod Framed
+pub mod Sim
