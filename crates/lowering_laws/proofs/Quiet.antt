@@ -3,14 +3,12 @@ use Rattle.std.proofs.Common.{◌≡◌, ℕ, suc, ◌+◌, ◌<◌, List, [], �
 use Rattle.std.proofs.Common.{Bool as Test}
 use Rattle.std.specs.Prelude.{nat_eq, not, ◌&&◌, ◌||◌}
 use Rattle.std.proofs.lemmas.Option.{none-some}
+use Rattle.wg_num.specs.declared.types.IntType.{IntType}
+use Rattle.cl_model.specs.declared.program.Root.{Root}
 use Rattle.kir.specs.declared.line.Atom.{Atom}
 use Rattle.kir.specs.declared.line.Atom.TheVariants.{Const, Cell as CellAtom}
 use Rattle.kir.specs.Tree.{Work, Copy, Lines, NoLine, SetThen, LoadThen, StoreThen, ClearThen, IfThen, LoopThen, BarrierThen, joined_to}
 use Rattle.kir.specs.Live.{reads, some_reads, work_reads, live_in}
-
--- not live before the lines
-abbrev pub Quiet : ℕ → Lines → Test → Type 0
-Quiet c lines after = live_in c lines after ≡ false
 
 -- before lines that are put one after another
 pub live_joined : (c : ℕ) (a b : Lines) (after : Test) → live_in c (joined_to a b) after ≡ live_in c a (live_in c b after)
@@ -46,7 +44,7 @@ and_less true b b' g e = g e
 and_less false b b' g e = refl
 
 -- the less is live behind, the less is live before
-pub less : (c : ℕ) (lines : Lines) (x y : Test) → (y ≡ false → x ≡ false) → Quiet c lines y → Quiet c lines x
+pub less : (c : ℕ) (lines : Lines) (x y : Test) → (y ≡ false → x ≡ false) → live_in c lines y ≡ false → live_in c lines x ≡ false
 less c NoLine x y f e = f e
 less c (SetThen to work rest) x y f e = or_less _ _ _ _ (λ h. h) (and_less _ _ _ (less c rest x y f)) e
 less c (LoadThen site to element root index rest) x y f e = or_less _ _ _ _ (λ h. h) (and_less _ _ _ (less c rest x y f)) e
@@ -58,46 +56,69 @@ less c (LoopThen site true test answer body rest) x y f e = less c test _ _ (or_
 less c (LoopThen site false test answer body rest) x y f e = less c body _ _ (less c test _ _ (or_less _ _ _ _ (λ h. h) (or_less _ _ _ _ (less c rest x y f) (λ h. h)))) e
 less c (BarrierThen site rest) x y f e = less c rest x y f e
 
+-- not live before the lines, where it is so behind them or not
+pub record Quiet (c : ℕ) (lines : Lines) (after : Test) : Type 0 where
+  pub is : live_in c lines after ≡ false
+
+-- no lines
+pub quiet_none : (c : ℕ) (after : Test) → after ≡ false → Quiet c NoLine after
+quiet_none c after e = record { is = e }
+
 -- where nothing that is live behind matters, and where nothing is live behind
 pub quiet_any : (c : ℕ) (lines : Lines) (x : Test) → Quiet c lines true → Quiet c lines x
-quiet_any c lines x h = less c lines x true (λ e. absurd (true_false e)) h
+quiet_any c lines x h = record { is = less c lines x true (λ e. absurd (true_false e)) h.is }
 
 pub quiet_less : (c : ℕ) (lines : Lines) (x : Test) → Quiet c lines x → Quiet c lines false
-quiet_less c lines x h = less c lines false x (λ e. refl) h
+quiet_less c lines x h = record { is = less c lines false x (λ e. refl) h.is }
+
+pub quiet_after : (c : ℕ) (lines : Lines) (x y : Test) → y ≡ x → Quiet c lines x → Quiet c lines y
+quiet_after c lines x y e h = subst (λ z. Quiet c lines z) (sym e) h
+
+pub quiet_same : (c : ℕ) (a b : Lines) (x : Test) → a ≡ b → Quiet c b x → Quiet c a x
+quiet_same c a b x e h = subst (λ z. Quiet c z x) (sym e) h
 
 -- lines before others: the first may have set the cell, else it is not live before the second
 pub quiet_then : (c : ℕ) (a b : Lines) (x after : Test) → Quiet c a x → (x ≡ false → Quiet c b after) → Quiet c (joined_to a b) after
-quiet_then c a b true after h k = live_joined c a b after ∙ quiet_any c a (live_in c b after) h
-quiet_then c a b false after h k = live_joined c a b after ∙ ap (live_in c a) (k refl) ∙ h
+quiet_then c a b true after h k = record { is = live_joined c a b after ∙ (quiet_any c a (live_in c b after) h).is }
+quiet_then c a b false after h k = record { is = live_joined c a b after ∙ ap (live_in c a) (k refl).is ∙ h.is }
 
 -- a line that sets a cell
 pub quiet_set : (c to : ℕ) (work : Work) (rest : Lines) (after : Test) → work_reads c work ≡ false → (nat_eq c to ≡ false → Quiet c rest after) → Quiet c (SetThen to work rest) after
-quiet_set c to work rest after r h = or_false _ _ r (by_test (nat_eq c to) h)
+quiet_set c to work rest after r h = record { is = or_false _ _ r (by_test (nat_eq c to) h) }
   where
     by_test : (b : Test) → (b ≡ false → Quiet c rest after) → (not b && live_in c rest after) ≡ false
     by_test true k = refl
-    by_test false k = k refl
+    by_test false k = (k refl).is
 
-pub quiet_load : (c site to : ℕ) (element : _) (root : _) (index : Atom) (rest : Lines) (after : Test) → reads c index ≡ false → (nat_eq c to ≡ false → Quiet c rest after) → Quiet c (LoadThen site to element root index rest) after
-quiet_load c site to element root index rest after r h = or_false _ _ r (by_test (nat_eq c to) h)
+pub quiet_load : (c site to : ℕ) (element : IntType) (root : Root) (index : Atom) (rest : Lines) (after : Test) → reads c index ≡ false → (nat_eq c to ≡ false → Quiet c rest after) → Quiet c (LoadThen site to element root index rest) after
+quiet_load c site to element root index rest after r h = record { is = or_false _ _ r (by_test (nat_eq c to) h) }
   where
     by_test : (b : Test) → (b ≡ false → Quiet c rest after) → (not b && live_in c rest after) ≡ false
     by_test true k = refl
-    by_test false k = k refl
+    by_test false k = (k refl).is
+
+pub quiet_store : (c site : ℕ) (element : IntType) (root : Root) (index from : Atom) (rest : Lines) (after : Test) → reads c index ≡ false → reads c from ≡ false → Quiet c rest after → Quiet c (StoreThen site element root index from rest) after
+quiet_store c site element root index from rest after i f h = record { is = or_false _ _ (or_false _ _ i f) h.is }
+
+pub quiet_clear : (c array : ℕ) (rest : Lines) (after : Test) → Quiet c rest after → Quiet c (ClearThen array rest) after
+quiet_clear c array rest after h = record { is = h.is }
+
+pub quiet_barrier : (c site : ℕ) (rest : Lines) (after : Test) → Quiet c rest after → Quiet c (BarrierThen site rest) after
+quiet_barrier c site rest after h = record { is = h.is }
 
 -- an if
 pub quiet_if : (c site : ℕ) (test : Atom) (chosen other rest : Lines) (after : Test) → reads c test ≡ false → Quiet c rest after → Quiet c chosen false → Quiet c other false → Quiet c (IfThen site test chosen other rest) after
-quiet_if c site test chosen other rest after r e y n = or_false _ _ r (or_false _ _ (ap (live_in c chosen) e ∙ y) (ap (live_in c other) e ∙ n))
+quiet_if c site test chosen other rest after r e y n = record { is = or_false _ _ r (or_false _ _ (ap (live_in c chosen) e.is ∙ y.is) (ap (live_in c other) e.is ∙ n.is)) }
 
 -- the same where what is behind may read what each branch sets
 pub quiet_if_set : (c site : ℕ) (test : Atom) (chosen other : Lines) (after : Test) → reads c test ≡ false → Quiet c chosen after → Quiet c other after → Quiet c (IfThen site test chosen other NoLine) after
-quiet_if_set c site test chosen other after r y n = or_false _ _ r (or_false _ _ y n)
+quiet_if_set c site test chosen other after r y n = record { is = or_false _ _ r (or_false _ _ y.is n.is) }
 
 -- a loop
 pub quiet_loop : (c site : ℕ) (first : Test) (test : Lines) (answer : Atom) (body : Lines) → Quiet c test (reads c answer) → Quiet c body false → Quiet c (LoopThen site first test answer body NoLine) false
 quiet_loop c site true test answer body t b =
-    let inner : live_in c body (live_in c test false) ≡ false = ap (live_in c body) (quiet_less c test (reads c answer) t) ∙ b in
-    less c test _ (reads c answer) (λ e. or_false _ _ e (or_false false _ refl inner)) t
+    let inner : live_in c body (live_in c test false) ≡ false = ap (live_in c body) (quiet_less c test (reads c answer) t).is ∙ b.is in
+    record { is = less c test _ (reads c answer) (λ e. or_false _ _ e (or_false false _ refl inner)) t.is }
 quiet_loop c site false test answer body t b =
-    let inner : live_in c body (live_in c test false) ≡ false = ap (live_in c body) (quiet_less c test (reads c answer) t) ∙ b in
-    ap (live_in c body) (less c test _ (reads c answer) (λ e. or_false _ _ e (or_false false _ refl inner)) t) ∙ b
+    let inner : live_in c body (live_in c test false) ≡ false = ap (live_in c body) (quiet_less c test (reads c answer) t).is ∙ b.is in
+    record { is = ap (live_in c body) (less c test _ (reads c answer) (λ e. or_false _ _ e (or_false false _ refl inner)) t.is) ∙ b.is }
