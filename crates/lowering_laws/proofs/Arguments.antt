@@ -68,7 +68,7 @@ argument_first n (kind ∷ kinds) =
     let one : n + 1 ≡ suc n = omega arith in
     ap (λ z. SetThen n (Argument n) z) (argument_first (n + 1) kinds ∙ ap (λ z. argument_lines z (numbers (n + 1) kinds)) one)
 
-length_take : {A : Type 0} (n : ℕ) (xs : List A) → n ≤ length xs → length (take n xs) ≡ n
+pub length_take : {A : Type 0} (n : ℕ) (xs : List A) → n ≤ length xs → length (take n xs) ≡ n
 length_take zero xs h = refl
 length_take (suc n) [] h = absurd (omega (arith, h))
 length_take (suc n) (x ∷ xs) h = ap suc (length_take n xs (omega (arith, h)))
