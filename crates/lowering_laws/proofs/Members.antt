@@ -35,7 +35,7 @@ pub times_append : (n : ℕ) (xs ys : List ℕ) → times n (xs ++ ys) ≡ times
 times_append n [] ys = omega arith
 times_append n (x ∷ xs) ys = let p = times_append n xs ys in omega arith
 
-once_same : (n : ℕ) → once n n ≡ 1
+pub once_same : (n : ℕ) → once n n ≡ 1
 once_same n = ap (λ b. if b then 1 else 0) (eq-eqb n n refl)
 
 -- an element is one at least once
