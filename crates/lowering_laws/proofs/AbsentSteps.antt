@@ -8,7 +8,7 @@ use Rattle.wg_num.specs.declared.types.IntType.TheVariants.{Int}
 use Rattle.wg_num.specs.declared.types.Bin.{Bin}
 use Rattle.cl_model.specs.Tree as tree
 use Rattle.cl_model.specs.Tree.{Action, Arms, no_arm, arm, Function, Program}
-use Rattle.cl_model.specs.Valid.{ActionFits, binary_type}
+use Rattle.cl_model.specs.Valid.{ActionFits, binary_type, promoted}
 use Rattle.kir.specs.declared.line.Atom.{Atom}
 use Rattle.kir.specs.declared.line.Atom.TheVariants.{Const, Cell as CellAtom}
 use Rattle.kir.specs.Tree.{Work, Copy, Convert, Binary, Lines, NoLine, SetThen, IfThen, joined_to, OfValue, OfFlag}
@@ -193,3 +193,46 @@ module _ (c : ℕ) where
       let n = out (next_cell m) (omega arith) (omega (arith, one, up)) in
       let p = labels_absent site value chosen k labels (with_cell m OfValue Int) r e (out_within c _ _ _ _ out (omega (arith, one)) (omega arith)) in
       absent_set c _ _ _ (or_false _ _ r refl) n (absent_if c site _ _ NoLine _ n (one_set _ _ refl e) (absent_none c) p)
+
+  pub all_labels_absent : (site : ℕ) (value : Value) (chosen k : ℕ) (arms : Arms) (m : Made) → reads c value.atom ≡ false → nat_eq c chosen ≡ false → IsOut c (next_cell m) (next_cell (all_labels_code site value chosen k arms m).made)
+      → Absent c (all_labels_code site value chosen k arms m).lines
+  all_labels_absent site value chosen k no_arm m r e out = absent_none c
+  all_labels_absent site value chosen k (arm labels other body rest) m r e out =
+      let cl = labels_code site value chosen k labels m in
+      let a = labels_up site value chosen k labels m in
+      let b = all_labels_up site value chosen (k + 1) rest cl.made in
+      absent_then c cl.lines _ (labels_absent site value chosen k labels m r e (out_within c _ _ _ _ out (omega arith) (omega (arith, b))))
+      (all_labels_absent site value chosen (k + 1) rest cl.made r e (out_within c _ _ _ _ out (omega (arith, a)) (omega arith)))
+
+  pub selected_absent : (site : ℕ) (value : Value) (arms : Arms) (m : Made) → reads c value.atom ≡ false → IsOut c (next_cell m) (next_cell (selected site value arms m).made)
+      → Absent c (selected site value arms m).lines × (reads c (selected site value arms m).value.atom ≡ false)
+  selected_absent site value arms m r out =
+      let to = promoted value.of in
+      let m1 = with_cell m OfValue to in
+      let m2 = with_cell m1 OfValue Int in
+      let v : Value = record { atom = CellAtom (next_cell m); of = to } in
+      let one = next_more m OfValue to in
+      let two = next_more m1 OfValue Int in
+      let up = all_labels_up site v (next_cell m1) 0 arms m2 in
+      let e0 = out (next_cell m) (omega arith) (omega (arith, one, two, up)) in
+      let e1 = out (next_cell m1) (omega (arith, one)) (omega (arith, one, two, up)) in
+      (absent_set c _ _ _ r e0 (absent_set c _ _ _ refl e1 (all_labels_absent site v (next_cell m1) 0 arms m2 e0 e1 (out_within c _ _ _ _ out (omega (arith, one, two)) (omega arith)))), e1)
+
+  pub entry_absent : (chosen fallen : Atom) (k : ℕ) (m : Made) → reads c chosen ≡ false → reads c fallen ≡ false → IsOut c (next_cell m) (next_cell (entry_code chosen fallen k m).made)
+      → Absent c (entry_code chosen fallen k m).lines × (reads c (entry_code chosen fallen k m).value.atom ≡ false)
+  entry_absent chosen fallen k m r s out =
+      let e = two_out m Int Int out in
+      (absent_set c _ _ _ (or_false _ _ r refl) e.0 (one_set _ _ (or_false _ _ s e.0) e.1), e.1)
+
+  pub fallen_absent : (way : Option ℕ) (exit : ℕ) (entered : Value) (m : Made) → IsFree c exit way → reads c entered.atom ≡ false → IsOut c (next_cell m) (next_cell (fallen_code way exit entered m).made)
+      → Absent c (fallen_code way exit entered m).lines × (reads c (fallen_code way exit entered m).value.atom ≡ false)
+  fallen_absent None exit entered m free r out = (absent_none c, r)
+  fallen_absent (Some site) exit entered m free r out =
+      let e = two_out m Int Int out in
+      (absent_set c _ _ _ (free site refl) e.0 (one_set _ _ (or_false _ _ r e.0) e.1), e.1)
+
+  pub before_rest_absent : (exit : ℕ) (declared : Test) (way : Option ℕ) (lines : Lines) (g : Guarded) → IsFree c exit way → Absent c lines → Absent c g.inside × Absent c g.rest
+      → Absent c (before_rest exit declared way lines g).inside × Absent c (before_rest exit declared way lines g).rest
+  before_rest_absent exit true way lines g free h k = (absent_then c lines _ h (absent_then c g.inside g.rest k.0 k.1), absent_none c)
+  before_rest_absent exit false None lines g free h k = (absent_then c lines g.inside h k.0, k.1)
+  before_rest_absent exit false (Some site) lines g free h k = (h, guarded_absent site exit g.inside g.rest (free site refl) k.0 k.1)

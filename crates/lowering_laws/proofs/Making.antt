@@ -37,7 +37,7 @@ module _ (P : List CallSite → Made → Made → Type 0)
   three m s t u = step [] m (with_cell (with_cell m OfValue s) OfValue t) _ (two m s t) (value (with_cell (with_cell m OfValue s) OfValue t) u)
 
   -- the step of an action
-  action_makes : (here : Instance) (action : Action) (values : List Value) (m : Made) → P [] m (action_code here action values m).made
+  pub action_makes : (here : Instance) (action : Action) (values : List Value) (m : Made) → P [] m (action_code here action values m).made
   action_makes here (tree.Literal v of) values m = same m
   action_makes here (tree.Variable x) values m = value m _
   action_makes here (tree.Unary op of) values m = value m _
@@ -53,15 +53,15 @@ module _ (P : List CallSite → Made → Made → Type 0)
   action_makes here (tree.Load site element root) values m = value m _
   action_makes here (tree.Store site element root) values m = same m
 
-  opened_makes : (way : Option ℕ) (exit : ℕ) (m : Made) → P [] m (opened way exit m).made
+  pub opened_makes : (way : Option ℕ) (exit : ℕ) (m : Made) → P [] m (opened way exit m).made
   opened_makes None exit m = same m
   opened_makes (Some site) exit m = flag m _
 
-  outward_makes : (way : Option ℕ) (exit outer : ℕ) (m : Made) → P [] m (outward way exit outer m).made
+  pub outward_makes : (way : Option ℕ) (exit outer : ℕ) (m : Made) → P [] m (outward way exit outer m).made
   outward_makes None exit outer m = same m
   outward_makes (Some site) exit outer m = value m _
 
-  round_makes : (site : ℕ) (first : Test) (way : Option ℕ) (exit : ℕ) (test : Lines) (answer : Value) (step_lines body : Lines) (m : Made) → P [] m (round_code site first way exit test answer step_lines body m).made
+  pub round_makes : (site : ℕ) (first : Test) (way : Option ℕ) (exit : ℕ) (test : Lines) (answer : Value) (step_lines body : Lines) (m : Made) → P [] m (round_code site first way exit test answer step_lines body m).made
   round_makes site first None exit test answer step_lines body m = same m
   round_makes site first (Some way) exit test answer step_lines body m = two m _ _
 
@@ -75,17 +75,17 @@ module _ (P : List CallSite → Made → Made → Type 0)
   all_labels_make site v chosen k (arm labels other body rest) m =
       step [] m (labels_code site v chosen k labels m).made _ (labels_make site v chosen k labels m) (all_labels_make site v chosen (k + 1) rest (labels_code site v chosen k labels m).made)
 
-  selected_makes : (site : ℕ) (v : Value) (arms : Arms) (m : Made) → P [] m (selected site v arms m).made
+  pub selected_makes : (site : ℕ) (v : Value) (arms : Arms) (m : Made) → P [] m (selected site v arms m).made
   selected_makes site v arms m = step [] m _ _ (two m _ _) (all_labels_make site _ _ 0 arms _)
 
-  entry_makes : (chosen fallen : Atom) (k : ℕ) (m : Made) → P [] m (entry_code chosen fallen k m).made
+  pub entry_makes : (chosen fallen : Atom) (k : ℕ) (m : Made) → P [] m (entry_code chosen fallen k m).made
   entry_makes chosen fallen k m = two m _ _
 
-  fallen_makes : (way : Option ℕ) (exit : ℕ) (entered : Value) (m : Made) → P [] m (fallen_code way exit entered m).made
+  pub fallen_makes : (way : Option ℕ) (exit : ℕ) (entered : Value) (m : Made) → P [] m (fallen_code way exit entered m).made
   fallen_makes None exit entered m = same m
   fallen_makes (Some site) exit entered m = two m _ _
 
-  result_makes : (result : Option IntType) (m : Made) → P [] m (result_code result m).made
+  pub result_makes : (result : Option IntType) (m : Made) → P [] m (result_code result m).made
   result_makes None m = same m
   result_makes (Some of) m = value m of
 
