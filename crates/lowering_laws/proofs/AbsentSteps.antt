@@ -146,14 +146,6 @@ module _ (c : ℕ) where
 
   -- ---- ways out
 
-  -- behind the cell of a construct
-  pub opened_absent : (way : Option ℕ) (exit : ℕ) (m : Made) → IsFree c exit way → IsOut c (next_cell m) (next_cell (opened way exit m).made) → Absent c (opened way exit m).lines × IsFree c (opened way exit m).exit way
-  opened_absent None exit m free out = (absent_none c, λ site e. absurd (none-some site e))
-  opened_absent (Some site) exit m free out =
-      let one = next_more m OfFlag Int in
-      let e = fresh m (next_cell (with_cell m OfFlag Int)) (omega (arith, one)) out in
-      (one_set _ _ refl e, λ s p. e)
-
   -- skipped lines
   pub guarded_absent : (site exit : ℕ) (inside rest : Lines) → nat_eq c exit ≡ false → Absent c inside → Absent c rest → Absent c (guarded_before site exit inside rest)
   guarded_absent site exit inside rest e h k = by_test (is_none inside)
