@@ -24,7 +24,7 @@ use Rattle.lowering_laws.proofs.Scoped.{free_first, free_second, fewer_ways, few
 use Rattle.lowering_laws.proofs.Making as making
 use Rattle.lowering_laws.proofs.Making.{call_of}
 use Rattle.lowering_laws.proofs.Absent.{Absent, absent_none, absent_then, absent_set, absent_load, absent_store, absent_clear, absent_barrier, absent_if, next_more, IsOut, out_within}
-use Rattle.lowering_laws.proofs.AbsentSteps.{action_uses, action_within, fresh, three_out, changed_absent, action_absent, initial_absent, outward_absent, round_absent, selected_absent, entry_absent, fallen_absent, before_rest_absent}
+use Rattle.lowering_laws.proofs.AbsentSteps.{action_uses, action_within, opened_exit, three_out, changed_absent, action_absent, initial_absent, outward_absent, round_absent, selected_absent, entry_absent, fallen_absent, before_rest_absent}
 
 -- a statement before others makes no cell
 pub before_rest_same : (exit : ℕ) (declared : Test) (way : Option ℕ) (lines : Lines) (g : Guarded) → next_cell (before_rest exit declared way lines g).made ≡ next_cell g.made
@@ -188,14 +188,6 @@ module _ (program : Program) (c : ℕ) (calls : Calls) (calls_up : CallsUp calls
   declared_apart x None h = vars x (slice_get_within f.variables x h.1.0 h.1.1)
   declared_apart x (Some e) h = vars x (slice_get_within f.variables x h.1.0 h.1.1)
 
-  -- the cell of a construct: a new one where it has a way out
-  opened_exit : (way : Option ℕ) (exit : ℕ) (m : Made) → IsOut c (next_cell m) (next_cell (opened way exit m).made) → Absent c (opened way exit m).lines × IsFree c (opened way exit m).exit way
-  opened_exit None exit m out = (absent_none c, λ site e. absurd (none-some site e))
-  opened_exit (Some site) exit m out =
-      let one = next_more m OfFlag Int in
-      let e = fresh c m (next_cell (with_cell m OfFlag Int)) (omega (arith, one)) out in
-      (absent_set c _ _ NoLine refl e (absent_none c), λ s p. e)
-
   list_joined_absent : (g : Guarded) → Absent c g.inside × Absent c g.rest → Absent c (in_order g).lines
   list_joined_absent g h = absent_then c g.inside g.rest h.0 h.1
 
@@ -242,7 +234,7 @@ module _ (program : Program) (c : ℕ) (calls : Calls) (calls_up : CallsUp calls
         let e = statement_up calls calls_up here co.exit body cs.made in
         let g = making.round_makes Up up_same up_before up_value up_flag site first way co.exit ct.lines ct.value cs.lines cb.lines cb.made in
         let k = outward_up (way_out false false body) co.exit exit cr.made in
-        let o = opened_exit way exit m (out_within c _ _ _ _ out (omega arith) (omega (arith, b, d, e, g, k))) in
+        let o = opened_exit c way exit m (out_within c _ _ _ _ out (omega arith) (omega (arith, b, d, e, g, k))) in
         let p = optional_absent test h.0 co.made (out_within c _ _ _ _ out (omega (arith, a)) (omega (arith, d, e, g, k))) in
         let q = optional_absent step h.1 ct.made (out_within c _ _ _ _ out (omega (arith, a, b)) (omega (arith, e, g, k))) in
         let r = statement_absent co.exit body h.2 o.1 v cs.made (out_within c _ _ _ _ out (omega (arith, a, b, d)) (omega (arith, g, k))) in
@@ -262,7 +254,7 @@ module _ (program : Program) (c : ℕ) (calls : Calls) (calls_up : CallsUp calls
         let e = arms_up calls calls_up here co.exit site cs.value.atom (int (pos 0)) 0 arms cs.made in
         let g = outward_up (way_out_of_arms false true arms) co.exit exit ca.made in
         let p = expression_absent value h.0.0 h.0.1 m (out_within c _ _ _ _ out (omega arith) (omega (arith, b, d, e, g))) in
-        let o = opened_exit way exit cv.made (out_within c _ _ _ _ out (omega (arith, a)) (omega (arith, d, e, g))) in
+        let o = opened_exit c way exit cv.made (out_within c _ _ _ _ out (omega (arith, a)) (omega (arith, d, e, g))) in
         let q = selected_absent c site cv.value arms co.made p.1 (out_within c _ _ _ _ out (omega (arith, a, b)) (omega (arith, e, g))) in
         let r = arms_absent co.exit site cs.value.atom (int (pos 0)) 0 arms h.3 o.1 (fewer_of_arms c here.answer false false false false (λ e. e) (λ e. e) arms v) q.1 refl cs.made (out_within c _ _ _ _ out (omega (arith, a, b, d)) (omega (arith, g))) in
         absent_then c cv.lines _ p.0 (absent_then c co.lines _ o.0 (absent_then c cs.lines _ q.0 (absent_then c ca.lines _ r

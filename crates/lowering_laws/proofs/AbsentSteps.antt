@@ -146,6 +146,14 @@ module _ (c : ℕ) where
 
   -- ---- ways out
 
+  -- the cell of a construct: a new one where it has a way out
+  pub opened_exit : (way : Option ℕ) (exit : ℕ) (m : Made) → IsOut c (next_cell m) (next_cell (opened way exit m).made) → Absent c (opened way exit m).lines × IsFree c (opened way exit m).exit way
+  opened_exit None exit m out = (absent_none c, λ site e. absurd (none-some site e))
+  opened_exit (Some site) exit m out =
+      let one = next_more m OfFlag Int in
+      let e = fresh m (next_cell (with_cell m OfFlag Int)) (omega (arith, one)) out in
+      (one_set _ _ refl e, λ s p. e)
+
   -- skipped lines
   pub guarded_absent : (site exit : ℕ) (inside rest : Lines) → nat_eq c exit ≡ false → Absent c inside → Absent c rest → Absent c (guarded_before site exit inside rest)
   guarded_absent site exit inside rest e h k = by_test (is_none inside)
@@ -228,3 +236,8 @@ module _ (c : ℕ) where
   before_rest_absent exit true way lines g free h k = (absent_then c lines _ h (absent_then c g.inside g.rest k.0 k.1), absent_none c)
   before_rest_absent exit false None lines g free h k = (absent_then c lines g.inside h k.0, k.1)
   before_rest_absent exit false (Some site) lines g free h k = (h, guarded_absent site exit g.inside g.rest (free site refl) k.0 k.1)
+
+-- a way out makes a cell
+pub opened_more : (way : Option ℕ) (exit : ℕ) (m : Made) (site : ℕ) → way ≡ Some site → next_cell m < next_cell (opened way exit m).made
+opened_more None exit m site e = absurd (none-some site e)
+opened_more (Some s) exit m site e = let one = next_more m OfFlag Int in omega (arith, one)
