@@ -1,1 +1,4 @@
 pub mod Carried
+pub mod Ran
+pub mod Keeps
+pub mod Exits
