@@ -2,3 +2,4 @@ pub mod Carried
 pub mod Ran
 pub mod Keeps
 pub mod Exits
+pub mod Parts
