@@ -208,7 +208,7 @@ pub declared_other : (scope : Scope) (y : ℕ) (k : Key) → (Has scope y → �
 declared_other scope y Answer ne has = refl
 declared_other scope y (Cell x) ne has = not_true (nat_eq y x) (λ e. ne (subst (Has scope) (sym (eqb-true y x e)) has))
 
-same_look : (from to : Held) (k : Key) → to ≡ from → look to k ≡ look from k
+pub same_look : (from to : Held) (k : Key) → to ≡ from → look to k ≡ look from k
 same_look from to k e = ap (λ s. look s k) e
 
 change_sets : (y : ℕ) (op of back old : _) (k : Key) → sets_key (Change y op of back old) k ≡ false → sets_key (Set y) k ≡ false

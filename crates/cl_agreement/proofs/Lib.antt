@@ -3,3 +3,4 @@ pub mod Ran
 pub mod Keeps
 pub mod Exits
 pub mod Parts
+pub mod Values
