@@ -4,3 +4,4 @@ pub mod Keeps
 pub mod Exits
 pub mod Parts
 pub mod Values
+pub mod Endings
