@@ -43,7 +43,7 @@ module _ (program : Program) (f : ℕ) where
   if_quiet scope t a b Answer h = neither (some_returns a) (some_returns b) h
   if_quiet scope t a b (Cell x) h = neither (some_assigns a x) (some_assigns b x) h
 
-  switch_quiet : (scope : Scope) (v : Expression) (arms : Arms) (k : Key) → cond_gives program f (switch_condition scope v arms) k ≡ false → arms_give arms k ≡ false
+  pub switch_quiet : (scope : Scope) (v : Expression) (arms : Arms) (k : Key) → cond_gives program f (switch_condition scope v arms) k ≡ false → arms_give arms k ≡ false
   switch_quiet scope v arms Answer h = h
   switch_quiet scope v arms (Cell x) h = h
 

@@ -5,3 +5,4 @@ pub mod Exits
 pub mod Parts
 pub mod Values
 pub mod Endings
+pub mod Points
