@@ -6,3 +6,6 @@ pub mod Parts
 pub mod Values
 pub mod Endings
 pub mod Points
+pub mod Deep
+pub mod Behind
+pub mod Inside
