@@ -9,3 +9,4 @@ pub mod Points
 pub mod Deep
 pub mod Behind
 pub mod Inside
+pub mod Through
