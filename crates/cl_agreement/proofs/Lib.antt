@@ -10,3 +10,4 @@ pub mod Deep
 pub mod Behind
 pub mod Inside
 pub mod Through
+pub mod Nesting

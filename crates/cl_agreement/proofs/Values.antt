@@ -94,7 +94,7 @@ module _ (program : Program) (f : ℕ) where
   -- of two items: what a load from constant memory, a work-item function and a call give
   pub record Two (w w' : Who) : Type 0 where
     pub asks : (what : Query) (d : ℤ) → is_own what ≡ false → w.asks what d ≡ w'.asks what d
-    pub loads : (root : Root) (element : IntType) (i x x' : ℤ) → is_constant_root (function_at program f) root ≡ true → w.gives root element i x → w'.gives root element i x' → x ≡ x'
+    pub loads : (site : ℕ) (element : IntType) (root : Root) (es : Expressions) → InBody (Apply (Load site element root) es) → (i x x' : ℤ) → is_constant_root (function_at program f) root ≡ true → w.gives root element i x → w'.gives root element i x' → x ≡ x'
     pub calls : (site g : ℕ) (roots : List (Option Root)) (es : Expressions) → InBody (Call site g roots es) → (args args' : List ℤ) (x x' : ℤ) → ((n : ℕ) → (Varies program (AVariable g n) → ⊥) → nth args n ≡ nth args' n)
         → w.calls site g roots args x → w'.calls site g roots args' x' → (Varies program (AResult g) → ⊥) → x ≡ x'
     pub no_kernel : (site g : ℕ) (roots : List (Option Root)) (es : Expressions) → InBody (Call site g roots es) → g ≢ program.kernel
@@ -143,7 +143,7 @@ module _ (program : Program) (f : ℕ) where
         )
     acts_alike (Load site element root) scope es args args' g g' h h' x x' m ok va al (a, b) (a', b') = (
       moved_alike scope g g' h h' al b b',
-      λ nv. two.loads root element (nth args' 0) x x' (elim (true_or_false (is_constant_root (function_at program f) root)) [ inl e ↦ e | inr e ↦ absurd (nv (loaded e)) ])
+      λ nv. two.loads site element root es m (nth args' 0) x x' (elim (true_or_false (is_constant_root (function_at program f) root)) [ inl e ↦ e | inr e ↦ absurd (nv (loaded e)) ])
       (subst (λ i. w.gives root element i x) (same_args (Load site element root) es args args' refl va nv 0) a) a',
     )
     acts_alike (Store site element root) scope es args args' g g' h h' x x' m ok va al (a, b) (a', b') = (moved_alike scope g g' h h' al b b', λ nv. a ∙ va 1 (λ e at v. nv (stored at v)) ∙ sym a')
