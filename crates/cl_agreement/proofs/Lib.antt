@@ -11,3 +11,6 @@ pub mod Behind
 pub mod Inside
 pub mod Through
 pub mod Nesting
+pub mod Constants
+pub mod Callers
+pub mod Once
