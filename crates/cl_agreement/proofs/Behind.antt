@@ -1,9 +1,9 @@
 -- Tasks behind a way out, and values taken from the list of values.
-use Rattle.std.proofs.Common.{◌≡◌, ◌≢◌, ℕ, zero, suc, ◌+◌, ℤ, pos, Bool, true, false, cond, List, [], ◌∷◌, ◌++◌, length, Option, Some, None, refl, sym, ap, ◌∙◌, subst, arith}
+use Rattle.std.proofs.Common.{◌≡◌, ℕ, zero, suc, ◌+◌, ℤ, Bool, true, false, cond, List, [], ◌∷◌, ◌++◌, length, Option, Some, None, refl, sym, ap, ◌∙◌, arith}
 use Rattle.cl_model.specs.Tree.{Expression, Expressions, none, more, Statement, Statements, empty, also, Arms, no_arm, arm}
-use Rattle.cl_model.specs.Task.{Nth, Arm, Point, Task, Run, InCall, InLoop, InSwitch, Frame, Item}
-use Rattle.cl_model.specs.Steps.{last, before, taken_onto, taken, below, count_of, in_order, test_tasks, step_tasks, behind_break, behind_continue, behind_return, has_label, Entry, nowhere, entry, labelled, defaulted, or_else, entry_of, arm_tasks, entry_tasks}
-use Rattle.cl_agreement.proofs.Ran.{Held, answered, Who, Eval, EvalAll, arm_count, entry_number, entered}
+use Rattle.cl_model.specs.Task.{Arm, Point, Task, InCall, InLoop, Item}
+use Rattle.cl_model.specs.Steps.{taken_onto, taken, below, count_of, in_order, test_tasks, step_tasks, behind_break, behind_continue, behind_return, has_label, Entry, nowhere, entry, labelled, defaulted, or_else, entry_of, arm_tasks, entry_tasks}
+use Rattle.cl_agreement.proofs.Ran.{Held, Who, EvalAll, arm_count, entry_number, entered}
 
 -- values that came one after another, the last first
 abbrev pub onto : List ℤ → List ℤ → List ℤ

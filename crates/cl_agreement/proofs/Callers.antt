@@ -1,8 +1,8 @@
 -- Where an item stands in a function, no frame of it and of its calls is of a function that calls do not reach.
-use Rattle.std.proofs.Common.{◌≡◌, ◌≢◌, ℕ, zero, suc, ℤ, Bool, true, false, cond, List, [], ◌∷◌, ◌++◌, Option, Some, None, nat_eq, inl, inr, refl, sym, ap, ◌∙◌, subst}
+use Rattle.std.proofs.Common.{◌≡◌, ℕ, zero, suc, ℤ, true, false, cond, List, [], ◌∷◌, Option, Some, None, nat_eq, refl, sym, ap, ◌∙◌}
 use Rattle.std.proofs.lemmas.Bool.{eqb-true}
 use Rattle.cl_model.specs.declared.program.Root.{Root}
-use Rattle.cl_model.specs.Tree.{Expression, Apply, Update, Choose, Call, Expressions, none, more, Statement, Do, Declare, Fill, Block, If, Loop, Switch, Break, Continue, Return, Barrier, Statements, empty, also, Arms, no_arm, arm, Program}
+use Rattle.cl_model.specs.Tree.{Expression, Apply, Update, Choose, Call, Expressions, none, more, Statement, Do, Declare, Fill, Block, If, Loop, Switch, Return, Statements, empty, also, Arms, no_arm, arm, Program}
 use Rattle.cl_model.specs.Task.{Operand, Own, Tested, Chosen, Other, Nth, Turn, Body, Step, Arm, Into, Point, Frame}
 use Rattle.cl_model.specs.Valid.{Scope, scope_after}
 use Rattle.cl_model.specs.Agreement.{Owned}
@@ -19,8 +19,8 @@ finds_none frame frames v ne h =
     ] refl
 
 module _ (program : Program) (f : ℕ) (w : Who) (v : Owned) (mine : w.frame.function ≡ v.function → ⊥)
-  (other : (site g : ℕ) (roots : List (Option Root)) (es : Expressions) → InBody program f (Call site g roots es) → g ≡ v.function → ⊥)
-  (deep : (site g : ℕ) (roots : List (Option Root)) (es : Expressions) → InBody program f (Call site g roots es) → (args : List ℤ) (p : Point) (inner : List Frame) → w.comes site g roots args p inner → finds inner v ≡ None) where
+    (other : (site g : ℕ) (roots : List (Option Root)) (es : Expressions) → InBody program f (Call site g roots es) → g ≡ v.function → ⊥)
+    (deep : (site g : ℕ) (roots : List (Option Root)) (es : Expressions) → InBody program f (Call site g roots es) → (args : List ℤ) (p : Point) (inner : List Frame) → w.comes site g roots args p inner → finds inner v ≡ None) where
   at_here : (s : Held) (to : List Frame) → to ≡ here w s → finds to v ≡ None
   at_here s to e = ap (λ fs. finds fs v) e ∙ finds_none (record w.frame { variables = s.variables }) [] v mine refl
 

@@ -1,7 +1,7 @@
 -- Items of one group name one object by a pointer to constant memory, at the kernel and in each call, and load one value from it.
-use Rattle.std.proofs.Common.{◌≡◌, ◌≢◌, ℕ, zero, suc, ◌<◌, ℤ, Bool, true, false, List, [], ◌∷◌, length, Option, Some, None, slice_get, nat_lt, inl, inr, refl, sym, ap, ◌∙◌, subst, arith}
+use Rattle.std.proofs.Common.{◌≡◌, ℕ, zero, suc, ℤ, true, List, [], ◌∷◌, length, Option, Some, None, slice_get, inl, inr, refl, sym, ap, ◌∙◌, subst}
 use Rattle.std.proofs.lemmas.Bool.{eq-eqb, lt-ltb}
-use Rattle.std.proofs.lemmas.Option.{none-some, same_Some, slice_get_within}
+use Rattle.std.proofs.lemmas.Option.{slice_get_within}
 use Rattle.wg_num.specs.declared.types.IntType.{IntType}
 use Rattle.wg_num.specs.Bytes.{size_of, value_of_bytes}
 use Rattle.work_items.specs.Memory.{Access, loaded}
@@ -13,7 +13,7 @@ use Rattle.cl_model.specs.declared.program.VarKind.{VarKind}
 use Rattle.cl_model.specs.declared.program.VarKind.TheVariants.{Scalar, Pointer}
 use Rattle.cl_model.specs.declared.launch.Bound.{Bound}
 use Rattle.cl_model.specs.declared.launch.Bound.TheVariants as bound
-use Rattle.cl_model.specs.Tree.{Action, Load, Set, Expression, Apply, Call, Expressions, single, Function, Program}
+use Rattle.cl_model.specs.Tree.{Load, Apply, Call, Expressions, Function, Program}
 use Rattle.cl_model.specs.Lists.{IsOneOf}
 use Rattle.cl_model.specs.Sizes.{Launch, group_of}
 use Rattle.cl_model.specs.Calls.{function_at, kernel_of}
@@ -25,7 +25,7 @@ use Rattle.cl_model.specs.Fitting.{FitsProgram}
 use Rattle.cl_model.specs.Fitting.{ArgumentFits as BoundFits, ArgumentsFit as BoundsFit}
 use Rattle.cl_model.specs.Varying.{expressions_of_list, is_constant_root}
 use Rattle.cl_agreement.proofs.Deep.{IsEntered, MayGive}
-use Rattle.cl_agreement.proofs.Nesting.{Typed, typed_of_all, typed_body}
+use Rattle.cl_agreement.proofs.Nesting.{typed_of_all, typed_body}
 
 -- a root that may lead to constant memory does
 root_constant : (program : Program) (f : Function) (root : Root) (at : Space) (element : IntType) → RootIs program f root at element → is_constant_root f root ≡ true → at ≡ space.Constant
@@ -110,7 +110,7 @@ module _ (program : Program) (launch : Launch) (buffers : List (List ℕ)) (vali
       → (args args' : List ℤ) (top top' : Frame) → IsEntered program launch number frame g roots args top → IsEntered program launch number' frame' g roots args' top' → SameConstants g top top'
   entered_same f number number' frame frame' same site g roots es m args args' top top' en en' n c =
       let fit : (ts : List IntType) × ArgumentsFit program (function_at program f) (parameter_kinds (function_at program g)) roots ts =
-          elim (typed_of_all program (function_at program f) (function_at program f).body (typed_body program valid f) (Call site g roots es) (λ y d q. cc q) m) [ inl h ↦ (h.1.1.0, h.1.1.2) | inr h ↦ (h.1.0, h.1.2) ] in
+      elim (typed_of_all program (function_at program f) (function_at program f).body (typed_body program valid f) (Call site g roots es) (λ y d q. cc q) m) [ inl h ↦ (h.1.1.0, h.1.1.2) | inr h ↦ (h.1.0, h.1.2) ] in
       let (root, element, e, is) = passes_constant program (function_at program f) (parameter_kinds (function_at program g)) roots fit.0 fit.1 n c in
       let o = constant_object f number number' frame frame' root element same is in
       (en.objects n root e ∙ o.0 ∙ sym (en'.objects n root e), subst (IsConstant program launch) (sym (en.objects n root e)) o.1)
@@ -119,8 +119,7 @@ module _ (program : Program) (launch : Launch) (buffers : List (List ℕ)) (vali
   pub kernel_same : FitsProgram program launch → (one other : ℕ) → group_of launch one ≡ group_of launch other → SameConstants program.kernel (kernel_frame program launch one) (kernel_frame program launch other)
   kernel_same fits one other same n c =
       let (b, e) = bound_constant launch (parameter_kinds (kernel_of program)) launch.args fits.arguments n c in
-      let is : b ≡ argument_object program launch (group_of launch one) n (slice_get launch.args n) = sym (ap (λ o. argument_object program launch (group_of launch one) n o) e) in
-      (
+      let is : b ≡ argument_object program launch (group_of launch one) n (slice_get launch.args n) = sym (ap (λ o. argument_object program launch (group_of launch one) n o) e) in (
         ap (λ g. argument_object program launch g n (slice_get launch.args n)) same,
         a_buffer n c (ap (λ o. is_buffer o (argument_object program launch (group_of launch one) n (slice_get launch.args n))) e ∙ eq-eqb b _ is),
       )

@@ -1,17 +1,17 @@
 -- Two runs of one statement of a function, from variables that are alike on the scope: they end alike; and where they end differently,
 -- nothing in scope that does not vary is ever assigned.
-use Rattle.std.proofs.Common.{◌≡◌, ◌≢◌, ℕ, zero, suc, ◌||◌, ℤ, pos, Bool, true, false, List, [], ◌∷◌, Option, Some, None, ◌⊎◌, inl, inr, refl, sym, ap, ◌∙◌, subst}
+use Rattle.std.proofs.Common.{◌≡◌, ◌≢◌, ℕ, zero, suc, ◌||◌, ℤ, pos, Bool, true, false, Option, Some, None, ◌⊎◌, inl, inr, refl, sym, ap, ◌∙◌, subst}
 use Rattle.std.proofs.Math.Dec.{eqb}
 use Rattle.std.proofs.lemmas.Bool.{eqb-true, eq-eqb}
-use Rattle.cl_model.specs.Tree.{Set, Expression, Apply, Expressions, none, more, single, Statement, Do, Declare, Fill, Block, If, Loop, Switch, Break, Continue, Return, Barrier, Statements, empty, also, Arms, no_arm, arm, Program}
+use Rattle.cl_model.specs.Tree.{Expression, Statement, Do, Declare, Fill, Block, If, Loop, Switch, Break, Continue, Return, Barrier, Statements, empty, also, Arms, no_arm, arm, Program}
 use Rattle.cl_model.specs.Calls.{function_at}
 use Rattle.cl_model.specs.Values.{is_zero}
-use Rattle.cl_model.specs.Valid.{Scope, Has, scope_after}
-use Rattle.cl_model.specs.Varying.{some_exits, arms_exit, exits, some_returns, some_assigns, AResult, AnExpression, Varies, operand, returning, assigned}
-use Rattle.cl_agreement.proofs.Ran.{Held, put, answered, How, Normal, Broke, Continued, Returned, Who, Eval, EvalAll, Steps, Passes, Fails, GoesOn, Stops, switched, ExecRel, Rounds, Iterates, Loops, Exec, ExecAll, ExecArms, entered}
+use Rattle.cl_model.specs.Valid.{Scope, scope_after}
+use Rattle.cl_model.specs.Varying.{some_exits, exits, some_returns, some_assigns, AResult, Varies, operand, returning, assigned}
+use Rattle.cl_agreement.proofs.Ran.{Held, answered, How, Normal, Who, Passes, Fails, Stops, switched, Rounds, Iterates, Loops, Exec, ExecAll, ExecArms, entered}
 use Rattle.cl_agreement.proofs.Keeps.{true_or_false, or_left, or_right, neither, not_true, Key, Answer, Cell, look, HasKey, gives, some_give, arms_give, quiet_if, quiet_loop, quiet_switch, quiet_block, quiet_also, quiet_arm, has_after, same_look, steps_kept, passes_kept, fails_kept, iterates_kept, kept, all_kept, arms_kept}
-use Rattle.cl_agreement.proofs.Exits.{stops_same, stops_goes, same_how, loops_escape, escapes, all_escape, arms_escape, stops_not_normal}
-use Rattle.cl_agreement.proofs.Parts.{Good, GoodAll, GoodOptional, GoodRun, GoodList, GoodArms, TurnUnder, good_do, good_declare, good_fill, good_block, good_if, good_loop, good_switch, good_return, good_also, good_arm, if_condition, turn_condition, switch_condition}
+use Rattle.cl_agreement.proofs.Exits.{stops_same, stops_goes, same_how, loops_escape, escapes, all_escape, arms_escape}
+use Rattle.cl_agreement.proofs.Parts.{Good, GoodRun, GoodList, GoodArms, TurnUnder, good_do, good_declare, good_fill, good_block, good_if, good_loop, good_switch, good_return, good_also, good_arm, if_condition, turn_condition, switch_condition}
 use Rattle.cl_agreement.proofs.Values.{InBody, UnderBody, BackBody, V, VKey, Alike, Frozen, cond_gives, unassigned_under, unassigned_beside, moved_alike, set_alike, declare_alike, Two, eval_alike, eval_all_alike, TestVaries, steps_alike, passes_alike, fails_alike, fails_passes, passes_fails}
 
 -- of two different ends one is a way out
@@ -106,10 +106,10 @@ module _ (program : Program) (f : ℕ) where
       apart_alike n n' m m' h h' a a' differ al x x' =
           let o = good_loop (InBody program f) (UnderBody program f) (BackBody program f) scope site first t st b ok in (
             split_alike scope L m m' h h' (λ k has nv on. differ (λ v. let z = turn_rule scope site first t st b o.0 v k has nv in let q : true ≡ false = sym on ∙ z in cc))
-            (λ k has un. (tail_kept w n m a h k has un x, tail_kept w' n' m' a' h' k has un x')) al,
+                (λ k has un. (tail_kept w n m a h k has un x, tail_kept w' n' m' a' h' k has un x')) al,
             λ ne k has nv.
-            let out : exits b ≡ true = one_out (exits b ≡ true) a a' ne (λ z. tail_out w n m a h z x) (λ z. tail_out w' n' m' a' h' z x') in
-            not_true (some_give (function_at program f).body k) (λ on. differ (λ v. let z = turn_beside scope t st b o.0 v out k has nv in let q : true ≡ false = sym on ∙ z in cc)),
+                let out : exits b ≡ true = one_out (exits b ≡ true) a a' ne (λ z. tail_out w n m a h z x) (λ z. tail_out w' n' m' a' h' z x') in
+                not_true (some_give (function_at program f).body k) (λ on. differ (λ v. let z = turn_beside scope t st b o.0 v out k has nv in let q : true ≡ false = sym on ∙ z in cc)),
           )
 
       abbrev Iterated : ℕ → ℕ → Type 0
@@ -139,16 +139,16 @@ module _ (program : Program) (f : ℕ) where
           let r = body g g' h m end how al e e' in
           let frozen = r.2 (stops_goes end how a s go) in (
             λ k has nv.
-            let un = part k (frozen k has nv) in
-            r.0 k has nv ∙ sym (tail_kept w' n' mid a' h' k has un x ∙ steps_kept w' st m mid k (quiet_loop site first t st b k un).1 st'),
+                let un = part k (frozen k has nv) in
+                r.0 k has nv ∙ sym (tail_kept w' n' mid a' h' k has un x ∙ steps_kept w' st m mid k (quiet_loop site first t st b k un).1 st'),
             λ ne. frozen,
           )
       iterates_alike (suc n) (suc n') g g' h h' a a' al (inr (mid, (how, m, e, go, st'), x)) (inl (end, e', s)) =
           let r = body g g' m h' how end al e e' in
           let frozen = r.2 (λ q. stops_goes end how a' s go (sym q)) in (
             λ k has nv.
-            let un = part k (frozen k has nv) in
-            tail_kept w n mid a h k has un x ∙ steps_kept w st m mid k (quiet_loop site first t st b k un).1 st' ∙ r.0 k has nv,
+                let un = part k (frozen k has nv) in
+                tail_kept w n mid a h k has un x ∙ steps_kept w st m mid k (quiet_loop site first t st b k un).1 st' ∙ r.0 k has nv,
             λ ne. frozen,
           )
       iterates_alike (suc n) (suc n') g g' h h' a a' al (inr (mid, (how, m, e, go, s), x)) (inr (mid', (how', m', e', go', s'), x')) =
@@ -180,8 +180,8 @@ module _ (program : Program) (f : ℕ) where
         → Alike program f scope m m' → ExecAll w c m x h → ExecAll w' d m' x' h' → Alike program f scope h h' × (x ≢ x' → Frozen program f scope)
     if_apart site t a b c d scope m m' h h' x x' okc okd under differ quiet out al e e' = (
       split_alike scope (cond_gives program f (if_condition scope t a b)) m m' h h'
-      (λ k has nv on. differ (λ v. let z = unassigned_under program f (if_condition scope t a b) under v k has nv in let q : true ≡ false = sym on ∙ z in cc))
-      (λ k has un. let q = quiet k (if_quiet scope t a b k un) in (all_kept w c scope m x h k okc.names has q.0 e, all_kept w' d scope m' x' h' k okd.names has q.1 e')) al,
+          (λ k has nv on. differ (λ v. let z = unassigned_under program f (if_condition scope t a b) under v k has nv in let q : true ≡ false = sym on ∙ z in cc))
+          (λ k has un. let q = quiet k (if_quiet scope t a b k un) in (all_kept w c scope m x h k okc.names has q.0 e, all_kept w' d scope m' x' h' k okd.names has q.1 e')) al,
       λ ne. frozen_beside (if_condition scope t a b) under differ (one_out _ x x' ne (λ z. out.0 (all_escape w c m x h z e)) (λ z. out.1 (all_escape w' d m' x' h' z e'))),
     )
 
@@ -234,16 +234,16 @@ module _ (program : Program) (f : ℕ) where
           let o = good_switch (InBody program f) (UnderBody program f) (BackBody program f) scope site v arms ok in
           let l = eval_alike program f w w' two v scope g g' x x' m m' o.1 al d d' in
           let r : Alike program f scope h h' × (end ≢ end' → Frozen program f scope) =
-              elim (same_entry (entered x arms) (entered x' arms)) [
-                | inl q ↦ arms_end_alike arms (entered x arms) scope o.2 (λ k un. (quiet_switch site v arms k (part k un)).1) m m' h h' end end' l.0 e (subst (λ j. ExecArms w' arms j m' end' h') (sym q) e')
-                | inr ne ↦
-                    let differ : (V program f v → ⊥) → ⊥ = λ nv. ne (ap (λ i. entered i arms) (l.1 nv)) in (
-                      split_alike scope (cond_gives program f (switch_condition scope v arms)) m m' h h'
+          elim (same_entry (entered x arms) (entered x' arms)) [
+            | inl q ↦ arms_end_alike arms (entered x arms) scope o.2 (λ k un. (quiet_switch site v arms k (part k un)).1) m m' h h' end end' l.0 e (subst (λ j. ExecArms w' arms j m' end' h') (sym q) e')
+            | inr ne ↦
+                let differ : (V program f v → ⊥) → ⊥ = λ nv. ne (ap (λ i. entered i arms) (l.1 nv)) in (
+                  split_alike scope (cond_gives program f (switch_condition scope v arms)) m m' h h'
                       (λ k has nv on. differ (λ y. let z = unassigned_under program f (switch_condition scope v arms) o.0 y k has nv in let q : true ≡ false = sym on ∙ z in cc))
                       (λ k has un. let q = switch_quiet scope v arms k un in (arms_kept w arms (entered x arms) scope m end h k o.2.names has q e, arms_kept w' arms (entered x' arms) scope m' end' h' k o.2.names has q e')) l.0,
-                      λ apart. frozen_beside (switch_condition scope v arms) o.0 differ (one_out _ end end' apart (λ z. arms_escape w arms (entered x arms) m end h z e) (λ z. arms_escape w' arms (entered x' arms) m' end' h' z e')),
-                    )
-              ] in
+                  λ apart. frozen_beside (switch_condition scope v arms) o.0 differ (one_out _ end end' apart (λ z. arms_escape w arms (entered x arms) m end h z e) (λ z. arms_escape w' arms (entered x' arms) m' end' h' z e')),
+                )
+          ] in
           (r.0, (λ _ _. r.0), λ ne. r.1 (λ q. ne (is ∙ ap switched q ∙ sym is')))
       end_alike (Break site) scope ok part g g' h h' a a' al (n, is) (n', is') =
           let r = moved_alike program f scope g g' h h' al is is' in (r, (λ _ _. r), λ ne. absurd (ne (n ∙ sym n')))

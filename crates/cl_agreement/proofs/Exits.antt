@@ -1,9 +1,9 @@
 -- What ends by a way out holds one, and a function's body ends by none but a return.
-use Rattle.std.proofs.Common.{◌≡◌, ◌≢◌, ℕ, zero, suc, ◌||◌, ℤ, Bool, true, false, ◌∷◌, Option, Some, None, ◌⊎◌, inl, inr, refl, sym, ap, ◌∙◌, subst}
+use Rattle.std.proofs.Common.{◌≡◌, ◌≢◌, ℕ, zero, suc, Bool, true, false, Option, Some, None, ◌⊎◌, inl, inr, refl, sym, ◌∙◌, subst}
 use Rattle.cl_model.specs.Tree.{Statement, Do, Declare, Fill, Block, If, Loop, Switch, Break, Continue, Return, Barrier, Statements, empty, also, Arms, no_arm, arm, Expression}
 use Rattle.cl_model.specs.Valid.{ExitsFit, AllExitsFit, ArmsExitsFit}
 use Rattle.cl_model.specs.Varying.{exits, some_exits, arms_exit, returns, some_returns, arms_return}
-use Rattle.cl_agreement.proofs.Ran.{Held, How, Normal, Broke, Continued, Returned, Who, ExecRel, GoesOn, Stops, switched, Rounds, Iterates, Loops, Exec, ExecAll, ExecArms, entered}
+use Rattle.cl_agreement.proofs.Ran.{Held, How, Normal, Broke, Continued, Returned, Who, ExecRel, GoesOn, Stops, switched, Iterates, Loops, Exec, ExecAll, ExecArms, entered}
 use Rattle.cl_agreement.proofs.Keeps.{or_left, or_right}
 
 pub stops_not_normal : (a how : How) → Stops a how → a ≢ Normal

@@ -1,5 +1,5 @@
 -- Expressions: an item that begins one either stands in it, or has evaluated it as a whole and goes on behind it.
-use Rattle.std.proofs.Common.{◌≡◌, ℕ, zero, suc, ◌+◌, ◌<◌, ◌≤◌, ℤ, pos, Bool, true, false, cond, List, [], ◌∷◌, ◌++◌, length, Option, Some, None, ◌⊎◌, inl, inr, refl, sym, ap, ◌∙◌, subst, arith, append_assoc, append-nil}
+use Rattle.std.proofs.Common.{◌≡◌, ℕ, zero, suc, ◌+◌, ◌<◌, ◌≤◌, ℤ, Bool, true, false, cond, List, [], ◌∷◌, ◌++◌, Option, Some, ◌⊎◌, inl, inr, refl, sym, ap, ◌∙◌, subst, arith, append_assoc, append-nil}
 use Rattle.wg_num.specs.declared.types.IntType.{IntType}
 use Rattle.wg_num.specs.declared.types.Bin.{Bin}
 use Rattle.wg_num.specs.Bytes.{value_of_bytes}
@@ -9,7 +9,7 @@ use Rattle.cl_model.specs.Sizes.{Launch}
 use Rattle.cl_model.specs.Calls.{function_at}
 use Rattle.cl_model.specs.Values.{is_zero}
 use Rattle.cl_model.specs.Task.{Leg, Operand, Own, Tested, Chosen, Other, Into, Point, Task, Run, Evaluate, Finish, Peek, Alter, Decide, Enter, InCall, Frame, Item, first_point}
-use Rattle.cl_model.specs.Steps.{last, before, taken, below, nth, changed, each_operand, count_of, action_next, item_next, new_frame, passed_object}
+use Rattle.cl_model.specs.Steps.{below, nth, changed, each_operand, count_of, action_next, item_next, new_frame, passed_object}
 use Rattle.cl_model.specs.Valid.{Scope}
 use Rattle.cl_agreement.proofs.Ran.{Held, put, here, Acts, Eval, EvalAll, ComesIn, ComesAt}
 use Rattle.cl_agreement.proofs.Parts.{Good, GoodAll, good_apply, good_more, good_update, good_choose, good_call}

@@ -1,10 +1,10 @@
 -- What code does not assign it keeps.
-use Rattle.std.proofs.Common.{◌≡◌, ◌≢◌, ℕ, zero, suc, ◌||◌, ℤ, pos, Bool, true, false, cond, List, [], ◌∷◌, Option, Some, None, nat_eq, ◌⊎◌, inl, inr, refl, sym, ap, ◌∙◌, subst}
+use Rattle.std.proofs.Common.{◌≡◌, ℕ, zero, suc, ◌||◌, ℤ, pos, Bool, true, false, cond, List, Option, Some, None, nat_eq, ◌⊎◌, inl, inr, refl, sym, ap, ◌∙◌, subst}
 use Rattle.std.proofs.lemmas.Bool.{eqb-true}
 use Rattle.cl_model.specs.Tree.{Action, Literal, Variable, Unary, Binary, Builtin, Convert, Ask, Second, Truth, Decided, Set, Change, Load, Store, Expression, Apply, Update, Choose, Call, Expressions, none, more, Statement, Do, Declare, Fill, Block, If, Loop, Switch, Break, Continue, Return, Barrier, Statements, empty, also, Arms, no_arm, arm}
 use Rattle.cl_model.specs.Valid.{Scope, Has, NamesInOptional, scope_after, IsScoped, IsScopedList, AreScoped, AreScopedArms}
 use Rattle.cl_model.specs.Varying.{sets, assigns_in, assigns_among, assigns_in_optional, assigns, some_assigns, arms_assign, returns, some_returns, arms_return}
-use Rattle.cl_agreement.proofs.Ran.{Held, put, answered, How, Normal, Broke, Continued, Returned, Who, Acts, Eval, EvalAll, Steps, Passes, Fails, ExecRel, Rounds, Iterates, Loops, Enters, Begun, Heads, Exec, ExecAll, ExecArms, Reaches, entered}
+use Rattle.cl_agreement.proofs.Ran.{Held, put, answered, How, Normal, Who, Acts, Eval, EvalAll, Steps, Passes, Fails, ExecRel, Rounds, Iterates, Loops, Exec, ExecAll, ExecArms, Reaches, entered}
 
 pub true_or_false : (b : Bool) → (b ≡ true) ⊎ (b ≡ false)
 true_or_false true = inl refl

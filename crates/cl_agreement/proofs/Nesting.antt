@@ -1,15 +1,13 @@
 -- Calls nest less and less deep, and each part of a valid function has a type, or is a call that gives no value.
-use Rattle.std.proofs.Common.{◌≡◌, ◌≢◌, ℕ, zero, suc, ℤ, Bool, false, List, [], ◌∷◌, ◌++◌, length, Option, Some, None, slice_get, unwrap_or, ◌⊎◌, inl, inr, refl, sym, ap, ◌∙◌, subst}
-use Rattle.std.proofs.lemmas.Option.{none-some, same_Some}
+use Rattle.std.proofs.Common.{◌≡◌, ◌≢◌, ℕ, zero, suc, false, List, [], ◌∷◌, ◌++◌, Option, Some, None, slice_get, unwrap_or, ◌⊎◌, inl, inr, refl, sym, ap, ◌∙◌, subst}
 use Rattle.wg_num.specs.declared.types.IntType.{IntType}
 use Rattle.wg_num.specs.declared.types.IntType.TheVariants.{Long}
 use Rattle.cl_model.specs.declared.program.Root.{Root}
-use Rattle.cl_model.specs.Tree.{Action, Set, Expression, Apply, Update, Choose, Call, Expressions, none, more, single, Statement, Do, Declare, Fill, Block, If, Loop, Switch, Break, Continue, Return, Barrier, Statements, empty, also, Arms, no_arm, arm, Function, Program}
+use Rattle.cl_model.specs.Tree.{Set, Expression, Apply, Update, Choose, Call, Expressions, none, more, single, Statement, Do, Declare, Fill, Block, If, Loop, Switch, Break, Continue, Return, Barrier, Statements, empty, also, Arms, no_arm, arm, Function, Program}
 use Rattle.cl_model.specs.Lists.{Each, IsOneOf}
 use Rattle.cl_model.specs.Calls.{CallSite, calls_in, calls_among, calls_in_optional, calls_of, calls_of_all, calls_of_arms, function_at, no_function}
-use Rattle.cl_model.specs.Valid.{HasType, HaveTypes, HasValue, IsPlainCall, OptionalFits, DeclaredFits, ReturnFits, AllHaveType, StatementFits, AllFit, ArmsFit, CallsEnd, IsScopedList, AllExitsFit, numbers_below, IsValid}
-use Rattle.cl_model.specs.Varying.{parts_of, parts_among, parts_of_optional, declared, expressions_of, expressions_of_list, expressions_of_arms}
-use Rattle.cl_model.proofs.CallWeights.{each-left, each-right}
+use Rattle.cl_model.specs.Valid.{HasType, HaveTypes, HasValue, IsPlainCall, OptionalFits, ReturnFits, AllHaveType, StatementFits, AllFit, ArmsFit, CallsEnd, IsScopedList, AllExitsFit, numbers_below, IsValid}
+use Rattle.cl_model.specs.Varying.{parts_of, parts_among, parts_of_optional, expressions_of, expressions_of_list, expressions_of_arms}
 
 pub in_either : {A : Type 0} (xs ys : List A) (a : A) → IsOneOf (xs ++ ys) a → IsOneOf xs a ⊎ IsOneOf ys a
 in_either [] ys a h = inr h
@@ -56,7 +54,7 @@ module _ (site g : ℕ) (roots : List (Option Root)) (es : Expressions) where
         let same_site : s ≡ site = cc q in
         let same_function : k ≡ g = cc q in
         let one : ◌≡◌ {A = CallSite} (record { site = s; function = k }) (record { site = site; function = g }) =
-            ap (λ (n : ℕ). record { site = n; function = k }) same_site ∙ ap (λ (n : ℕ). record { site = site; function = n }) same_function in
+        ap (λ (n : ℕ). record { site = n; function = k }) same_site ∙ ap (λ (n : ℕ). record { site = site; function = n }) same_function in
         to_right (calls_among arguments) (record { site = s; function = k } ∷ []) (inl one)
     called_in (Call s k rs arguments) (inr h) = to_left (calls_among arguments) (record { site = s; function = k } ∷ []) (called_among arguments h)
 

@@ -1,30 +1,30 @@
 -- A variable that does not vary agrees: the theorems on one function, discharged by the depth of calls, at the histories of a launch.
-use Rattle.std.proofs.Common.{◌≡◌, ◌≢◌, ℕ, zero, suc, ◌+◌, ◌/◌, ◌%◌, ◌<◌, ◌≤◌, ℤ, pos, negsuc, cond, nat_lt, take, Bool, true, false, List, [], ◌∷◌, ◌++◌, length, Option, Some, None, inl, inr, refl, sym, ap, ◌∙◌, subst, arith, append_assoc, append-nil}
+use Rattle.std.proofs.Common.{◌≡◌, ℕ, zero, suc, ◌/◌, ◌%◌, ◌<◌, ℤ, pos, negsuc, cond, nat_lt, take, true, false, List, [], ◌∷◌, ◌++◌, length, Option, Some, None, inl, inr, refl, sym, ap, ◌∙◌, subst, arith, append_assoc}
 use Rattle.std.proofs.lemmas.Option.{none-some, same_Some}
-use Rattle.work_items.specs.Items.{Next, Ends, Waits, Goes, Begins, Loads, Stores}
+use Rattle.work_items.specs.Items.{Next, Waits, Begins, Loads, Stores}
 use Rattle.work_items.specs.Histories.{Deed, Passed, Turned, Read, Wrote, DoesOnce, History, nothing, going, doing}
 use Rattle.cl_model.specs.declared.program.Root.{Root}
 use Rattle.cl_model.specs.declared.program.Query.{Query}
 use Rattle.cl_model.specs.declared.program.Query.TheVariants.{WorkDim, GlobalId, LocalId, GroupId, GlobalSize, LocalSize, NumGroups, GlobalOffset}
-use Rattle.cl_model.specs.Tree.{Expression, Call, Expressions, Block, Program}
-use Rattle.cl_model.specs.Sizes.{Launch, item_count, group_of, groups_at, groups_of, product, answer_within, answer_outside, answer_of}
+use Rattle.cl_model.specs.Tree.{Call, Expressions, Block, Program}
+use Rattle.cl_model.specs.Sizes.{Launch, group_of, groups_at, groups_of, product, answer_within, answer_outside, answer_of}
 use Rattle.cl_model.specs.Calls.{function_at}
-use Rattle.cl_model.specs.Task.{Own, Into, Point, Task, Run, InCall, Frame, Item, first_point}
-use Rattle.cl_model.specs.Steps.{nth, behind_return, first_next, item_next}
+use Rattle.cl_model.specs.Task.{Into, Point, Task, InCall, Frame, Item, first_point}
+use Rattle.cl_model.specs.Steps.{nth, first_next, item_next}
 use Rattle.cl_model.specs.Meaning.{MayBeTold, ItemHistory, lengths_of, kernel_frame, start_item}
-use Rattle.cl_model.specs.Valid.{Scope, Has, numbers_below, CallsEnd, IsValid}
+use Rattle.cl_model.specs.Valid.{Scope, numbers_below, CallsEnd, IsValid}
 use Rattle.cl_model.specs.Fitting.{FitsProgram}
 use Rattle.cl_model.specs.Varying.{is_own, AVariable, AResult, Varies}
-use Rattle.cl_model.specs.Agreement.{Owned, IsInBody, IsScopedAt, held_in, Agrees}
+use Rattle.cl_model.specs.Agreement.{Owned, IsInBody, held_in, Agrees}
 use Rattle.cl_agreement.proofs.Ran.{Held, How, Normal, Broke, Continued, Returned, Who, here, Exec, Comes}
-use Rattle.cl_agreement.proofs.Keeps.{Key, Answer, Cell, look, HasKey, gives, some_give}
+use Rattle.cl_agreement.proofs.Keeps.{Answer, Cell, look, gives}
 use Rattle.cl_agreement.proofs.Exits.{same_how, return_held, Leaves, all_leave}
 use Rattle.cl_agreement.proofs.Parts.{GoodRun}
-use Rattle.cl_agreement.proofs.Values.{InBody, UnderBody, BackBody, VKey, Alike, Two}
+use Rattle.cl_agreement.proofs.Values.{InBody, UnderBody, BackBody, Alike, Two}
 use Rattle.cl_agreement.proofs.Endings.{Part, end_alike}
-use Rattle.cl_agreement.proofs.Points.{finds, finds_before, finds_held, FoundAlike, Without, VO, TwoPoints, comes_alike}
+use Rattle.cl_agreement.proofs.Points.{finds, finds_before, finds_held, FoundAlike, VO, TwoPoints, comes_alike}
 use Rattle.cl_agreement.proofs.Deep.{first_held, given, IsEntered, CallsAt, PointsAt, who, Leads, Past}
-use Rattle.cl_agreement.proofs.Inside.{peel, it, Called, CallRuns, CallsRun}
+use Rattle.cl_agreement.proofs.Inside.{Called, CallRuns, CallsRun}
 use Rattle.cl_agreement.proofs.Through.{left, runs}
 use Rattle.cl_agreement.proofs.Nesting.{callee_ends, ends_deeper, least_depth, scoped_body, exits_body}
 use Rattle.cl_agreement.proofs.Constants.{SameConstants, loads_alike, entered_same, kernel_same}
@@ -111,7 +111,7 @@ module _ (program : Program) (launch : Launch) (buffers : List (List ℕ)) (vali
           | inr ne ↦
               let frozen = r.2 ne Answer tt nv in
               let lone : (w : Who) (a : How) (s t : Held) → Exec w (Block (function_at program g).body) s a t → a ≡ Returned → ⊥ =
-                  λ w a s t y q. let z = return_held w (Block (function_at program g).body) s a t q y in let u : true ≡ false = sym z ∙ frozen in cc in
+              λ w a s t y q. let z = return_held w (Block (function_at program g).body) s a t q y in let u : true ≡ false = sym z ∙ frozen in cc in
               is ∙ given_none how end (lone (One d top) how (first_held top) end e) ∙ sym (given_none how' end' (lone (Two' d' top') how' (first_held top') end' e')) ∙ sym is'
         ]
 
@@ -181,7 +181,7 @@ module _ (program : Program) (launch : Launch) (buffers : List (List ℕ)) (vali
         elim (runs program launch buffers number d g top below called (Block (function_at program g).body) (scope_of g) (good_body g) (at ++ Into ∷ []) n (InCall at site ∷ rest) values (first_held top) to h) [
           | inl (p, tops, w, fr, c) ↦ inl (p, tops, w ∙ ap Some (append_assoc at (Into ∷ []) p), fr, (top, en, c))
           | inr (how, after, e, (m, lt, h1)) ↦ returned d f g site frame frames roots args top s after at n m rest values how to called lt en e
-          (all_leave (who program launch buffers number d top) false false (function_at program g).body (first_held top) how after (exits_body program valid g) e) h1
+              (all_leave (who program launch buffers number d top) false false (function_at program g).body (first_held top) how after (exits_body program valid g) e) h1
         ]
 
     calls_run : (d f : ℕ) (frame : Frame) (frames : List Frame) → CallsEnd program (suc d) f → CallsRun program launch buffers number d f frame frames
@@ -237,9 +237,9 @@ module _ (program : Program) (launch : Launch) (buffers : List (List ℕ)) (vali
         let (m, em, nm) = least_depth program (suc d) k ends in
         let sc = kernel_same program launch buffers valid fits one other same in
         let t2 = points_with one other same d m k (kernel_frame program launch one) (kernel_frame program launch other) sc refl refl em nm
-            (points_alike one other same d m k (kernel_frame program launch one) (kernel_frame program launch other) sc em nm) in
+        (points_alike one other same d m k (kernel_frame program launch one) (kernel_frame program launch other) sc em nm) in
         let r = comes_alike program k (IsInBody program d) (who program launch buffers one d (kernel_frame program launch one)) (who program launch buffers other d (kernel_frame program launch other)) t2
-            (Block (function_at program k).body) (scope_of k) point (first_held (kernel_frame program launch one)) (first_held (kernel_frame program launch other)) tops tops' (good_body k) (part_body k) (start_kernel one other) c c' v has nv in
+        (Block (function_at program k).body) (scope_of k) point (first_held (kernel_frame program launch one)) (first_held (kernel_frame program launch other)) tops tops' (good_body k) (part_body k) (start_kernel one other) c c' v has nv in
         ap (λ fs. held_in fs v) fr ∙ finds_held (tops ++ []) v r.0 (finds_before tops [] v r.0 r.1) ∙ sym (ap (λ fs. held_in fs v) fr' ∙ finds_held (tops' ++ []) v r.0 (finds_before tops' [] v r.0 r.2))
       where
         start_kernel : (one other : ℕ) → Alike program program.kernel (scope_of program.kernel) (first_held (kernel_frame program launch one)) (first_held (kernel_frame program launch other))

@@ -1,12 +1,12 @@
 -- What holds of all expressions, conditions and returned values of code holds of those of its parts.
-use Rattle.std.proofs.Common.{◌≡◌, ◌||◌, ℕ, ℤ, Bool, true, false, List, [], ◌∷◌, ◌++◌, Option, Some, None, ◌⊎◌, inl, inr, refl, sym, ap, subst}
+use Rattle.std.proofs.Common.{◌≡◌, ◌||◌, ℕ, ℤ, Bool, false, List, [], ◌∷◌, ◌++◌, Option, Some, None, inl, inr, refl, subst}
 use Rattle.wg_num.specs.declared.types.IntType.{IntType}
 use Rattle.wg_num.specs.declared.types.Bin.{Bin}
 use Rattle.cl_model.specs.declared.program.Root.{Root}
-use Rattle.cl_model.specs.Tree.{Action, Set, Expression, Apply, Update, Choose, Call, Expressions, none, more, single, Statement, Do, Declare, Fill, Block, If, Loop, Switch, Break, Continue, Return, Barrier, Statements, empty, also, Arms, no_arm, arm}
+use Rattle.cl_model.specs.Tree.{Action, Set, Expression, Apply, Update, Choose, Call, Expressions, more, single, Statement, Do, Declare, Fill, Block, If, Loop, Switch, Break, Continue, Return, Barrier, Statements, also, Arms, arm}
 use Rattle.cl_model.specs.Lists.{IsOneOf}
-use Rattle.cl_model.specs.Valid.{Scope, Has, ActionNames, NamesIn, NamesAmong, NamesInOptional, scope_after, IsScoped, IsScopedList, AreScopedArms}
-use Rattle.cl_model.specs.Varying.{Condition, assigns_in, assigns_in_optional, assigns, some_assigns, arms_assign, exits, some_exits, arms_exit, returns, some_returns, arms_return, conditions_in, conditions_among, conditions_in_optional, loop_condition, conditions_of, conditions_of_list, conditions_of_arms, parts_of, parts_among, parts_of_optional, expressions_of, expressions_of_list, expressions_of_arms, returned, returned_list, returned_arms, optional_list}
+use Rattle.cl_model.specs.Valid.{Scope, Has, ActionNames, NamesIn, NamesAmong, NamesInOptional, scope_after, IsScopedList, AreScopedArms}
+use Rattle.cl_model.specs.Varying.{Condition, assigns_in, assigns_in_optional, assigns, some_assigns, arms_assign, exits, some_exits, arms_exit, returns, some_returns, arms_return, conditions_in, conditions_among, conditions_in_optional, loop_condition, conditions_of, conditions_of_list, conditions_of_arms, parts_of, parts_among, parts_of_optional, expressions_of, expressions_of_list, expressions_of_arms, returned, returned_list, returned_arms}
 use Rattle.cl_agreement.proofs.Keeps.{Sound, sound_list, branch_scoped, body_sound}
 
 pub in_left : {A : Type 0} (xs ys : List A) (a : A) → IsOneOf xs a → IsOneOf (xs ++ ys) a
@@ -148,10 +148,18 @@ module _ (In : Expression → Type 0) (Under : Condition → Type 0) (Back : Exp
       let under' = every_right Under (conditions_in scope t) (conditions_of_list scope a ++ conditions_of_list scope b) under in (
         g.under _ (inl refl),
         record { parts = every_left In (parts_of t) _ g.parts; under = every_left Under (conditions_in scope t) _ under; names = g.names.0 },
-        record { parts = every_left In (expressions_of_list a) (expressions_of_list b) parts'; under = every_left Under (conditions_of_list scope a) (conditions_of_list scope b) under';
-          back = every_left Back (returned_list a) (returned_list b) g.back; names = branch_scoped scope a g.names.1 },
-        record { parts = every_right In (expressions_of_list a) (expressions_of_list b) parts'; under = every_right Under (conditions_of_list scope a) (conditions_of_list scope b) under';
-          back = every_right Back (returned_list a) (returned_list b) g.back; names = branch_scoped scope b g.names.2 },
+        record {
+          parts = every_left In (expressions_of_list a) (expressions_of_list b) parts';
+          under = every_left Under (conditions_of_list scope a) (conditions_of_list scope b) under';
+          back = every_left Back (returned_list a) (returned_list b) g.back;
+          names = branch_scoped scope a g.names.1;
+        },
+        record {
+          parts = every_right In (expressions_of_list a) (expressions_of_list b) parts';
+          under = every_right Under (conditions_of_list scope a) (conditions_of_list scope b) under';
+          back = every_right Back (returned_list a) (returned_list b) g.back;
+          names = branch_scoped scope b g.names.2;
+        },
       )
 
   abbrev pub TurnUnder : Scope → Option Expression → Option Expression → Statement → Type 0

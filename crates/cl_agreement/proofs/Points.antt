@@ -1,20 +1,19 @@
 -- Two items that began one statement of a function with variables that are alike, and stand at one point in it, hold equal values
 -- of each variable in scope there that does not vary.
-use Rattle.std.proofs.Common.{◌≡◌, ◌≢◌, ℕ, zero, suc, ◌||◌, ℤ, pos, Bool, true, false, cond, List, [], ◌∷◌, ◌++◌, Option, Some, None, nat_eq, ◌⊎◌, inl, inr, refl, sym, ap, ◌∙◌, subst}
+use Rattle.std.proofs.Common.{◌≡◌, ◌≢◌, ℕ, zero, suc, ℤ, Bool, true, false, cond, List, [], ◌∷◌, ◌++◌, Option, Some, None, nat_eq, inl, inr, refl, sym, ap, ◌∙◌, subst}
 use Rattle.std.proofs.lemmas.Bool.{eqb-true, eq-eqb}
 use Rattle.std.proofs.lemmas.Option.{none-some}
 use Rattle.cl_model.specs.declared.program.Root.{Root}
 use Rattle.cl_model.specs.Tree.{Expression, Apply, Update, Choose, Call, Expressions, none, more, Statement, Do, Declare, Fill, Block, If, Loop, Switch, Break, Continue, Return, Barrier, Statements, empty, also, Arms, no_arm, arm, Program}
-use Rattle.cl_model.specs.Calls.{function_at}
 use Rattle.cl_model.specs.Task.{Operand, Own, Tested, Chosen, Other, Nth, Turn, Body, Step, Arm, Into, Point, Frame}
 use Rattle.cl_model.specs.Steps.{nth}
 use Rattle.cl_model.specs.Valid.{Scope, Has, scope_after}
 use Rattle.cl_model.specs.Varying.{AVariable, Varies, passed}
 use Rattle.cl_model.specs.Agreement.{Owned, owned_by, HasOwned, IsInScope, IsInScopeAmong, IsInScopeOptional, IsInScopeAt, IsInScopeList, IsInScopeArm, held_in}
-use Rattle.cl_agreement.proofs.Ran.{Held, How, Normal, Who, here, Eval, EvalAll, Steps, Passes, Enters, Begun, Heads, Exec, ExecAll, ExecArms, Reaches, entered, ComesIn, ComesAt, ComesInOptional, Comes, ComesAmong, ComesArm}
-use Rattle.cl_agreement.proofs.Keeps.{Key, Cell, HasKey, gives, some_give, arms_give, quiet_if, quiet_loop, quiet_switch, quiet_block, quiet_also, quiet_arm, reaches_kept}
+use Rattle.cl_agreement.proofs.Ran.{Held, Normal, Who, here, Eval, Enters, Begun, Heads, Exec, Reaches, entered, ComesIn, ComesAt, ComesInOptional, Comes, ComesAmong, ComesArm}
+use Rattle.cl_agreement.proofs.Keeps.{Cell, gives, some_give, arms_give, quiet_if, quiet_loop, quiet_switch, quiet_block, quiet_also, quiet_arm, reaches_kept}
 use Rattle.cl_agreement.proofs.Parts.{Good, GoodAll, GoodOptional, GoodRun, GoodList, GoodArms, good_apply, good_more, good_update, good_choose, good_call, good_do, good_declare, good_fill, good_block, good_if, good_loop, good_switch, good_return, good_also, good_arm, switch_condition}
-use Rattle.cl_agreement.proofs.Values.{InBody, UnderBody, BackBody, V, VKey, Alike, cond_gives, unassigned_under, moved_alike, Two, eval_alike, eval_all_alike, steps_alike, passes_alike}
+use Rattle.cl_agreement.proofs.Values.{InBody, UnderBody, BackBody, Alike, cond_gives, unassigned_under, moved_alike, Two, eval_alike, eval_all_alike, steps_alike, passes_alike}
 use Rattle.cl_agreement.proofs.Endings.{same_entry, Part, split_alike, switch_quiet, EndAlike, rounds_alike, end_alike, all_end_alike}
 
 -- the value of a variable in the frames, where one of them is of its function
@@ -229,8 +228,8 @@ module _ (program : Program) where
         elim (same_entry (entered x arms) (entered x' arms)) [
           | inl q ↦ reaches_alike arms (entered x arms) i scope o.2 (λ k un. (quiet_switch site e arms k (part k un)).1) m m' h h' l.0 r (subst (λ j. Reaches w' arms j i m' h') (sym q) r')
           | inr ne ↦ split_alike program f scope (cond_gives program f (switch_condition scope e arms)) m m' h h'
-          (λ k has nv on. ne (ap (λ z. entered z arms) (l.1 (λ y. let z = unassigned_under program f (switch_condition scope e arms) o.0 y k has nv in let q : true ≡ false = sym on ∙ z in cc))))
-          (λ k has un. let q = switch_quiet program f scope e arms k un in (reaches_kept w arms (entered x arms) i scope m h k o.2.names has q r, reaches_kept w' arms (entered x' arms) i scope m' h' k o.2.names has q r')) l.0
+              (λ k has nv on. ne (ap (λ z. entered z arms) (l.1 (λ y. let z = unassigned_under program f (switch_condition scope e arms) o.0 y k has nv in let q : true ≡ false = sym on ∙ z in cc))))
+              (λ k has un. let q = switch_quiet program f scope e arms k un in (reaches_kept w arms (entered x arms) i scope m h k o.2.names has q r, reaches_kept w' arms (entered x' arms) i scope m' h' k o.2.names has q r')) l.0
         ]
 
     mutual

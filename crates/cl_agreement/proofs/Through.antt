@@ -1,16 +1,16 @@
 -- Statements: an item that begins one either stands in it, or has run it as a whole and goes on behind it.
-use Rattle.std.proofs.Common.{◌≡◌, ◌≢◌, ℕ, zero, suc, ◌+◌, ◌<◌, ◌≤◌, ℤ, pos, Bool, true, false, cond, List, [], ◌∷◌, ◌++◌, length, Option, Some, None, ◌⊎◌, inl, inr, refl, sym, ap, ◌∙◌, subst, arith, append_assoc}
+use Rattle.std.proofs.Common.{◌≡◌, ◌≢◌, ℕ, zero, suc, ◌+◌, ◌<◌, ◌≤◌, ℤ, pos, Bool, true, false, cond, List, [], ◌∷◌, ◌++◌, Option, Some, None, ◌⊎◌, inl, inr, refl, sym, ap, ◌∙◌, subst, arith, append_assoc}
 use Rattle.work_items.specs.Items.{Goes, Begins}
-use Rattle.cl_model.specs.Tree.{Expression, Expressions, none, more, Statement, Do, Declare, Fill, Block, If, Loop, Switch, Break, Continue, Return, Barrier, Statements, empty, also, Arms, no_arm, arm, Program}
+use Rattle.cl_model.specs.Tree.{Expression, Expressions, Statement, Do, Declare, Fill, Block, If, Loop, Switch, Break, Continue, Return, Barrier, Statements, empty, also, Arms, no_arm, arm, Program}
 use Rattle.cl_model.specs.Sizes.{Launch}
 use Rattle.cl_model.specs.Values.{is_zero}
 use Rattle.cl_model.specs.Task.{Leg, Operand, Own, Tested, Chosen, Other, Nth, Turn, Body, Step, Arm, Point, Task, Run, Evaluate, Discard, Keep, Clear, Initialise, Branch, InLoop, Select, InSwitch, Leave, Frame, Item, first_point}
-use Rattle.cl_model.specs.Steps.{last, before, taken, below, each_operand, count_of, in_order, test_tasks, step_tasks, iteration, behind_break, behind_continue, behind_return, entry_of, arm_tasks, entry_tasks, initial_tasks, item_next}
+use Rattle.cl_model.specs.Steps.{before, below, each_operand, count_of, in_order, test_tasks, step_tasks, iteration, behind_break, behind_continue, behind_return, entry_of, arm_tasks, entry_tasks, initial_tasks, item_next}
 use Rattle.cl_model.specs.Valid.{Scope, scope_after}
-use Rattle.cl_agreement.proofs.Ran.{Held, put, answered, How, Normal, Broke, Continued, Returned, Who, here, Eval, EvalAll, Steps, Passes, Fails, GoesOn, switched, Rounds, Iterates, Loops, Enters, Begun, Heads, Exec, ExecAll, ExecArms, Reaches, entered, ComesIn, ComesAt, ComesInOptional, Comes, ComesAmong, ComesArm}
-use Rattle.cl_agreement.proofs.Parts.{Good, GoodAll, GoodOptional, GoodRun, GoodList, GoodArms, good_do, good_declare, good_fill, good_block, good_if, good_loop, good_switch, good_return, good_also, good_arm}
+use Rattle.cl_agreement.proofs.Ran.{Held, put, answered, How, Normal, Broke, Continued, Returned, Who, here, Eval, EvalAll, Steps, Passes, Fails, GoesOn, Iterates, Loops, Enters, Begun, Heads, Exec, ExecAll, ExecArms, Reaches, entered, ComesIn, ComesInOptional, Comes, ComesAmong, ComesArm}
+use Rattle.cl_agreement.proofs.Parts.{Good, GoodOptional, GoodRun, GoodList, GoodArms, good_do, good_declare, good_fill, good_block, good_if, good_loop, good_switch, good_return, good_also, good_arm}
 use Rattle.cl_agreement.proofs.Values.{InBody, UnderBody, BackBody}
-use Rattle.cl_agreement.proofs.Deep.{who, Leads, Past}
+use Rattle.cl_agreement.proofs.Deep.{who, Leads}
 use Rattle.cl_agreement.proofs.Behind.{onto, taken_all, below_taken, count_is, break_in_order, continue_in_order, return_in_order, break_arms, continue_arms, return_arms, turn_tasks, break_turn, continue_turn, return_turn, return_same, arms_from, entry_is}
 use Rattle.cl_agreement.proofs.Inside.{H, Later, Soon, peel, it, Stands, at_root, at_leg, deeper, deeper2, CallsRun, evaluate_runs, operands_run}
 
@@ -116,8 +116,8 @@ module _ (program : Program) (launch : Launch) (buffers : List (List ℕ)) (numb
   LoopRan site first t st b at n rest values from to = St at (Comes W (Loop site first t st b) from) to ⊎ ((how : How) × (after : Held) × Loops W first t st (Exec W b) from how after × SS n (left how rest values after) to)
 
   module _ (site : ℕ) (first : Bool) (t st : Option Expression) (b : Statement) (scope : Scope) (okt : GoodOptional (InBody program f) (UnderBody program f) (BackBody program f) scope t) (oks : GoodOptional (InBody program f) (UnderBody program f) (BackBody program f) scope st)
-    (at : Point) (rest : List Task) (values : List ℤ) (from : Held) (to : Item)
-    (body : (at : Point) (n : ℕ) (rest : List Task) (values : List ℤ) (s : Held) (to : Item) → HH n (I (Run at b ∷ rest) values s) to → Ran b at n rest values s to) where
+      (at : Point) (rest : List Task) (values : List ℤ) (from : Held) (to : Item)
+      (body : (at : Point) (n : ℕ) (rest : List Task) (values : List ℤ) (s : Held) (to : Item) → HH n (I (Run at b ∷ rest) values s) to → Ran b at n rest values s to) where
     abbrev C : Point → List Frame → Type 0
     C = Comes W (Loop site first t st b) from
 
@@ -143,7 +143,7 @@ module _ (program : Program) (launch : Launch) (buffers : List (List ℕ)) (numb
         elim (is_zero x) as (λ z. is_zero x ≡ z → Leads program launch buffers (cond z (Goes (I rest values s)) (Begins (I (iteration at site (Some e) st b (suc k) rest) values s))) mid → LR (suc n)) [
           | true ↦ λ z l. inr (Normal, s, fails_at W first t st b k from head s hd (subst (λ o. Fails W o head s) (sym is) (x, vx, z)), (n, omega arith, subst (λ i. HH n i to) l h))
           | false ↦ λ z l. longer n (suc n) (omega arith) (again n (omega arith) k s (begun_at W first t st b k from head s hd (subst (λ o. Passes W o head s) (sym is) (x, vx, z)))
-          (subst (λ o. HH n (I (iteration at site o st b (suc k) rest) values s) to) (sym is) (subst (λ i. HH n i to) l h)))
+              (subst (λ o. HH n (I (iteration at site o st b (suc k) rest) values s) to) (sym is) (subst (λ i. HH n i to) l h)))
         ] refl (subst (λ o. Leads program launch buffers (item_next program launch (I (InLoop at site o st b k ∷ rest) (x ∷ values) s)) mid) is l)
 
     untested : (bound : ℕ) → Anew bound → (n k : ℕ) (head : Held) → t ≡ None → n < bound → Heads W first t st (Exec W b) k from head → HH n (I (marker k) values head) to → LR n
@@ -224,7 +224,7 @@ module _ (program : Program) (launch : Launch) (buffers : List (List ℕ)) (numb
   cleared site array es at n (suc m) rest values s mid args to lt v (next, l, h) =
       let c = count_is W es s args mid v in
       let e : next ≡ I (initial_tasks at site array 0 args rest) values mid =
-          l ∙ ap (λ xs. I (initial_tasks at site array 0 xs rest) (below (count_of es) (onto args values)) mid) (taken_all args values (count_of es) c) ∙ ap (λ ys. I (initial_tasks at site array 0 args rest) ys mid) (below_taken args values (count_of es) c) in
+      l ∙ ap (λ xs. I (initial_tasks at site array 0 xs rest) (below (count_of es) (onto args values)) mid) (taken_all args values (count_of es) c) ∙ ap (λ ys. I (initial_tasks at site array 0 args rest) ys mid) (below_taken args values (count_of es) c) in
       elim (filled at (Comes W (Fill site array es) s) site array mid (λ k. (args, mid, v, refl)) 0 args m rest values to (subst (λ i. HH m i to) e h)) [
         | inl w ↦ inl w
         | inr (m2, le, h2) ↦ inr (Normal, mid, (args, v, refl), (m2, omega arith, h2))

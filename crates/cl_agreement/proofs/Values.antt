@@ -1,5 +1,5 @@
 -- Two evaluations of one expression of a function, from variables that are alike on the scope: a value that does not vary is equal, and the variables stay alike.
-use Rattle.std.proofs.Common.{◌≡◌, ◌≢◌, ℕ, zero, suc, ◌||◌, ℤ, pos, Bool, true, false, cond, List, [], ◌∷◌, Option, Some, None, nat_eq, ◌⊎◌, inl, inr, refl, sym, ap, ◌∙◌, subst}
+use Rattle.std.proofs.Common.{◌≡◌, ◌≢◌, ℕ, zero, suc, ℤ, pos, Bool, true, false, cond, List, ◌∷◌, Option, Some, None, nat_eq, inl, inr, refl, sym, ap, ◌∙◌, subst}
 use Rattle.std.proofs.lemmas.Bool.{eqb-true, eq-eqb}
 use Rattle.wg_num.specs.declared.types.IntType.{IntType}
 use Rattle.wg_num.specs.Wrap.{wrap_of}
@@ -12,8 +12,8 @@ use Rattle.cl_model.specs.Lists.{IsOneOf}
 use Rattle.cl_model.specs.Calls.{function_at}
 use Rattle.cl_model.specs.Values.{is_zero}
 use Rattle.cl_model.specs.Steps.{nth, changed}
-use Rattle.cl_model.specs.Valid.{Scope, Has, ActionNames}
-use Rattle.cl_model.specs.Varying.{Condition, sets, assigns_in, returned_list, some_returns, some_assigns, expressions_of_list, conditions, IsAmong, IsNth, is_own, is_constant_root, is_store, AVariable, AResult, AnExpression, Varies, own_id, loaded, named, operand, stored, updated, tested, chosen, otherwise, called, passed, return_under, return_beside, assigned, assigned_under, exit_under}
+use Rattle.cl_model.specs.Valid.{Scope, ActionNames}
+use Rattle.cl_model.specs.Varying.{Condition, assigns_in, returned_list, expressions_of_list, conditions, IsAmong, IsNth, is_own, is_constant_root, is_store, AVariable, AResult, AnExpression, Varies, own_id, loaded, named, operand, stored, updated, tested, chosen, otherwise, called, passed, return_under, return_beside, assigned, assigned_under, exit_under}
 use Rattle.cl_agreement.proofs.Ran.{Held, put, Who, Acts, Eval, EvalAll, Steps, Passes, Fails}
 use Rattle.cl_agreement.proofs.Keeps.{true_or_false, neither, not_true, Key, Answer, Cell, look, HasKey, sets_key, gives_in, some_give, put_other, same_look, eval_kept}
 use Rattle.cl_agreement.proofs.Parts.{Good, GoodAll, GoodOptional, good_apply, good_more, good_update, good_choose, good_call, choice_condition}
@@ -117,7 +117,7 @@ module _ (program : Program) (f : ℕ) where
     acts_alike (Builtin b of) scope es args args' g g' h h' x x' m ok va al (a, c) (a', c') = (
       moved_alike scope g g' h h' al c c',
       λ nv. let s = same_args (Builtin b of) es args args' refl va nv in
-      a ∙ ap (λ z. builtin_of b of z (nth args 1) (nth args 2)) (s 0) ∙ ap (λ z. builtin_of b of (nth args' 0) z (nth args 2)) (s 1) ∙ ap (λ z. builtin_of b of (nth args' 0) (nth args' 1) z) (s 2) ∙ sym a',
+          a ∙ ap (λ z. builtin_of b of z (nth args 1) (nth args 2)) (s 0) ∙ ap (λ z. builtin_of b of (nth args' 0) z (nth args 2)) (s 1) ∙ ap (λ z. builtin_of b of (nth args' 0) (nth args' 1) z) (s 2) ∙ sym a',
     )
     acts_alike (Convert t) scope es args args' g g' h h' x x' m ok va al (a, b) (a', b') =
         (moved_alike scope g g' h h' al b b', λ nv. a ∙ ap (wrap_of t) (same_args (Convert t) es args args' refl va nv 0) ∙ sym a')
@@ -137,14 +137,14 @@ module _ (program : Program) (f : ℕ) where
     acts_alike (Change y op of back old) scope es args args' g g' h h' x x' m ok va al (a, b) (a', b') =
         let same : (V (Apply (Change y op of back old) es) → ⊥) → (n : ℕ) → nth args n ≡ nth args' n = λ nv. same_args (Change y op of back old) es args args' refl va nv in
         let new : (V (Apply (Change y op of back old) es) → ⊥) → changed op of back (nth args 0) (nth args 1) ≡ changed op of back (nth args' 0) (nth args' 1) =
-            λ nv. ap (λ z. changed op of back z (nth args 1)) (same nv 0) ∙ ap (λ z. changed op of back (nth args' 0) z) (same nv 1) in (
+        λ nv. ap (λ z. changed op of back z (nth args 1)) (same nv 0) ∙ ap (λ z. changed op of back (nth args' 0) z) (same nv 1) in (
           set_alike scope g g' h h' y (changed op of back (nth args 0) (nth args 1)) (changed op of back (nth args' 0) (nth args' 1)) al (λ nv. new (λ v. nv (assigned m (eq-eqb y y refl) v))) b b',
           λ nv. a ∙ ap (λ z. cond old z (changed op of back (nth args 0) (nth args 1))) (same nv 0) ∙ ap (λ z. cond old (nth args' 0) z) (new nv) ∙ sym a',
         )
     acts_alike (Load site element root) scope es args args' g g' h h' x x' m ok va al (a, b) (a', b') = (
       moved_alike scope g g' h h' al b b',
       λ nv. two.loads site element root es m (nth args' 0) x x' (elim (true_or_false (is_constant_root (function_at program f) root)) [ inl e ↦ e | inr e ↦ absurd (nv (loaded e)) ])
-      (subst (λ i. w.gives root element i x) (same_args (Load site element root) es args args' refl va nv 0) a) a',
+          (subst (λ i. w.gives root element i x) (same_args (Load site element root) es args args' refl va nv 0) a) a',
     )
     acts_alike (Store site element root) scope es args args' g g' h h' x x' m ok va al (a, b) (a', b') = (moved_alike scope g g' h h' al b b', λ nv. a ∙ va 1 (λ e at v. nv (stored at v)) ∙ sym a')
 
