@@ -1,1 +1,16 @@
 pub mod Carried
+pub mod Ran
+pub mod Keeps
+pub mod Exits
+pub mod Parts
+pub mod Values
+pub mod Endings
+pub mod Points
+pub mod Deep
+pub mod Behind
+pub mod Inside
+pub mod Through
+pub mod Nesting
+pub mod Constants
+pub mod Callers
+pub mod Once
