@@ -85,5 +85,5 @@ calls_absent program names valid named c (suc depth) here site function roots va
     let o = opened_exit c exits 0 cr.made (out_within c _ _ _ _ out (omega (arith, size, a)) (omega (arith, d))) in
     let answer : IsFree c there.answer exits = λ s e. let k = opened_more exits 0 cr.made s e in out there.answer (omega arith) (omega (arith, size, a, k, d)) in
     let l = list_absent program c calls (calls_up program names depth) (calls_absent program names valid named c depth) f there (λ x less. out (next_cell m + x) (omega arith) (omega (arith, less, size, a, b, d)))
-        co.exit false f.body fits.types o.1 (fewer_of_all c there.answer false true false true (λ e. refl) (λ e. refl) f.body answer) co.made (out_within c _ _ _ _ out (omega (arith, size, a, b)) (omega arith)) in
+    co.exit false f.body fits.types o.1 (fewer_of_all c there.answer false true false true (λ e. refl) (λ e. refl) f.body answer) co.made (out_within c _ _ _ _ out (omega (arith, size, a, b)) (omega arith)) in
     (absent_then c (parameter_lines (next_cell m) values) _ p (absent_then c cr.lines _ q.0 (absent_then c co.lines _ o.0 (absent_then c cl.inside cl.rest l.0 l.1))), q.1)

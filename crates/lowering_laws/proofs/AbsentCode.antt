@@ -118,11 +118,12 @@ module _ (program : Program) (c : ℕ) (calls : Calls) (calls_up : CallsUp calls
         let e = out (next_cell ci.made) (omega (arith, a)) (omega (arith, b, d, u, v, w)) in
         let q = expression_absent value h.1.0 h.1.1 ml (out_within c _ _ _ _ out (omega (arith, a, b)) (omega (arith, u, v, w))) in
         let outside = out_within c _ _ (next_cell cv.made) _ out (omega (arith, a, b, d)) (omega arith) in
-        let three = three_out c cv.made of (binary_type op of) back outside in
-        (absent_then c ci.lines _ p.0 (absent_load c site _ element _ _ _ p.1 e
-        (absent_then c cv.lines _ q.0 (changed_absent c op of back (CellAtom (next_cell ci.made)) cv.value.atom cv.made _ e q.1 outside
-        (λ ec. absent_store c site element _ _ _ NoLine p.1 ec (absent_none c))))),
-        either_quiet c old _ _ e three.2)
+        let three = three_out c cv.made of (binary_type op of) back outside in (
+          absent_then c ci.lines _ p.0 (absent_load c site _ element _ _ _ p.1 e
+              (absent_then c cv.lines _ q.0 (changed_absent c op of back (CellAtom (next_cell ci.made)) cv.value.atom cv.made _ e q.1 outside
+              (λ ec. absent_store c site element _ _ _ NoLine p.1 ec (absent_none c))))),
+          either_quiet c old _ _ e three.2,
+        )
     expression_absent (Choose site test chosen other) t h m out =
         let ct = expression_code calls here test m in
         let cy = expression_code calls here chosen ct.made in
@@ -134,16 +135,18 @@ module _ (program : Program) (c : ℕ) (calls : Calls) (calls_up : CallsUp calls
         let p = expression_absent test h.0.0 h.0.1 m (out_within c _ _ _ _ out (omega arith) (omega (arith, b, d, u))) in
         let q = expression_absent chosen t h.1 ct.made (out_within c _ _ _ _ out (omega (arith, a)) (omega (arith, d, u))) in
         let r = expression_absent other t h.2 cy.made (out_within c _ _ _ _ out (omega (arith, a, b)) (omega (arith, u))) in
-        let e = out (next_cell cn.made) (omega (arith, a, b, d)) (omega (arith, u)) in
-        (absent_then c ct.lines _ p.0 (absent_if c site ct.value.atom _ _ NoLine p.1
-        (absent_then c cy.lines _ q.0 (absent_set c _ _ NoLine q.1 e (absent_none c))) (absent_then c cn.lines _ r.0 (absent_set c _ _ NoLine r.1 e (absent_none c))) (absent_none c)), e)
+        let e = out (next_cell cn.made) (omega (arith, a, b, d)) (omega (arith, u)) in (
+          absent_then c ct.lines _ p.0 (absent_if c site ct.value.atom _ _ NoLine p.1
+              (absent_then c cy.lines _ q.0 (absent_set c _ _ NoLine q.1 e (absent_none c))) (absent_then c cn.lines _ r.0 (absent_set c _ _ NoLine r.1 e (absent_none c))) (absent_none c)),
+          e,
+        )
     expression_absent (Call site function roots arguments) t h m out =
         let ca = operands_code calls here arguments m in
         let a = operands_up calls calls_up here arguments m in
         let b = calls_up here site function (argument_roots here roots) ca.values ca.made in
         let p = operands_absent arguments h.1.0 h.1.1 m (out_within c _ _ _ _ out (omega arith) (omega (arith, b))) in
         let q = call here site function (argument_roots here roots) ca.values ca.made (operand_count arguments h.1.0 h.1.1 m ∙ argument_count program f (parameter_kinds (function_at program function)) roots h.1.0 h.1.2) p.1
-            (out_within c _ _ _ _ out (omega (arith, a)) (omega arith)) in
+        (out_within c _ _ _ _ out (omega (arith, a)) (omega arith)) in
         (absent_then c ca.lines _ p.0 q.0, q.1)
 
     pub operands_absent : (list : Expressions) (ts : List IntType) → HaveTypes program f list ts → (m : Made) → IsOut c (next_cell m) (next_cell (operands_code calls here list m).made)
@@ -177,7 +180,7 @@ module _ (program : Program) (c : ℕ) (calls : Calls) (calls_up : CallsUp calls
       let b = calls_up here site function (argument_roots here roots) ca.values ca.made in
       let p = operands_absent arguments h.1.0 h.1.1 m (out_within c _ _ _ _ out (omega arith) (omega (arith, b))) in
       let q = call here site function (argument_roots here roots) ca.values ca.made (operand_count arguments h.1.0 h.1.1 m ∙ argument_count program f (parameter_kinds (function_at program function)) roots h.1.0 h.1.2) p.1
-          (out_within c _ _ _ _ out (omega (arith, a)) (omega arith)) in
+      (out_within c _ _ _ _ out (omega (arith, a)) (omega arith)) in
       absent_then c ca.lines _ p.0 q.0
 
   do_absent : (e : Expression) → StatementFits program f (Do e) → (m : Made) → IsOut c (next_cell m) (next_cell (expression_code calls here e m).made) → Absent c (expression_code calls here e m).lines

@@ -87,9 +87,11 @@ module _ (c : ℕ) where
   three_out m s t u out =
       let one = next_more m OfValue s in
       let two = next_more (with_cell m OfValue s) OfValue t in
-      let three = next_more (with_cell (with_cell m OfValue s) OfValue t) OfValue u in
-      (out (next_cell m) (omega arith) (omega (arith, one, two, three)), out (next_cell (with_cell m OfValue s)) (omega (arith, one)) (omega (arith, one, two, three)),
-      out (next_cell (with_cell (with_cell m OfValue s) OfValue t)) (omega (arith, one, two)) (omega (arith, one, two, three)))
+      let three = next_more (with_cell (with_cell m OfValue s) OfValue t) OfValue u in (
+        out (next_cell m) (omega arith) (omega (arith, one, two, three)),
+        out (next_cell (with_cell m OfValue s)) (omega (arith, one)) (omega (arith, one, two, three)),
+        out (next_cell (with_cell (with_cell m OfValue s) OfValue t)) (omega (arith, one, two)) (omega (arith, one, two, three)),
+      )
 
   pub two_out : (m : Made) (s t : IntType) → IsOut c (next_cell m) (next_cell (with_cell (with_cell m OfValue s) OfValue t)) → (nat_eq c (next_cell m) ≡ false) × (nat_eq c (next_cell (with_cell m OfValue s)) ≡ false)
   two_out m s t out =
@@ -129,9 +131,10 @@ module _ (c : ℕ) where
   action_absent here (tree.Decided answer) values m vars r out = (absent_none c, refl)
   action_absent here (tree.Set x) values m vars r out = (one_set _ _ (first_quiet c values r) (vars x refl), first_quiet c values r)
   action_absent here (tree.Change x op of back old) values m vars r out =
-      let e = three_out m of (binary_type op of) back out in
-      (changed_absent op of back (first values).atom (second values).atom m _ (first_quiet c values r) (second_quiet c values r) out (λ e. one_set _ _ e (vars x refl)),
-      either_quiet c old (first values) (changed op of back (first values).atom (second values).atom m).value (first_quiet c values r) e.2)
+      let e = three_out m of (binary_type op of) back out in (
+        changed_absent op of back (first values).atom (second values).atom m _ (first_quiet c values r) (second_quiet c values r) out (λ e. one_set _ _ e (vars x refl)),
+        either_quiet c old (first values) (changed op of back (first values).atom (second values).atom m).value (first_quiet c values r) e.2,
+      )
   action_absent here (tree.Load site element root) values m vars r out =
       let one = next_more m OfValue element in
       let e = fresh m (next_cell (with_cell m OfValue element)) (omega (arith, one)) out in

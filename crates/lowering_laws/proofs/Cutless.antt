@@ -120,7 +120,7 @@ pub list_joined_cutless : (g : Guarded) → Cutless g.inside × Cutless g.rest �
 list_joined_cutless g h = cutless_then g.inside g.rest h.0 h.1
 
 module _ (calls : Calls) (inside : ℕ → Test)
-  (call : (here : Instance) (site function : ℕ) (roots : List Root) (values : List Value) (m : Made) → inside function ≡ false → Cutless (calls here site function roots values m).lines) (here : Instance) where
+    (call : (here : Instance) (site function : ℕ) (roots : List Root) (values : List Value) (m : Made) → inside function ≡ false → Cutless (calls here site function roots values m).lines) (here : Instance) where
   mutual
     unfolding expression_code
 

@@ -21,11 +21,10 @@ abbrev pub call_of : ℕ → ℕ → CallSite
 call_of site function = record { site = site; function = function }
 
 module _ (P : List CallSite → Made → Made → Type 0)
-  (same : (m : Made) → P [] m m)
-  (before : (xs ys : List CallSite) (a b c : Made) → P xs a b → P ys b c → P (xs ++ ys) a c)
-  (value : (m : Made) (of : IntType) → P [] m (with_cell m OfValue of))
-  (flag : (m : Made) (of : IntType) → P [] m (with_cell m OfFlag of)) where
-
+    (same : (m : Made) → P [] m m)
+    (before : (xs ys : List CallSite) (a b c : Made) → P xs a b → P ys b c → P (xs ++ ys) a c)
+    (value : (m : Made) (of : IntType) → P [] m (with_cell m OfValue of))
+    (flag : (m : Made) (of : IntType) → P [] m (with_cell m OfFlag of)) where
   -- a step of no call behind others
   step : (xs : List CallSite) (a b c : Made) → P xs a b → P [] b c → P xs a c
   step xs a b c h k = subst (λ zs. P zs a c) (append-nil xs) (before xs [] a b c h k)
@@ -95,7 +94,7 @@ module _ (P : List CallSite → Made → Made → Type 0)
   before_rest_made exit false (Some site) lines c xs a h = h
 
   module _ (calls : Calls) (here : Instance)
-    (call : (site function : ℕ) (roots : List Root) (values : List Value) (m : Made) → P (call_of site function ∷ []) m (calls here site function roots values m).made) where
+      (call : (site function : ℕ) (roots : List Root) (values : List Value) (m : Made) → P (call_of site function ∷ []) m (calls here site function roots values m).made) where
     mutual
       unfolding expression_code
 

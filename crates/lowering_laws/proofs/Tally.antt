@@ -172,7 +172,7 @@ module _ (w : Weight) (what : Counting) (counts : CountsAs w what) where
       let p = tally_joined w lines (guarded_before site exit g.inside g.rest) in let q = guarded_weighs site exit g.inside g.rest in let r = tally_joined w g.inside g.rest in omega arith
 
   module _ (calls : Calls) (called : ℕ → ℕ)
-    (call : (here : Instance) (site function : ℕ) (roots : List Root) (values : List Value) (m : Made) → tally w (calls here site function roots values m).lines ≡ called function) (here : Instance) where
+      (call : (here : Instance) (site function : ℕ) (roots : List Root) (values : List Value) (m : Made) → tally w (calls here site function roots values m).lines ≡ called function) (here : Instance) where
     mutual
       unfolding expression_code
 

@@ -37,9 +37,9 @@ once_is x y = by_test (nat_eq y x) refl
     by_test false e h = let z : once x y ≡ 0 = ap (λ b. if b then 1 else 0) e in absurd (omega (arith, h, z))
 
 module _ (here : Inlining) (inner : ℕ → ℕ → Variable → Type 0)
-  (into_call : (site g : ℕ) (rest : Text) (v : Variable) → inner site g v → Mem (here.called site g rest) v)
-  (past_call : (site g : ℕ) (rest : Text) (v : Variable) → Mem rest v → Mem (here.called site g rest) v)
-  (from_call : (site g : ℕ) (rest : Text) (v : Variable) → Mem (here.called site g rest) v → inner site g v ⊎ Mem rest v) where
+    (into_call : (site g : ℕ) (rest : Text) (v : Variable) → inner site g v → Mem (here.called site g rest) v)
+    (past_call : (site g : ℕ) (rest : Text) (v : Variable) → Mem rest v → Mem (here.called site g rest) v)
+    (from_call : (site g : ℕ) (rest : Text) (v : Variable) → Mem (here.called site g rest) v → inner site g v ⊎ Mem rest v) where
   -- one of the calls leads to it
   abbrev pub FoundIn : List CallSite → Variable → Type 0
   FoundIn calls v = (c : CallSite) × IsOneOf calls c × inner c.site c.function v

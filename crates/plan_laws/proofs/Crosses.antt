@@ -46,7 +46,6 @@ if_either true v w xs h = ⊎_elim (λ q. inl (q, refl)) (λ q. inr q) h
 if_either false v w xs h = inr h
 
 module _ (program : Program) where
-
   -- the outline of a function
   abbrev outline : ℕ → Outline
   outline f = function_outline (entry (holding_of program.functions)) (function_at program f)

@@ -330,11 +330,12 @@ once_from marked (DeclaresThen y rest) f g =
 once_from marked (CutThen rest) f g = once_from marked rest f g
 once_from marked (CallsThen site h rest) f g =
     (λ c. let q = g site in let t = tick_same site site refl in let r = called_some rest site c in omega (arith, q, t, r), once_from marked rest f (λ n. let q = g n in omega (arith, q)))
-once_from marked (BlockThen inner rest) f g =
-    (λ x m h k. let q = f x m in let a = declared_some inner x h in let b = declared_some rest x k in omega (arith, q, a, b),
-    λ n h k. let q = g n in let a = called_some inner n h in let b = called_some rest n k in omega (arith, q, a, b),
-    once_from marked inner (λ x m. let q = f x m in omega (arith, q)) (λ n. let q = g n in omega (arith, q)),
-    once_from marked rest (λ x m. let q = f x m in omega (arith, q)) (λ n. let q = g n in omega (arith, q)))
+once_from marked (BlockThen inner rest) f g = (
+  λ x m h k. let q = f x m in let a = declared_some inner x h in let b = declared_some rest x k in omega (arith, q, a, b),
+  λ n h k. let q = g n in let a = called_some inner n h in let b = called_some rest n k in omega (arith, q, a, b),
+  once_from marked inner (λ x m. let q = f x m in omega (arith, q)) (λ n. let q = g n in omega (arith, q)),
+  once_from marked rest (λ x m. let q = f x m in omega (arith, q)) (λ n. let q = g n in omega (arith, q)),
+)
 
 -- in a valid function whose sites differ, where only variables that are there are marked
 pub function_once : (program : Program) (inside marked : ℕ → Test) (f : Function) → IsValidFunction program f → ((x : ℕ) → marked x ≡ true → x < length f.variables) → ((n : ℕ) → occurs n (sites_of_all f.body) ≤ 1) → IsOnceIn marked (function_outline inside f)

@@ -122,15 +122,17 @@ module _ (marked : ℕ → Test) where
       ((λ m. number_kept within (after (marked y) next) rest s1 y (u.0 m) ∙ noted_here (marked y) y next s m (f y m)), r)
   placed within next (CutThen rest) s f g u = placed within next rest s f g u
   placed within next (CallsThen site h rest) s f g u =
-      let s1 : Columns = record { numbers = s.numbers; taken = slice_set s.taken site within } in
-      (taken_kept within next rest s1 site u.0 ∙ set_same s.taken site within (g site (inl refl)),
-      placed within next rest s1 f (λ k c. let q = g k (inr c) in let e = set_many s.taken site within in omega (arith, q, e)) u.1)
+      let s1 : Columns = record { numbers = s.numbers; taken = slice_set s.taken site within } in (
+        taken_kept within next rest s1 site u.0 ∙ set_same s.taken site within (g site (inl refl)),
+        placed within next rest s1 f (λ k c. let q = g k (inr c) in let e = set_many s.taken site within in omega (arith, q, e)) u.1,
+      )
   placed within next (BlockThen inner rest) s f g u =
       let inside = within + own_columns marked inner in
       let s1 = share_columns marked inside within inner s in
       let many = numbers_stay inside within inner s in
       let deep = taken_stay inside within inner s in
-      let end = share_columns marked within next rest s1 in
-      (placed_as (number_at s1.numbers) (number_at s1.taken) (number_at end.numbers) (number_at end.taken) inside within inner (λ x m h. number_kept within next rest s1 x (u.0 x m h)) (λ k c. taken_kept within next rest s1 k (u.1 k c))
-      (placed inside within inner s f (λ k c. g k (inl c)) u.2),
-      placed within next rest s1 (λ x m. let q = f x m in omega (arith, q, many)) (λ k c. let q = g k (inr c) in omega (arith, q, deep)) u.3)
+      let end = share_columns marked within next rest s1 in (
+        placed_as (number_at s1.numbers) (number_at s1.taken) (number_at end.numbers) (number_at end.taken) inside within inner (λ x m h. number_kept within next rest s1 x (u.0 x m h)) (λ k c. taken_kept within next rest s1 k (u.1 k c))
+            (placed inside within inner s f (λ k c. g k (inl c)) u.2),
+        placed within next rest s1 (λ x m. let q = f x m in omega (arith, q, many)) (λ k c. let q = g k (inr c) in omega (arith, q, deep)) u.3,
+      )

@@ -227,10 +227,15 @@ module _ (program : Program) (names : List (List Named)) (kernel : Kernel) (vary
   shared_so : (c d k : ℕ) → c ≢ d → slice_get (plan_of program kernel varying).homes c ≡ Some (home.Column k) → slice_get (plan_of program kernel varying).homes d ≡ Some (home.Column k)
       → (v : Variable) × (w : Variable) × IsCellOf kernel v c × IsCellOf kernel w d × AreDisjoint program v w
   shared_so c d k ne e f =
-      ⊎_elim (λ a. ⊎_elim (λ b. (a.variable, b.variable, a.of, b.of,
-      λ scope one hv hw. let g = scopes_full program varying valid scope one in
-      let same : a.variable ≡ b.variable = g.1.apart a.variable b.variable hv hw a.marked_one b.marked_one (a.is ∙ sym b.is) in
-      ne (cells.one b.variable c d (subst (λ (v : Variable). IsCellOf kernel v c) same a.of) b.of)))
+      ⊎_elim (λ a. ⊎_elim (λ b. (
+        a.variable,
+        b.variable,
+        a.of,
+        b.of,
+        λ scope one hv hw. let g = scopes_full program varying valid scope one in
+            let same : a.variable ≡ b.variable = g.1.apart a.variable b.variable hv hw a.marked_one b.marked_one (a.is ∙ sym b.is) in
+            ne (cells.one b.variable c d (subst (λ (v : Variable). IsCellOf kernel v c) same a.of) b.of),
+      ))
       (λ b. let q = keep_above d k b in let r = a.few in absurd (omega (arith, q, r))) (column_cases d k f))
       (λ a. ⊎_elim (λ b. let q = keep_above c k a in let r = b.few in absurd (omega (arith, q, r)))
       (λ b. ⊎_elim (λ lt. let q = keep_less c d k a lt in let i = b.is in absurd (omega (arith, q, i))) (λ lt. let q = keep_less d c k b lt in let i = a.is in absurd (omega (arith, q, i))) (apart_by c d ne))

@@ -123,8 +123,8 @@ own_loaded_length bits t (on ∷ mask) (i ∷ index) [] a b = absurd (omega arit
 own_loaded_length bits t (on ∷ mask) (i ∷ index) (bytes ∷ objects) a b = ap suc (own_loaded_length bits t mask index objects (omega arith) (omega arith))
 
 module _ (kernel : Kernel) (launch : Launch) (width : ℕ) (chunk : ChunkOf kernel launch width) (turns : ℕ) (w0 : Stage Item) (g0 : Group) (f : Frame) (counts : Counts) (r0 : Registers) (ground : Ground kernel launch w0)
-  (atoms : List Atom) (framed : IsFramed kernel f atoms) (code : List Step) (valid : is_code counts code ≡ true) (Good : Ended → Type 0) (Sites : ℕ → Type 0) (Goal : Tasks) (closed : Closed kernel launch width chunk turns w0 Sites Goal Good)
-  (arrays_are : f.arrays ≡ places_from 0 0 kernel.arrays) where
+    (atoms : List Atom) (framed : IsFramed kernel f atoms) (code : List Step) (valid : is_code counts code ≡ true) (Good : Ended → Type 0) (Sites : ℕ → Type 0) (Goal : Tasks) (closed : Closed kernel launch width chunk turns w0 Sites Goal Good)
+    (arrays_are : f.arrays ≡ places_from 0 0 kernel.arrays) where
   abbrev AtStage : ℕ → (ℕ → Tasks) → State → Stage Item → Type 0
   AtStage = Sim kernel launch width chunk turns w0 g0 f counts r0
 
@@ -257,12 +257,13 @@ module _ (kernel : Kernel) (launch : Launch) (width : ℕ) (chunk : ChunkOf kern
               let ix = index_lane l i lt ag in
               let typed = atom_typed kernel i.cells index types.Long good.typed type_i in
               let there : has_element (length (B l)) (size_of element) z ≡ true = ap (λ (bs : List ℕ). has_element (length bs) (size_of element) z) (sym (bytes l lane i good)) ∙ fits in
-              let place : value_at st.registers ireg l * size_of element ≡ first_byte (size_of element) z = ap (λ n. n * size_of element) ix ∙ first_is (size_of element) (length (B l)) z typed there in
-              (fits,
-              wrote.here l lt on ∙ vread l lt ∙ ap (λ b. lane_from (bits_in toreg.bank) element (B l) b (value_at st.registers ireg l)) on
-              ∙ ap (λ n. lane_bits (bits_in toreg.bank) (value_of element (number_l 256 (take (size_of element) (drop n (B l)))))) place
-              ∙ ap (λ (bs : List ℕ). lane_bits (bits_in toreg.bank) (value_of element (number_l 256 (take (size_of element) (drop (first_byte (size_of element) z) bs))))) (sym (bytes l lane i good))
-              ∙ ap (λ b. lane_bits (bits_in b) (value_of_bytes element (loaded_bytes w.memory (access_at kernel launch i element r z)))) to_bank)
+              let place : value_at st.registers ireg l * size_of element ≡ first_byte (size_of element) z = ap (λ n. n * size_of element) ix ∙ first_is (size_of element) (length (B l)) z typed there in (
+                fits,
+                wrote.here l lt on ∙ vread l lt ∙ ap (λ b. lane_from (bits_in toreg.bank) element (B l) b (value_at st.registers ireg l)) on
+                    ∙ ap (λ n. lane_bits (bits_in toreg.bank) (value_of element (number_l 256 (take (size_of element) (drop n (B l)))))) place
+                    ∙ ap (λ (bs : List ℕ). lane_bits (bits_in toreg.bank) (value_of element (number_l 256 (take (size_of element) (drop (first_byte (size_of element) z) bs))))) (sym (bytes l lane i good))
+                    ∙ ap (λ b. lane_bits (bits_in b) (value_of_bytes element (loaded_bytes w.memory (access_at kernel launch i element r z)))) to_bank,
+              )
 
           lane_loads : lowest fs ≡ None → (regs : Registers) → Wrote counts width st.registers toreg (λ l. mask_at st.registers m l) (λ l. slice_index_or vs l 0) regs → (l : ℕ) → IsLane chunk.lanes l → (i : Item) → IsGood kernel (chunk.lanes.first + l) i → i.tasks ≡ T l → Agrees f st.registers l (T l) i.cells
               → (x : Test) → a l ≡ x → Does (machine_of kernel launch) w.memory i (λ i'. (i'.tasks ≡ cond (a l) after (T l)) × Agrees f regs l (cond (a l) after (T l)) i'.cells) w.memory false

@@ -63,7 +63,7 @@ use Rattle.region_laws.proofs.Masks.{some_is, none_below, no_lane, and_false, br
 use Rattle.region_laws.proofs.Through.{joined_none, no_line_is, run_through, through}
 
 module _ (kernel : Kernel) (launch : Launch) (width : ℕ) (chunk : ChunkOf kernel launch width) (turns : ℕ) (w0 : Stage Item) (g0 : Group) (f : Frame) (counts : Counts) (r0 : Registers) (ground : Ground kernel launch w0)
-  (atoms : List Atom) (framed : IsFramed kernel f atoms) (code : List Step) (valid : is_code counts code ≡ true) (Good : Ended → Type 0) (Sites : ℕ → Type 0) (Goal : Tasks) (closed : Closed kernel launch width chunk turns w0 Sites Goal Good) where
+    (atoms : List Atom) (framed : IsFramed kernel f atoms) (code : List Step) (valid : is_code counts code ≡ true) (Good : Ended → Type 0) (Sites : ℕ → Type 0) (Goal : Tasks) (closed : Closed kernel launch width chunk turns w0 Sites Goal Good) where
   abbrev pub At : ℕ → (ℕ → Tasks) → State → Stage Item → Type 0
   At = Sim kernel launch width chunk turns w0 g0 f counts r0
 
@@ -430,7 +430,7 @@ module _ (kernel : Kernel) (launch : Launch) (width : ℕ) (chunk : ChunkOf kern
         (λ l lane set s good ag. (
           s.cells,
           ap (λ x. Goes (with_tasks s x)) (branched_is (is_zero (atom_value s.cells test)) at chosen other (joined_to rest tail) k (v l)
-          (yes_is next test ty.0 st l s (LinesAt at (IfThen site test chosen other (joined_to rest tail)) k) one ty.1 (in_width l lane) good (λ c op e live. sym (k1.numbers op.at l) ∙ ag c op e live) (λ c rd. reads_live c (LinesAt at (IfThen site test chosen other (joined_to rest tail)) k) rd))),
+              (yes_is next test ty.0 st l s (LinesAt at (IfThen site test chosen other (joined_to rest tail)) k) one ty.1 (in_width l lane) good (λ c op e live. sym (k1.numbers op.at l) ∙ ag c op e live) (λ c rd. reads_live c (LinesAt at (IfThen site test chosen other (joined_to rest tail)) k) rd))),
           λ c op e live. ag c op e (branch_live c (v l) site test at chosen other (joined_to rest tail) k live),
         ))
         (λ l lane unset c op e. refl) lanes.stand sim1 in

@@ -64,7 +64,7 @@ use Rattle.region_laws.proofs.Through.{joined_none, no_line_is, run_through, thr
 use Rattle.region_laws.proofs.Soundness.{Sound, Whole, Accessing, whole_of, no_line_sound, set_sound, access_sound, if_sound, loop_sound, barrier_sound}
 
 module _ (kernel : Kernel) (launch : Launch) (width : ℕ) (chunk : ChunkOf kernel launch width) (turns : ℕ) (w0 : Stage Item) (g0 : Group) (f : Frame) (counts : Counts) (r0 : Registers) (ground : Ground kernel launch w0)
-  (atoms : List Atom) (framed : IsFramed kernel f atoms) (code : List Step) (valid : is_code counts code ≡ true) (Good : Ended → Type 0) (Sites : ℕ → Type 0) (Goal : Tasks) (closed : Closed kernel launch width chunk turns w0 Sites Goal Good) (accessing : Accessing kernel launch width chunk turns w0 g0 f counts r0 ground atoms framed code valid Good Sites Goal closed) where
+    (atoms : List Atom) (framed : IsFramed kernel f atoms) (code : List Step) (valid : is_code counts code ≡ true) (Good : Ended → Type 0) (Sites : ℕ → Type 0) (Goal : Tasks) (closed : Closed kernel launch width chunk turns w0 Sites Goal Good) (accessing : Accessing kernel launch width chunk turns w0 g0 f counts r0 ground atoms framed code valid Good Sites Goal closed) where
   abbrev IsSound : Lines → Type 0
   IsSound = Sound kernel launch width chunk turns w0 g0 f counts r0 ground atoms framed code valid Good Sites Goal closed
 

@@ -187,12 +187,13 @@ module _ (kernel : Kernel) (launch : Launch) (width group first : ℕ) (f : Fram
       result_runs (Gives st.registers (kir.Unary op of a)) of kind to (cell_at f.cells to) tg.entry tg.is m t p st s (map (unary_lane (bits_in x.bank) op of) (lanes_of st.registers ra)) has.0 refl shape w2.0 w1.1
       (length-map (lanes_of st.registers ra) (unary_lane (bits_in x.bank) op of) ∙ alen)
       (λ l z ltl on g.
-      let v = atom_typed kernel g.0.cells a of g.1.typed (has_type_is of (atom_type kernel a) fits) in
-      (get_or-map (unary_lane (bits_in x.bank) op of) (lanes_of st.registers ra) l 0 0 (let h = alen in omega arith)
-      ∙ ap (unary_lane (bits_in x.bank) op of) (one.holds l g.0.cells ltl g.2)
-      ∙ ap (λ b. unary_lane (bits_in b) op of (lane_in of (atom_value g.0.cells a))) xbank ∙ unary_is op of (atom_value g.0.cells a) v ∙ ap (lane_in of) g.3,
-      subst (λ y. IsValue of y) g.3 (IsValue-unary op of (atom_value g.0.cells a)),
-      subst (λ y. IsValue kind y) g.3 (unary_value op of (atom_value g.0.cells a))))
+      let v = atom_typed kernel g.0.cells a of g.1.typed (has_type_is of (atom_type kernel a) fits) in (
+        get_or-map (unary_lane (bits_in x.bank) op of) (lanes_of st.registers ra) l 0 0 (let h = alen in omega arith)
+            ∙ ap (unary_lane (bits_in x.bank) op of) (one.holds l g.0.cells ltl g.2)
+            ∙ ap (λ b. unary_lane (bits_in b) op of (lane_in of (atom_value g.0.cells a))) xbank ∙ unary_is op of (atom_value g.0.cells a) v ∙ ap (lane_in of) g.3,
+        subst (λ y. IsValue of y) g.3 (IsValue-unary op of (atom_value g.0.cells a)),
+        subst (λ y. IsValue kind y) g.3 (unary_value op of (atom_value g.0.cells a)),
+      ))
       has.1
       (λ st2 done. subst (λ n. G (code_end Mine code t n st2)) (back_first p (length (brought f of kind toreg (mask_reg m)))) (go st2 done))
 
@@ -217,9 +218,12 @@ module _ (kernel : Kernel) (launch : Launch) (width group first : ℕ) (f : Fram
       result_runs P of kind to (cell_at f.cells to) tg.entry tg.is m t p st s act_lanes has.0 refl shape w3.0 w1.1
       (length-zip2 (binary_lane (bits_in y.bank) op of) (lanes_of st.registers ra) (lanes_of st.registers x) (alen ∙ sym xlen) ∙ alen)
       (λ l z ltl on g.
-      let v = gives l z ltl on g in
-      (get_or-zip2 (binary_lane (bits_in y.bank) op of) (lanes_of st.registers ra) (lanes_of st.registers x) l 0 0 0 (let h = alen in omega arith) (let h = xlen in omega arith)
-      ∙ ap (λ b. binary_lane (bits_in b) op of (value_at st.registers ra l) (value_at st.registers x l)) ybank ∙ v.0, v.1, v.2))
+      let v = gives l z ltl on g in (
+        get_or-zip2 (binary_lane (bits_in y.bank) op of) (lanes_of st.registers ra) (lanes_of st.registers x) l 0 0 0 (let h = alen in omega arith) (let h = xlen in omega arith)
+            ∙ ap (λ b. binary_lane (bits_in b) op of (value_at st.registers ra l) (value_at st.registers x l)) ybank ∙ v.0,
+        v.1,
+        v.2,
+      ))
       has.1
       (λ st2 done. subst (λ n. G (code_end Mine code t n st2)) (back_first p (length (brought f of kind toreg (mask_reg m)))) (go st2 done))
 

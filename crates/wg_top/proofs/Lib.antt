@@ -17,3 +17,10 @@ pub mod ExactLemmas
 pub mod MiddleLemmas
 pub mod ErasedLemmas
 pub mod PassLemmas
+pub mod Chain
+pub mod Sites
+pub mod Quiet
+pub mod Passes
+pub mod Shape
+pub mod Compiled
+pub mod DescribedLemmas

@@ -1,4 +1,7 @@
+pub mod Compiled
+pub mod Described
 pub mod Middle
+pub mod Outcome
 pub mod Units
 pub mod Given
 pub mod Launches

@@ -1,12 +1,17 @@
 //! A typed program through the passes to the program of a work-group.
 
-ghost use Rattle.std.specs.Prelude.{◌≡◌, IfOk};
+ghost use Rattle.std.specs.Prelude.{◌≡◌, IfOk, false};
 ghost use Rattle.wg_num.specs.Operators.{lanes_of};
+ghost use Rattle.cl_model.specs.Valid.{IsValid};
 ghost use Rattle.cl_piece.specs.View.{unit_of};
+ghost use Rattle.cl_valid.specs.Erased.{program_of};
+ghost use Rattle.kir.specs.Cuts.{holds_barrier};
 ghost use Rattle.kir.specs.View.{kernel_of};
 ghost use Rattle.ctx_plan.specs.View.{planned_of};
 ghost use Rattle.lane_code.specs.View.{plain_of};
+ghost use Rattle.item_loops.specs.Program.{HasPartsOf, IsOneCode};
 ghost use Rattle.wg_top.specs.Middle.{IsLike, group_with, IsCompiledAt};
+ghost use Rattle.wg_top.specs.Described.{IsDescribed};
 
 use cl_model::Program;
 use ctx_plan::Plan;
@@ -40,14 +45,19 @@ fn group_of(
     width: Width,
 ) -> Result<GroupProgram, Memory>
     ensures like { IfOk result (λ g. IsLike (group_with (lanes_of width) (kernel_of kernel.now) (planned_of plan.now)) (plain_of g)) }
+    ensures parts { IfOk result (λ g. HasPartsOf (kernel_of kernel.now) (planned_of plan.now) width (plain_of g)) }
+    ensures one { IfOk result (λ g. holds_barrier (kernel_of kernel.now).body ≡ false → IsOneCode (plain_of g).top) }
     ensures name { IfOk result (λ g. g.kernel ≡ name.now) }
 {
     let tree = split(alloc, kernel)?;
     build(alloc, &tree, plan, kernel, name, width)
 }
 
-/// The kernel of a typed program, whose name is given, at a lane width; `Memory` also where a number
-/// of a pass has no room.
+/// The kernel of a typed program, whose name is given, at a lane width. Of a valid program it is
+/// known which of its variables vary, that exactly those that cross a cut and do not vary are kept
+/// once for a group, that columns are shared by variables of disjoint scopes alone, and that no code
+/// has more loads and stores of a site than the program has. `Memory` also where a number of a pass
+/// has no room.
 pub fn compile_program(
     alloc: Global,
     program: Program,
@@ -57,6 +67,7 @@ pub fn compile_program(
     ensures program { IfOk result (λ c. unit_of c.program ≡ unit_of program) }
     ensures passes { IfOk result (λ c. IsCompiledAt (lanes_of width) c) }
     ensures name { IfOk result (λ c. c.group.kernel ≡ name.now) }
+    ensures described { IfOk result (λ c. IsValid (program_of (unit_of c.program)) → IsDescribed width name.now c) }
 {
     let kernel = lower(alloc, &program)?;
     let varying = analyse(alloc, &program)?;

@@ -22,9 +22,9 @@ use Rattle.mask_lower.specs.Counts.{load_steps, store_steps, SameAccesses}
 use Rattle.mask_lower.specs.Lowered.{region_code, region_steps}
 use Rattle.mask_lower.proofs.Tallies.{same_accesses}
 use Rattle.item_loops.specs.Program.{IsBuilt, EachCode, EachCodeOf}
-use Rattle.back_top.specs.Compiled.{HasFewSteps}
-use Rattle.back_top.proofs.Passes.{built_by}
-use Rattle.back_top.proofs.Quiet.{inlined_none}
+use Rattle.wg_top.specs.Compiled.{HasFewSteps}
+use Rattle.wg_top.proofs.Passes.{built_by}
+use Rattle.wg_top.proofs.Quiet.{inlined_none}
 
 -- ---- lines of a piece stand in the text
 

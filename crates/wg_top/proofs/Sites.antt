@@ -22,7 +22,7 @@ use Rattle.lane_code.specs.Acts.{Chunk, State, Act, On, Ahead, Back, Ends, act, 
 use Rattle.lane_code.specs.Meaning.{Ended, follow, steps_end, out_of_turns, code_end, region_end, start_state}
 use Rattle.lane_code.specs.Program.{PlainCode, Work, Items, Seq, Vote, Loop, Works, idle, then_work, Plain, names_of, work_fits, works_fit, is_group_program}
 use Rattle.lane_code.specs.Run.{GroupEnded, chunk_at, chunk_count, end_of, chunk_ended, after_done, then_next, chunks_end, begun, finish, items_end, Verdict, Agreed, Refused, Mixed, verdict, by_verdict, Doing, iteration, rounds, loop_end, work_end, works_end, RunEnded, run_after, groups_end, start_group, program_end}
-use Rattle.back_top.specs.Outcome.{EndHasPlace}
+use Rattle.wg_top.specs.Outcome.{EndHasPlace}
 
 -- ---- ends at sites below a number
 

@@ -16,10 +16,10 @@ use Rattle.regions.specs.Split.{split_of}
 use Rattle.mask_lower.specs.Following.{Follows}
 use Rattle.mask_lower.specs.Lowered.{region_code}
 use Rattle.item_loops.specs.Program.{HasPartsOf, IsBuilt, IsOneCode}
-use Rattle.back_top.specs.Compiled.{IsCompiledFrom}
-use Rattle.back_top.proofs.Passes.{passes_in_outcomes}
-use Rattle.back_top.proofs.Shape.{codes_have_few, holds_none}
-use Rattle.back_top.proofs.Sites.{ends_have_places}
+use Rattle.wg_top.specs.Compiled.{IsCompiledFrom}
+use Rattle.wg_top.proofs.Passes.{passes_in_outcomes}
+use Rattle.wg_top.proofs.Shape.{codes_have_few, holds_none}
+use Rattle.wg_top.proofs.Sites.{ends_have_places}
 
 -- what the passes behind the lowering answer: which variables vary, the plan, and a valid program of a group whose codes are those of the kernel's regions
 pub record ArePasses (program : Program) (varying : List (List Test)) (kernel : Kernel) (plan : Planned) (width : Width) (p : Plain) : Type 0 where

@@ -27,8 +27,8 @@ use Rattle.regions.specs.Split.{split_of}
 use Rattle.mask_lower.specs.Following.{Follows}
 use Rattle.mask_lower.specs.Lowered.{region_code}
 use Rattle.item_loops.specs.Program.{HasPartsOf, IsBuilt}
-use Rattle.back_top.specs.Outcome.{EndsInOutcomes, EndHasPlace}
-use Rattle.back_top.proofs.Chain.{built_in_outcomes}
+use Rattle.wg_top.specs.Outcome.{EndsInOutcomes, EndHasPlace}
+use Rattle.wg_top.proofs.Chain.{built_in_outcomes}
 
 -- ---- the codes of a tree
 

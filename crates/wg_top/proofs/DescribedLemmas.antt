@@ -1,0 +1,79 @@
+-- The plan and the shape of a compiled kernel, from what the passes answer.
+use Rattle.std.proofs.Common.{◌≡◌, ℕ, zero, suc, List, [], ◌∷◌, length, map, unwrap_or, refl, sym, ap, subst, ◌∙◌, false}
+use Rattle.std.specs.Prelude.{Result, Ok, Err, IfOk, slice_get}
+use Rattle.std.specs.Prelude.{Bool as Test}
+use Rattle.wg_num.specs.declared.types.Width.{Width}
+use Rattle.wg_num.specs.Operators.{lanes_of}
+use Rattle.cl_model.specs.Calls.{no_function, function_at}
+use Rattle.cl_model.specs.Valid.{IsValid}
+use Rattle.cl_meaning.specs.Environment.{Variable}
+use Rattle.cl_meaning.specs.Typed.{Unit', Function}
+use Rattle.cl_valid.specs.Erased.{program_of, function_of}
+use Rattle.kir.specs.Tree.{Kernel}
+use Rattle.kir.specs.Cuts.{holds_barrier}
+use Rattle.kir.specs.Lowering.{Named}
+use Rattle.kir_lower.specs.Whole.{lowered_of, names_at}
+use Rattle.lowering_laws.specs.Names.{AreNamed}
+use Rattle.lowering_laws.proofs.Cells.{has_cells}
+use Rattle.lowering_laws.proofs.FewLines.{has_few_lines}
+use Rattle.lowering_laws.proofs.Parts.{has_parts}
+use Rattle.diverge.specs.Rounds.{varying_of}
+use Rattle.ctx_plan.specs.Planned.{Planned, AreVarying, IsCounted, IsPlan}
+use Rattle.ctx_plan.specs.Made.{plan_of}
+use Rattle.plan_laws.proofs.Plan.{is_plan}
+use Rattle.lane_code.specs.Program.{PlainCode, Items, Seq, Vote, Loop, Works, idle, then_work, Plain}
+use Rattle.lane_laws.specs.Chain.{Chain, NoWork, work_before, works_before}
+use Rattle.regions.specs.Tree.{RegionOf, Tree, NoRegion, RegionThen, VoteThen, LoopThen}
+use Rattle.regions.specs.Split.{split_of}
+use Rattle.mask_lower.specs.Lowered.{region_code}
+use Rattle.item_loops.specs.Program.{HasPartsOf, IsBuilt, IsOneCode}
+use Rattle.wg_top.specs.Compiled.{IsPlanned, IsShaped}
+use Rattle.wg_top.specs.Middle.{names_in, kernel_in, plan_in, works_of, group_with, group_in, IsLike}
+use Rattle.wg_top.proofs.Shape.{codes_have_few, holds_none}
+
+-- what follows where there is a value
+pub if_more : {T E : Type 0} (r : Result T E) (P Q : T → Type 0) → IfOk r P → ((x : T) → P x → Q x) → IfOk r Q
+if_more (Ok x) P Q p f = f x p
+if_more (Err e) P Q p f = tt
+
+-- each function has as many names as variables
+named_as : (functions : List Function) (f : ℕ)
+    → length (unwrap_or (slice_get (map (λ g. map (λ v. record { name = v.name; place = v.place }) g.variables) functions) f) []) ≡ length (unwrap_or (slice_get (map function_of functions) f) no_function).variables
+named_as [] f = refl
+named_as (g ∷ functions) zero = both g.variables
+  where
+    both : (vs : List Variable) → length (map (λ v. record { name = v.name; place = v.place }) vs) ≡ length (map (λ v. v.kind) vs)
+    both [] = refl
+    both (v ∷ vs) = ap suc (both vs)
+named_as (g ∷ functions) (suc f) = named_as functions f
+
+-- the codes of a tree, read from its front, are those of its regions
+works_built : (code : RegionOf → PlainCode) (tree : Tree) → IsBuilt (λ region c. c ≡ code region) tree (works_before (works_of code tree) NoWork)
+works_built code NoRegion = tt
+works_built code (RegionThen region rest) = (refl, works_built code rest)
+works_built code (VoteThen test agreed refused mixed rest) = (refl, works_built code agreed, works_built code refused, refl, works_built code rest)
+works_built code (LoopThen first test body others rest) = (refl, works_built code test, works_built code body, refl, works_built code rest)
+
+-- the kernel, its plan and what its codes are
+pub planned_as : (u : Unit') (width : Width) (p : Plain) → IsValid (program_of u) → AreVarying (program_of u) (varying_of (program_of u)) → IsCounted (kernel_in u) (plan_in u) → HasPartsOf (kernel_in u) (plan_in u) width p
+    → IsPlanned (program_of u) (varying_of (program_of u)) (kernel_in u) (plan_in u) width p
+unfolding kernel_in plan_in
+planned_as u width p valid varies counted parts = record {
+  varies = varies;
+  homes = is_plan (program_of u) (names_in u) (kernel_in u) (varying_of (program_of u)) valid (has_cells (program_of u) (names_in u) valid (named_as u.functions)) varies counted;
+  parts = parts;
+}
+
+pub shaped_as : (u : Unit') (width : Width) (name name_in_code : List ℕ) (p : Plain) → IsValid (program_of u) → HasPartsOf (kernel_in u) (plan_in u) width p → IsLike (group_in (lanes_of width) u) p → (holds_barrier (kernel_in u).body ≡ false → IsOneCode p.top) → name_in_code ≡ name
+    → IsShaped (program_of u) name name_in_code p
+unfolding kernel_in plan_in group_in
+shaped_as u width name name_in_code p valid parts like one named =
+    let few = has_few_lines (program_of u) (names_in u) valid in
+    let code = region_code (kernel_in u) (plan_in u).homes in
+    let built = subst (λ (c : Chain). IsBuilt (λ region c'. c' ≡ code region) (split_of (kernel_in u)) c) (sym like.chain) (works_built code (split_of (kernel_in u))) in
+    record {
+      kernel = named;
+      params = parts.params ∙ (has_parts (program_of u) (names_in u)).parameters;
+      one = λ quiet. one (holds_none (program_of u) (kernel_in u) few quiet);
+      few = codes_have_few (program_of u) (kernel_in u) (plan_in u).homes p.top few built;
+    }
