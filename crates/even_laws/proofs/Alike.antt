@@ -74,7 +74,7 @@ module _ (kernel : Kernel) (even : ℕ → Test) (one other : Who) (fellows : Ar
   abbrev pub Alike : (ℕ → Test) → Cells → Cells → Type 0
   Alike live f g = (c : ℕ) → even c ≡ true → live c ≡ true → f c ≡ g c
 
-  value_alike : (a : Atom) (live : ℕ → Test) (f g : Cells) → atom_even even a ≡ true → ((c : ℕ) → reads c a ≡ true → live c ≡ true) → Alike live f g → atom_value f a ≡ atom_value g a
+  pub value_alike : (a : Atom) (live : ℕ → Test) (f g : Cells) → atom_even even a ≡ true → ((c : ℕ) → reads c a ≡ true → live c ≡ true) → Alike live f g → atom_value f a ≡ atom_value g a
   value_alike (Const v of) live f g e l al = refl
   value_alike (CellAtom c) live f g e l al = al c e (l c (same_self c))
 
@@ -88,7 +88,7 @@ module _ (kernel : Kernel) (even : ℕ → Test) (one other : Who) (fellows : Ar
   not_own true h = absurd (true≢false (sym h))
   not_own false h = refl
 
-  computed_alike : (w : Work) (live : ℕ → Test) (f g : Cells) → work_even even w ≡ true → ((c : ℕ) → work_reads c w ≡ true → live c ≡ true) → Alike live f g → computed one f w ≡ computed other g w
+  pub computed_alike : (w : Work) (live : ℕ → Test) (f g : Cells) → work_even even w ≡ true → ((c : ℕ) → work_reads c w ≡ true → live c ≡ true) → Alike live f g → computed one f w ≡ computed other g w
   computed_alike (Unary op of a) live f g e l al = ap (unary_of op of) (value_alike a live f g e l al)
   computed_alike (Binary op of a b) live f g e l al =
       let p = and_parts (atom_even even a) (atom_even even b) e in
@@ -110,7 +110,7 @@ module _ (kernel : Kernel) (even : ℕ → Test) (one other : Who) (fellows : Ar
 
   -- ---- a cell that is set
 
-  set_alike : (to : ℕ) (rest : Lines) (out : ℕ → Test) (read : ℕ → Test) (f g : Cells) (v w : ℤ) → (even to ≡ true → live_in to rest (out to) ≡ true → v ≡ w)
+  pub set_alike : (to : ℕ) (rest : Lines) (out : ℕ → Test) (read : ℕ → Test) (f g : Cells) (v w : ℤ) → (even to ≡ true → live_in to rest (out to) ≡ true → v ≡ w)
       → Alike (λ c. read c || (not (nat_eq c to) && live_in c rest (out c))) f g → Alike (λ c. live_in c rest (out c)) (put f to v) (put g to w)
   set_alike to rest out read f g v w same al c e l =
       ⊎_elim (λ t. let q = same_number to c t in put_here f to c v t ∙ (same (subst (λ n. even n ≡ true) (sym q) e) (subst (λ n. live_in n rest (out n) ≡ true) (sym q) l) ∙ sym (put_here g to c w t)))
@@ -120,7 +120,7 @@ module _ (kernel : Kernel) (even : ℕ → Test) (one other : Who) (fellows : Ar
   -- ---- loops
 
   -- what is live before a loop
-  abbrev before_loop : Test → Lines → Atom → Lines → (ℕ → Test) → ℕ → Test
+  abbrev pub before_loop : Test → Lines → Atom → Lines → (ℕ → Test) → ℕ → Test
   before_loop true test answer body after c = live_in c test (tested test answer body after c)
   before_loop false test answer body after c = live_in c body (live_in c test (tested test answer body after c))
 
@@ -178,7 +178,7 @@ module _ (kernel : Kernel) (even : ℕ → Test) (one other : Who) (fellows : Ar
   abbrev Branch : Who → Cells → Atom → Lines → Lines → Cells → Type 0
   Branch who f test chosen others m = (Answers f test false × Does who chosen f m) ⊎ (Answers f test true × Does who others f m)
 
-  branches_alike : (test : Atom) (chosen others : Lines) (after : ℕ → Test) (f g m n : Cells) → (atom_even even test ≡ false → (c : ℕ) → even c ≡ true → after c ≡ true → (sets_in c chosen || sets_in c others) ≡ false)
+  pub branches_alike : (test : Atom) (chosen others : Lines) (after : ℕ → Test) (f g m n : Cells) → (atom_even even test ≡ false → (c : ℕ) → even c ≡ true → after c ≡ true → (sets_in c chosen || sets_in c others) ≡ false)
       → ((m n : Cells) → Alike (λ c. live_in c chosen (after c)) f g → Does one chosen f m → Does other chosen g n → Alike after m n) → ((m n : Cells) → Alike (λ c. live_in c others (after c)) f g → Does one others f m → Does other others g n → Alike after m n)
       → Alike (λ c. reads c test || (live_in c chosen (after c) || live_in c others (after c))) f g → Branch one f test chosen others m → Branch other g test chosen others n → Alike after m n
   branches_alike test chosen others after f g m n rule a b al (inl x) (inl y) = a m n (λ c e l. al c e (or_right (reads c test) (live_in c chosen (after c) || live_in c others (after c)) (or_left (live_in c chosen (after c)) (live_in c others (after c)) l))) x.1 y.1
@@ -205,7 +205,7 @@ module _ (kernel : Kernel) (even : ℕ → Test) (one other : Who) (fellows : Ar
       unset_live c body (live_in c test (tested test answer body after c)) (neither (sets_in c test) (sets_in c body) u).1
       (unset_live c test (tested test answer body after c) (neither (sets_in c test) (sets_in c body) u).0 (or_right (reads c answer) (after c || live_in c body (live_in c test false)) (or_left (after c) (live_in c body (live_in c test false)) l)))
 
-  loop_alike : (first : Test) (test : Lines) (answer : Atom) (body : Lines) (after : ℕ → Test) → (atom_even even answer ≡ false → (c : ℕ) → even c ≡ true → after c ≡ true → (sets_in c test || sets_in c body) ≡ false)
+  pub loop_alike : (first : Test) (test : Lines) (answer : Atom) (body : Lines) (after : ℕ → Test) → (atom_even even answer ≡ false → (c : ℕ) → even c ≡ true → after c ≡ true → (sets_in c test || sets_in c body) ≡ false)
       → ((f g f' g' : Cells) → Alike (λ c. live_in c test (tested test answer body after c)) f g → Does one test f f' → Does other test g g' → Alike (tested test answer body after) f' g')
       → ((f g f' g' : Cells) → Alike (λ c. live_in c body (live_in c test (tested test answer body after c))) f g → Does one body f f' → Does other body g g' → Alike (λ c. live_in c test (tested test answer body after c)) f' g')
       → (f g m n : Cells) → Alike (before_loop first test answer body after) f g → (j k : ℕ) → AtAnswer first (Does one test) (Does one body) answer j f m → Answers m answer true → AtAnswer first (Does other test) (Does other body) answer k g n → Answers n answer true → Alike after m n

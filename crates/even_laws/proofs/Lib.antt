@@ -1,2 +1,3 @@
 pub mod Living
 pub mod Alike
+pub mod Places
