@@ -1,3 +1,4 @@
 pub mod Living
 pub mod Alike
 pub mod Places
+pub mod Reached
