@@ -2,3 +2,4 @@ pub mod Living
 pub mod Alike
 pub mod Places
 pub mod Reached
+pub mod Even

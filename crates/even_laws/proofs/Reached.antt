@@ -101,12 +101,16 @@ module _ (kernel : Kernel) (launch : Launch) (buffers : List (List ℕ)) (number
   begun_so : (site : ℕ) (first : Test) (test : Lines) (answer : Atom) (body tail : Lines) (at : Place) (rest : Tasks) (n : ℕ) (f0 f : Cells) → lines_at kernel.body at ≡ LoopThen site first test answer body tail → Comes (who_of kernel launch buffers number) kernel.body (λ c. pos 0) at (begun_in rest) f0
       → Enters first n (AtAnswer first (Does (who_of kernel launch buffers number) test) (Does (who_of kernel launch buffers number) body) answer n) answer f0 f → ((g : Cells) → Loops (who_of kernel launch buffers number) first test answer body f0 g → OnWay rest g)
       → OnWay (iteration at test answer body (suc n) rest) f
-  begun_so site true test answer body tail at rest n f0 f e p x c =
-      (ap body_of e, (f0, p, subst (λ (l : Lines). InBody (who_of kernel launch buffers number) l (suc n) f0 f) (sym e) x),
-      λ b db. (ap test_of e, (f0, p, subst (λ (l : Lines). InTest (who_of kernel launch buffers number) l (suc n) f0 b) (sym e) (f, x, db)), λ m dm. (site, true, tail, f0, e, p, (f, x, (b, db, dm)), c)))
-  begun_so site false test answer body tail at rest n f0 f e p x c =
-      (ap body_of e, (f0, p, subst (λ (l : Lines). InBody (who_of kernel launch buffers number) l (suc n) f0 f) (sym e) x),
-      λ b db. (ap test_of e, (f0, p, subst (λ (l : Lines). InTest (who_of kernel launch buffers number) l (suc n) f0 b) (sym e) (f, x, db)), λ m dm. (site, false, tail, f0, e, p, (f, x, (b, db, dm)), c)))
+  begun_so site true test answer body tail at rest n f0 f e p x c = (
+    ap body_of e,
+    (f0, p, subst (λ (l : Lines). InBody (who_of kernel launch buffers number) l (suc n) f0 f) (sym e) x),
+    λ b db. (ap test_of e, (f0, p, subst (λ (l : Lines). InTest (who_of kernel launch buffers number) l (suc n) f0 b) (sym e) (f, x, db)), λ m dm. (site, true, tail, f0, e, p, (f, x, (b, db, dm)), c)),
+  )
+  begun_so site false test answer body tail at rest n f0 f e p x c = (
+    ap body_of e,
+    (f0, p, subst (λ (l : Lines). InBody (who_of kernel launch buffers number) l (suc n) f0 f) (sym e) x),
+    λ b db. (ap test_of e, (f0, p, subst (λ (l : Lines). InTest (who_of kernel launch buffers number) l (suc n) f0 b) (sym e) (f, x, db)), λ m dm. (site, false, tail, f0, e, p, (f, x, (b, db, dm)), c)),
+  )
 
   record Going (i : Item) : Type 0 where
     own : i.number ≡ number
@@ -124,13 +128,19 @@ module _ (kernel : Kernel) (launch : Launch) (buffers : List (List ℕ)) (number
       → Going (with_tasks i (if b then LinesAt (IntoOther ∷ at) other (LinesAt (Behind ∷ at) rest tasks) else LinesAt (IntoChosen ∷ at) chosen (LinesAt (Behind ∷ at) rest tasks)))
   branch_step i at site test chosen other rest tasks own w true z = record {
     own = own;
-    way = (ap other_of w.0, (w.1, subst (λ (l : Lines). TestIs l true i.cells) (sym w.0) z),
-        λ m d. past_line at (IfThen site test chosen other rest) rest tasks i.cells m w.0 refl w.1 (inr (z, d)) (λ h k. w.2 h (m, inr (z, d), k)));
+    way = (
+      ap other_of w.0,
+      (w.1, subst (λ (l : Lines). TestIs l true i.cells) (sym w.0) z),
+      λ m d. past_line at (IfThen site test chosen other rest) rest tasks i.cells m w.0 refl w.1 (inr (z, d)) (λ h k. w.2 h (m, inr (z, d), k)),
+    );
   }
   branch_step i at site test chosen other rest tasks own w false z = record {
     own = own;
-    way = (ap chosen_of w.0, (w.1, subst (λ (l : Lines). TestIs l false i.cells) (sym w.0) z),
-        λ m d. past_line at (IfThen site test chosen other rest) rest tasks i.cells m w.0 refl w.1 (inl (z, d)) (λ h k. w.2 h (m, inl (z, d), k)));
+    way = (
+      ap chosen_of w.0,
+      (w.1, subst (λ (l : Lines). TestIs l false i.cells) (sym w.0) z),
+      λ m d. past_line at (IfThen site test chosen other rest) rest tasks i.cells m w.0 refl w.1 (inl (z, d)) (λ h k. w.2 h (m, inl (z, d), k)),
+    );
   }
 
   line_step : (i : Item) (at : Place) (lines : Lines) (tasks : Tasks) → i.number ≡ number → OnWay (LinesAt at lines tasks) i.cells → LeadsTold Told Going (line_next kernel launch i at lines tasks)
@@ -153,9 +163,20 @@ module _ (kernel : Kernel) (launch : Launch) (buffers : List (List ℕ)) (number
   line_step i at (IfThen site test chosen other rest) tasks own w = branch_step i at site test chosen other rest tasks own w (is_zero (atom_value i.cells test)) refl
   line_step i at (LoopThen site true test answer body rest) tasks own w = record {
     own = own;
-    way = (ap test_of w.0, (i.cells, w.1, subst (λ (l : Lines). InTest (who_of kernel launch buffers number) l zero i.cells i.cells) (sym w.0) refl),
-        λ m d. (site, true, rest, i.cells, w.0, w.1, d,
-        λ g x. past_line at (LoopThen site true test answer body rest) rest tasks i.cells g w.0 refl w.1 x (λ h k. w.2 h (g, x, k))));
+    way = (
+      ap test_of w.0,
+      (i.cells, w.1, subst (λ (l : Lines). InTest (who_of kernel launch buffers number) l zero i.cells i.cells) (sym w.0) refl),
+      λ m d. (
+        site,
+        true,
+        rest,
+        i.cells,
+        w.0,
+        w.1,
+        d,
+        λ g x. past_line at (LoopThen site true test answer body rest) rest tasks i.cells g w.0 refl w.1 x (λ h k. w.2 h (g, x, k)),
+      ),
+    );
   }
   line_step i at (LoopThen site false test answer body rest) tasks own w = record {
     own = own;
