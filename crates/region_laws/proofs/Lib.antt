@@ -12,3 +12,4 @@ pub mod Soundness
 pub mod Sounds
 pub mod Objects
 pub mod Loads
+pub mod Bytes
