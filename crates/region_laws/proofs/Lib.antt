@@ -13,3 +13,5 @@ pub mod Sounds
 pub mod Objects
 pub mod Loads
 pub mod Bytes
+pub mod Numbers
+pub mod Stores

@@ -1,0 +1,172 @@
+-- The code of a store does what the items of its active lanes do, lane 0 first, or the lowest that is out of range is shown.
+use Rattle.std.proofs.Common.{◌≡◌, ℕ, zero, suc, ◌+◌, ◌-◌, ◌*◌, ◌%◌, ◌^◌, ◌<◌, ◌≤◌, ℤ, pos, negsuc, List, [], ◌∷◌, length, take, drop, Option, Some, None, refl, sym, ap, ap₂, ◌∙◌, subst, ⊎_elim, arith, cond, IsTrue, mod-lt, mod-eq_of_lt}
+use Rattle.std.specs.Prelude.{slice_get, slice_index_or, nat_eq, nat_lt, nat_le, ◌&&◌, ◌||◌, not}
+use Rattle.std.specs.Prelude.{Bool as Test, true, false}
+use Rattle.std.specs.Simd.Lanes.{zip2, chunk as element_at, number_l}
+use Rattle.std.proofs.lemmas.Int.{ints}
+use Rattle.std.proofs.lemmas.Bool.{cases_Bool, true≢false, and_parts, or_left, or_right, eqb-true, eqb-false, eq-eqb, ne_eqb, lt-ltb, le-ltb, ltb-true, not_from_false}
+use Rattle.std.proofs.lemmas.Option.{none-some, same_Some}
+use Rattle.std.proofs.lemmas.Simd.{get_or-zip2, length-zip2}
+use Rattle.work_items.specs.Memory.{bytes_of, first_byte, has_element, is_in_range, loaded as loaded_bytes}
+use Rattle.work_items.specs.Items.{Loads, fault_of}
+use Rattle.wg_num.specs.declared.types.IntType.{IntType}
+use Rattle.wg_num.specs.declared.types.IntType.TheVariants as types
+use Rattle.wg_num.specs.Wrap.{IsValue, half, modulus, value_of}
+use Rattle.wg_num.specs.Bytes.{size_of, value_of_bytes}
+use Rattle.lane_values.specs.Lanes.{lane as lane_bits}
+use Rattle.lane_values.specs.Access.{is_within, is_fault, faults, lane_from, gathered, loaded}
+use Rattle.cl_model.specs.declared.program.Root.{Root}
+use Rattle.cl_model.specs.Objects.{local_arrays, first_private}
+use Rattle.cl_model.specs.Sizes.{Launch, group_size, group_of}
+use Rattle.kir.specs.declared.line.Atom.{Atom}
+use Rattle.kir.specs.Tree.{Lines, NoLine, LoadThen, Kernel}
+use Rattle.kir.specs.Places.{Behind, Place, Tasks, LinesAt}
+use Rattle.kir.specs.Live.{reads, some_reads, live_now}
+use Rattle.kir.specs.Fits.{is_site, can_load, has_type, atom_type, cell_takes, lines_fit}
+use Rattle.kir.specs.Steps.{shell_of, Item, with_cell, atom_value, object_at, access_at, tasks_next, item_next}
+use Rattle.kir.specs.Meaning.{machine_of}
+use Rattle.lane_code.specs.declared.step.Step.{Step}
+use Rattle.lane_code.specs.declared.step.Step.TheVariants as step
+use Rattle.lane_code.specs.declared.step.Reg.{Reg}
+use Rattle.lane_code.specs.declared.code.Counts.{Counts}
+use Rattle.lane_code.specs.declared.end.RegionEnd.TheVariants as end
+use Rattle.lane_code.specs.Registers.{Registers, bits_in, lanes_of, mask_of, lowest}
+use Rattle.lane_code.specs.Fits.{bank_of, is_below, is_code}
+use Rattle.lane_code.specs.Groups.{Group, window, Reached, Buffer, Table, LocalObject, Own, reached, own_faults, own_loaded}
+use Rattle.lane_code.specs.Acts.{State, act, loads, writes, load_at, shared_bytes, own_objects, with_registers}
+use Rattle.lane_code.specs.Meaning.{Ended}
+use Rattle.lane_laws.specs.Reading.{mask_at}
+use Rattle.lane_laws.proofs.Reading.{window_read, window_length, lowest_is, none_lowest}
+use Rattle.lane_laws.proofs.Steps.{halt_step}
+use Rattle.group_moves.specs.Stages.{Stage}
+use Rattle.group_moves.specs.Lanes.{IsLane, Does, stays, loads as does_load}
+use Rattle.kir_moves.specs.Leads.{past_load}
+use Rattle.kir_moves.proofs.Live.{live_leads, reads_live}
+use Rattle.mask_lower.specs.declared.registers.Free.{Free}
+use Rattle.mask_lower.specs.declared.registers.Operand.{Operand}
+use Rattle.mask_lower.specs.Banks.{mask_reg}
+use Rattle.mask_lower.specs.Layout.{kernel_chunk, Mirrors}
+use Rattle.mask_lower.specs.Following.{ChunkOf}
+use Rattle.mask_lower.specs.Registers.{Frame, places_from, cell_at, operand, root_at}
+use Rattle.region_laws.specs.View.{value_at, is_lane, Shaped, Wrote}
+use Rattle.region_laws.specs.Framed.{IsFramed}
+use Rattle.region_laws.specs.Sim.{Ground, IsGood, Agrees, Above, Sim, Closed}
+use Rattle.region_laws.proofs.CellValues.{has_type_is, atom_typed}
+use Rattle.region_laws.proofs.LaneValues.{lane_in}
+use Rattle.region_laws.proofs.View.{code_well, lanes_length, mask_length}
+use Rattle.region_laws.proofs.Frames.{type_lane}
+use Rattle.region_laws.proofs.Standing.{cond_set, cond_unset, sim_move}
+use Rattle.region_laws.proofs.Atoms.{operand_is, cell_entry, entry_type, entry_bank, entry_lane, cell_above, writes_step}
+use Rattle.region_laws.proofs.Objects.{IsObject, a_buffer, a_table, a_local, an_own, group_there, load_reaches}
+use Rattle.region_laws.proofs.Soundness.{Lanes, Fit, Accesses}
+use Rattle.std.proofs.Common.{◌≢◌, take, map}
+use Rattle.std.specs.Prelude.{slice_set}
+use Rattle.std.proofs.lemmas.Bool.{cases_eq, cases_lt}
+use Rattle.std.proofs.lemmas.List.{get_or-set_same, get_or-set_other, length-set}
+use Rattle.work_items.specs.Memory.{Memory, overwritten}
+use Rattle.work_items.specs.Items.{Stores}
+use Rattle.wg_num.specs.Bytes.{bytes_of as bytes_of_value}
+use Rattle.wg_num.proofs.ByteLaws.{length-bytes}
+use Rattle.lane_values.specs.Access.{put_element, scattered}
+use Rattle.cl_model.specs.Objects.{local_sizes, private_sizes, first_local}
+use Rattle.cl_model.specs.Sizes.{group_count}
+use Rattle.kir.specs.Tree.{StoreThen}
+use Rattle.kir.specs.Fits.{can_store}
+use Rattle.kir.specs.Steps.{with_tasks}
+use Rattle.lane_code.specs.Groups.{with_window, own_stored}
+use Rattle.lane_code.specs.Acts.{On, stores, store_at, with_shared, with_own, objects_stored}
+use Rattle.lane_laws.proofs.Reading.{with_window_length, before_window, in_window, behind_window, row_length, set_read}
+use Rattle.lane_laws.proofs.Steps.{on_step}
+use Rattle.group_moves.specs.Lanes.{stores as does_store}
+use Rattle.group_moves.proofs.Moves.{lanes_do}
+use Rattle.kir_moves.specs.Leads.{past_store}
+use Rattle.mask_lower.specs.Registers.{past_atom}
+use Rattle.region_laws.specs.Sim.{SameGroup, OthersObjectsStay}
+use Rattle.region_laws.proofs.Standing.{good_there}
+use Rattle.region_laws.proofs.Bytes.{overwritten_is, bytes_low, stored_below, scattered_is, below_same, memory_below, below_length, below_other, below_shared, below_own, own_stored_read, own_stored_length}
+use Rattle.region_laws.proofs.Numbers.{local_private, locals_differ, privates_differ}
+use Rattle.region_laws.proofs.Objects.{store_loads, store_no_table}
+use Rattle.region_laws.proofs.Loads.{within_is, first_is, own_faults_read, own_faults_length, lane_item, number_is, in_group}
+
+module _ (kernel : Kernel) (launch : Launch) (width : ℕ) (chunk : ChunkOf kernel launch width) (turns : ℕ) (w0 : Stage Item) (g0 : Group) (f : Frame) (counts : Counts) (r0 : Registers) (ground : Ground kernel launch w0)
+  (atoms : List Atom) (framed : IsFramed kernel f atoms) (code : List Step) (valid : is_code counts code ≡ true) (Good : Ended → Type 0) (Sites : ℕ → Type 0) (Goal : Tasks) (closed : Closed kernel launch width chunk turns w0 Sites Goal Good)
+  (arrays_are : f.arrays ≡ places_from 0 0 kernel.arrays) where
+  abbrev AtStage : ℕ → (ℕ → Tasks) → State → Stage Item → Type 0
+  AtStage = Sim kernel launch width chunk turns w0 g0 f counts r0
+
+  abbrev Standing : ℕ → ℕ → (ℕ → Test) → (ℕ → Tasks) → Tasks → State → Stage Item → Type 0
+  Standing = Lanes kernel launch width chunk turns w0 g0 f counts r0 ground atoms framed code valid Good Sites Goal closed
+
+  abbrev IsFit : Lines → Free → Type 0
+  IsFit = Fit kernel launch width chunk turns w0 g0 f counts r0 ground atoms framed code valid Good Sites Goal closed
+
+  abbrev EndFrom : ℕ → ℕ → State → Ended
+  EndFrom t p st = Rattle.lane_code.specs.Meaning.code_end (kernel_chunk kernel launch width chunk.group chunk.first) code t p st
+
+  lane_width : (l : ℕ) → IsLane chunk.lanes l → l < width
+  lane_width l lane = let e = chunk.is_chunk.width_is in let lt = lane.0 in omega arith
+
+  -- a lane's item
+  abbrev item_at : Stage Item → ℕ → Item
+  item_at w l = w.items (chunk.lanes.first + l)
+
+  -- what is mirrored after the lanes have stored
+  pub record Mirrored (memory after : Memory) (st st' : State) : Type 0 where
+    pub registers : st'.registers ≡ st.registers
+    pub mirrors : Mirrors kernel launch chunk.group after st'.group st'.buffers
+    pub others : OthersObjectsStay kernel launch chunk.group memory after
+    pub group : SameGroup st.group st'.group
+    pub rows : (n : ℕ) → n < length st'.group.privates → length (slice_index_or st'.group.privates n []) ≡ group_size launch
+
+  -- the active lanes' items store, one after the other
+  pub stores_move : (m t site : ℕ) (a : ℕ → Test) (T : ℕ → Tasks) (before after : Tasks) (st st' : State) (w : Stage Item) (object : ℕ → ℕ) (index : ℕ → ℤ) (bs : ℕ → List ℕ) → Standing m t a T before st w
+      → ((l : ℕ) → IsLane chunk.lanes l → a l ≡ true → tasks_next kernel launch (item_at w l) before ≡ Stores site (object l) (index l) (bs l) (with_tasks (item_at w l) after))
+      → ((l : ℕ) → IsLane chunk.lanes l → a l ≡ true → is_in_range w.memory (record { object = object l; size = length (bs l); index = index l }) ≡ true)
+      → ((c : ℕ) → live_now c after ≡ true → live_now c before ≡ true)
+      → Mirrored w.memory (memory_below w.memory a object index bs width) st st' → (w' : Stage Item) × AtStage t (λ l. cond (a l) after (T l)) st' w'
+  stores_move m t site a T before after st st' w object index bs lanes next fits live mirrored =
+      let mem = memory_below w.memory a object index bs in
+      let moved = lanes_do (machine_of kernel launch) chunk.lanes w0 w mem (λ l s. s ≡ item_at w l) (λ l s. (s.tasks ≡ cond (a l) after (T l)) × Agrees f st'.registers l (cond (a l) after (T l)) s.cells) (λ l. false)
+      lanes.sim.reached refl (λ l lane s p. subst (λ y. Does (machine_of kernel launch) (mem l) y (λ s'. (s'.tasks ≡ cond (a l) after (T l)) × Agrees f st'.registers l (cond (a l) after (T l)) s'.cells) (mem (suc l)) false) (sym p) (one l lane (a l) refl))
+      (λ l lt off. idle l off (a l) refl) (λ l e. absurd (true≢false (sym e))) (λ l lane. refl) chunk.lanes.width (omega arith) in
+      let there : moved.after.memory ≡ mem width = moved.memory ∙ ap mem chunk.is_chunk.width_is in (
+        moved.after,
+        record {
+          reached = moved.reached;
+          mirrors = subst (λ x. Mirrors kernel launch chunk.group x st'.group st'.buffers) (sym there) mirrored.mirrors;
+          others = subst (λ x. OthersObjectsStay kernel launch chunk.group w0.memory x) (sym there) (record {
+            locals = λ other n lt ne in_row. mirrored.others.locals other n lt ne in_row ∙ lanes.sim.others.locals other n lt ne in_row;
+            privates = λ item n ne in_row. mirrored.others.privates item n ne in_row ∙ lanes.sim.others.privates item n ne in_row;
+          });
+          group = record { columns = mirrored.group.columns ∙ lanes.sim.group.columns; entries = mirrored.group.entries ∙ lanes.sim.group.entries; exits = mirrored.group.exits ∙ lanes.sim.group.exits; votes = mirrored.group.votes ∙ lanes.sim.group.votes };
+          rows = mirrored.rows;
+          shape = subst (Shaped counts width) (sym mirrored.registers) lanes.sim.shape;
+          above = subst (Above f width r0) (sym mirrored.registers) lanes.sim.above;
+          stand = λ l lane. moved.below l lane.0 lane;
+          budget = omega (arith, moved.more, lanes.sim.budget);
+        },
+      )
+    where
+      agrees_on : (l : ℕ) (k : Tasks) (cells : ℕ → ℤ) → Agrees f st.registers l k cells → Agrees f st'.registers l k cells
+      agrees_on l k cells ag = subst (λ r. Agrees f r l k cells) (sym mirrored.registers) ag
+
+      one : (l : ℕ) → IsLane chunk.lanes l → (x : Test) → a l ≡ x → Does (machine_of kernel launch) (memory_below w.memory a object index bs l) (item_at w l) (λ s'. (s'.tasks ≡ cond (a l) after (T l)) × Agrees f st'.registers l (cond (a l) after (T l)) s'.cells)
+          (memory_below w.memory a object index bs (suc l)) false
+      one l lane false e =
+          let stands = lanes.sim.stand l lane in
+          subst (λ x. Does (machine_of kernel launch) (memory_below w.memory a object index bs l) (item_at w l) (λ s'. (s'.tasks ≡ cond (a l) after (T l)) × Agrees f st'.registers l (cond (a l) after (T l)) s'.cells) x false)
+          (sym (ap (λ b. cond b (Rattle.work_items.specs.Memory.stored (memory_below w.memory a object index bs l) (object l) (index l) (bs l)) (memory_below w.memory a object index bs l)) e))
+          (stays (stands.0 ∙ sym (cond_unset (a l) after (T l) e), agrees_on l (cond (a l) after (T l)) (item_at w l).cells (λ c op h live'. stands.1 c op h (ap (live_now c) (sym (cond_unset (a l) after (T l) e)) ∙ live'))))
+      one l lane true e =
+          let stands = lanes.sim.stand l lane in
+          let stand = lanes.stand l lane e in
+          subst (λ x. Does (machine_of kernel launch) (memory_below w.memory a object index bs l) (item_at w l) (λ s'. (s'.tasks ≡ cond (a l) after (T l)) × Agrees f st'.registers l (cond (a l) after (T l)) s'.cells) x false)
+          (sym (ap (λ b. cond b (Rattle.work_items.specs.Memory.stored (memory_below w.memory a object index bs l) (object l) (index l) (bs l)) (memory_below w.memory a object index bs l)) e))
+          (does_store site (object l) (index l) (bs l) (with_tasks (item_at w l) after) (ap (tasks_next kernel launch (item_at w l)) (stands.0 ∙ stand) ∙ next l lane e)
+          (ap (λ n. has_element n (length (bs l)) (index l)) (below_length w.memory a object index bs l (object l)) ∙ fits l lane e)
+          (sym (cond_set (a l) after (T l) e), agrees_on l (cond (a l) after (T l)) (item_at w l).cells
+          (λ c op h live'. stands.1 c op h (ap (live_now c) stand ∙ live c (ap (live_now c) (sym (cond_set (a l) after (T l) e)) ∙ live')))))
+
+      idle : (l : ℕ) → chunk.lanes.alive l ≡ false → (x : Test) → a l ≡ x → memory_below w.memory a object index bs (suc l) ≡ memory_below w.memory a object index bs l
+      idle l off true e = absurd (true≢false (sym (lanes.alive l e) ∙ off))
+      idle l off false e = ap (λ b. cond b (Rattle.work_items.specs.Memory.stored (memory_below w.memory a object index bs l) (object l) (index l) (bs l)) (memory_below w.memory a object index bs l)) e
