@@ -14,4 +14,5 @@ pub mod Objects
 pub mod Loads
 pub mod Bytes
 pub mod Numbers
+pub mod Mirroring
 pub mod Stores

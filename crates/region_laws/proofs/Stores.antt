@@ -86,6 +86,7 @@ use Rattle.region_laws.proofs.Standing.{good_there}
 use Rattle.region_laws.proofs.Bytes.{overwritten_is, bytes_low, stored_below, scattered_is, below_same, memory_below, below_length, below_other, below_shared, below_own, own_stored_read, own_stored_length}
 use Rattle.region_laws.proofs.Numbers.{local_private, locals_differ, privates_differ}
 use Rattle.region_laws.proofs.Objects.{store_loads, store_no_table}
+use Rattle.region_laws.proofs.Mirroring.{Mirrored, buffer_mirrored, local_mirrored, own_mirrored}
 use Rattle.region_laws.proofs.Loads.{within_is, first_is, own_faults_read, own_faults_length, lane_item, number_is, in_group}
 
 module _ (kernel : Kernel) (launch : Launch) (width : ℕ) (chunk : ChunkOf kernel launch width) (turns : ℕ) (w0 : Stage Item) (g0 : Group) (f : Frame) (counts : Counts) (r0 : Registers) (ground : Ground kernel launch w0)
@@ -110,20 +111,12 @@ module _ (kernel : Kernel) (launch : Launch) (width : ℕ) (chunk : ChunkOf kern
   abbrev item_at : Stage Item → ℕ → Item
   item_at w l = w.items (chunk.lanes.first + l)
 
-  -- what is mirrored after the lanes have stored
-  pub record Mirrored (memory after : Memory) (st st' : State) : Type 0 where
-    pub registers : st'.registers ≡ st.registers
-    pub mirrors : Mirrors kernel launch chunk.group after st'.group st'.buffers
-    pub others : OthersObjectsStay kernel launch chunk.group memory after
-    pub group : SameGroup st.group st'.group
-    pub rows : (n : ℕ) → n < length st'.group.privates → length (slice_index_or st'.group.privates n []) ≡ group_size launch
-
   -- the active lanes' items store, one after the other
   pub stores_move : (m t site : ℕ) (a : ℕ → Test) (T : ℕ → Tasks) (before after : Tasks) (st st' : State) (w : Stage Item) (object : ℕ → ℕ) (index : ℕ → ℤ) (bs : ℕ → List ℕ) → Standing m t a T before st w
       → ((l : ℕ) → IsLane chunk.lanes l → a l ≡ true → tasks_next kernel launch (item_at w l) before ≡ Stores site (object l) (index l) (bs l) (with_tasks (item_at w l) after))
       → ((l : ℕ) → IsLane chunk.lanes l → a l ≡ true → is_in_range w.memory (record { object = object l; size = length (bs l); index = index l }) ≡ true)
       → ((c : ℕ) → live_now c after ≡ true → live_now c before ≡ true)
-      → Mirrored w.memory (memory_below w.memory a object index bs width) st st' → (w' : Stage Item) × AtStage t (λ l. cond (a l) after (T l)) st' w'
+      → Mirrored kernel launch chunk.group w.memory (memory_below w.memory a object index bs width) st st' → (w' : Stage Item) × AtStage t (λ l. cond (a l) after (T l)) st' w'
   stores_move m t site a T before after st st' w object index bs lanes next fits live mirrored =
       let mem = memory_below w.memory a object index bs in
       let moved = lanes_do (machine_of kernel launch) chunk.lanes w0 w mem (λ l s. s ≡ item_at w l) (λ l s. (s.tasks ≡ cond (a l) after (T l)) × Agrees f st'.registers l (cond (a l) after (T l)) s.cells) (λ l. false)
@@ -138,7 +131,7 @@ module _ (kernel : Kernel) (launch : Launch) (width : ℕ) (chunk : ChunkOf kern
             locals = λ other n lt ne in_row. mirrored.others.locals other n lt ne in_row ∙ lanes.sim.others.locals other n lt ne in_row;
             privates = λ item n ne in_row. mirrored.others.privates item n ne in_row ∙ lanes.sim.others.privates item n ne in_row;
           });
-          group = record { columns = mirrored.group.columns ∙ lanes.sim.group.columns; entries = mirrored.group.entries ∙ lanes.sim.group.entries; exits = mirrored.group.exits ∙ lanes.sim.group.exits; votes = mirrored.group.votes ∙ lanes.sim.group.votes };
+          group = record { columns = mirrored.kept.columns ∙ lanes.sim.group.columns; entries = mirrored.kept.entries ∙ lanes.sim.group.entries; exits = mirrored.kept.exits ∙ lanes.sim.group.exits; votes = mirrored.kept.votes ∙ lanes.sim.group.votes };
           rows = mirrored.rows;
           shape = subst (Shaped counts width) (sym mirrored.registers) lanes.sim.shape;
           above = subst (Above f width r0) (sym mirrored.registers) lanes.sim.above;
@@ -170,3 +163,108 @@ module _ (kernel : Kernel) (launch : Launch) (width : ℕ) (chunk : ChunkOf kern
       idle : (l : ℕ) → chunk.lanes.alive l ≡ false → (x : Test) → a l ≡ x → memory_below w.memory a object index bs (suc l) ≡ memory_below w.memory a object index bs l
       idle l off true e = absurd (true≢false (sym (lanes.alive l e) ∙ off))
       idle l off false e = ap (λ b. cond b (Rattle.work_items.specs.Memory.stored (memory_below w.memory a object index bs l) (object l) (index l) (bs l)) (memory_below w.memory a object index bs l)) e
+
+  -- a store, where these are the bytes of each lane's object
+  store_common : (site : ℕ) (element : IntType) (r : Root) (index from : Atom) (m p t : ℕ) (next : Free) (a : ℕ → Test) (T : ℕ → Tasks) (at : Place) (rest : Lines) (k : Tasks) (st : State) (w : Stage Item)
+      → slice_get code p ≡ Some (step.Store site element (root_at f.arrays r) (operand f.cells next index).at (operand f.cells (past_atom next index) from).at (mask_reg m)) → IsFit (StoreThen site element r index from NoLine) next
+      → Standing m t a T (LinesAt at (StoreThen site element r index from rest) k) st w
+      → (B : ℕ → List ℕ) (fs : List Test) (all : State) (below : ℕ → State)
+      → act (kernel_chunk kernel launch width chunk.group chunk.first) (step.Store site element (root_at f.arrays r) (operand f.cells next index).at (operand f.cells (past_atom next index) from).at (mask_reg m)) st ≡ stores site (lowest fs) all below
+      → length fs ≡ width
+      → ((l : ℕ) → l < width → slice_index_or fs l false ≡ is_fault (size_of element) (length (B l)) (mask_at st.registers m l) (value_at st.registers (operand f.cells next index).at l))
+      → ((l : ℕ) → IsLane chunk.lanes l → bytes_of w.memory (object_at kernel launch (item_at w l) r) ≡ B l)
+      → (((l : ℕ) → IsLane chunk.lanes l → a l ≡ true → (xs : List ℕ)
+      → overwritten xs (first_byte (length (bytes_of_value element (atom_value (item_at w l).cells from))) (atom_value (item_at w l).cells index)) (bytes_of_value element (atom_value (item_at w l).cells from))
+      ≡ put_element (size_of element) xs (value_at st.registers (operand f.cells next index).at l) (value_at st.registers (operand f.cells (past_atom next index) from).at l))
+      → Mirrored kernel launch chunk.group w.memory (memory_below w.memory a (λ l. object_at kernel launch (item_at w l) r) (λ l. atom_value (item_at w l).cells index) (λ l. bytes_of_value element (atom_value (item_at w l).cells from)) width) st all)
+      → ((st' : State) (w' : Stage Item) → AtStage t (λ l. cond (a l) (LinesAt (Behind ∷ at) rest k) (T l)) st' w' → st'.registers.masks ≡ st.registers.masks → Good (EndFrom t (p + 1) st')) → Good (EndFrom t p st)
+  store_common site element r index from m p t next a T at rest k st w has fit lanes B fs all below does flen fread bytes mirrored go = by (lowest fs) refl does
+    where
+      mine : Rattle.lane_code.specs.Acts.Chunk
+      mine = kernel_chunk kernel launch width chunk.group chunk.first
+
+      ireg : Reg
+      ireg = (operand f.cells next index).at
+
+      freg : Reg
+      freg = (operand f.cells (past_atom next index) from).at
+
+      s : Step
+      s = step.Store site element (root_at f.arrays r) ireg freg (mask_reg m)
+
+      before : Tasks
+      before = LinesAt at (StoreThen site element r index from rest) k
+
+      after : Tasks
+      after = LinesAt (Behind ∷ at) rest k
+
+      f1 : (is_site kernel site && can_store kernel r element && has_type types.Long (atom_type kernel index) ≡ true) × (has_type element (atom_type kernel from) ≡ true)
+      f1 = and_parts (is_site kernel site && can_store kernel r element && has_type types.Long (atom_type kernel index)) (has_type element (atom_type kernel from))
+          (and_parts (is_site kernel site && can_store kernel r element && has_type types.Long (atom_type kernel index) && has_type element (atom_type kernel from)) true fit.fits).0
+
+      type_i : atom_type kernel index ≡ Some types.Long
+      type_i = has_type_is types.Long (atom_type kernel index) (and_parts (is_site kernel site && can_store kernel r element) (has_type types.Long (atom_type kernel index)) f1.0).1
+
+      type_f : atom_type kernel from ≡ Some element
+      type_f = has_type_is element (atom_type kernel from) f1.1
+
+      good : (l : ℕ) → IsGood kernel (chunk.lanes.first + l) (item_at w l)
+      good l = good_there kernel launch width chunk turns w0 g0 f counts r0 ground w lanes.sim.reached (chunk.lanes.first + l)
+
+      agrees : (l : ℕ) → IsLane chunk.lanes l → a l ≡ true → Agrees f st.registers l before (item_at w l).cells
+      agrees l lane set c op h live = (lanes.sim.stand l lane).1 c op h (ap (live_now c) (lanes.stand l lane set) ∙ live)
+
+      index_lane : (l : ℕ) → IsLane chunk.lanes l → a l ≡ true → value_at st.registers ireg l ≡ lane_bits 64 (atom_value (item_at w l).cells index)
+      index_lane l lane set =
+          (operand_is kernel width f atoms counts r0 framed next index types.Long st.registers type_i (λ c e. fit.names c (or_left (reads c index) (reads c from || false) e)) fit.held.0 lanes.sim.above).holds l (item_at w l).cells (lane_width l lane)
+          (λ c op e rd. agrees l lane set c op e (reads_live c before (or_left (reads c index) (reads c from) rd)))
+
+      from_lane : (l : ℕ) → IsLane chunk.lanes l → a l ≡ true → value_at st.registers freg l ≡ lane_in element (atom_value (item_at w l).cells from)
+      from_lane l lane set =
+          (operand_is kernel width f atoms counts r0 framed (past_atom next index) from element st.registers type_f (λ c e. fit.names c (or_right (reads c index) (reads c from || false) (or_left (reads c from) false e))) fit.held.1.0 lanes.sim.above).holds l (item_at w l).cells (lane_width l lane)
+          (λ c op e rd. agrees l lane set c op e (reads_live c before (or_right (reads c index) (reads c from) rd)))
+
+      value_length : (l : ℕ) → length (bytes_of_value element (atom_value (item_at w l).cells from)) ≡ size_of element
+      value_length l = length-bytes element (atom_value (item_at w l).cells from)
+
+      -- whether a lane's item is in range
+      range_is : (l : ℕ) → IsLane chunk.lanes l → a l ≡ true
+          → is_within (size_of element) (length (B l)) (value_at st.registers ireg l)
+          ≡ is_in_range w.memory (record { object = object_at kernel launch (item_at w l) r; size = length (bytes_of_value element (atom_value (item_at w l).cells from)); index = atom_value (item_at w l).cells index })
+      range_is l lane set =
+          ap (is_within (size_of element) (length (B l))) (index_lane l lane set)
+          ∙ within_is (size_of element) (length (B l)) (atom_value (item_at w l).cells index) (atom_typed kernel (item_at w l).cells index types.Long (good l).typed type_i)
+          ∙ ap (λ (bs : List ℕ). has_element (length bs) (size_of element) (atom_value (item_at w l).cells index)) (sym (bytes l lane))
+          ∙ ap (λ n. has_element (length (bytes_of w.memory (object_at kernel launch (item_at w l) r))) n (atom_value (item_at w l).cells index)) (sym (value_length l))
+
+      by : (o : Option ℕ) → lowest fs ≡ o → act mine s st ≡ stores site o all below → Good (EndFrom t p st)
+      by (Some l) e is =
+          let low = lowest_is fs l e in
+          let within : l < width = let lt = low.within in omega arith in
+          let fault = and_parts (mask_at st.registers m l) (not (is_within (size_of element) (length (B l)) (value_at st.registers ireg l))) (sym (fread l within) ∙ low.set) in
+          let set : a l ≡ true = sym (lanes.mask l within) ∙ fault.0 in
+          let lane : IsLane chunk.lanes l = ((let wi = chunk.is_chunk.width_is in omega arith), lanes.alive l set) in
+          let tasks : (item_at w l).tasks ≡ before = (lanes.sim.stand l lane).0 ∙ lanes.stand l lane set in
+          let out = sym (range_is l lane set) ∙ Rattle.std.proofs.lemmas.Bool.not-true _ fault.1 in
+          halt_step mine code Good t p s st (below l) (end.Range l site) has is
+          (closed.faults w lanes.sim.reached l site lane (ap (λ n. fault_of w.memory n) (ap (tasks_next kernel launch (item_at w l)) tasks) ∙ ap (λ b. cond b None (Some site)) out) t (below l))
+      by None e is =
+          let calm : (l : ℕ) → (lane : IsLane chunk.lanes l) → a l ≡ true → is_within (size_of element) (length (B l)) (value_at st.registers ireg l) ≡ true = λ l lane set.
+          Rattle.std.proofs.lemmas.Bool.not-false _ (ap (λ b. is_fault (size_of element) (length (B l)) b (value_at st.registers ireg l)) (sym (lanes.mask l (lane_width l lane) ∙ set)) ∙ sym (fread l (lane_width l lane)) ∙ none_lowest fs e l) in
+          let fits = λ (l : ℕ) (lane : IsLane chunk.lanes l) (set : a l ≡ true). sym (range_is l lane set) ∙ calm l lane set in
+          let done = mirrored (λ l lane set xs. put l lane set (calm l lane set) xs) in
+          let moved = stores_move m t site a T before after st all w _ _ _ lanes (λ l lane set. refl) fits (λ c live. live_leads c before after past_store refl live) done in
+          on_step mine code Good t p s st all has is (go all moved.0 moved.1 (ap (λ (q : Registers). q.masks) done.registers))
+        where
+          put : (l : ℕ) → IsLane chunk.lanes l → a l ≡ true → is_within (size_of element) (length (B l)) (value_at st.registers ireg l) ≡ true → (xs : List ℕ)
+              → overwritten xs (first_byte (length (bytes_of_value element (atom_value (item_at w l).cells from))) (atom_value (item_at w l).cells index)) (bytes_of_value element (atom_value (item_at w l).cells from))
+              ≡ put_element (size_of element) xs (value_at st.registers ireg l) (value_at st.registers freg l)
+          put l lane set calm xs =
+              let z = atom_value (item_at w l).cells index in
+              let v = atom_value (item_at w l).cells from in
+              let typed = atom_typed kernel (item_at w l).cells index types.Long (good l).typed type_i in
+              let there : has_element (length (B l)) (size_of element) z ≡ true = sym (ap (is_within (size_of element) (length (B l))) (index_lane l lane set) ∙ within_is (size_of element) (length (B l)) z typed) ∙ calm in
+              overwritten_is xs (first_byte (length (bytes_of_value element v)) z) (bytes_of_value element v)
+              ∙ ap (λ n. Rattle.std.specs.Simd.Lanes.put_chunk (first_byte n z) xs (bytes_of_value element v)) (value_length l)
+              ∙ ap (λ n. Rattle.std.specs.Simd.Lanes.put_chunk n xs (bytes_of_value element v)) (sym (first_is (size_of element) (length (B l)) z typed there) ∙ ap (λ n. n * size_of element) (sym (index_lane l lane set)))
+              ∙ ap (λ bs. Rattle.std.specs.Simd.Lanes.put_chunk (value_at st.registers ireg l * size_of element) xs bs) (sym (bytes_low element v) ∙ ap (Rattle.std.specs.Simd.Lanes.digits_l 256 (size_of element)) (sym (from_lane l lane set)))
