@@ -268,3 +268,141 @@ module _ (kernel : Kernel) (launch : Launch) (width : ℕ) (chunk : ChunkOf kern
               ∙ ap (λ n. Rattle.std.specs.Simd.Lanes.put_chunk (first_byte n z) xs (bytes_of_value element v)) (value_length l)
               ∙ ap (λ n. Rattle.std.specs.Simd.Lanes.put_chunk n xs (bytes_of_value element v)) (sym (first_is (size_of element) (length (B l)) z typed there) ∙ ap (λ n. n * size_of element) (sym (index_lane l lane set)))
               ∙ ap (λ bs. Rattle.std.specs.Simd.Lanes.put_chunk (value_at st.registers ireg l * size_of element) xs bs) (sym (bytes_low element v) ∙ ap (Rattle.std.specs.Simd.Lanes.digits_l 256 (size_of element)) (sym (from_lane l lane set)))
+
+  -- so a store does, whatever its root names
+  pub store_runs : (site : ℕ) (element : IntType) (r : Root) (index from : Atom) → Accesses kernel launch width chunk turns w0 g0 f counts r0 ground atoms framed code valid Good Sites Goal closed (StoreThen site element r index from)
+      (λ next m. step.Store site element (root_at f.arrays r) (operand f.cells next index).at (operand f.cells (past_atom next index) from).at (mask_reg m))
+  store_runs site element r index from m p t next a T at rest k st w has fit lanes go =
+      by (reached (length (local_arrays (shell_of kernel))) launch (root_at f.arrays r))
+      (subst (λ x. IsObject kernel launch chunk.group r (reached (length (local_arrays (shell_of kernel))) launch (root_at x r))) (sym arrays_are) (load_reaches kernel launch ground.fits chunk.group r element (store_loads kernel launch ground.fits chunk.group r element can))) refl
+    where
+      mine : Rattle.lane_code.specs.Acts.Chunk
+      mine = kernel_chunk kernel launch width chunk.group chunk.first
+
+      ireg : Reg
+      ireg = (operand f.cells next index).at
+
+      freg : Reg
+      freg = (operand f.cells (past_atom next index) from).at
+
+      s : Step
+      s = step.Store site element (root_at f.arrays r) ireg freg (mask_reg m)
+
+      f1 : (is_site kernel site && can_store kernel r element && has_type types.Long (atom_type kernel index) ≡ true) × (has_type element (atom_type kernel from) ≡ true)
+      f1 = and_parts (is_site kernel site && can_store kernel r element && has_type types.Long (atom_type kernel index)) (has_type element (atom_type kernel from))
+          (and_parts (is_site kernel site && can_store kernel r element && has_type types.Long (atom_type kernel index) && has_type element (atom_type kernel from)) true fit.fits).0
+
+      f2 : (is_site kernel site && can_store kernel r element ≡ true) × (has_type types.Long (atom_type kernel index) ≡ true)
+      f2 = and_parts (is_site kernel site && can_store kernel r element) (has_type types.Long (atom_type kernel index)) f1.0
+
+      can : can_store kernel r element ≡ true
+      can = (and_parts (is_site kernel site) (can_store kernel r element) f2.0).1
+
+      active : List Test
+      active = mask_of st.registers (mask_reg m)
+
+      places : List ℕ
+      places = lanes_of st.registers ireg
+
+      values : List ℕ
+      values = lanes_of st.registers freg
+
+      wells : (is_below counts ireg && is_below counts freg ≡ true) × (is_below counts (mask_reg m) ≡ true)
+      wells = and_parts (is_below counts ireg && is_below counts freg) (is_below counts (mask_reg m)) (code_well counts code p s valid has)
+
+      active_length : length active ≡ width
+      active_length = mask_length counts width st.registers lanes.sim.shape m wells.1
+
+      places_length : length places ≡ width
+      places_length =
+          let bank = (operand_is kernel width f atoms counts r0 framed next index types.Long st.registers (has_type_is types.Long (atom_type kernel index) f2.1) (λ c e. fit.names c (or_left (reads c index) (reads c from || false) e)) fit.held.0 lanes.sim.above).bank in
+          lanes_length counts width st.registers lanes.sim.shape ireg (ap is_lane bank) (and_parts (is_below counts ireg) (is_below counts freg) wells.0).0
+
+      values_length : length values ≡ width
+      values_length =
+          let bank = (operand_is kernel width f atoms counts r0 framed (past_atom next index) from element st.registers (has_type_is element (atom_type kernel from) f1.1) (λ c e. fit.names c (or_right (reads c index) (reads c from || false) (or_left (reads c from) false e))) fit.held.1.0 lanes.sim.above).bank in
+          lanes_length counts width st.registers lanes.sim.shape freg (ap is_lane bank ∙ type_lane element) (and_parts (is_below counts ireg) (is_below counts freg) wells.0).1
+
+      lane_of : (l : ℕ) → l < width → a l ≡ true → IsLane chunk.lanes l
+      lane_of l lt set = ((let wi = chunk.is_chunk.width_is in omega arith), lanes.alive l set)
+
+      good : (l : ℕ) → IsGood kernel (chunk.lanes.first + l) (item_at w l)
+      good l = good_there kernel launch width chunk turns w0 g0 f counts r0 ground w lanes.sim.reached (chunk.lanes.first + l)
+
+
+      -- one object for all lanes
+      shared : (x : ℕ) (bytes : List ℕ) (all : State) (below : ℕ → State) → act mine s st ≡ stores site (lowest (faults (size_of element) (length bytes) active places)) all below → ((l : ℕ) → IsLane chunk.lanes l → object_at kernel launch (item_at w l) r ≡ x) → bytes_of w.memory x ≡ bytes
+          → ((after : Memory) → bytes_of after x ≡ scattered (size_of element) bytes active places values → ((y : ℕ) → x ≢ y → bytes_of after y ≡ bytes_of w.memory y) → Mirrored kernel launch chunk.group w.memory after st all) → Good (EndFrom t p st)
+      shared x bytes all below does is there mirrored =
+          store_common site element r index from m p t next a T at rest k st w has fit lanes (λ l. bytes) (faults (size_of element) (length bytes) active places) all below does (length-zip2 (is_fault (size_of element) (length bytes)) active places (active_length ∙ sym places_length) ∙ active_length)
+          (λ l lt. get_or-zip2 (is_fault (size_of element) (length bytes)) active places l false 0 false (let h = active_length in omega arith) (let h = places_length in omega arith))
+          (λ l lane. ap (bytes_of w.memory) (is l lane) ∙ there)
+          (λ put.
+          let after = memory_below w.memory a (λ l. object_at kernel launch (item_at w l) r) (λ l. atom_value (item_at w l).cells index) (λ l. bytes_of_value element (atom_value (item_at w l).cells from)) width in
+          mirrored after
+          (below_shared w.memory a (λ l. object_at kernel launch (item_at w l) r) (λ l. atom_value (item_at w l).cells index) (λ l. bytes_of_value element (atom_value (item_at w l).cells from)) (size_of element) x (λ l. value_at st.registers ireg l) (λ l. value_at st.registers freg l) width
+          (λ l lt set. is l (lane_of l lt set)) (λ l lt set xs. put l (lane_of l lt set) set xs)
+          ∙ ap (λ bs. stored_below (size_of element) bs a (λ l. value_at st.registers ireg l) (λ l. value_at st.registers freg l) width) there
+          ∙ below_same (size_of element) bytes a (λ l. slice_index_or active l false) (λ l. value_at st.registers ireg l) (λ l. slice_index_or places l 0) (λ l. value_at st.registers freg l) (λ l. slice_index_or values l 0) width (λ l lt. sym (lanes.mask l lt)) (λ l lt. refl) (λ l lt. refl)
+          ∙ ap (stored_below (size_of element) bytes (λ l. slice_index_or active l false) (λ l. slice_index_or places l 0) (λ l. slice_index_or values l 0)) (sym active_length)
+          ∙ sym (scattered_is (size_of element) bytes active places values (active_length ∙ sym places_length) (active_length ∙ sym values_length)))
+          (λ y ne. below_other w.memory a (λ l. object_at kernel launch (item_at w l) r) (λ l. atom_value (item_at w l).cells index) (λ l. bytes_of_value element (atom_value (item_at w l).cells from)) width y (λ l lt set e. ne (sym (is l (lane_of l lt set)) ∙ e))))
+          go
+
+      -- one of its own for each lane
+      own : (n : ℕ) → n < length (private_sizes (shell_of kernel)) → ((i : Item) → object_at kernel launch i r ≡ first_private (shell_of kernel) launch i.number + n) → act mine s st ≡ store_at mine st site element ireg freg (mask_reg m) (Own n) → Good (EndFrom t p st)
+      own n lt is does =
+          let row = slice_index_or st.group.privates n [] in
+          let objects = window [] row chunk.first width in
+          let olen = window_length [] row chunk.first width in
+          let after = memory_below w.memory a (λ l. object_at kernel launch (item_at w l) r) (λ l. atom_value (item_at w l).cells index) (λ l. bytes_of_value element (atom_value (item_at w l).cells from)) width in
+          let news = own_stored (size_of element) active places values objects in
+          let nlen = own_stored_length (size_of element) active places values objects (active_length ∙ sym olen) ∙ olen in
+          store_common site element r index from m p t next a T at rest k st w has fit lanes (λ l. slice_index_or row (chunk.first + l) []) (own_faults (size_of element) active places objects) _ _ does (own_faults_length (size_of element) active places objects (active_length ∙ sym places_length) (active_length ∙ sym olen) ∙ active_length)
+          (λ l ltl. own_faults_read (size_of element) active places objects l (let h = active_length in omega arith) (let h = places_length in omega arith) (let h = olen in omega arith)
+          ∙ ap (λ (bs : List ℕ). is_fault (size_of element) (length bs) (mask_at st.registers m l) (value_at st.registers ireg l)) (window_read [] row chunk.first width l [] ltl))
+          (λ l lane. before n lt is l lane)
+          (λ put.
+          own_mirrored kernel launch chunk.group chunk.within w.memory after st lanes.sim.mirrors lanes.sim.rows n chunk.first news lt
+          (λ l ltl inside.
+          let ltw : l < width = omega arith in
+          let lane : IsLane chunk.lanes l = ((let wi = chunk.is_chunk.width_is in omega arith), chunk.is_chunk.alive_is l ∙ lt-ltb (chunk.first + l) (group_size launch) inside) in
+          let object : object_at kernel launch (item_at w l) r ≡ first_private (shell_of kernel) launch (chunk.group * group_size launch + (chunk.first + l)) + n = object_is n is l in
+          ap (bytes_of after) (sym object)
+          ∙ below_own w.memory a (λ l. object_at kernel launch (item_at w l) r) (λ l. atom_value (item_at w l).cells index) (λ l. bytes_of_value element (atom_value (item_at w l).cells from)) width l ltw (λ i lti ne e. differ n lt is i l ne e)
+          ∙ with_put put l lane (bytes_of w.memory (object_at kernel launch (item_at w l) r)) (a l) refl
+          ∙ ap (λ (bs : List ℕ). cond (a l) (put_element (size_of element) bs (value_at st.registers ireg l) (value_at st.registers freg l)) bs) (before n lt is l lane ∙ sym (window_read [] row chunk.first width l [] ltw))
+          ∙ ap (λ b. cond b (put_element (size_of element) (slice_index_or objects l []) (value_at st.registers ireg l) (value_at st.registers freg l)) (slice_index_or objects l [])) (sym (lanes.mask l ltw))
+          ∙ sym (own_stored_read (size_of element) active places values objects l (active_length ∙ sym places_length) (active_length ∙ sym values_length) (active_length ∙ sym olen) (let h = active_length in omega arith)))
+          (λ y apart. below_other w.memory a (λ l. object_at kernel launch (item_at w l) r) (λ l. atom_value (item_at w l).cells index) (λ l. bytes_of_value element (atom_value (item_at w l).cells from)) width y
+          (λ l ltl set e. apart l (let h = nlen in omega arith) (lane_item kernel launch width chunk turns w0 g0 f counts r0 ground atoms framed code valid Good Sites Goal closed arrays_are l (lane_of l ltl set)) (sym (object_is n is l) ∙ e))))
+          go
+        where
+          object_is : (n : ℕ) → ((i : Item) → object_at kernel launch i r ≡ first_private (shell_of kernel) launch i.number + n) → (l : ℕ) → object_at kernel launch (item_at w l) r ≡ first_private (shell_of kernel) launch (chunk.group * group_size launch + (chunk.first + l)) + n
+          object_is n is l = is (item_at w l) ∙ ap (λ x. first_private (shell_of kernel) launch x + n) (number_is kernel launch width chunk turns w0 g0 f counts r0 ground atoms framed code valid Good Sites Goal closed arrays_are l (item_at w l) (good l))
+
+          before : (n : ℕ) → n < length (private_sizes (shell_of kernel)) → ((i : Item) → object_at kernel launch i r ≡ first_private (shell_of kernel) launch i.number + n) → (l : ℕ) → IsLane chunk.lanes l → bytes_of w.memory (object_at kernel launch (item_at w l) r) ≡ slice_index_or (slice_index_or st.group.privates n []) (chunk.first + l) []
+          before n lt is l lane = ap (bytes_of w.memory) (object_is n is l) ∙ lanes.sim.mirrors.privates n (chunk.first + l) lt (lane_item kernel launch width chunk turns w0 g0 f counts r0 ground atoms framed code valid Good Sites Goal closed arrays_are l lane)
+
+          differ : (n : ℕ) → n < length (private_sizes (shell_of kernel)) → ((i : Item) → object_at kernel launch i r ≡ first_private (shell_of kernel) launch i.number + n) → (i l : ℕ) → i ≢ l → object_at kernel launch (item_at w i) r ≡ object_at kernel launch (item_at w l) r → ⊥
+          differ n lt is i l ne e = privates_differ kernel launch (chunk.group * group_size launch + (chunk.first + i)) (chunk.group * group_size launch + (chunk.first + l)) n n (λ h. ne (omega (arith, h))) lt lt (sym (object_is n is i) ∙ e ∙ object_is n is l)
+
+          with_put : ((l : ℕ) → IsLane chunk.lanes l → a l ≡ true → (xs : List ℕ)
+              → overwritten xs (first_byte (length (bytes_of_value element (atom_value (item_at w l).cells from))) (atom_value (item_at w l).cells index)) (bytes_of_value element (atom_value (item_at w l).cells from))
+              ≡ put_element (size_of element) xs (value_at st.registers ireg l) (value_at st.registers freg l))
+              → (l : ℕ) → IsLane chunk.lanes l → (xs : List ℕ) → (x : Test) → a l ≡ x
+              → cond (a l) (overwritten xs (first_byte (length (bytes_of_value element (atom_value (item_at w l).cells from))) (atom_value (item_at w l).cells index)) (bytes_of_value element (atom_value (item_at w l).cells from))) xs
+              ≡ cond (a l) (put_element (size_of element) xs (value_at st.registers ireg l) (value_at st.registers freg l)) xs
+          with_put put l lane xs true e = ap (λ ys. cond (a l) ys xs) (put l lane e xs)
+          with_put put l lane xs false e = cond_unset (a l) _ xs e ∙ sym (cond_unset (a l) _ xs e)
+
+      by : (o : Reached) → IsObject kernel launch chunk.group r o → reached (length (local_arrays (shell_of kernel))) launch (root_at f.arrays r) ≡ o → Good (EndFrom t p st)
+      by _ (a_buffer b lt is) e =
+          shared b (slice_index_or st.buffers b []) _ _ (ap (store_at mine st site element ireg freg (mask_reg m)) e) (λ l lane. is (item_at w l)) (lanes.sim.mirrors.same_buffers b lt)
+          (λ after there same. buffer_mirrored kernel launch chunk.group chunk.within w.memory after st lanes.sim.mirrors lanes.sim.rows b (scattered (size_of element) (slice_index_or st.buffers b []) active places values) lt there same)
+      by _ (a_table n lt is) e = absurd (store_no_table kernel launch ground.fits chunk.group r element n can (ap (λ x. reached (length (local_arrays (shell_of kernel))) launch (root_at x r)) (sym arrays_are) ∙ e))
+      by _ (a_local n lt is) e =
+          shared (Rattle.cl_model.specs.Objects.first_local (shell_of kernel) launch chunk.group + n) (slice_index_or st.group.locals n []) _ _ (ap (store_at mine st site element ireg freg (mask_reg m)) e)
+          (λ l lane. is (item_at w l) (in_group kernel launch width chunk turns w0 g0 f counts r0 ground atoms framed code valid Good Sites Goal closed arrays_are l (item_at w l) lane (good l))) (lanes.sim.mirrors.locals n lt)
+          (λ after there same. local_mirrored kernel launch chunk.group chunk.within w.memory after st lanes.sim.mirrors lanes.sim.rows n (scattered (size_of element) (slice_index_or st.group.locals n []) active places values) lt there same)
+      by _ (an_own n lt is) e = own n lt is (ap (store_at mine st site element ireg freg (mask_reg m)) e)
