@@ -16,3 +16,5 @@ pub mod Bytes
 pub mod Numbers
 pub mod Mirroring
 pub mod Stores
+pub mod StartObjects
+pub mod Clears

@@ -5,7 +5,7 @@ use Rattle.work_items.specs.Items.{fault_of}
 use Rattle.work_items.specs.Clean.{WaitsAt}
 use Rattle.cl_model.specs.Sizes.{Launch, group_size, group_count, group_of}
 use Rattle.cl_model.specs.Objects.{local_sizes, private_sizes, first_local, first_private}
-use Rattle.cl_model.specs.Fitting.{FitsProgram}
+use Rattle.cl_model.specs.Fitting.{FitsProgram, FitBuffers}
 use Rattle.kir.specs.Tree.{Kernel}
 use Rattle.kir.specs.Places.{Tasks}
 use Rattle.kir.specs.Live.{live_now}
@@ -39,6 +39,7 @@ pub record Ground (kernel : Kernel) (launch : Launch) (w : Stage Item) : Type 0 
   pub sizes : HasGlobalSizes launch
   pub valid : lines_fit kernel kernel.body ≡ true
   pub buffers : List (List ℕ)
+  pub fit : FitBuffers launch buffers
   pub leads : ItemsLead kernel launch (start_stage kernel launch buffers) w
 
 -- an item with its number, whose cells hold values of their types
