@@ -117,7 +117,7 @@ value_zero t = zero_wraps t
 residue_zero : (m : ℕ) → 0 % m ≡ 0
 residue_zero m = grind arith
 
-zero_bits : (w : ℕ) → lane w (pos 0) ≡ 0
+pub zero_bits : (w : ℕ) → lane w (pos 0) ≡ 0
 unfolding lane
 zero_bits w = residue_zero (2 ^ w)
 

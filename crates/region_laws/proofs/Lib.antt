@@ -18,3 +18,6 @@ pub mod Mirroring
 pub mod Stores
 pub mod StartObjects
 pub mod Clears
+pub mod Entering
+pub mod Exiting
+pub mod Ends
