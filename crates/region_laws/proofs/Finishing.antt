@@ -155,7 +155,7 @@ module _ (kernel : Kernel) (launch : Launch) (width : ℕ) (chunk : ChunkOf kern
                 ∙ ap (λ b. chosen b (slice_index_or votes l false) (slice_index_or seen l false)) set
                 ∙ k1.here l ltl ∙ ap (λ b. b && yes_at kernel launch width chunk turns w0 g0 f counts r0 ground atoms framed code valid Good Sites Goal closed st (operand f.cells next a).at l) (mask l ltl ∙ item.1)
                 ∙ yes_is kernel launch width chunk turns w0 g0 f counts r0 ground atoms framed code valid Good Sites Goal closed next a ty.0 st l (item_at w l) e one ty.1 ltl (good_there kernel launch width chunk turns w0 g0 f counts r0 ground w sim.reached (chunk.lanes.first + l)) stands.1 (λ c rd. reads_vote a is c rd));
-          })))
+          }))))
 
   -- the code is done behind the exit
   pub finish : (next : Free) (p t : ℕ) (st : State) (w : Stage Item) → HasAt code p (vote_code f next region.answer ++ exit_code plan.homes f.cells region.live) → length code ≡ p + length (vote_code f next region.answer ++ exit_code plan.homes f.cells region.live)

@@ -21,3 +21,4 @@ pub mod Clears
 pub mod Entering
 pub mod Exiting
 pub mod Ends
+pub mod Finishing
