@@ -61,7 +61,7 @@ type_lane types.Long = refl
 type_lane types.Ulong = refl
 
 -- a register more is in use
-advanced_same : (next : Free) (of : IntType) → number_in (advanced next of) (bank_of of) ≡ number_in next (bank_of of) + 1
+pub advanced_same : (next : Free) (of : IntType) → number_in (advanced next of) (bank_of of) ≡ number_in next (bank_of of) + 1
 advanced_same next types.Bool = refl
 advanced_same next types.Char = refl
 advanced_same next types.Uchar = refl

@@ -82,11 +82,11 @@ amount_bank types.Ulong = refl
 
 -- ---- the lane of a value
 
-lane_64 : (z : ℤ) → lane 64 z ≡ bits_of z
+pub lane_64 : (z : ℤ) → lane 64 z ≡ bits_of z
 unfolding lane bits_of
 lane_64 z = refl
 
-lane_32 : (z : ℤ) → lane 32 z ≡ bits_of z % 2 ^ 32
+pub lane_32 : (z : ℤ) → lane 32 z ≡ bits_of z % 2 ^ 32
 unfolding lane bits_of
 lane_32 z =
     residue_unique (residue z (2 ^ 64) % 2 ^ 32) z (2 ^ 32) (residue-lt (pos (residue z (2 ^ 64))) (2 ^ 32) (omega arith))
@@ -117,7 +117,7 @@ value_zero t = zero_wraps t
 residue_zero : (m : ℕ) → 0 % m ≡ 0
 residue_zero m = grind arith
 
-zero_bits : (w : ℕ) → lane w (pos 0) ≡ 0
+pub zero_bits : (w : ℕ) → lane w (pos 0) ≡ 0
 unfolding lane
 zero_bits w = residue_zero (2 ^ w)
 

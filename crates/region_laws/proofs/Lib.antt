@@ -12,3 +12,13 @@ pub mod Soundness
 pub mod Sounds
 pub mod Objects
 pub mod Loads
+pub mod Bytes
+pub mod Numbers
+pub mod Mirroring
+pub mod Stores
+pub mod StartObjects
+pub mod Clears
+pub mod Entering
+pub mod Exiting
+pub mod Ends
+pub mod Finishing

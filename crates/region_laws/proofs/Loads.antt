@@ -62,7 +62,7 @@ use Rattle.region_laws.proofs.Soundness.{Lanes, Fit, Accesses}
 
 -- ---- elements
 
-lane_small : (i : ℕ) → i < 2 ^ 64 → lane_bits 64 (pos i) ≡ i
+pub lane_small : (i : ℕ) → i < 2 ^ 64 → lane_bits 64 (pos i) ≡ i
 unfolding lane_bits
 lane_small i lt = mod-eq_of_lt lt
 
@@ -70,7 +70,7 @@ lane_negative : (n : ℕ) → n < 2 ^ 63 → 2 ^ 63 ≤ lane_bits 64 (negsuc n)
 unfolding lane_bits
 lane_negative n lt = let e = mod-eq_of_lt {n = n} {m = 2 ^ 64} (omega arith) in omega (arith, e)
 
-long_high : (i : ℕ) → IsValue types.Long (pos i) → i < 2 ^ 63
+pub long_high : (i : ℕ) → IsValue types.Long (pos i) → i < 2 ^ 63
 unfolding half modulus
 long_high i v = omega (arith, ints, v.high)
 

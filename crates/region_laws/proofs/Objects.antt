@@ -54,7 +54,7 @@ arguments_within (b ∷ args) (suc n) m e = go b (arguments_within args n m e)
     go (bound.Local k) lt = omega arith
 
 -- an array that passes a test has its place among those that do
-place_within : (test : Array → Test) (first : ℕ) (arrays : List Array) (n : ℕ) (a : Array) → slice_get arrays n ≡ Some a → test a ≡ true
+pub place_within : (test : Array → Test) (first : ℕ) (arrays : List Array) (n : ℕ) (a : Array) → slice_get arrays n ≡ Some a → test a ≡ true
     → place_among (filter (λ (x : PlacedArray). test x.array) (placed_from [] first arrays)) [] (first + n) < length (filter (λ (x : PlacedArray). test x.array) (placed_from [] first arrays))
 place_within test first [] n a e t = absurd (none-some a e)
 place_within test first (x ∷ rest) zero a e t = go (test x) (ap test (same_Some x a e) ∙ t)
