@@ -226,7 +226,7 @@ module _ (calls : Calls) (inside : ℕ → Test)
 
 -- ---- calls
 
-result_cutless : (result : Option IntType) (m : Made) → Cutless (result_code result m).lines
+pub result_cutless : (result : Option IntType) (m : Made) → Cutless (result_code result m).lines
 result_cutless None m = record { is = refl }
 result_cutless (Some of) m = record { is = refl }
 
