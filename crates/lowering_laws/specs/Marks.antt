@@ -2,7 +2,10 @@
 use Rattle.std.specs.Prelude.{ℕ, suc, ◌+◌, pos, List, [], ◌∷◌, ◌++◌, Option, Some, None, ◌&&◌, if◌then◌else◌}
 use Rattle.std.specs.Prelude.{Bool as Test, true, false}
 use Rattle.cl_model.specs.Task.{Leg, Operand, Own, Tested, Chosen, Other, Nth, Turn, Body, Step, Arm, Into, Point as ProgramPoint}
-use Rattle.kir.specs.Tree.{Lines, NoLine, SetThen, LoadThen, StoreThen, ClearThen, IfThen, LoopThen, BarrierThen}
+use Rattle.wg_num.specs.declared.types.IntType.{IntType}
+use Rattle.cl_model.specs.declared.program.Root.{Root}
+use Rattle.kir.specs.declared.line.Atom.{Atom}
+use Rattle.kir.specs.Tree.{Work, Lines, NoLine, SetThen, LoadThen, StoreThen, ClearThen, IfThen, LoopThen, BarrierThen}
 use Rattle.kir.specs.Places.{Behind, IntoChosen, IntoOther, IntoTest, ToAnswer, IntoBody, Place, Point, first_of, others_of}
 
 -- the way to a node of the program, where the iterations begun of the loops around it are given, the innermost first
@@ -83,10 +86,10 @@ point_marked marks point = first_way (marks_at marks point.at) point.begun
 -- marks in the shape of lines
 pub data Shaped : Lines → Marks → Type 0 where
   no_line : Shaped NoLine NoMark
-  set_line : {to : ℕ} {work : _} {rest : Lines} {way : Way} {marks : Marks} → Shaped rest marks → Shaped (SetThen to work rest) (MarkThen way marks)
-  load_line : {site to : ℕ} {element : _} {root : _} {index : _} {rest : Lines} {way : Way} {marks : Marks} → Shaped rest marks → Shaped (LoadThen site to element root index rest) (MarkThen way marks)
-  store_line : {site : ℕ} {element : _} {root : _} {index from : _} {rest : Lines} {way : Way} {marks : Marks} → Shaped rest marks → Shaped (StoreThen site element root index from rest) (MarkThen way marks)
+  set_line : {to : ℕ} {work : Work} {rest : Lines} {way : Way} {marks : Marks} → Shaped rest marks → Shaped (SetThen to work rest) (MarkThen way marks)
+  load_line : {site to : ℕ} {element : IntType} {root : Root} {index : Atom} {rest : Lines} {way : Way} {marks : Marks} → Shaped rest marks → Shaped (LoadThen site to element root index rest) (MarkThen way marks)
+  store_line : {site : ℕ} {element : IntType} {root : Root} {index from : Atom} {rest : Lines} {way : Way} {marks : Marks} → Shaped rest marks → Shaped (StoreThen site element root index from rest) (MarkThen way marks)
   clear_line : {array : ℕ} {rest : Lines} {way : Way} {marks : Marks} → Shaped rest marks → Shaped (ClearThen array rest) (MarkThen way marks)
-  if_line : {site : ℕ} {test : _} {chosen other rest : Lines} {way : Way} {one two marks : Marks} → Shaped chosen one → Shaped other two → Shaped rest marks → Shaped (IfThen site test chosen other rest) (FormThen way one two marks)
-  loop_line : {site : ℕ} {test_first : Test} {answer : _} {test body rest : Lines} {way : Way} {one two marks : Marks} → Shaped test one → Shaped body two → Shaped rest marks → Shaped (LoopThen site test_first test answer body rest) (FormThen way one two marks)
+  if_line : {site : ℕ} {test : Atom} {chosen other rest : Lines} {way : Way} {one two marks : Marks} → Shaped chosen one → Shaped other two → Shaped rest marks → Shaped (IfThen site test chosen other rest) (FormThen way one two marks)
+  loop_line : {site : ℕ} {test_first : Test} {answer : Atom} {test body rest : Lines} {way : Way} {one two marks : Marks} → Shaped test one → Shaped body two → Shaped rest marks → Shaped (LoopThen site test_first test answer body rest) (FormThen way one two marks)
   barrier_line : {site : ℕ} {rest : Lines} {way : Way} {marks : Marks} → Shaped rest marks → Shaped (BarrierThen site rest) (MarkThen way marks)
