@@ -46,14 +46,14 @@ fair_further way d leg fair begun begun' xs ys e e' k =
     tail_of (x ∷ xs) = xs
 
 -- two parts at legs of their own are apart
-legs_of : (way : Way) (d : ℕ) → IsFair way d → (begun begun' : List ℕ) (leg leg' : ProgramLeg) (xs ys : ProgramPoint) → length begun ≡ d → length begun' ≡ d → way begun ++ leg ∷ xs ≡ way begun' ++ leg' ∷ ys → leg ≡ leg'
+pub legs_of : (way : Way) (d : ℕ) → IsFair way d → (begun begun' : List ℕ) (leg leg' : ProgramLeg) (xs ys : ProgramPoint) → length begun ≡ d → length begun' ≡ d → way begun ++ leg ∷ xs ≡ way begun' ++ leg' ∷ ys → leg ≡ leg'
 legs_of way d fair begun begun' leg leg' xs ys e e' k = ap (head_or leg) (fair begun begun' (leg ∷ xs) (leg' ∷ ys) e e' k).1
   where
     head_or : ProgramLeg → ProgramPoint → ProgramLeg
     head_or l [] = l
     head_or l (x ∷ xs) = x
 
-length_behind : (n d : ℕ) (begun : List ℕ) → length begun ≡ n + d → length (behind_first n begun) ≡ d
+pub length_behind : (n d : ℕ) (begun : List ℕ) → length begun ≡ n + d → length (behind_first n begun) ≡ d
 length_behind zero d begun e = e ∙ omega arith
 length_behind (suc n) d [] e = absurd (omega (arith, e))
 length_behind (suc n) d (b ∷ begun) e = length_behind n d begun (omega (arith, e))
@@ -80,7 +80,7 @@ told_more way d Own Other lines marks f h = record {
 -- ---- what a spot is
 
 -- by the first line
-abbrev Inverse : Lines → Marks → List Leg → Way → Type 0
+abbrev pub Inverse : Lines → Marks → List Leg → Way → Type 0
 Inverse NoLine marks legs w = ⊥
 Inverse (SetThen to work rest) marks legs w = (inner : List Leg) × (legs ≡ Behind ∷ inner) × Spot rest (marks_behind marks) inner w
 Inverse (LoadThen site to element root index rest) marks legs w = (inner : List Leg) × (legs ≡ Behind ∷ inner) × Spot rest (marks_behind marks) inner w
@@ -94,7 +94,7 @@ Inverse (LoopThen site first test answer body rest) marks legs w =
     ⊎ (((inner : List Leg) × (legs ≡ IntoTest ∷ inner) × Spot test (marks_one marks) inner w) ⊎ ((inner : List Leg) × (legs ≡ IntoBody ∷ inner) × Spot body (marks_two marks) inner w))
 Inverse (BarrierThen site rest) marks legs w = ((legs ≡ []) × (first_way marks ≡ w)) ⊎ ((inner : List Leg) × (legs ≡ Behind ∷ inner) × Spot rest (marks_behind marks) inner w)
 
-invert : (lines : Lines) (marks : Marks) (legs : List Leg) (w : Way) → Spot lines marks legs w → Inverse lines marks legs w
+pub invert : (lines : Lines) (marks : Marks) (legs : List Leg) (w : Way) → Spot lines marks legs w → Inverse lines marks legs w
 invert _ _ _ w at_barrier = inl (refl, refl)
 invert _ _ _ w (past_barrier {legs = legs} s) = inr (legs, refl, s)
 invert _ _ _ w (past_set {legs = legs} s) = (legs, refl, s)
@@ -109,7 +109,7 @@ invert _ _ _ w (in_test {legs = legs} s) = inr (inl (legs, refl, s))
 invert _ _ _ w (in_body {legs = legs} s) = inr (inr (legs, refl, s))
 
 -- the legs past lines
-abbrev past_legs : Lines → List Leg → List Leg
+abbrev pub past_legs : Lines → List Leg → List Leg
 past_legs NoLine legs = legs
 past_legs (SetThen to work rest) legs = Behind ∷ past_legs rest legs
 past_legs (LoadThen site to element root index rest) legs = Behind ∷ past_legs rest legs
@@ -130,7 +130,7 @@ loops_past (LoopThen site first test answer body rest) legs = loops_past rest le
 loops_past (BarrierThen site rest) legs = loops_past rest legs
 
 -- a spot of lines put one after another is one of the first, or one of the second
-abbrev Split : Lines → Lines → Marks → Marks → List Leg → Way → Type 0
+abbrev pub Split : Lines → Lines → Marks → Marks → List Leg → Way → Type 0
 Split a b m k legs w = Spot a m legs w ⊎ ((inner : List Leg) × (legs ≡ past_legs a inner) × Spot b k inner w)
 
 -- past one line
@@ -180,7 +180,7 @@ spot_split _ b _ k legs w (barrier_line {site = site} {rest = rest} {way = way} 
 
 module _ (way : Way) (d : ℕ) (fair : IsFair way d) where
   -- spots of two parts at legs of their own are not at one point
-  apart : (Own Other : ProgramLeg → Type 0) (a b : Lines) (m k : Marks) → AreTold way d Own a m → AreTold way d Other b k → ((leg : ProgramLeg) → Own leg → Other leg → ⊥)
+  pub apart : (Own Other : ProgramLeg → Type 0) (a b : Lines) (m k : Marks) → AreTold way d Own a m → AreTold way d Other b k → ((leg : ProgramLeg) → Own leg → Other leg → ⊥)
       → (legs legs' : List Leg) (w w' : Way) → Spot a m legs w → Spot b k legs' w' → (begun begun' : List ℕ) → length begun ≡ loops_in legs + d → length begun' ≡ loops_in legs' + d → w begun ≡ w' begun' → ⊥
   apart Own Other a b m k h g disjoint legs legs' w w' s s' begun begun' e e' same =
       let u = h.under legs w s begun e in
