@@ -115,3 +115,60 @@ module _ (way : Way) (d : ℕ) (fair : IsFair way d) where
     where
       plain : (n : ℕ) → 0 + n ≡ n
       plain n = omega arith
+
+  -- ---- a loop
+
+  -- the turn of the loop, whatever its number
+  abbrev pub IsTurn : ProgramLeg → Type 0
+  IsTurn leg = (k : ℕ) × (Turn k ≡ leg)
+
+  -- in which part a spot of a loop is
+  abbrev LoopParts : (test body : Lines) (one two : Marks) → List Leg → Way → Type 0
+  LoopParts test body one two legs w = ((inner : List Leg) × (legs ≡ IntoTest ∷ inner) × Spot test one inner w) ⊎ ((inner : List Leg) × (legs ≡ IntoBody ∷ inner) × Spot body two inner w)
+
+  -- one loop more around
+  inner_length : (legs inner : List Leg) (begun : List ℕ) → loops_in legs ≡ suc (loops_in inner) → length begun ≡ loops_in legs + d → length begun ≡ loops_in inner + suc d
+  inner_length legs inner begun p e = omega (arith, p, e)
+
+  behind_others : (n : ℕ) (begun : List ℕ) → behind_first n (others_of begun) ≡ others_of (behind_first n begun)
+  behind_others zero begun = refl
+  behind_others (suc n) begun = behind_others n (others_of begun)
+
+  outer : (legs inner : List Leg) (begun : List ℕ) → loops_in legs ≡ suc (loops_in inner) → way (others_of (behind_first (loops_in inner) begun)) ≡ way (behind_first (loops_in legs) begun)
+  outer legs inner begun p = ap way (sym (behind_others (loops_in inner) begun)) ∙ ap (λ n. way (behind_first n begun)) (sym p)
+
+  pub told_loop : (Mine Other_ : ProgramLeg → Type 0) (site : ℕ) (first : Test) (test : Lines) (answer : Atom) (body : Lines) (w0 : Way) (one two : Marks) → AreTold (turned way) (suc d) Mine test one → AreTold (turned way) (suc d) Other_ body two
+      → ((leg : ProgramLeg) → Mine leg → Other_ leg → ⊥) → AreTold way d IsTurn (LoopThen site first test answer body NoLine) (FormThen w0 one two NoMark)
+  told_loop Mine Other_ site first test answer body w0 one two h g disjoint = record {
+    under = λ legs w s begun e. under legs w begun e (parts legs w s);
+    one = λ legs legs' w w' s s' begun begun' e e' same. one_of legs legs' w w' begun begun' e e' same (parts legs w s) (parts legs' w' s');
+  }
+    where
+      parts : (legs : List Leg) (w : Way) → Spot (LoopThen site first test answer body NoLine) (FormThen w0 one two NoMark) legs w → LoopParts test body one two legs w
+      parts legs w s = ⊎_elim (λ i. absurd (invert NoLine NoMark i.0 w i.2)) (λ r. r) (invert (LoopThen site first test answer body NoLine) (FormThen w0 one two NoMark) legs w s)
+
+      below : (legs inner : List Leg) (w : Way) (begun : List ℕ) (leg : ProgramLeg) (tail : ProgramPoint) → loops_in legs ≡ suc (loops_in inner) → w begun ≡ turned way (behind_first (loops_in inner) begun) ++ leg ∷ tail
+          → (l : ProgramLeg) × (t : ProgramPoint) × IsTurn l × (w begun ≡ way (behind_first (loops_in legs) begun) ++ l ∷ t)
+      below legs inner w begun leg tail p u =
+          let b = behind_first (loops_in inner) begun in
+          (Turn (first_of b), leg ∷ tail, (first_of b, refl), u ∙ append_assoc (way (others_of b)) (Turn (first_of b) ∷ []) (leg ∷ tail) ∙ ap (λ z. z ++ Turn (first_of b) ∷ leg ∷ tail) (outer legs inner begun p))
+
+      under : (legs : List Leg) (w : Way) (begun : List ℕ) → length begun ≡ loops_in legs + d → LoopParts test body one two legs w
+          → (l : ProgramLeg) × (t : ProgramPoint) × IsTurn l × (w begun ≡ way (behind_first (loops_in legs) begun) ++ l ∷ t)
+      under legs w begun e (inl s) =
+          let p = ap loops_in s.1 in let u = h.under s.0 w s.2 begun (inner_length legs s.0 begun p e) in below legs s.0 w begun u.0 u.1 p u.3
+      under legs w begun e (inr s) =
+          let p = ap loops_in s.1 in let u = g.under s.0 w s.2 begun (inner_length legs s.0 begun p e) in below legs s.0 w begun u.0 u.1 p u.3
+
+      one_of : (legs legs' : List Leg) (w w' : Way) (begun begun' : List ℕ) → length begun ≡ loops_in legs + d → length begun' ≡ loops_in legs' + d → w begun ≡ w' begun' → LoopParts test body one two legs w → LoopParts test body one two legs' w'
+          → (legs ≡ legs') × (begun ≡ begun')
+      one_of legs legs' w w' begun begun' e e' same (inl s) (inl s') =
+          let p = h.one s.0 s'.0 w w' s.2 s'.2 begun begun' (inner_length legs s.0 begun (ap loops_in s.1) e) (inner_length legs' s'.0 begun' (ap loops_in s'.1) e') same in
+          (s.1 ∙ ap (λ z. IntoTest ∷ z) p.0 ∙ sym s'.1, p.1)
+      one_of legs legs' w w' begun begun' e e' same (inl s) (inr s') =
+          absurd (apart (turned way) (suc d) (fair_turned way d fair) Mine Other_ test body one two h g disjoint s.0 s'.0 w w' s.2 s'.2 begun begun' (inner_length legs s.0 begun (ap loops_in s.1) e) (inner_length legs' s'.0 begun' (ap loops_in s'.1) e') same)
+      one_of legs legs' w w' begun begun' e e' same (inr s) (inl s') =
+          absurd (apart (turned way) (suc d) (fair_turned way d fair) Mine Other_ test body one two h g disjoint s'.0 s.0 w' w s'.2 s.2 begun' begun (inner_length legs' s'.0 begun' (ap loops_in s'.1) e') (inner_length legs s.0 begun (ap loops_in s.1) e) (sym same))
+      one_of legs legs' w w' begun begun' e e' same (inr s) (inr s') =
+          let p = g.one s.0 s'.0 w w' s.2 s'.2 begun begun' (inner_length legs s.0 begun (ap loops_in s.1) e) (inner_length legs' s'.0 begun' (ap loops_in s'.1) e') same in
+          (s.1 ∙ ap (λ z. IntoBody ∷ z) p.0 ∙ sym s'.1, p.1)
