@@ -163,7 +163,7 @@ module _ (program : Program) (c : ℕ) (calls : Calls) (calls_up : CallsUp calls
         let q = operands_absent rest ts h.1 ce.made (out_within c _ _ _ _ out (omega (arith, a)) (omega arith)) in
         (absent_then c ce.lines cr.lines p.0 q.0, or_false _ _ p.1 q.1)
 
-  optional_absent : (e : Option Expression) → OptionalFits program f e → (m : Made) → IsOut c (next_cell m) (next_cell (optional_code calls here e m).made)
+  pub optional_absent : (e : Option Expression) → OptionalFits program f e → (m : Made) → IsOut c (next_cell m) (next_cell (optional_code calls here e m).made)
       → Absent c (optional_code calls here e m).lines × (reads c (optional_code calls here e m).value.atom ≡ false)
   optional_absent None h m out = (absent_none c, refl)
   optional_absent (Some e) h m out = expression_absent e h.0 h.1 m out

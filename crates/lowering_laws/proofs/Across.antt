@@ -225,3 +225,86 @@ out_below c a b h k low high = ne_eqb c k (λ e. omega (arith, e, h, low))
 
 pub out_above : (c a b : ℕ) → b ≤ c → IsOut c a b
 out_above c a b h k low high = ne_eqb c k (λ e. omega (arith, e, h, high))
+
+-- ---- lines in parts, each with cells of its own
+
+pub seq_across : (la lb : Lines) (m0 m1 m2 n1 n2 : ℕ) → m0 ≤ m1 → m1 ≤ m2 → ((c : ℕ) → m1 ≤ c → Absent c la) → ((c : ℕ) → m0 ≤ c → c < m1 → Absent c lb) → Few (across la) m0 m1 n1 → Few (across lb) m1 m2 n2
+    → Few (across (joined_to la lb)) m0 m2 (n1 + n2)
+seq_across la lb m0 m1 m2 n1 n2 u v a b f g =
+    few_then (across (joined_to la lb)) m0 m1 m2 n1 n2
+    (few_less (across (joined_to la lb)) (across la) m0 m1 n1 u (λ c low high e. across_left c la lb e (b c low high)) f)
+    (few_less (across (joined_to la lb)) (across lb) m1 m2 n2 v (λ c low high e. across_right c la lb (a c low) e) g)
+
+-- the cell of an atom
+abbrev cell_of : Atom → ℕ
+cell_of (Const value of) = 0
+cell_of (CellAtom d) = d
+
+not_read : (c : ℕ) (a : Atom) → nat_eq c (cell_of a) ≡ false → reads c a ≡ false
+not_read c (Const value of) e = refl
+not_read c (CellAtom d) e = e
+
+-- an if, where one of the three parts alone names the cell
+if_chosen : (c site : ℕ) (a : Atom) (ly ln : Lines) → reads c a ≡ false → across ly c ≡ false → Absent c ln → across (IfThen site a ly ln NoLine) c ≡ false
+if_chosen c site a ly ln r y n =
+    let h = holds_barrier ly || holds_barrier ln in
+    let tail = cut_before h (pieces_of ln ++ cut_before h []) in
+    let absent : names_cell c tail ≡ false = names_cut c h (pieces_of ln ++ cut_before h []) ∙ names_append c (pieces_of ln) (cut_before h []) ∙ or_false _ _ n.is (names_cut c h []) in
+    across_cut c h (named_by a ++ cut_before h (pieces_of ly ++ tail)) ∙ across_second c (named_by a) (cut_before h (pieces_of ly ++ tail)) (names_by c a ∙ r) (across_cut c h (pieces_of ly ++ tail) ∙ across_first c (pieces_of ly) tail y absent)
+
+if_other : (c site : ℕ) (a : Atom) (ly ln : Lines) → reads c a ≡ false → Absent c ly → across ln c ≡ false → across (IfThen site a ly ln NoLine) c ≡ false
+if_other c site a ly ln r y n =
+    let h = holds_barrier ly || holds_barrier ln in
+    let tail = cut_before h (pieces_of ln ++ cut_before h []) in
+    let last : names_across c tail ≡ false = across_cut c h (pieces_of ln ++ cut_before h []) ∙ across_first c (pieces_of ln) (cut_before h []) n (names_cut c h []) in
+    across_cut c h (named_by a ++ cut_before h (pieces_of ly ++ tail)) ∙ across_second c (named_by a) (cut_before h (pieces_of ly ++ tail)) (names_by c a ∙ r) (across_cut c h (pieces_of ly ++ tail) ∙ across_second c (pieces_of ly) tail y.is last)
+
+if_neither : (c site : ℕ) (a : Atom) (ly ln : Lines) → reads c a ≡ false → Absent c ly → Absent c ln → Absent c (IfThen site a ly ln NoLine)
+if_neither c site a ly ln r y n =
+    let h = holds_barrier ly || holds_barrier ln in
+    let tail = cut_before h (pieces_of ln ++ cut_before h []) in
+    let last : names_cell c tail ≡ false = names_cut c h (pieces_of ln ++ cut_before h []) ∙ names_append c (pieces_of ln) (cut_before h []) ∙ or_false _ _ n.is (names_cut c h []) in
+    record { is = names_cut c h (named_by a ++ cut_before h (pieces_of ly ++ tail)) ∙ names_append c (named_by a) (cut_before h (pieces_of ly ++ tail)) ∙ or_false _ _ (names_by c a ∙ r) (names_cut c h (pieces_of ly ++ tail) ∙ names_append c (pieces_of ly) tail ∙ or_false _ _ y.is last) }
+
+-- at most one cell of the test is named on both sides of a cut: that of its value
+pub if_across : (site : ℕ) (lt ly ln : Lines) (a : Atom) (m0 m1 m2 m3 n1 n2 : ℕ) → m0 ≤ m1 → m1 ≤ m2 → m2 ≤ m3 → Cutless lt
+    → ((c : ℕ) → m1 ≤ c → Absent c lt × (reads c a ≡ false)) → ((c : ℕ) → m0 ≤ c → c < m1 → Absent c ly) → ((c : ℕ) → m2 ≤ c → Absent c ly) → ((c : ℕ) → m0 ≤ c → c < m2 → Absent c ln)
+    → Few (across ly) m1 m2 n1 → Few (across ln) m2 m3 n2 → Few (across (joined_to lt (IfThen site a ly ln NoLine))) m0 m3 (1 + (n1 + n2))
+if_across site lt ly ln a m0 m1 m2 m3 n1 n2 u v w cutless t y y2 n f g =
+    let all = joined_to lt (IfThen site a ly ln NoLine) in
+    few_then (across all) m0 m1 m3 1 (n1 + n2)
+    (few_one (across all) (cell_of a) m0 m1 u (λ c low high e. across_left c lt (IfThen site a ly ln NoLine) (across_cutless c lt cutless) (if_neither c site a ly ln (not_read c a e) (y c low high) (n c low (omega (arith, high, v))))))
+    (few_then (across all) m1 m2 m3 n1 n2
+    (few_less (across all) (across ly) m1 m2 n1 v (λ c low high e. across_right c lt (IfThen site a ly ln NoLine) (t c low).0 (if_chosen c site a ly ln (t c low).1 e (n c (omega (arith, u, low)) high))) f)
+    (few_less (across all) (across ln) m2 m3 n2 w (λ c low high e. across_right c lt (IfThen site a ly ln NoLine) (t c (omega (arith, v, low))).0 (if_other c site a ly ln (t c (omega (arith, v, low))).1 (y2 c low) e)) g))
+
+-- a loop: no cut is between its test and its answer
+pub loop_across : (site : ℕ) (first : Test) (lt ls lb : Lines) (a : Atom) (m0 m1 m2 m3 n : ℕ) → m0 ≤ m1 → m1 ≤ m2 → m2 ≤ m3 → Cutless lt → Cutless ls
+    → ((c : ℕ) → m1 ≤ c → Absent c lt × (reads c a ≡ false)) → ((c : ℕ) → m0 ≤ c → c < m1 → Absent c ls) → ((c : ℕ) → m2 ≤ c → Absent c ls) → ((c : ℕ) → m0 ≤ c → c < m2 → Absent c lb)
+    → Few (across lb) m2 m3 n → Few (across (LoopThen site first lt a (joined_to lb ls) NoLine)) m0 m3 n
+loop_across site first lt ls lb a m0 m1 m2 m3 n u v w ct cs t s s2 b f =
+    let all = LoopThen site first lt a (joined_to lb ls) NoLine in
+    few_more (across all) m0 m3 (0 + n) n (few_then (across all) m0 m2 m3 0 n
+    (few_then (across all) m0 m1 m2 0 0
+    (few_none (across all) m0 m1 u (λ c low high. in_test c (b_absent c (b c low (omega (arith, high, v))) (s c low high))))
+    (few_none (across all) m1 m2 v (λ c low high. in_body c (t c low) (across_right c lb ls (b c (omega (arith, u, low)) high) (across_cutless c ls cs)))))
+    (few_less (across all) (across lb) m2 m3 n w (λ c low high e. in_body c (t c (omega (arith, v, low))) (across_left c lb ls e (s2 c low))) f)) (omega arith)
+  where
+    h : Test
+    h = holds_barrier lt || holds_barrier (joined_to lb ls)
+
+    b_absent : (c : ℕ) → Absent c lb → Absent c ls → names_cell c (cut_before h (pieces_of (joined_to lb ls) ++ cut_before h [])) ≡ false
+    b_absent c x y = names_cut c h (pieces_of (joined_to lb ls) ++ cut_before h []) ∙ names_append c (pieces_of (joined_to lb ls)) (cut_before h [])
+        ∙ or_false _ _ (ap (names_cell c) (pieces_joined lb ls) ∙ names_append c (pieces_of lb) (pieces_of ls) ∙ or_false _ _ x.is y.is) (names_cut c h [])
+
+    in_test : (c : ℕ) → names_cell c (cut_before h (pieces_of (joined_to lb ls) ++ cut_before h [])) ≡ false → across (LoopThen site first lt a (joined_to lb ls) NoLine) c ≡ false
+    in_test c absent =
+        let tail = cut_before h (pieces_of (joined_to lb ls) ++ cut_before h []) in
+        across_cut c h (pieces_of lt ++ (named_by a ++ tail)) ∙ ap (names_across c) (sym (append_assoc (pieces_of lt) (named_by a) tail))
+        ∙ across_first c (pieces_of lt ++ named_by a) tail (free_across c (pieces_of lt ++ named_by a) (free_append (pieces_of lt) (named_by a) (free_lines lt ct.is) (free_by a))) absent
+
+    in_body : (c : ℕ) → Absent c lt × (reads c a ≡ false) → across (joined_to lb ls) c ≡ false → across (LoopThen site first lt a (joined_to lb ls) NoLine) c ≡ false
+    in_body c x e =
+        let tail = cut_before h (pieces_of (joined_to lb ls) ++ cut_before h []) in
+        let last : names_across c tail ≡ false = across_cut c h (pieces_of (joined_to lb ls) ++ cut_before h []) ∙ across_first c (pieces_of (joined_to lb ls)) (cut_before h []) e (names_cut c h []) in
+        across_cut c h (pieces_of lt ++ (named_by a ++ tail)) ∙ across_second c (pieces_of lt) (named_by a ++ tail) x.0.is (across_second c (named_by a) tail (names_by c a ∙ x.1) last)

@@ -80,7 +80,7 @@ valid_function program valid f h =
     subst (IsValidFunction program) (sym (ap (λ z. unwrap_or z no_function) g.1)) (valid.functions f g.0 g.1)
 
 -- the cell of the kernel's own variable with this number
-own_cell : (program : Program) (names : List (List Named)) → AreNamed program names → (n : ℕ) → n < length (kernel_of program).variables
+pub own_cell : (program : Program) (names : List (List Named)) → AreNamed program names → (n : ℕ) → n < length (kernel_of program).variables
     → IsCellOf (lowered_of program names) (record { calls = []; function = program.kernel; number = n }) n
 own_cell program names named n h =
     let all = kernel_goes program names in

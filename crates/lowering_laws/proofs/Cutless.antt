@@ -53,7 +53,7 @@ cutless_if site test chosen other rest y n h = record { is = or_false _ _ y.is (
 cutless_loop : (site : ℕ) (first : Test) (test : Lines) (answer : Atom) (body rest : Lines) → Cutless test → Cutless body → Cutless rest → Cutless (LoopThen site first test answer body rest)
 cutless_loop site first test answer body rest t b h = record { is = or_false _ _ t.is (or_false _ _ b.is h.is) }
 
-action_cutless : (here : Instance) (a : Action) (values : List Value) (m : Made) → Cutless (action_code here a values m).lines
+pub action_cutless : (here : Instance) (a : Action) (values : List Value) (m : Made) → Cutless (action_code here a values m).lines
 action_cutless here (tree.Load site element root) values m = record { is = refl }
 action_cutless here (tree.Store site element root) values m = record { is = refl }
 action_cutless here (tree.Literal value of) values m = record { is = refl }
@@ -69,7 +69,7 @@ action_cutless here (tree.Decided answer) values m = record { is = refl }
 action_cutless here (tree.Set x) values m = record { is = refl }
 action_cutless here (tree.Change x op of back old) values m = record { is = refl }
 
-initial_cutless : (site : ℕ) (element : IntType) (array k : ℕ) (values : List Value) → Cutless (initial_lines site element array k values)
+pub initial_cutless : (site : ℕ) (element : IntType) (array k : ℕ) (values : List Value) → Cutless (initial_lines site element array k values)
 initial_cutless site element array k [] = record { is = refl }
 initial_cutless site element array k (v ∷ values) = record { is = (initial_cutless site element array (k + 1) values).is }
 
@@ -77,7 +77,7 @@ pub opened_cutless : (way : Option ℕ) (exit : ℕ) (m : Made) → Cutless (ope
 opened_cutless None exit m = record { is = refl }
 opened_cutless (Some site) exit m = record { is = refl }
 
-outward_cutless : (way : Option ℕ) (exit outer : ℕ) (m : Made) → Cutless (outward way exit outer m).lines
+pub outward_cutless : (way : Option ℕ) (exit outer : ℕ) (m : Made) → Cutless (outward way exit outer m).lines
 outward_cutless None exit outer m = record { is = refl }
 outward_cutless (Some site) exit outer m = record { is = refl }
 
@@ -104,10 +104,10 @@ all_labels_cutless site v chosen k no_arm m = record { is = refl }
 all_labels_cutless site v chosen k (arm labels other body rest) m =
     cutless_then (labels_code site v chosen k labels m).lines _ (labels_cutless site v chosen k labels m) (all_labels_cutless site v chosen (k + 1) rest _)
 
-selected_cutless : (site : ℕ) (v : Value) (arms : Arms) (m : Made) → Cutless (selected site v arms m).lines
+pub selected_cutless : (site : ℕ) (v : Value) (arms : Arms) (m : Made) → Cutless (selected site v arms m).lines
 selected_cutless site v arms m = record { is = (all_labels_cutless site _ _ 0 arms _).is }
 
-fallen_cutless : (way : Option ℕ) (exit : ℕ) (entered : Value) (m : Made) → Cutless (fallen_code way exit entered m).lines
+pub fallen_cutless : (way : Option ℕ) (exit : ℕ) (entered : Value) (m : Made) → Cutless (fallen_code way exit entered m).lines
 fallen_cutless None exit entered m = record { is = refl }
 fallen_cutless (Some site) exit entered m = record { is = refl }
 
@@ -226,11 +226,11 @@ module _ (calls : Calls) (inside : ℕ → Test)
 
 -- ---- calls
 
-result_cutless : (result : Option IntType) (m : Made) → Cutless (result_code result m).lines
+pub result_cutless : (result : Option IntType) (m : Made) → Cutless (result_code result m).lines
 result_cutless None m = record { is = refl }
 result_cutless (Some of) m = record { is = refl }
 
-parameters_cutless : (cell : ℕ) (values : List Value) → Cutless (parameter_lines cell values)
+pub parameters_cutless : (cell : ℕ) (values : List Value) → Cutless (parameter_lines cell values)
 parameters_cutless cell [] = record { is = refl }
 parameters_cutless cell (v ∷ values) = record { is = (parameters_cutless (cell + 1) values).is }
 

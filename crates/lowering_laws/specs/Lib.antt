@@ -1,1 +1,4 @@
 pub mod Names
+pub mod Marks
+pub mod CodeMarks
+pub mod Spots
