@@ -70,7 +70,7 @@ row_here change f [] row h = absurd (none-some row h)
 row_here change zero (r ∷ rows) row h = ap (λ o. Some (change (unwrap_or o r))) h
 row_here change (suc f) (r ∷ rows) row h = row_here change f rows row h
 
-same_number : (m n : ℕ) → (m ≡ n) ⊎ (m ≢ n)
+pub same_number : (m n : ℕ) → (m ≡ n) ⊎ (m ≢ n)
 same_number m n = elim (true_or_false (nat_eq m n)) [ inl e ↦ inl (eqb-true m n e) | inr e ↦ inr (λ q. let t : true ≡ false = sym (eq-eqb m n q) ∙ e in cc) ]
 
 -- either it is as it was, or it is the one that was changed
