@@ -2,3 +2,4 @@ pub mod Slots
 pub mod Sound
 pub mod SoundRounds
 pub mod Steps
+pub mod Full
