@@ -3,3 +3,4 @@ pub mod Sound
 pub mod SoundRounds
 pub mod Steps
 pub mod Full
+pub mod Scopes
