@@ -1,0 +1,6 @@
+pub mod Slots
+pub mod Sound
+pub mod SoundRounds
+pub mod Steps
+pub mod Full
+pub mod Scopes
