@@ -77,3 +77,19 @@ shaped_as u width name name_in_code p valid parts like one named =
       one = λ quiet. one (holds_none (program_of u) (kernel_in u) few quiet);
       few = codes_have_few (program_of u) (kernel_in u) (plan_in u).homes p.top few built;
     }
+
+-- the parts of a group program are those of the unit's kernel and plan
+parts_in : (u : Unit') (width : Width) (kernel : Kernel) (plan : Planned) (p : Plain) → kernel ≡ kernel_in u → plan ≡ plan_in u → HasPartsOf kernel plan width p → HasPartsOf (kernel_in u) (plan_in u) width p
+parts_in u width kernel plan p kernel_is plan_is parts = subst (λ (x : Planned). HasPartsOf (kernel_in u) x width p) plan_is (subst (λ (k : Kernel). HasPartsOf k plan width p) kernel_is parts)
+
+-- the kernel and the plan that the passes answer are those of the unit
+pub shaped_from : (u : Unit') (width : Width) (name name_in_code : List ℕ) (kernel : Kernel) (plan : Planned) (p : Plain) → IsValid (program_of u) → kernel ≡ kernel_in u → plan ≡ plan_in u → HasPartsOf kernel plan width p → IsLike (group_in (lanes_of width) u) p
+    → (holds_barrier kernel.body ≡ false → IsOneCode p.top) → name_in_code ≡ name
+    → IsShaped (program_of u) name name_in_code p
+shaped_from u width name name_in_code kernel plan p valid kernel_is plan_is parts like one named =
+    shaped_as u width name name_in_code p valid (parts_in u width kernel plan p kernel_is plan_is parts) like (subst (λ (k : Kernel). holds_barrier k.body ≡ false → IsOneCode p.top) kernel_is one) named
+
+pub planned_from : (u : Unit') (width : Width) (kernel : Kernel) (plan : Planned) (p : Plain) → IsValid (program_of u) → AreVarying (program_of u) (varying_of (program_of u)) → kernel ≡ kernel_in u → plan ≡ plan_in u → IsCounted kernel plan → HasPartsOf kernel plan width p
+    → IsPlanned (program_of u) (varying_of (program_of u)) (kernel_in u) (plan_in u) width p
+planned_from u width kernel plan p valid varies kernel_is plan_is counted parts =
+    planned_as u width p valid varies (subst (λ (x : Planned). IsCounted (kernel_in u) x) plan_is (subst (λ (k : Kernel). IsCounted k plan) kernel_is counted)) (parts_in u width kernel plan p kernel_is plan_is parts)

@@ -1,5 +1,4 @@
 pub mod Compiled
-pub mod Described
 pub mod Middle
 pub mod Outcome
 pub mod Units

@@ -11,7 +11,7 @@ ghost use Rattle.ctx_plan.specs.View.{planned_of};
 ghost use Rattle.lane_code.specs.View.{plain_of};
 ghost use Rattle.item_loops.specs.Program.{HasPartsOf, IsOneCode};
 ghost use Rattle.wg_top.specs.Middle.{IsLike, group_with, IsCompiledAt};
-ghost use Rattle.wg_top.specs.Described.{IsDescribed};
+ghost use Rattle.wg_top.specs.Compiled.{IsShaped};
 
 use cl_model::Program;
 use ctx_plan::Plan;
@@ -53,11 +53,10 @@ fn group_of(
     build(alloc, &tree, plan, kernel, name, width)
 }
 
-/// The kernel of a typed program, whose name is given, at a lane width. Of a valid program it is
-/// known which of its variables vary, that exactly those that cross a cut and do not vary are kept
-/// once for a group, that columns are shared by variables of disjoint scopes alone, and that no code
-/// has more loads and stores of a site than the program has. `Memory` also where a number of a pass
-/// has no room.
+/// The kernel of a typed program, whose name is given, at a lane width. Of a valid program the
+/// program of a group has the kernel's name and parameters, is one code where no barrier stands, and
+/// has in no code more loads and stores of a site than are written. `Memory` also where a number of
+/// a pass has no room.
 pub fn compile_program(
     alloc: Global,
     program: Program,
@@ -67,7 +66,7 @@ pub fn compile_program(
     ensures program { IfOk result (λ c. unit_of c.program ≡ unit_of program) }
     ensures passes { IfOk result (λ c. IsCompiledAt (lanes_of width) c) }
     ensures name { IfOk result (λ c. c.group.kernel ≡ name.now) }
-    ensures described { IfOk result (λ c. IsValid (program_of (unit_of c.program)) → IsDescribed width name.now c) }
+    ensures shaped { IfOk result (λ c. IsValid (program_of (unit_of c.program)) → IsShaped (program_of (unit_of c.program)) name.now c.group.kernel (plain_of c.group)) }
 {
     let kernel = lower(alloc, &program)?;
     let varying = analyse(alloc, &program)?;

@@ -6,7 +6,7 @@ use Rattle.diverge.specs.Marks.{marks}
 use Rattle.lane_code.specs.View.{plain_of}
 use Rattle.wg_num.specs.Operators.{lanes_of}
 use Rattle.wg_top.proofs.PassLemmas.{kernel_is, plan_is, group_is}
-use Rattle.wg_top.proofs.DescribedLemmas.{described_by}
+use Rattle.wg_top.proofs.DescribedLemmas.{shaped_from}
 use Rattle.wg_top.proofs.compile.compile_program.Goals as goal
 
 pub returns-clause-passes : goal.returns-clause-passes
@@ -15,10 +15,9 @@ returns-clause-passes c =
     let plan = plan_is c.args.program (kernel_of c.in_ok-kernel.kernel) (marks c.in_ok-varying.varying) (planned_of c.in_ok-plan.plan) kernel c.in_ok-varying.ensures.exact c.in_ok-plan.ensures.made in
     record { group = group_is (lanes_of c.args.width) c.args.program (kernel_of c.in_ok-kernel.kernel) (planned_of c.in_ok-plan.plan) (plain_of c.in_ok-group.group) kernel plan c.in_ok-group.ensures.like }
 
-pub returns-clause-described : goal.returns-clause-described
-returns-clause-described c =
+pub returns-clause-shaped : goal.returns-clause-shaped
+returns-clause-shaped c =
     let kernel = kernel_is c.args.program (kernel_of c.in_ok-kernel.kernel) c.in_ok-kernel.ensures in
     let plan = plan_is c.args.program (kernel_of c.in_ok-kernel.kernel) (marks c.in_ok-varying.varying) (planned_of c.in_ok-plan.plan) kernel c.in_ok-varying.ensures.exact c.in_ok-plan.ensures.made in
-    λ valid.
-    described_by (unit_of c.args.program) c.args.width c.args.name.now c.in_ok-group.group.kernel (kernel_of c.in_ok-kernel.kernel) (planned_of c.in_ok-plan.plan) (plain_of c.in_ok-group.group) valid kernel plan c.in_ok-plan.ensures.counted
-    c.in_ok-group.ensures.parts (group_is (lanes_of c.args.width) c.args.program (kernel_of c.in_ok-kernel.kernel) (planned_of c.in_ok-plan.plan) (plain_of c.in_ok-group.group) kernel plan c.in_ok-group.ensures.like) c.in_ok-group.ensures.one c.in_ok-group.ensures.name
+    let like = group_is (lanes_of c.args.width) c.args.program (kernel_of c.in_ok-kernel.kernel) (planned_of c.in_ok-plan.plan) (plain_of c.in_ok-group.group) kernel plan c.in_ok-group.ensures.like in
+    λ valid. shaped_from (unit_of c.args.program) c.args.width c.args.name.now c.in_ok-group.group.kernel (kernel_of c.in_ok-kernel.kernel) (planned_of c.in_ok-plan.plan) (plain_of c.in_ok-group.group) valid kernel plan c.in_ok-group.ensures.parts like c.in_ok-group.ensures.one c.in_ok-group.ensures.name
