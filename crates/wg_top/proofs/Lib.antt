@@ -22,5 +22,5 @@ pub mod Sites
 pub mod Quiet
 pub mod Passes
 pub mod Shape
-pub mod Compiled
+pub mod CompiledLemmas
 pub mod DescribedLemmas
