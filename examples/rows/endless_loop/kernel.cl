@@ -1,0 +1,1 @@
+__kernel void sq(__global int *a) { while (1) {} }

@@ -1,0 +1,1 @@
+__kernel void inc(__global int *a) { int x = x; }

@@ -1,0 +1,1 @@
+__kernel void li(__global long *a) { a[0] = 9223372036854775808; }

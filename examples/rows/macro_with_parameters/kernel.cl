@@ -1,0 +1,2 @@
+#define F(x) x
+__kernel void inc(__global int *a) { a[get_global_id(0)] = a[get_global_id(0)] + 1; }

@@ -1,0 +1,3 @@
+__kernel void m(__global int *a) {
+  a[0] = 1
+}

@@ -1,0 +1,16 @@
+__kernel void scan(__global int *a) {
+  __local int t[8];
+  int l = get_local_id(0);
+  int d;
+  int v;
+  t[l] = a[get_global_id(0)];
+  barrier(CLK_LOCAL_MEM_FENCE);
+  for (d = 1; d < 8; d *= 2) {
+    v = t[l];
+    if (l >= d) v += t[l - d];
+    barrier(CLK_LOCAL_MEM_FENCE);
+    t[l] = v;
+    barrier(CLK_LOCAL_MEM_FENCE);
+  }
+  a[get_global_id(0)] = t[l];
+}

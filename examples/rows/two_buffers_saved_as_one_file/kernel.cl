@@ -1,0 +1,1 @@
+__kernel void two(__global int *a, __global int *b) { }
