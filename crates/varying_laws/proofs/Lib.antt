@@ -4,3 +4,4 @@ pub mod SoundRounds
 pub mod Steps
 pub mod Full
 pub mod Scopes
+pub mod FullRounds
