@@ -5,3 +5,4 @@ pub mod Steps
 pub mod Full
 pub mod Scopes
 pub mod FullRounds
+pub mod Ranges
