@@ -6,3 +6,4 @@ pub mod Full
 pub mod Scopes
 pub mod FullRounds
 pub mod Ranges
+pub mod Exact

@@ -24,7 +24,7 @@ module _ (program : Program) (valid : IsValid program) (f : ℕ) where
   abbrev GR : Scope → Statement → Type 0
   GR = GoodRun (InBody program f) (UnderBody program f) (BackBody program f)
 
-  abbrev GL : Scope → Statements → Type 0
+  abbrev pub GL : Scope → Statements → Type 0
   GL = GoodList (InBody program f) (UnderBody program f) (BackBody program f)
 
   abbrev GM : Scope → Arms → Type 0
@@ -36,7 +36,7 @@ module _ (program : Program) (valid : IsValid program) (f : ℕ) where
   abbrev K : Scope → State → State → Type 0
   K = Kept program valid f
 
-  abbrev own : Function
+  abbrev pub own : Function
   own = fn program valid f
 
   if_quiet : (sc : Scope) (t : Expression) (a b : Statements) (k : Key) → cond_gives program f (if_condition sc t a b) k ≡ false → (some_give a k ≡ false) × (some_give b k ≡ false)
@@ -240,17 +240,17 @@ module _ (program : Program) (valid : IsValid program) (f : ℕ) where
 
   -- the function as a whole
 
-  abbrev scope_of : Scope
+  abbrev pub scope_of : Scope
   scope_of = numbers_below own.parameters
 
-  good_body : GL scope_of own.body
+  pub good_body : GL scope_of own.body
   good_body = record { parts = λ a m. m; under = λ a m. m; back = λ a m. m; names = scoped_body program valid f }
 
   at_or_below : (n m : ℕ) → n ≤ m → (n ≡ m) ⊎ (n < m)
   at_or_below n m le = eq-or-lt_of_le le
 
   -- the first parameters
-  has_lower : (n m : ℕ) → n < m → Has (numbers_below m) n
+  pub has_lower : (n m : ℕ) → n < m → Has (numbers_below m) n
   has_lower n zero lt = absurd (omega (arith, lt))
   has_lower n (suc m) lt = elim (at_or_below n m (omega (arith, lt))) [ inl e ↦ inl (sym e) | inr l ↦ inr (has_lower n m l) ]
 
@@ -281,10 +281,10 @@ abbrev pub Open : Program → State → Type 0
 Open program s = (g : ℕ) (k : Key) → HasKey (numbers_below (function_at program g).parameters) k → (e : Entry) → slot s g k ≡ Some e → e.since ≡ None
 
 module _ (program : Program) (valid : IsValid program) where
-  abbrev Fine : State → Type 0
+  abbrev pub Fine : State → Type 0
   Fine s = IsSound program s × Open program s
 
-  function_fine : (f : ℕ) (s : State) → Fine s → Fine (over_function program.kernel f (function_at program f) s)
+  pub function_fine : (f : ℕ) (s : State) → Fine s → Fine (over_function program.kernel f (function_at program f) s)
   function_fine f s (sound, open') =
       let r = function_sound program valid f s sound (λ k has e h. inl (open' f k has e h)) in (
         r.0,
@@ -301,10 +301,10 @@ module _ (program : Program) (valid : IsValid program) where
       functions_fine rest (suc f) (λ j d h. let q : suc f + j ≡ f + suc j = omega arith in ap (function_at program) q ∙ is (suc j) d h) (over_function program.kernel f c s)
       (subst (λ d. Fine (over_function program.kernel f d s)) here (function_fine f s fine))
 
-  round_fine : (s : State) → Fine s → Fine (round program s)
+  pub round_fine : (s : State) → Fine s → Fine (round program s)
   round_fine s fine = functions_fine program.functions 0 (λ j c h. let z : 0 + j ≡ j = omega arith in ap (function_at program) z ∙ ap (λ o. unwrap_or o no_function) h) (record { rows = s.rows; grew = false }) fine
 
-  rounds_fine : (limit : ℕ) (s : State) → Fine s → Fine (rounds program limit s)
+  pub rounds_fine : (limit : ℕ) (s : State) → Fine s → Fine (rounds program limit s)
   rounds_fine zero s fine = fine
   rounds_fine (suc limit) s fine =
       let t = round program s in
@@ -339,7 +339,7 @@ module _ (program : Program) (valid : IsValid program) where
   start_there (d ∷ list) zero (Cell x) lt within = fresh_there (length d.variables) x (within x refl)
   start_there (d ∷ list) (suc g) k lt within = start_there list g k (omega (arith, lt)) within
 
-  start_fine : Fine (start program)
+  pub start_fine : Fine (start program)
   start_fine = (
     (
       (λ g k e h. let q = start_slot program.functions g k e h in (

@@ -158,11 +158,11 @@ pub record Apart (f : ℕ) (guard : Option ℕ) (s : State) (sc : Scope) (sites 
   pub around : (i : ℕ) → guard ≡ Some i → IsOneOf sites i → ⊥
   pub before : (k : Key) → HasKey sc k → (i : ℕ) → (entry s f k).since ≡ Some i → IsOneOf sites i → ⊥
 
-differ_left : (xs ys : List ℕ) → AllDiffer (xs ++ ys) → AllDiffer xs
+pub differ_left : (xs ys : List ℕ) → AllDiffer (xs ++ ys) → AllDiffer xs
 differ_left [] ys h = tt
 differ_left (x ∷ xs) ys h = ((λ m. h.0 (in_left xs ys x m)), differ_left xs ys h.1)
 
-differ_right : (xs ys : List ℕ) → AllDiffer (xs ++ ys) → AllDiffer ys
+pub differ_right : (xs ys : List ℕ) → AllDiffer (xs ++ ys) → AllDiffer ys
 differ_right [] ys h = h
 differ_right (x ∷ xs) ys h = differ_right xs ys h.1
 
