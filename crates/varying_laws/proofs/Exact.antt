@@ -1,32 +1,26 @@
 -- The analysis is exact: at its end those variables are marked that vary, and they alone.
-use Rattle.std.proofs.Common.{◌≡◌, ◌≢◌, ℕ, zero, suc, ◌+◌, ◌<◌, ◌≤◌, ℤ, Bool, true, false, ◌||◌, not, cond, length, map, flat_map, take, List, [], ◌∷◌, ◌++◌, Option, Some, None, slice_get, unwrap_or, ◌⊎◌, inl, inr, refl, sym, ap, ◌∙◌, subst, arith}
+use Rattle.std.proofs.Common.{◌≡◌, ◌≢◌, ℕ, zero, suc, ◌+◌, ◌<◌, ◌≤◌, Bool, true, false, ◌||◌, not, cond, List, [], ◌∷◌, Option, Some, None, slice_get, unwrap_or, ◌⊎◌, inl, inr, refl, sym, ap, ◌∙◌, subst, arith}
 use Rattle.std.proofs.Math.Nat.{eq-or-lt_of_le}
-use Rattle.std.proofs.lemmas.Bool.{cases_lt}
-use Rattle.std.proofs.lemmas.Option.{none-some, same_Some, slice_get_within}
+use Rattle.std.proofs.lemmas.Option.{none-some}
 use Rattle.cl_model.specs.declared.program.Root.{Root}
-use Rattle.cl_model.specs.Tree.{Action, Set, Change, Expression, Apply, Update, Choose, Call, Expressions, none, more, Statements, Function, Program}
+use Rattle.cl_model.specs.Tree.{Action, Expression, Apply, Call, Expressions, none, more, Function, Program}
 use Rattle.cl_model.specs.Lists.{IsOneOf, AllDiffer}
 use Rattle.cl_model.specs.Calls.{function_at, no_function}
-use Rattle.cl_model.specs.Valid.{Scope, Has, numbers_below, sites_of_all, all_declarations, parameter_kinds, IsValid}
-use Rattle.cl_model.specs.Varying.{Condition, sets, some_assigns, some_returns, expressions_of_list, returned_list, conditions, IsAmong, IsNth, is_store, Subject, AVariable, AResult, AnExpression, Varies, own_id, loaded, named, operand, stored, updated, tested, chosen, otherwise, called, passed, returning, return_under, return_beside, assigned, assigned_under, exit_under}
+use Rattle.cl_model.specs.Valid.{Scope, Has, numbers_below, sites_of_all, all_declarations, IsValid}
+use Rattle.cl_model.specs.Varying.{Condition, sets, some_assigns, expressions_of_list, returned_list, conditions, IsAmong, IsNth, Subject, AVariable, AResult, AnExpression, Varies, own_id, loaded, named, operand, stored, updated, tested, chosen, otherwise, called, passed, returning, return_under, return_beside, assigned, assigned_under, exit_under}
 use Rattle.diverge.specs.declared.known.Entry.{Entry}
 use Rattle.diverge.specs.Known as known
 use Rattle.diverge.specs.Known.{Row, State, absent, leave_result}
-use Rattle.diverge.specs.Rounds.{Gone, gone_over_all, parameters_left, over_function, over_functions, round, rounds, start, round_limit, known_of, marks_of, varying_of, entries_of}
-use Rattle.diverge.specs.Marks.{IsSettled}
-use Rattle.diverge.proofs.Ending.{is_settled}
+use Rattle.diverge.specs.Rounds.{Gone, gone_over_all, parameters_left, over_function, over_functions}
 use Rattle.cl_agreement.proofs.Keeps.{or_left, or_right, Key, Answer, Cell, HasKey, some_give}
 use Rattle.cl_agreement.proofs.Values.{cond_gives}
-use Rattle.cl_agreement.proofs.Nesting.{typed_of_all, typed_body, scoped_body}
-use Rattle.varying_laws.specs.Says.{SaysVarying}
-use Rattle.varying_laws.proofs.Slots.{slot, slot_in, entry, with_key, entry_is}
-use Rattle.varying_laws.proofs.Sound.{Exists, There, IsSound, fn, spot}
-use Rattle.varying_laws.proofs.SoundRounds.{own, scope_of, good_body, has_lower, Open, Fine, function_fine, rounds_fine, round_fine, start_fine}
-use Rattle.varying_laws.proofs.Steps.{mark, Quiet, Onto, onto_same, onto_then, onto_change, Final, final_before, Flag, flag_on, left_marked, Apart, differ_left, differ_right}
+use Rattle.varying_laws.proofs.Slots.{slot, entry, with_key, entry_is}
+use Rattle.varying_laws.proofs.Sound.{spot}
+use Rattle.varying_laws.proofs.SoundRounds.{scope_of, good_body, Fine, function_fine}
+use Rattle.varying_laws.proofs.Steps.{Quiet, Onto, onto_same, onto_then, onto_change, Final, final_before, Flag, flag_on, left_marked, Apart}
 use Rattle.varying_laws.proofs.Full.{by_itself, by_marks, by_some, by_second, Facts}
 use Rattle.varying_laws.proofs.Scopes.{Cover}
 use Rattle.varying_laws.proofs.FullRounds.{given, Outs, all_full}
-use Rattle.varying_laws.proofs.Ranges.{condition_range_list, set_range_list, declared_within_list, argument_within, length_take}
 
 -- what the marks obey in a function
 pub record Rules (program : Program) (M : ℕ → Key → Bool) (f : ℕ) : Type 0 where
@@ -122,10 +116,10 @@ module _ (program : Program) (valid : IsValid program) (M : ℕ → Key → Bool
 
   -- rounds over functions
 
-  abbrev GoodFunctions : List Function → Type 0
+  abbrev pub GoodFunctions : List Function → Type 0
   GoodFunctions list = (j : ℕ) (d : Function) → slice_get list j ≡ Some d → AllDiffer (sites_of_all d.body) × ((y : ℕ) → all_declarations d.body y ≤ 1)
 
-  functions_full : (list : List Function) (f : ℕ) → ((j : ℕ) (d : Function) → slice_get list j ≡ Some d → function_at program (f + j) ≡ d) → GoodFunctions list → (s : State) → Fine program valid s
+  pub functions_full : (list : List Function) (f : ℕ) → ((j : ℕ) (d : Function) → slice_get list j ≡ Some d → function_at program (f + j) ≡ d) → GoodFunctions list → (s : State) → Fine program valid s
       → Quiet s (over_functions program.kernel f list s) × (Final M (over_functions program.kernel f list s) → (j : ℕ) (d : Function) → slice_get list j ≡ Some d → Rules program M (f + j))
   functions_full [] f is good s fine = ((λ h. (h, λ g k. refl)), λ fin j d h. absurd (none-some d h))
   functions_full (c ∷ rest) f is good s fine =
@@ -134,10 +128,9 @@ module _ (program : Program) (valid : IsValid program) (M : ℕ → Key → Bool
       let t = over_function program.kernel f c s in
       let v = over_functions program.kernel (suc f) rest t in
       let own' : (Onto f (scope_of program valid f) s t × (Final M t → Rules program M f)) × Fine program valid t =
-          subst (λ d. (Onto f (scope_of program valid f) s (over_function program.kernel f d s) × (Final M (over_function program.kernel f d s) → Rules program M f)) × Fine program valid (over_function program.kernel f d s)) here
-          (function_full f s fine (subst (λ (d : Function). AllDiffer (sites_of_all d.body)) (sym here) (good 0 c refl).0) (subst (λ (d : Function). (y : ℕ) → all_declarations d.body y ≤ 1) (sym here) (good 0 c refl).1), function_fine program valid f s fine) in
-      let more' = functions_full rest (suc f) (λ j d h. let q : suc f + j ≡ f + suc j = omega arith in ap (function_at program) q ∙ is (suc j) d h) (λ j d h. good (suc j) d h) t own'.1 in
-      (
+      subst (λ d. (Onto f (scope_of program valid f) s (over_function program.kernel f d s) × (Final M (over_function program.kernel f d s) → Rules program M f)) × Fine program valid (over_function program.kernel f d s)) here
+      (function_full f s fine (subst (λ (d : Function). AllDiffer (sites_of_all d.body)) (sym here) (good 0 c refl).0) (subst (λ (d : Function). (y : ℕ) → all_declarations d.body y ≤ 1) (sym here) (good 0 c refl).1), function_fine program valid f s fine) in
+      let more' = functions_full rest (suc f) (λ j d h. let q : suc f + j ≡ f + suc j = omega arith in ap (function_at program) q ∙ is (suc j) d h) (λ j d h. good (suc j) d h) t own'.1 in (
         (λ h. let a = more'.0 h in let b = own'.0.0.quiet a.0 in (b.0, λ g k. b.1 g k ∙ a.1 g k)),
         λ fin. each f c rest z (own'.0.1 (final_quiet t v more'.0 fin)) (more'.1 fin),
       )
@@ -147,7 +140,7 @@ module _ (program : Program) (valid : IsValid program) (M : ℕ → Key → Bool
       each f c rest z first further (suc j) d h = let q : suc f + j ≡ f + suc j = omega arith in subst (Rules program M) q (further j d h)
 
   -- a function that is not there obeys all rules
-  empty_rules : (f : ℕ) → function_at program f ≡ no_function → Rules program M f
+  pub empty_rules : (f : ℕ) → function_at program f ≡ no_function → Rules program M f
   empty_rules f is = record {
     assigns = λ a es x m. absurd (subst (λ (d : Function). IsOneOf (expressions_of_list d.body) (Apply a es)) is m);
     passes = λ i g r es m. absurd (subst (λ (d : Function). IsOneOf (expressions_of_list d.body) (Call i g r es)) is m);
@@ -174,7 +167,7 @@ module _ (program : Program) (valid : IsValid program) (M : ℕ → Key → Bool
   nth_second f (more a (more d rest)) e at v = subst (λ x. by_marks program M f x ≡ true) (sym at) v
 
   module _ (rules : (f : ℕ) → Rules program M f) where
-    marked : {x : Subject} → Varies program x → Marked x
+    pub marked : {x : Subject} → Varies program x → Marked x
     marked (own_id {operands = operands} h) = or_left _ _ h
     marked (loaded {operands = operands} h) = or_left _ _ (ap not h)
     marked (named {operands = operands} v) = or_left _ _ (marked v)

@@ -1,24 +1,24 @@
 -- What varies is marked: in a round that adds nothing, what is found in a statement obeys the rules.
-use Rattle.std.proofs.Common.{◌≡◌, ◌≢◌, ℕ, zero, suc, ◌+◌, ℤ, Bool, true, false, ◌||◌, not, cond, nat_eq, List, [], ◌∷◌, ◌++◌, Option, Some, None, ◌⊎◌, inl, inr, refl, sym, ap, ◌∙◌, subst, arith}
-use Rattle.std.proofs.lemmas.Bool.{eqb-true, eq-eqb}
+use Rattle.std.proofs.Common.{◌≡◌, ℕ, ℤ, Bool, true, false, ◌||◌, cond, List, [], ◌∷◌, ◌++◌, Option, Some, None, ◌⊎◌, inl, inr, refl, sym, ap, ◌∙◌, subst}
+use Rattle.std.proofs.lemmas.Bool.{eqb-true}
 use Rattle.std.proofs.lemmas.Option.{none-some}
-use Rattle.cl_model.specs.Tree.{Action, Set, Expression, Apply, Call, Expressions, none, more, single, Statement, Do, Declare, Fill, Block, If, Loop, Switch, Break, Continue, Return, Barrier, Statements, empty, also, Arms, no_arm, arm, Function, Program}
+use Rattle.cl_model.specs.Tree.{Set, Expression, Apply, Expressions, single, Statement, Do, Declare, Fill, Block, If, Loop, Switch, Break, Continue, Return, Barrier, Statements, empty, also, Arms, no_arm, arm, Function, Program}
 use Rattle.cl_model.specs.Lists.{IsOneOf}
 use Rattle.cl_model.specs.Calls.{function_at}
-use Rattle.cl_model.specs.Valid.{Scope, Has, IsScopedList, scope_after, sites_in, sites_among, sites_in_optional, sites_of, sites_of_all, sites_of_arms, declarations, all_declarations, arms_declarations, IsValid}
-use Rattle.cl_model.specs.Varying.{Condition, sets, assigns, some_assigns, arms_assign, assigns_in_optional, exits, some_exits, arms_exit, some_returns, conditions_in, conditions_among, conditions_in_optional, loop_condition, conditions_of, conditions_of_list, conditions_of_arms, parts_of, parts_among, parts_of_optional, expressions_of, expressions_of_list, expressions_of_arms, returned, returned_list, returned_arms, optional_list}
+use Rattle.cl_model.specs.Valid.{Scope, Has, IsScopedList, scope_after, sites_in, sites_among, sites_in_optional, sites_of, sites_of_all, sites_of_arms, all_declarations, arms_declarations, IsValid}
+use Rattle.cl_model.specs.Varying.{Condition, sets, assigns, some_assigns, arms_assign, exits, some_exits, arms_exit, conditions_in, conditions_among, conditions_in_optional, loop_condition, conditions_of, conditions_of_list, conditions_of_arms, parts_of, parts_among, parts_of_optional, expressions_of, expressions_of_list, expressions_of_arms, returned, returned_list, returned_arms}
 use Rattle.diverge.specs.declared.known.Entry.{Entry}
 use Rattle.diverge.specs.declared.known.Spot.{Spot}
 use Rattle.diverge.specs.declared.known.Ways.{Ways}
 use Rattle.diverge.specs.Known as known
 use Rattle.diverge.specs.Known.{State, absent, variable_at, result_at, with_variable, same_guard, behind, joined}
 use Rattle.diverge.specs.Rounds.{Seen, seen_in, seen_among, seen_optional, unseen, closed, gone_over, gone_over_all, gone_over_arms}
-use Rattle.cl_agreement.proofs.Keeps.{or_left, or_right, Key, Answer, Cell, HasKey, gives_in, gives_among, gives_optional, gives, some_give, arms_give, Sound, has_after}
+use Rattle.cl_agreement.proofs.Keeps.{or_left, or_right, Key, Answer, Cell, HasKey, gives_in, gives_among, gives_optional, gives, some_give, arms_give, has_after}
 use Rattle.cl_agreement.proofs.Parts.{in_left, in_right, conditions_also, GoodOptional, GoodRun, GoodList, GoodArms, good_do, good_declare, good_fill, good_block, good_if, good_loop, good_switch, good_return, good_also, good_arm, if_condition, turn_condition, switch_condition}
 use Rattle.cl_agreement.proofs.Values.{InBody, UnderBody, BackBody, cond_gives}
 use Rattle.cl_agreement.proofs.Nesting.{in_either}
 use Rattle.varying_laws.proofs.Slots.{entry, with_key}
-use Rattle.varying_laws.proofs.Sound.{either, fn, spot}
+use Rattle.varying_laws.proofs.Sound.{either}
 use Rattle.varying_laws.proofs.Steps.{Onto, onto_same, onto_then, onto_change, onto_declare, landed_here, Final, final_before, marked_new, Flag, flag_new, left_marked, Apart, apart_left, apart_right, apart_rest, apart_on, apart_under}
 use Rattle.varying_laws.proofs.Full.{by_marks, Facts, facts_none, facts_both, facts_less, facts_on, facts_node, facts_condition, facts_inner, sp, fun, assign_onto, assign_marked, seen_full, among_full}
 use Rattle.varying_laws.proofs.Scopes.{no_exit, no_exit_optional, no_exit_among, Cover, inner_declarations, cover_first, cover_rest, cover_declared, cover_chosen, cover_other, cover_body, cover_arms, cover_arm, cover_arms_rest}
@@ -206,11 +206,13 @@ module _ (program : Program) (M : ℕ → Key → Bool) (f : ℕ) where
         lone (Cell x) h = cc h
     optional_full (Some e) sc guard s ok apart =
         let r = seen_full program M f valid e sc guard s ok apart in
-        let t = (seen_in F' (S guard) e s).state in
-        (r.0, λ fin. let F = r.1 fin in (
-          (λ x q v. F.0 (some_marks e x q v)),
-          facts_less program M f sc guard s t (parts_of e) (parts_of e) (conditions_in sc e) (conditions_in sc e) (gives_in e) (gives_optional (Some e)) (λ d m. m) (λ d m. m) (given' e) F.1,
-        ))
+        let t = (seen_in F' (S guard) e s).state in (
+          r.0,
+          λ fin. let F = r.1 fin in (
+            (λ x q v. F.0 (some_marks e x q v)),
+            facts_less program M f sc guard s t (parts_of e) (parts_of e) (conditions_in sc e) (conditions_in sc e) (gives_in e) (gives_optional (Some e)) (λ d m. m) (λ d m. m) (given' e) F.1,
+          ),
+        )
       where
         some_marks : (e x : Expression) → Some e ≡ Some x → BM x ≡ true → BM e ≡ true
         some_marks e x q v = let z : e ≡ x = cc q in subst (λ y. BM y ≡ true) (sym z) v
@@ -349,8 +351,7 @@ module _ (program : Program) (M : ℕ → Key → Bool) (f : ℕ) where
       pub gone_full : (x : Statement) (sc : Scope) (guard : Option ℕ) (s : State) → GR sc x → Cover given (assigns x) (inner_declarations x) → Apart f guard s sc (sites_of x) → Gone' sc guard s x
       gone_full (Do e) sc guard s ok cover apart =
           let r = seen_full program M f valid e sc guard s (good_do (InBody program f) (UnderBody program f) (BackBody program f) sc e ok) apart in
-          let t = (seen_in F' (S guard) e s).state in
-          (
+          let t = (seen_in F' (S guard) e s).state in (
             r.0,
             (λ h. cc h),
             (λ h. cc h),
@@ -370,30 +371,27 @@ module _ (program : Program) (M : ℕ → Key → Bool) (f : ℕ) where
           let r = seen_full program M f valid e sc guard s o.1 apart in
           let v = seen_in F' (S guard) e s in
           let t = known.declare (S guard) y v.varies v.state in
-          let d = declare_onto sc guard y v.varies v.state o.2 in
-          (
+          let d = declare_onto sc guard y v.varies v.state o.2 in (
             onto_then f sc s v.state t r.0 d,
             (λ h. cc h),
             (λ h. cc h),
             λ fin.
-            let F = r.1 (final_before M f sc v.state t d fin) in
-            (
-              facts_node program M f sc guard s t (Apply (Set y) (single e)) (parts_of e) (conditions_in sc e) (gives (Declare y (Some e)))
-              (λ action es x q h m.
-              let same : Set y ≡ action = cc q in
-              let at : y ≡ x = eqb-true y x (subst (λ a. sets a x ≡ true) (sym same) h) in
-              let value : BM e ≡ true = value_of_single e (subst (λ z. BM z ≡ true) (sym q) m) in
-              subst (λ z. M f (Cell z) ≡ true) at (marked_new M f (Cell y) (known.declared guard v.varies (variable_at v.state f y)) v.state fin (or_right (variable_at v.state f y).varies v.varies (F.0 value))))
-              (λ i g roots es q. absurd (cc q))
-              (facts_on program M f sc guard s v.state t (parts_of e) (conditions_in sc e) (gives (Declare y (Some e))) d
-              (facts_less program M f sc guard s v.state (parts_of e) (parts_of e) (conditions_in sc e) (conditions_in sc e) (gives_in e) (gives (Declare y (Some e))) (λ z m. m) (λ z m. m) (declare_gives y e) F.1)),
-              outs_quiet sc (conditions_in sc e) false (no_exit sc e),
-            ),
+                let F = r.1 (final_before M f sc v.state t d fin) in (
+                  facts_node program M f sc guard s t (Apply (Set y) (single e)) (parts_of e) (conditions_in sc e) (gives (Declare y (Some e)))
+                      (λ action es x q h m.
+                      let same : Set y ≡ action = cc q in
+                      let at : y ≡ x = eqb-true y x (subst (λ a. sets a x ≡ true) (sym same) h) in
+                      let value : BM e ≡ true = value_of_single e (subst (λ z. BM z ≡ true) (sym q) m) in
+                      subst (λ z. M f (Cell z) ≡ true) at (marked_new M f (Cell y) (known.declared guard v.varies (variable_at v.state f y)) v.state fin (or_right (variable_at v.state f y).varies v.varies (F.0 value))))
+                      (λ i g roots es q. absurd (cc q))
+                      (facts_on program M f sc guard s v.state t (parts_of e) (conditions_in sc e) (gives (Declare y (Some e))) d
+                      (facts_less program M f sc guard s v.state (parts_of e) (parts_of e) (conditions_in sc e) (conditions_in sc e) (gives_in e) (gives (Declare y (Some e))) (λ z m. m) (λ z m. m) (declare_gives y e) F.1)),
+                  outs_quiet sc (conditions_in sc e) false (no_exit sc e),
+                ),
           )
       gone_full (Fill site array es) sc guard s ok cover apart =
           let r = among_full program M f valid es sc guard false (unseen s) (good_fill (InBody program f) (UnderBody program f) (BackBody program f) sc site array es ok) (apart_rest f guard s sc site (sites_among es) apart) in
-          let t = (seen_among F' (S guard) false es (unseen s)).state in
-          (
+          let t = (seen_among F' (S guard) false es (unseen s)).state in (
             r.0,
             (λ h. cc h),
             (λ h. cc h),
@@ -404,8 +402,7 @@ module _ (program : Program) (M : ℕ → Key → Bool) (f : ℕ) where
           )
       gone_full (Block list) sc guard s ok cover apart =
           let r = all_full list sc guard s (good_block (InBody program f) (UnderBody program f) (BackBody program f) sc list ok) cover apart in
-          let t = (gone_over_all F' (S guard) list s).state in
-          (
+          let t = (gone_over_all F' (S guard) list s).state in (
             r.0,
             r.1,
             r.2,
@@ -432,26 +429,24 @@ module _ (program : Program) (M : ℕ → Key → Bool) (f : ℕ) where
           let rb = all_full b sc inner y.state o.3 (cover_other sc given site t a b ok.names cover) (apart_on f inner x.state y.state sc (sites_of_all b) ra.0 (apart_right f inner x.state sc (sites_of_all a) (sites_of_all b) apart2)) in
           let both = onto_then f sc x.state y.state z.state ra.0 rb.0 in
           let out : some_exits a || some_exits b ≡ true → ways.exits ≡ true = λ h. elim (either (some_exits a) (some_exits b) h) [ inl q ↦ or_left y.ways.exits z.ways.exits (ra.1 q) | inr q ↦ or_right y.ways.exits z.ways.exits (rb.1 q) ] in
-          let held : ways.escapes ≡ true → ways.exits ≡ true = joined_held y.ways z.ways ra.2 rb.2 in
-          (
+          let held : ways.escapes ≡ true → ways.exits ≡ true = joined_held y.ways z.ways ra.2 rb.2 in (
             onto_then f sc s x.state z.state rt.0 both,
             out,
             behind_held x.varies ways held,
             λ fin.
-            let fy = final_before M f sc y.state z.state rb.0 fin in
-            let Ft = rt.1 (final_before M f sc x.state z.state both fin) in
-            let Fa = ra.3 fy in
-            let Fb = rb.3 fin in
-            let F2 = facts_both program M f sc sc inner x.state y.state z.state (expressions_of_list a) (expressions_of_list b) (conditions_of_list sc a) (conditions_of_list sc b) (some_give a) (some_give b) there (λ k h. h) ra.0 rb.0 (branch_splits sc t a b) Fa.0 Fb.0 in
-            let F3 = facts_condition program M f sc guard site ys x.varies x.state z.state (expressions_of_list a ++ expressions_of_list b) c (conditions_of_list sc a ++ conditions_of_list sc b) there apart1 Ft.0 (λ k h. h) (λ k h. h) F2 in
-            let F4 = facts_both program M f sc sc guard s x.state z.state (parts_of t) (expressions_of_list a ++ expressions_of_list b) (conditions_in sc t) (c ∷ (conditions_of_list sc a ++ conditions_of_list sc b)) (gives_in t) there (gives (If site t a b)) (λ k h. h) rt.0 both (if_splits sc site t a b) Ft.1 F3 in
-            let O2 = outs_both sc sc (conditions_of_list sc a) (conditions_of_list sc b) (returned_list a) (returned_list b) y.ways.escapes z.ways.escapes ways.escapes (or_left y.ways.escapes z.ways.escapes) (or_right y.ways.escapes z.ways.escapes) (λ k has e on. inl has) Fa.1 Fb.1 in
-            let O3 = outs_both sc sc (conditions_in sc t) (conditions_of_list sc a ++ conditions_of_list sc b) [] (returned_list a ++ returned_list b) false ways.escapes ways.escapes (λ h. cc h) (λ h. h) (λ k has e on. inl has) (outs_quiet sc (conditions_in sc t) false (no_exit sc t)) O2 in
-            (
-              facts_less program M f sc guard s z.state (parts_of t ++ (expressions_of_list a ++ expressions_of_list b)) (parts_of t ++ (expressions_of_list a ++ expressions_of_list b)) (conditions_in sc t ++ (c ∷ (conditions_of_list sc a ++ conditions_of_list sc b))) (conditions_of sc (If site t a b)) (gives (If site t a b)) (gives (If site t a b))
-              (λ d m. m) (λ d m. swap c d (conditions_in sc t) (conditions_of_list sc a ++ conditions_of_list sc b) m) (λ k h. h) F4,
-              outs_condition sc c (conditions_in sc t ++ (conditions_of_list sc a ++ conditions_of_list sc b)) (returned_list a ++ returned_list b) x.varies ways Ft.0 out held (λ k h. h) O3,
-            ),
+                let fy = final_before M f sc y.state z.state rb.0 fin in
+                let Ft = rt.1 (final_before M f sc x.state z.state both fin) in
+                let Fa = ra.3 fy in
+                let Fb = rb.3 fin in
+                let F2 = facts_both program M f sc sc inner x.state y.state z.state (expressions_of_list a) (expressions_of_list b) (conditions_of_list sc a) (conditions_of_list sc b) (some_give a) (some_give b) there (λ k h. h) ra.0 rb.0 (branch_splits sc t a b) Fa.0 Fb.0 in
+                let F3 = facts_condition program M f sc guard site ys x.varies x.state z.state (expressions_of_list a ++ expressions_of_list b) c (conditions_of_list sc a ++ conditions_of_list sc b) there apart1 Ft.0 (λ k h. h) (λ k h. h) F2 in
+                let F4 = facts_both program M f sc sc guard s x.state z.state (parts_of t) (expressions_of_list a ++ expressions_of_list b) (conditions_in sc t) (c ∷ (conditions_of_list sc a ++ conditions_of_list sc b)) (gives_in t) there (gives (If site t a b)) (λ k h. h) rt.0 both (if_splits sc site t a b) Ft.1 F3 in
+                let O2 = outs_both sc sc (conditions_of_list sc a) (conditions_of_list sc b) (returned_list a) (returned_list b) y.ways.escapes z.ways.escapes ways.escapes (or_left y.ways.escapes z.ways.escapes) (or_right y.ways.escapes z.ways.escapes) (λ k has e on. inl has) Fa.1 Fb.1 in
+                let O3 = outs_both sc sc (conditions_in sc t) (conditions_of_list sc a ++ conditions_of_list sc b) [] (returned_list a ++ returned_list b) false ways.escapes ways.escapes (λ h. cc h) (λ h. h) (λ k has e on. inl has) (outs_quiet sc (conditions_in sc t) false (no_exit sc t)) O2 in (
+                  facts_less program M f sc guard s z.state (parts_of t ++ (expressions_of_list a ++ expressions_of_list b)) (parts_of t ++ (expressions_of_list a ++ expressions_of_list b)) (conditions_in sc t ++ (c ∷ (conditions_of_list sc a ++ conditions_of_list sc b))) (conditions_of sc (If site t a b)) (gives (If site t a b)) (gives (If site t a b))
+                      (λ d m. m) (λ d m. swap c d (conditions_in sc t) (conditions_of_list sc a ++ conditions_of_list sc b) m) (λ k h. h) F4,
+                  outs_condition sc c (conditions_in sc t ++ (conditions_of_list sc a ++ conditions_of_list sc b)) (returned_list a ++ returned_list b) x.varies ways Ft.0 out held (λ k h. h) O3,
+                ),
           )
       gone_full (Loop site first t st b) sc guard s ok cover apart =
           let o = good_loop (InBody program f) (UnderBody program f) (BackBody program f) sc site first t st b ok in
@@ -471,32 +466,30 @@ module _ (program : Program) (M : ℕ → Key → Bool) (f : ℕ) where
           let r3 = optional_full st sc inner x2.state o.2 (apart_left f inner x2.state sc (sites_in_optional st) (sites_of b) apart3) in
           let r4 = gone_full b sc inner x3.state o.3 (cover_body sc given site first t st b ok.names cover) (apart_on f inner x2.state x3.state sc (sites_of b) r3.0 (apart_right f inner x2.state sc (sites_in_optional st) (sites_of b) apart3)) in
           let onto3 = onto_then f sc x2.state x3.state y.state r3.0 r4.0 in
-          let onto2 = onto_then f sc x.state x2.state y.state r2.0 onto3 in
-          (
+          let onto2 = onto_then f sc x.state x2.state y.state r2.0 onto3 in (
             onto_then f sc s x.state y.state r1.0 onto2,
             r4.1,
             behind_held x.varies y.ways r4.2,
             λ fin.
-            let f3 = final_before M f sc x3.state y.state r4.0 fin in
-            let f2 = final_before M f sc x2.state y.state onto3 fin in
-            let f1 = final_before M f sc x.state y.state onto2 fin in
-            let F1 = r1.1 f1 in
-            let F2 = r2.1 f2 in
-            let F3 = r3.1 f3 in
-            let F4 = r4.3 fin in
-            let ps : List Expression = parts_of_optional st ++ expressions_of b in
-            let cs : List Condition = conditions_in_optional sc st ++ conditions_of sc b in
-            let G3 = facts_both program M f sc sc inner x2.state x3.state y.state (parts_of_optional st) (expressions_of b) (conditions_in_optional sc st) (conditions_of sc b) (gives_optional st) (gives b) (turn_gives st b) (λ k h. h) r3.0 r4.0 (λ k h. either (gives_optional st k) (gives b k) h) F3.1 F4.0 in
-            let G2 = facts_both program M f sc sc inner x.state x2.state y.state (parts_of_optional t) ps (conditions_in_optional sc t) cs (gives_optional t) (turn_gives st b) all (λ k h. h) r2.0 onto3 (loop_splits site first t st b) F2.1 G3 in
-            let G1 = loop_facts sc guard site ys first t st b x.varies x.state y.state (parts_of_optional t ++ ps) (conditions_in_optional sc t ++ cs) apart1 F1.0 G2 in
-            let G0 = facts_both program M f sc sc guard s x.state y.state (parts_of_optional t) (parts_of_optional t ++ ps) (conditions_in_optional sc t) (loop_condition sc t st b ++ (conditions_in_optional sc t ++ cs)) (gives_optional t) all all (λ k h. h) r1.0 onto2 (λ k h. inr h) F1.1 G1 in
-            let O3 = outs_both sc sc (conditions_in_optional sc st) (conditions_of sc b) [] (returned b) false y.ways.escapes y.ways.escapes (λ h. cc h) (λ h. h) (λ k has e on. inl has) (outs_quiet sc (conditions_in_optional sc st) false (no_exit_optional sc st)) F4.1 in
-            let O2 = outs_both sc sc (conditions_in_optional sc t) cs [] (returned b) false y.ways.escapes y.ways.escapes (λ h. cc h) (λ h. h) (λ k has e on. inl has) (outs_quiet sc (conditions_in_optional sc t) false (no_exit_optional sc t)) O3 in
-            (
-              facts_less program M f sc guard s y.state (parts_of_optional t ++ (parts_of_optional t ++ ps)) (parts_of_optional t ++ ps) (conditions_in_optional sc t ++ (loop_condition sc t st b ++ (conditions_in_optional sc t ++ cs))) (loop_condition sc t st b ++ (conditions_in_optional sc t ++ cs)) all all
-              (λ d m. in_right (parts_of_optional t) (parts_of_optional t ++ ps) d m) (λ d m. in_right (conditions_in_optional sc t) (loop_condition sc t st b ++ (conditions_in_optional sc t ++ cs)) d m) (λ k h. h) G0,
-              loop_outs sc t st b x.varies y.ways (conditions_in_optional sc t ++ cs) (returned b) F1.0 r4.1 r4.2 O2,
-            ),
+                let f3 = final_before M f sc x3.state y.state r4.0 fin in
+                let f2 = final_before M f sc x2.state y.state onto3 fin in
+                let f1 = final_before M f sc x.state y.state onto2 fin in
+                let F1 = r1.1 f1 in
+                let F2 = r2.1 f2 in
+                let F3 = r3.1 f3 in
+                let F4 = r4.3 fin in
+                let ps : List Expression = parts_of_optional st ++ expressions_of b in
+                let cs : List Condition = conditions_in_optional sc st ++ conditions_of sc b in
+                let G3 = facts_both program M f sc sc inner x2.state x3.state y.state (parts_of_optional st) (expressions_of b) (conditions_in_optional sc st) (conditions_of sc b) (gives_optional st) (gives b) (turn_gives st b) (λ k h. h) r3.0 r4.0 (λ k h. either (gives_optional st k) (gives b k) h) F3.1 F4.0 in
+                let G2 = facts_both program M f sc sc inner x.state x2.state y.state (parts_of_optional t) ps (conditions_in_optional sc t) cs (gives_optional t) (turn_gives st b) all (λ k h. h) r2.0 onto3 (loop_splits site first t st b) F2.1 G3 in
+                let G1 = loop_facts sc guard site ys first t st b x.varies x.state y.state (parts_of_optional t ++ ps) (conditions_in_optional sc t ++ cs) apart1 F1.0 G2 in
+                let G0 = facts_both program M f sc sc guard s x.state y.state (parts_of_optional t) (parts_of_optional t ++ ps) (conditions_in_optional sc t) (loop_condition sc t st b ++ (conditions_in_optional sc t ++ cs)) (gives_optional t) all all (λ k h. h) r1.0 onto2 (λ k h. inr h) F1.1 G1 in
+                let O3 = outs_both sc sc (conditions_in_optional sc st) (conditions_of sc b) [] (returned b) false y.ways.escapes y.ways.escapes (λ h. cc h) (λ h. h) (λ k has e on. inl has) (outs_quiet sc (conditions_in_optional sc st) false (no_exit_optional sc st)) F4.1 in
+                let O2 = outs_both sc sc (conditions_in_optional sc t) cs [] (returned b) false y.ways.escapes y.ways.escapes (λ h. cc h) (λ h. h) (λ k has e on. inl has) (outs_quiet sc (conditions_in_optional sc t) false (no_exit_optional sc t)) O3 in (
+                  facts_less program M f sc guard s y.state (parts_of_optional t ++ (parts_of_optional t ++ ps)) (parts_of_optional t ++ ps) (conditions_in_optional sc t ++ (loop_condition sc t st b ++ (conditions_in_optional sc t ++ cs))) (loop_condition sc t st b ++ (conditions_in_optional sc t ++ cs)) all all
+                      (λ d m. in_right (parts_of_optional t) (parts_of_optional t ++ ps) d m) (λ d m. in_right (conditions_in_optional sc t) (loop_condition sc t st b ++ (conditions_in_optional sc t ++ cs)) d m) (λ k h. h) G0,
+                  loop_outs sc t st b x.varies y.ways (conditions_in_optional sc t ++ cs) (returned b) F1.0 r4.1 r4.2 O2,
+                ),
           )
       gone_full (Switch site v arms) sc guard s ok cover apart =
           let o = good_switch (InBody program f) (UnderBody program f) (BackBody program f) sc site v arms ok in
@@ -508,31 +501,28 @@ module _ (program : Program) (M : ℕ → Key → Bool) (f : ℕ) where
           let y = gone_over_arms F' (S inner) arms x.state in
           let rt = seen_full program M f valid v sc guard s o.1 (apart_left f guard s sc (sites_in v) (sites_of_arms arms) (apart_rest f guard s sc site ys apart)) in
           let apart1 : Apart f guard x.state sc (site ∷ ys) = apart_on f guard s x.state sc (site ∷ ys) rt.0 apart in
-          let ra = arms_full arms sc inner x.state o.2 (cover_arms sc given site v arms ok.names cover) (apart_right f inner x.state sc (sites_in v) (sites_of_arms arms) (apart_under f guard x.state sc site ys x.varies apart1)) in
-          (
+          let ra = arms_full arms sc inner x.state o.2 (cover_arms sc given site v arms ok.names cover) (apart_right f inner x.state sc (sites_in v) (sites_of_arms arms) (apart_under f guard x.state sc site ys x.varies apart1)) in (
             onto_then f sc s x.state y.state rt.0 ra.0,
             ra.1,
             behind_held x.varies y.ways ra.2,
             λ fin.
-            let Ft = rt.1 (final_before M f sc x.state y.state ra.0 fin) in
-            let Fa = ra.3 fin in
-            let F2 = facts_less program M f sc inner x.state y.state (expressions_of_arms arms) (expressions_of_arms arms) (conditions_of_arms sc arms) (conditions_of_arms sc arms) (arms_give arms) there (λ d m. m) (λ d m. m) (arms_given sc v arms) Fa.0 in
-            let F3 = facts_condition program M f sc guard site ys x.varies x.state y.state (expressions_of_arms arms) c (conditions_of_arms sc arms) there apart1 Ft.0 (λ k h. h) (λ k h. h) F2 in
-            let F4 = facts_both program M f sc sc guard s x.state y.state (parts_of v) (expressions_of_arms arms) (conditions_in sc v) (c ∷ conditions_of_arms sc arms) (gives_in v) there (gives (Switch site v arms)) (λ k h. h) rt.0 ra.0 (switch_splits sc site v arms) Ft.1 F3 in
-            let O3 = outs_both sc sc (conditions_in sc v) (conditions_of_arms sc arms) [] (returned_arms arms) false y.ways.escapes y.ways.escapes (λ h. cc h) (λ h. h) (λ k has e on. inl has) (outs_quiet sc (conditions_in sc v) false (no_exit sc v)) Fa.1 in
-            (
-              facts_less program M f sc guard s y.state (parts_of v ++ expressions_of_arms arms) (parts_of v ++ expressions_of_arms arms) (conditions_in sc v ++ (c ∷ conditions_of_arms sc arms)) (conditions_of sc (Switch site v arms)) (gives (Switch site v arms)) (gives (Switch site v arms))
-              (λ d m. m) (λ d m. swap c d (conditions_in sc v) (conditions_of_arms sc arms) m) (λ k h. h) F4,
-              outs_condition sc c (conditions_in sc v ++ conditions_of_arms sc arms) (returned_arms arms) x.varies y.ways Ft.0 ra.1 ra.2 (λ k h. h) O3,
-            ),
+                let Ft = rt.1 (final_before M f sc x.state y.state ra.0 fin) in
+                let Fa = ra.3 fin in
+                let F2 = facts_less program M f sc inner x.state y.state (expressions_of_arms arms) (expressions_of_arms arms) (conditions_of_arms sc arms) (conditions_of_arms sc arms) (arms_give arms) there (λ d m. m) (λ d m. m) (arms_given sc v arms) Fa.0 in
+                let F3 = facts_condition program M f sc guard site ys x.varies x.state y.state (expressions_of_arms arms) c (conditions_of_arms sc arms) there apart1 Ft.0 (λ k h. h) (λ k h. h) F2 in
+                let F4 = facts_both program M f sc sc guard s x.state y.state (parts_of v) (expressions_of_arms arms) (conditions_in sc v) (c ∷ conditions_of_arms sc arms) (gives_in v) there (gives (Switch site v arms)) (λ k h. h) rt.0 ra.0 (switch_splits sc site v arms) Ft.1 F3 in
+                let O3 = outs_both sc sc (conditions_in sc v) (conditions_of_arms sc arms) [] (returned_arms arms) false y.ways.escapes y.ways.escapes (λ h. cc h) (λ h. h) (λ k has e on. inl has) (outs_quiet sc (conditions_in sc v) false (no_exit sc v)) Fa.1 in (
+                  facts_less program M f sc guard s y.state (parts_of v ++ expressions_of_arms arms) (parts_of v ++ expressions_of_arms arms) (conditions_in sc v ++ (c ∷ conditions_of_arms sc arms)) (conditions_of sc (Switch site v arms)) (gives (Switch site v arms)) (gives (Switch site v arms))
+                      (λ d m. m) (λ d m. swap c d (conditions_in sc v) (conditions_of_arms sc arms) m) (λ k h. h) F4,
+                  outs_condition sc c (conditions_in sc v ++ conditions_of_arms sc arms) (returned_arms arms) x.varies y.ways Ft.0 ra.1 ra.2 (λ k h. h) O3,
+                ),
           )
       gone_full (Break site) sc guard s ok cover apart =
           (onto_same f sc s, (λ h. refl), (λ h. refl), λ fin. (facts_none program M f sc guard s s (gives (Break site)) (λ k h. no_gives (Break site) k (lone_break site k) h), outs_quiet sc [] false (λ c m. absurd m)))
       gone_full (Continue site) sc guard s ok cover apart =
           (onto_same f sc s, (λ h. refl), (λ h. refl), λ fin. (facts_none program M f sc guard s s (gives (Continue site)) (λ k h. no_gives (Continue site) k (lone_continue site k) h), outs_quiet sc [] false (λ c m. absurd m)))
       gone_full (Return site None) sc guard s ok cover apart =
-          let t = known.give (S guard) false s in
-          (
+          let t = known.give (S guard) false s in (
             assign_onto program M f valid sc guard Answer false s,
             (λ h. refl),
             (λ h. refl),
@@ -546,23 +536,21 @@ module _ (program : Program) (M : ℕ → Key → Bool) (f : ℕ) where
           let v = seen_in F' (S guard) e s in
           let t = known.give (S guard) v.varies v.state in
           let r = seen_full program M f valid e sc guard s o.1 (apart_rest f guard s sc site (sites_in e) apart) in
-          let d = assign_onto program M f valid sc guard Answer v.varies v.state in
-          (
+          let d = assign_onto program M f valid sc guard Answer v.varies v.state in (
             onto_then f sc s v.state t r.0 d,
             (λ h. refl),
             (λ h. refl),
             λ fin.
-            let F = r.1 (final_before M f sc v.state t d fin) in
-            let A = answer_facts sc guard v.varies v.state fin in
-            let B = facts_both program M f sc sc guard s v.state t (parts_of e) [] (conditions_in sc e) [] (gives_in e) is_answer (gives (Return site (Some e))) (λ k h. h) r.0 d (return_splits site e) F.1 A in
-            (
-              facts_less program M f sc guard s t (parts_of e ++ []) (parts_of e) (conditions_in sc e ++ []) (conditions_in sc e) (gives (Return site (Some e))) (gives (Return site (Some e))) (λ z m. in_left (parts_of e) [] z m) (λ z m. in_left (conditions_in sc e) [] z m) (λ k h. h) B,
-              record {
-                out = λ c m x y. absurd (let q : true ≡ false = sym y ∙ no_exit sc e c m in cc q);
-                beside = λ c m x y. absurd (let q : true ≡ false = sym y ∙ no_exit sc e c m in cc q);
-                back = λ z m x. elim m [ inl q ↦ assign_marked program M f valid guard Answer v.varies v.state fin (inl (F.0 (subst (λ w. BM w ≡ true) (sym q) x))) | inr i ↦ absurd i ];
-              },
-            ),
+                let F = r.1 (final_before M f sc v.state t d fin) in
+                let A = answer_facts sc guard v.varies v.state fin in
+                let B = facts_both program M f sc sc guard s v.state t (parts_of e) [] (conditions_in sc e) [] (gives_in e) is_answer (gives (Return site (Some e))) (λ k h. h) r.0 d (return_splits site e) F.1 A in (
+                  facts_less program M f sc guard s t (parts_of e ++ []) (parts_of e) (conditions_in sc e ++ []) (conditions_in sc e) (gives (Return site (Some e))) (gives (Return site (Some e))) (λ z m. in_left (parts_of e) [] z m) (λ z m. in_left (conditions_in sc e) [] z m) (λ k h. h) B,
+                  record {
+                    out = λ c m x y. absurd (let q : true ≡ false = sym y ∙ no_exit sc e c m in cc q);
+                    beside = λ c m x y. absurd (let q : true ≡ false = sym y ∙ no_exit sc e c m in cc q);
+                    back = λ z m x. elim m [ inl q ↦ assign_marked program M f valid guard Answer v.varies v.state fin (inl (F.0 (subst (λ w. BM w ≡ true) (sym q) x))) | inr i ↦ absurd i ];
+                  },
+                ),
           )
       gone_full (Barrier site) sc guard s ok cover apart =
           (onto_same f sc s, (λ h. cc h), (λ h. cc h), λ fin. (facts_none program M f sc guard s s (gives (Barrier site)) (λ k h. no_gives (Barrier site) k (lone_barrier site k) h), outs_quiet sc [] false (λ c m. absurd m)))
@@ -579,24 +567,22 @@ module _ (program : Program) (M : ℕ → Key → Bool) (f : ℕ) where
           let rb = all_full rest sc' guard a.state o.1 (cover_rest sc given x rest ok.names cover) (apart_behind x sc guard s (sites_of_all rest) ra.0 (apart_right f guard s sc (sites_of x) (sites_of_all rest) apart)) in
           let rb' : Onto f sc a.state b.state = narrow sc x a.state b.state rb.0 in
           let rc = closed_full sc x b.ways.escapes guard b.state in
-          let onto2 = onto_then f sc a.state b.state t rb' rc.0 in
-          (
+          let onto2 = onto_then f sc a.state b.state t rb' rc.0 in (
             onto_then f sc s a.state t ra.0 onto2,
             (λ h. elim (either (exits x) (some_exits rest) h) [ inl q ↦ or_right b.ways.exits a.ways.exits (ra.1 q) | inr q ↦ or_left b.ways.exits a.ways.exits (rb.1 q) ]),
             joined_held b.ways a.ways rb.2 ra.2,
             λ fin.
-            let fb = final_before M f sc b.state t rc.0 fin in
-            let Fa = ra.3 (final_before M f sc a.state t onto2 fin) in
-            let Fb = rb.3 fb in
-            let F2 = facts_both program M f sc sc' guard s a.state b.state (expressions_of x) (expressions_of_list rest) (conditions_of sc x) (conditions_of_list sc' rest) (gives x) (some_give rest) (some_give (also x rest)) (has_after sc x) ra.0 rb' (also_splits x rest) Fa.0 Fb.0 in
-            let F3 = facts_on program M f sc guard s b.state t (expressions_of x ++ expressions_of_list rest) (conditions_of sc x ++ conditions_of_list sc' rest) (some_give (also x rest)) rc.0 F2 in
-            let O2 = outs_both sc sc' (conditions_of sc x) (conditions_of_list sc' rest) (returned x) (returned_list rest) a.ways.escapes b.ways.escapes (b.ways.escapes || a.ways.escapes) (or_right b.ways.escapes a.ways.escapes) (or_left b.ways.escapes a.ways.escapes)
+                let fb = final_before M f sc b.state t rc.0 fin in
+                let Fa = ra.3 (final_before M f sc a.state t onto2 fin) in
+                let Fb = rb.3 fb in
+                let F2 = facts_both program M f sc sc' guard s a.state b.state (expressions_of x) (expressions_of_list rest) (conditions_of sc x) (conditions_of_list sc' rest) (gives x) (some_give rest) (some_give (also x rest)) (has_after sc x) ra.0 rb' (also_splits x rest) Fa.0 Fb.0 in
+                let F3 = facts_on program M f sc guard s b.state t (expressions_of x ++ expressions_of_list rest) (conditions_of sc x ++ conditions_of_list sc' rest) (some_give (also x rest)) rc.0 F2 in
+                let O2 = outs_both sc sc' (conditions_of sc x) (conditions_of_list sc' rest) (returned x) (returned_list rest) a.ways.escapes b.ways.escapes (b.ways.escapes || a.ways.escapes) (or_right b.ways.escapes a.ways.escapes) (or_left b.ways.escapes a.ways.escapes)
                 (λ k has e on. rc.1 fin k has e (λ y value q kq.
-                Fb.0.flags (Cell y) (cover_declared sc given y value rest (subst (λ z. IsScopedList sc (also z rest)) q ok.names) (subst (λ z. Cover given (some_assigns (also z rest)) (all_declarations (also z rest))) q cover) (subst (λ z. some_give (function_at program f).body z ≡ true) kq on)) (subst (HasKey sc') kq has))) Fa.1 Fb.1 in
-            (
-              subst (λ cs. FA sc guard s t (expressions_of x ++ expressions_of_list rest) cs (some_give (also x rest))) (sym (conditions_also sc x rest)) F3,
-              subst (λ cs. Outs sc cs (returned x ++ returned_list rest) (b.ways.escapes || a.ways.escapes)) (sym (conditions_also sc x rest)) O2,
-            ),
+                Fb.0.flags (Cell y) (cover_declared sc given y value rest (subst (λ z. IsScopedList sc (also z rest)) q ok.names) (subst (λ z. Cover given (some_assigns (also z rest)) (all_declarations (also z rest))) q cover) (subst (λ z. some_give (function_at program f).body z ≡ true) kq on)) (subst (HasKey sc') kq has))) Fa.1 Fb.1 in (
+                  subst (λ cs. FA sc guard s t (expressions_of x ++ expressions_of_list rest) cs (some_give (also x rest))) (sym (conditions_also sc x rest)) F3,
+                  subst (λ cs. Outs sc cs (returned x ++ returned_list rest) (b.ways.escapes || a.ways.escapes)) (sym (conditions_also sc x rest)) O2,
+                ),
           )
 
       arms_full : (arms : Arms) (sc : Scope) (guard : Option ℕ) (s : State) → GM sc arms → Cover given (arms_assign arms) (arms_declarations arms) → Apart f guard s sc (sites_of_arms arms) → GoneArms sc guard s arms
@@ -606,16 +592,14 @@ module _ (program : Program) (M : ℕ → Key → Bool) (f : ℕ) where
           let a = gone_over_all F' (S guard) body s in
           let b = gone_over_arms F' (S guard) rest a.state in
           let ra = all_full body sc guard s o.0 (cover_arm sc given labels other body rest ok.names cover) (apart_left f guard s sc (sites_of_all body) (sites_of_arms rest) apart) in
-          let rb = arms_full rest sc guard a.state o.1 (cover_arms_rest sc given labels other body rest ok.names cover) (apart_on f guard s a.state sc (sites_of_arms rest) ra.0 (apart_right f guard s sc (sites_of_all body) (sites_of_arms rest) apart)) in
-          (
+          let rb = arms_full rest sc guard a.state o.1 (cover_arms_rest sc given labels other body rest ok.names cover) (apart_on f guard s a.state sc (sites_of_arms rest) ra.0 (apart_right f guard s sc (sites_of_all body) (sites_of_arms rest) apart)) in (
             onto_then f sc s a.state b.state ra.0 rb.0,
             (λ h. elim (either (some_exits body) (arms_exit rest) h) [ inl q ↦ or_right b.ways.exits a.ways.exits (ra.1 q) | inr q ↦ or_left b.ways.exits a.ways.exits (rb.1 q) ]),
             joined_held b.ways a.ways rb.2 ra.2,
             λ fin.
-            let Fa = ra.3 (final_before M f sc a.state b.state rb.0 fin) in
-            let Fb = rb.3 fin in
-            (
-              facts_both program M f sc sc guard s a.state b.state (expressions_of_list body) (expressions_of_arms rest) (conditions_of_list sc body) (conditions_of_arms sc rest) (some_give body) (arms_give rest) (arms_give (arm labels other body rest)) (λ k h. h) ra.0 rb.0 (arm_splits labels other body rest) Fa.0 Fb.0,
-              outs_both sc sc (conditions_of_list sc body) (conditions_of_arms sc rest) (returned_list body) (returned_arms rest) a.ways.escapes b.ways.escapes (b.ways.escapes || a.ways.escapes) (or_right b.ways.escapes a.ways.escapes) (or_left b.ways.escapes a.ways.escapes) (λ k has e on. inl has) Fa.1 Fb.1,
-            ),
+                let Fa = ra.3 (final_before M f sc a.state b.state rb.0 fin) in
+                let Fb = rb.3 fin in (
+                  facts_both program M f sc sc guard s a.state b.state (expressions_of_list body) (expressions_of_arms rest) (conditions_of_list sc body) (conditions_of_arms sc rest) (some_give body) (arms_give rest) (arms_give (arm labels other body rest)) (λ k h. h) ra.0 rb.0 (arm_splits labels other body rest) Fa.0 Fb.0,
+                  outs_both sc sc (conditions_of_list sc body) (conditions_of_arms sc rest) (returned_list body) (returned_arms rest) a.ways.escapes b.ways.escapes (b.ways.escapes || a.ways.escapes) (or_right b.ways.escapes a.ways.escapes) (or_left b.ways.escapes a.ways.escapes) (λ k has e on. inl has) Fa.1 Fb.1,
+                ),
           )

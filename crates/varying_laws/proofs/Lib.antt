@@ -7,3 +7,4 @@ pub mod Scopes
 pub mod FullRounds
 pub mod Ranges
 pub mod Exact
+pub mod Answers
