@@ -10,13 +10,13 @@ use Rattle.cl_model.specs.Tree.{Call, Expressions, Block, Program}
 use Rattle.cl_model.specs.Sizes.{Launch, group_of, groups_at, groups_of, product, answer_within, answer_outside, answer_of}
 use Rattle.cl_model.specs.Calls.{function_at}
 use Rattle.cl_model.specs.Task.{Into, Point, Task, InCall, Frame, Item, first_point}
-use Rattle.cl_model.specs.Steps.{nth, first_next, item_next}
+use Rattle.cl_model.specs.Steps.{last, nth, first_next, item_next}
 use Rattle.cl_model.specs.Meaning.{MayBeTold, ItemHistory, lengths_of, kernel_frame, start_item}
 use Rattle.cl_model.specs.Valid.{Scope, numbers_below, CallsEnd, IsValid}
 use Rattle.cl_model.specs.Fitting.{FitsProgram}
 use Rattle.cl_model.specs.Varying.{is_own, AVariable, AResult, Varies}
 use Rattle.cl_model.specs.Agreement.{Owned, IsInBody, held_in, Agrees}
-use Rattle.cl_agreement.proofs.Ran.{Held, How, Normal, Broke, Continued, Returned, Who, here, Exec, Comes}
+use Rattle.cl_agreement.proofs.Ran.{Stand, Held, How, Normal, Broke, Continued, Returned, Who, here, Exec, Comes}
 use Rattle.cl_agreement.proofs.Keeps.{Answer, Cell, look, gives}
 use Rattle.cl_agreement.proofs.Exits.{same_how, return_held, Leaves, all_leave}
 use Rattle.cl_agreement.proofs.Parts.{GoodRun}
@@ -116,8 +116,8 @@ module _ (program : Program) (launch : Launch) (buffers : List (List ℕ)) (vali
         ]
 
     -- the frames of calls
-    points_lone : (number d m : ℕ) (frame : Frame) (site g : ℕ) (roots : List (Option Root)) (args : List ℤ) (p : Point) (inner : List Frame) (v : Owned) → CallsEnd program m g → (CallsEnd program m v.function → ⊥)
-        → PointsAt program launch buffers number d frame site g roots args p inner → finds inner v ≡ None
+    points_lone : (number d m : ℕ) (frame : Frame) (site g : ℕ) (roots : List (Option Root)) (args : List ℤ) (p : Point) (inner : Stand) (v : Owned) → CallsEnd program m g → (CallsEnd program m v.function → ⊥)
+        → PointsAt program launch buffers number d frame site g roots args p inner → finds inner.frames v ≡ None
     points_lone number zero m frame site g roots args p inner v ends low c = absurd c
     points_lone number (suc d) zero frame site g roots args p inner v ends low c = absurd ends
     points_lone number (suc d) (suc m) frame site g roots args p inner v ends low (top, en, c) =
@@ -129,8 +129,8 @@ module _ (program : Program) (launch : Launch) (buffers : List (List ℕ)) (vali
 
     abbrev PointsAlike : ℕ → ℕ → Frame → Frame → Type 0
     PointsAlike d f frame frame' =
-        (site g : ℕ) (roots : List (Option Root)) (es : Expressions) → InBody program f (Call site g roots es) → (args args' : List ℤ) (p : Point) (inner inner' : List Frame) → ((n : ℕ) → (Varies program (AVariable g n) → ⊥) → nth args n ≡ nth args' n)
-        → PointsAt program launch buffers one d frame site g roots args p inner → PointsAt program launch buffers other d frame' site g roots args' p inner' → (v : Owned) → IsInBody program d g p v → (VO program v → ⊥) → FoundAlike inner inner' v
+        (site g : ℕ) (roots : List (Option Root)) (es : Expressions) → InBody program f (Call site g roots es) → (args args' : List ℤ) (p : Point) (inner inner' : Stand) → ((n : ℕ) → (Varies program (AVariable g n) → ⊥) → nth args n ≡ nth args' n)
+        → PointsAt program launch buffers one d frame site g roots args p inner → PointsAt program launch buffers other d frame' site g roots args' p inner' → (v : Owned) → IsInBody program d g p v → (VO program v → ⊥) → FoundAlike inner.frames inner'.frames v
 
     points_with : (d m f : ℕ) (frame frame' : Frame) → SameConstants program launch buffers valid f frame frame' → frame.function ≡ f → frame'.function ≡ f → CallsEnd program (suc m) f → (CallsEnd program m program.kernel → ⊥) → PointsAlike d f frame frame'
         → TwoPoints program f (IsInBody program d) (One d frame) (Two' d frame')
@@ -214,7 +214,7 @@ module _ (program : Program) (launch : Launch) (buffers : List (List ℕ)) (vali
 
   -- where an item of the launch stands in the kernel
   pub stands : (d number : ℕ) → CallsEnd program (suc d) program.kernel → (deeds : List Deed) (i : Item) (point : Point) → ItemHistory program launch buffers number deeds i → first_point i.tasks ≡ Some point
-      → (tops : List Frame) × (i.frames ≡ tops ++ []) × Comes (who program launch buffers number d (kernel_frame program launch number)) (Block (function_at program program.kernel).body) (first_held (kernel_frame program launch number)) point tops
+      → (tops : Stand) × ((i.frames ≡ tops.frames ++ []) × (last i.values ≡ tops.value)) × Comes (who program launch buffers number d (kernel_frame program launch number)) (Block (function_at program program.kernel).body) (first_held (kernel_frame program launch number)) point tops
   stands d number ends deeds i point h w =
       let frame = kernel_frame program launch number in
       let called = calls_run number d program.kernel frame [] ends in
@@ -240,7 +240,7 @@ module _ (program : Program) (launch : Launch) (buffers : List (List ℕ)) (vali
         (points_alike one other same d m k (kernel_frame program launch one) (kernel_frame program launch other) sc em nm) in
         let r = comes_alike program k (IsInBody program d) (who program launch buffers one d (kernel_frame program launch one)) (who program launch buffers other d (kernel_frame program launch other)) t2
         (Block (function_at program k).body) (scope_of k) point (first_held (kernel_frame program launch one)) (first_held (kernel_frame program launch other)) tops tops' (good_body k) (part_body k) (start_kernel one other) c c' v has nv in
-        ap (λ fs. held_in fs v) fr ∙ finds_held (tops ++ []) v r.0 (finds_before tops [] v r.0 r.1) ∙ sym (ap (λ fs. held_in fs v) fr' ∙ finds_held (tops' ++ []) v r.0 (finds_before tops' [] v r.0 r.2))
+        ap (λ fs. held_in fs v) fr.0 ∙ finds_held (tops.frames ++ []) v r.0 (finds_before tops.frames [] v r.0 r.1) ∙ sym (ap (λ fs. held_in fs v) fr'.0 ∙ finds_held (tops'.frames ++ []) v r.0 (finds_before tops'.frames [] v r.0 r.2))
       where
         start_kernel : (one other : ℕ) → Alike program program.kernel (scope_of program.kernel) (first_held (kernel_frame program launch one)) (first_held (kernel_frame program launch other))
         start_kernel one other Answer has nv = refl
