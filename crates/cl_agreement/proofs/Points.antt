@@ -193,20 +193,20 @@ module _ (program : Program) where
 
     -- the beginnings of iterations, and the tests behind as many
     module _ (site : ℕ) (first : Bool) (t st : Option Expression) (b : Statement) (scope : Scope) (ok : GoodRun (InBody program f) (UnderBody program f) (BackBody program f) scope (Loop site first t st b)) (part : Part program f (gives (Loop site first t st b))) where
-      body_alike : EndAlike program f w w' t2.two scope b
+      pub body_alike : EndAlike program f w w' t2.two scope b
       body_alike = end_alike program f w w' t2.two b scope (good_loop (InBody program f) (UnderBody program f) (BackBody program f) scope site first t st b ok).3 (λ k un. (quiet_loop site first t st b k (part k un)).2)
 
       enters_alike : (one : Bool) (g g' h h' : Held) → Alike program f scope g g' → Enters w one t g h → Enters w' one t g' h' → Alike program f scope h h'
       enters_alike true g g' h h' al x x' = passes_alike program f w w' t2.two t scope g g' h h' (good_loop (InBody program f) (UnderBody program f) (BackBody program f) scope site first t st b ok).1 al x x'
       enters_alike false g g' h h' al x x' = moved_alike program f scope g g' h h' al x x'
 
-      begun_alike : (k : ℕ) (g g' h h' : Held) → Alike program f scope g g' → Begun w first t st (Exec w b) k g h → Begun w' first t st (Exec w' b) k g' h' → Alike program f scope h h'
+      pub begun_alike : (k : ℕ) (g g' h h' : Held) → Alike program f scope g g' → Begun w first t st (Exec w b) k g h → Begun w' first t st (Exec w' b) k g' h' → Alike program f scope h h'
       begun_alike zero g g' h h' al x x' = enters_alike first g g' h h' al x x'
       begun_alike (suc k) g g' h h' al (start, mid, y, r, p) (start', mid', y', r', p') =
           passes_alike program f w w' t2.two t scope mid mid' h h' (good_loop (InBody program f) (UnderBody program f) (BackBody program f) scope site first t st b ok).1
           (rounds_alike program f w w' t2.two site first t st b scope ok part body_alike start start' mid mid' (begun_alike k g g' start start' al y y') r r') p p'
 
-      heads_alike : (k : ℕ) (g g' h h' : Held) → Alike program f scope g g' → Heads w first t st (Exec w b) k g h → Heads w' first t st (Exec w' b) k g' h' → Alike program f scope h h'
+      pub heads_alike : (k : ℕ) (g g' h h' : Held) → Alike program f scope g g' → Heads w first t st (Exec w b) k g h → Heads w' first t st (Exec w' b) k g' h' → Alike program f scope h h'
       heads_alike zero g g' h h' al (x, e) (x', e') = moved_alike program f scope g g' h h' al e e'
       heads_alike (suc k) g g' h h' al (start, y, r) (start', y', r') =
           rounds_alike program f w w' t2.two site first t st b scope ok part body_alike start start' h h' (begun_alike k g g' start start' al y y') r r'
@@ -224,7 +224,7 @@ module _ (program : Program) where
         reaches_alike rest j i scope (good_arm (InBody program f) (UnderBody program f) (BackBody program f) scope labels other body rest ok).1 (λ k un. (quiet_arm labels other body rest k (part k un)).1) g g' h h' al x x'
 
     -- two items that may have come to it from different entries
-    arm_starts_alike : (site : ℕ) (e : Expression) (arms : Arms) (scope : Scope) → GoodRun (InBody program f) (UnderBody program f) (BackBody program f) scope (Switch site e arms) → Part program f (gives (Switch site e arms)) → (i : ℕ) (x x' : ℤ) (g g' m m' h h' : Held)
+    pub arm_starts_alike : (site : ℕ) (e : Expression) (arms : Arms) (scope : Scope) → GoodRun (InBody program f) (UnderBody program f) (BackBody program f) scope (Switch site e arms) → Part program f (gives (Switch site e arms)) → (i : ℕ) (x x' : ℤ) (g g' m m' h h' : Held)
         → Alike program f scope g g' → Eval w e g x m → Eval w' e g' x' m' → Reaches w arms (entered x arms) i m h → Reaches w' arms (entered x' arms) i m' h' → Alike program f scope h h'
     arm_starts_alike site e arms scope ok part i x x' g g' m m' h h' al d d' r r' =
         let o = good_switch (InBody program f) (UnderBody program f) (BackBody program f) scope site e arms ok in
