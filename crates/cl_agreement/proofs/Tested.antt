@@ -1,5 +1,5 @@
 -- A test or value that does not vary has equal values at one point: by the depth of calls, at the histories of a launch.
-use Rattle.std.proofs.Common.{◌≡◌, ◌≢◌, ℕ, zero, suc, ◌<◌, ℤ, List, [], ◌∷◌, length, Option, Some, None, refl, sym, ap, ◌∙◌, subst}
+use Rattle.std.proofs.Common.{◌≡◌, ℕ, zero, suc, ℤ, List, length, Option, Some, refl, sym, ◌∙◌, subst}
 use Rattle.work_items.specs.Histories.{Deed}
 use Rattle.cl_model.specs.declared.program.Root.{Root}
 use Rattle.cl_model.specs.Tree.{Expression, Call, Expressions, Block, Program}
@@ -48,7 +48,7 @@ module _ (program : Program) (launch : Launch) (buffers : List (List ℕ)) (vali
         let (m, em, nm) = least_depth program (suc d) k ends in
         let sc = kernel_same program launch buffers valid fits one other same in
         let t2 = points_with program launch buffers valid one other same d m k (kernel_frame program launch one) (kernel_frame program launch other) sc refl refl em nm
-            (points_alike program launch buffers valid one other same d m k (kernel_frame program launch one) (kernel_frame program launch other) sc em nm) in
+        (points_alike program launch buffers valid one other same d m k (kernel_frame program launch one) (kernel_frame program launch other) sc em nm) in
         fr.1 ∙ test_alike program k (IsInBody program d) (who program launch buffers one d (kernel_frame program launch one)) (who program launch buffers other d (kernel_frame program launch other)) t2 (TestInBody program d) h e nv
         (tests_alike one other same d m k (kernel_frame program launch one) (kernel_frame program launch other) sc em nm)
         (Block (function_at program k).body) (scope_of program launch buffers valid k) point (first_held (kernel_frame program launch one)) (first_held (kernel_frame program launch other)) tops tops' (good_body program launch buffers valid k) (part_body program launch buffers valid k) (start_kernel one other) c c' t

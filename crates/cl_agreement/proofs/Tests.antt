@@ -1,25 +1,23 @@
 -- Two items that stand at one point behind a test or value that does not vary hold equal values of it.
-use Rattle.std.proofs.Common.{◌≡◌, ◌≢◌, ℕ, zero, suc, ℤ, Bool, true, false, cond, List, [], ◌∷◌, ◌++◌, Option, Some, None, nat_eq, inl, inr, refl, sym, ap, ◌∙◌, subst}
-use Rattle.std.proofs.lemmas.Bool.{eqb-true, eq-eqb}
-use Rattle.std.proofs.lemmas.Option.{none-some}
+use Rattle.std.proofs.Common.{◌≡◌, ℕ, zero, suc, ℤ, List, ◌∷◌, Option, Some, None, refl, sym, ◌∙◌, subst}
 use Rattle.cl_model.specs.declared.program.Root.{Root}
-use Rattle.cl_model.specs.Tree.{Expression, Apply, Update, Choose, Call, Expressions, none, more, Statement, Do, Declare, Fill, Block, If, Loop, Switch, Break, Continue, Return, Barrier, Statements, empty, also, Arms, no_arm, arm, Program}
-use Rattle.cl_model.specs.Task.{Operand, Own, Tested, Chosen, Other, Nth, Turn, Body, Step, Arm, Into, Point, Frame}
+use Rattle.cl_model.specs.Tree.{Expression, Apply, Update, Choose, Call, Expressions, none, more, Statement, Do, Declare, Fill, Block, If, Loop, Switch, Return, Statements, empty, also, Arms, no_arm, arm, Program}
+use Rattle.cl_model.specs.Task.{Operand, Own, Tested, Chosen, Other, Nth, Turn, Body, Step, Arm, Into, Point}
 use Rattle.cl_model.specs.Steps.{nth}
-use Rattle.cl_model.specs.Valid.{Scope, Has, scope_after}
+use Rattle.cl_model.specs.Valid.{Scope, scope_after}
 use Rattle.cl_model.specs.Varying.{AVariable, AnExpression, Varies, passed}
 use Rattle.cl_model.specs.Agreement.{Owned}
 use Rattle.cl_agreement.specs.Tests.{TestIn, TestAmong, TestOptional, TestAt, TestInList, TestInArm}
 use Rattle.cl_agreement.proofs.Points.{TwoPoints, body_alike, begun_alike, heads_alike, arm_starts_alike}
-use Rattle.cl_agreement.proofs.Ran.{Stand, Held, Normal, Who, here, Eval, Steps, Found, Enters, Begun, Heads, Exec, Reaches, entered, ComesIn, ComesAt, ComesInOptional, Comes, ComesAmong, ComesArm}
-use Rattle.cl_agreement.proofs.Keeps.{Cell, gives, some_give, arms_give, quiet_if, quiet_loop, quiet_switch, quiet_block, quiet_also, quiet_arm, reaches_kept}
-use Rattle.cl_agreement.proofs.Parts.{Good, GoodAll, GoodOptional, GoodRun, GoodList, GoodArms, good_apply, good_more, good_update, good_choose, good_call, good_do, good_declare, good_fill, good_block, good_if, good_loop, good_switch, good_return, good_also, good_arm, switch_condition}
-use Rattle.cl_agreement.proofs.Values.{InBody, UnderBody, BackBody, Alike, cond_gives, unassigned_under, moved_alike, Two, eval_alike, eval_all_alike, steps_alike, passes_alike, V}
-use Rattle.cl_agreement.proofs.Endings.{same_entry, Part, split_alike, switch_quiet, EndAlike, rounds_alike, end_alike, all_end_alike}
+use Rattle.cl_agreement.proofs.Ran.{Stand, Held, Normal, Who, Found, ComesIn, ComesAt, ComesInOptional, Comes, ComesAmong, ComesArm}
+use Rattle.cl_agreement.proofs.Keeps.{gives, some_give, arms_give, quiet_if, quiet_loop, quiet_switch, quiet_block, quiet_also, quiet_arm}
+use Rattle.cl_agreement.proofs.Parts.{Good, GoodAll, GoodOptional, GoodRun, GoodList, GoodArms, good_apply, good_more, good_update, good_choose, good_call, good_do, good_declare, good_fill, good_block, good_if, good_loop, good_switch, good_return, good_also, good_arm}
+use Rattle.cl_agreement.proofs.Values.{InBody, UnderBody, BackBody, Alike, eval_alike, eval_all_alike, V}
+use Rattle.cl_agreement.proofs.Endings.{Part, end_alike}
 
 module _ (program : Program) (f : ℕ) (inside : ℕ → Point → Owned → Type 0) (w w' : Who) (t2 : TwoPoints program f inside w w') (tests : ℕ → Point → ℕ → Expression → Type 0) (hf : ℕ) (te : Expression) (nv : Varies program (AnExpression hf te) → ⊥)
-  (points : (site g : ℕ) (roots : List (Option Root)) (es : Expressions) → InBody program f (Call site g roots es) → (args args' : List ℤ) (p : Point) (inner inner' : Stand) → ((n : ℕ) → (Varies program (AVariable g n) → ⊥) → nth args n ≡ nth args' n)
-  → w.comes site g roots args p inner → w'.comes site g roots args' p inner' → tests g p hf te → inner.value ≡ inner'.value) where
+    (points : (site g : ℕ) (roots : List (Option Root)) (es : Expressions) → InBody program f (Call site g roots es) → (args args' : List ℤ) (p : Point) (inner inner' : Stand) → ((n : ℕ) → (Varies program (AVariable g n) → ⊥) → nth args n ≡ nth args' n)
+    → w.comes site g roots args p inner → w'.comes site g roots args' p inner' → tests g p hf te → inner.value ≡ inner'.value) where
   varies_not : (t : Expression) → f ≡ hf → t ≡ te → V program f t → ⊥
   varies_not t a b v = nv (subst (λ i. Varies program (AnExpression i te)) a (subst (λ x. Varies program (AnExpression f x)) b v))
 

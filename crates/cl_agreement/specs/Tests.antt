@@ -1,5 +1,5 @@
 -- Which test or value an item has just found at a point, and that it has equal values where it does not vary.
-use Rattle.std.specs.Prelude.{◌≡◌, ℕ, zero, suc, ◌<◌, List, [], ◌∷◌, Option, Some, None, length}
+use Rattle.std.specs.Prelude.{◌≡◌, ℕ, zero, suc, ◌<◌, List, ◌∷◌, Option, Some, None, length}
 use Rattle.work_items.specs.Histories.{Deed}
 use Rattle.cl_model.specs.Tree.{Expression, Apply, Update, Choose, Call, Expressions, none, more, Statement, Do, Declare, Fill, Block, If, Loop, Switch, Return, Statements, empty, also, Arms, no_arm, arm, Program}
 use Rattle.cl_model.specs.Sizes.{Launch, item_count, group_of}
