@@ -11,7 +11,7 @@ use Rattle.cl_model.specs.Objects.{object_of}
 use Rattle.cl_model.specs.Task.{Point, Frame, Item}
 use Rattle.cl_model.specs.Steps.{nth, item_next}
 use Rattle.cl_model.specs.Meaning.{MayBeTold}
-use Rattle.cl_agreement.proofs.Ran.{Held, How, Normal, Broke, Continued, Returned, Who, Exec, Comes}
+use Rattle.cl_agreement.proofs.Ran.{Held, Stand, How, Normal, Broke, Continued, Returned, Who, Exec, Comes}
 
 -- what a function holds as it begins, and what a call gives whose body ends so
 abbrev pub first_held : Frame → Held
@@ -35,7 +35,7 @@ module _ (program : Program) (launch : Launch) (buffers : List (List ℕ)) (numb
   MayGive frame root element i x =
       (bytes : List ℕ) × MayBeTold program launch buffers (record { object = object_of program launch number frame.path frame.objects root; size = size_of element; index = i }) bytes × (x ≡ value_of_bytes element bytes)
 
-  abbrev pub who_of : Frame → (ℕ → ℕ → List (Option Root) → List ℤ → ℤ → Type 0) → (ℕ → ℕ → List (Option Root) → List ℤ → Point → List Frame → Type 0) → Who
+  abbrev pub who_of : Frame → (ℕ → ℕ → List (Option Root) → List ℤ → ℤ → Type 0) → (ℕ → ℕ → List (Option Root) → List ℤ → Point → Stand → Type 0) → Who
   who_of frame calls comes = record { frame = frame; gives = MayGive frame; asks = answer_of launch number; calls = calls; comes = comes }
 
   -- calls from a function that is under way, and points in them
@@ -46,7 +46,7 @@ module _ (program : Program) (launch : Launch) (buffers : List (List ℕ)) (numb
         (top : Frame) × (how : How) × (end : Held) × IsEntered program launch number frame g roots args top
         × Exec (who_of top (CallsAt d top) (PointsAt d top)) (Block (function_at program g).body) (first_held top) how end × (x ≡ given how end)
 
-    pub PointsAt : ℕ → Frame → ℕ → ℕ → List (Option Root) → List ℤ → Point → List Frame → Type 0
+    pub PointsAt : ℕ → Frame → ℕ → ℕ → List (Option Root) → List ℤ → Point → Stand → Type 0
     PointsAt zero frame site g roots args p inner = ⊥
     PointsAt (suc d) frame site g roots args p inner =
         (top : Frame) × IsEntered program launch number frame g roots args top × Comes (who_of top (CallsAt d top) (PointsAt d top)) (Block (function_at program g).body) (first_held top) p inner

@@ -9,9 +9,9 @@ use Rattle.cl_model.specs.Sizes.{Launch}
 use Rattle.cl_model.specs.Calls.{function_at}
 use Rattle.cl_model.specs.Values.{is_zero}
 use Rattle.cl_model.specs.Task.{Leg, Operand, Own, Tested, Chosen, Other, Into, Point, Task, Run, Evaluate, Finish, Peek, Alter, Decide, Enter, InCall, Frame, Item, first_point}
-use Rattle.cl_model.specs.Steps.{below, nth, changed, each_operand, count_of, action_next, item_next, new_frame, passed_object}
+use Rattle.cl_model.specs.Steps.{last, below, nth, changed, each_operand, count_of, action_next, item_next, new_frame, passed_object}
 use Rattle.cl_model.specs.Valid.{Scope}
-use Rattle.cl_agreement.proofs.Ran.{Held, put, here, Acts, Eval, EvalAll, ComesIn, ComesAt}
+use Rattle.cl_agreement.proofs.Ran.{Stand, Held, put, here, Acts, Eval, EvalAll, ComesIn, ComesAt}
 use Rattle.cl_agreement.proofs.Parts.{Good, GoodAll, good_apply, good_more, good_update, good_choose, good_call}
 use Rattle.cl_agreement.proofs.Values.{InBody, UnderBody, BackBody}
 use Rattle.cl_agreement.proofs.Deep.{IsEntered, CallsAt, PointsAt, who, Leads, Past}
@@ -36,19 +36,19 @@ module _ (program : Program) (launch : Launch) (buffers : List (List ℕ)) (numb
     it tasks values s = record { number = number; tasks = tasks; values = values; frames = record frame { variables = s.variables } ∷ frames }
 
     -- the item stands at a point below this one, in these frames
-    abbrev pub Stands : Point → (Point → List Frame → Type 0) → Item → Type 0
-    Stands at C to = (p : Point) × (tops : List Frame) × (first_point to.tasks ≡ Some (at ++ p)) × (to.frames ≡ tops ++ frames) × C p tops
+    abbrev pub Stands : Point → (Point → Stand → Type 0) → Item → Type 0
+    Stands at C to = (p : Point) × (tops : Stand) × (first_point to.tasks ≡ Some (at ++ p)) × ((to.frames ≡ tops.frames ++ frames) × (last to.values ≡ tops.value)) × C p tops
 
-    pub at_root : (at : Point) (C : Point → List Frame → Type 0) (tasks : List Task) (values : List ℤ) (s : Held) (to : Item) → to ≡ it tasks values s → first_point tasks ≡ Some at → C [] (here (who program launch buffers number d frame) s) → Stands at C to
-    at_root at C tasks values s to e w c = ([], here (who program launch buffers number d frame) s, ap (λ (i : Item). first_point i.tasks) e ∙ w ∙ ap Some (sym (append-nil at)), ap (λ (i : Item). i.frames) e, c)
+    pub at_root : (at : Point) (C : Point → Stand → Type 0) (tasks : List Task) (values : List ℤ) (s : Held) (to : Item) → to ≡ it tasks values s → first_point tasks ≡ Some at → C [] (record { frames = here (who program launch buffers number d frame) s; value = last values }) → Stands at C to
+    at_root at C tasks values s to e w c = ([], record { frames = here (who program launch buffers number d frame) s; value = last values }, ap (λ (i : Item). first_point i.tasks) e ∙ w ∙ ap Some (sym (append-nil at)), (ap (λ (i : Item). i.frames) e, ap (λ (i : Item). last i.values) e), c)
 
-    pub at_leg : (at p : Point) (C : Point → List Frame → Type 0) (tasks : List Task) (values : List ℤ) (s : Held) (to : Item) → to ≡ it tasks values s → first_point tasks ≡ Some (at ++ p) → C p (here (who program launch buffers number d frame) s) → Stands at C to
-    at_leg at p C tasks values s to e w c = (p, here (who program launch buffers number d frame) s, ap (λ (i : Item). first_point i.tasks) e ∙ w, ap (λ (i : Item). i.frames) e, c)
+    pub at_leg : (at p : Point) (C : Point → Stand → Type 0) (tasks : List Task) (values : List ℤ) (s : Held) (to : Item) → to ≡ it tasks values s → first_point tasks ≡ Some (at ++ p) → C p (record { frames = here (who program launch buffers number d frame) s; value = last values }) → Stands at C to
+    at_leg at p C tasks values s to e w c = (p, record { frames = here (who program launch buffers number d frame) s; value = last values }, ap (λ (i : Item). first_point i.tasks) e ∙ w, (ap (λ (i : Item). i.frames) e, ap (λ (i : Item). last i.values) e), c)
 
-    pub deeper : (at : Point) (leg : Leg) (C D : Point → List Frame → Type 0) (to : Item) → ((p : Point) (tops : List Frame) → C p tops → D (leg ∷ p) tops) → Stands (at ++ leg ∷ []) C to → Stands at D to
+    pub deeper : (at : Point) (leg : Leg) (C D : Point → Stand → Type 0) (to : Item) → ((p : Point) (tops : Stand) → C p tops → D (leg ∷ p) tops) → Stands (at ++ leg ∷ []) C to → Stands at D to
     deeper at leg C D to go (p, tops, w, fr, c) = (leg ∷ p, tops, w ∙ ap Some (append_assoc at (leg ∷ []) p), fr, go p tops c)
 
-    pub deeper2 : (at : Point) (a b : Leg) (C D : Point → List Frame → Type 0) (to : Item) → ((p : Point) (tops : List Frame) → C p tops → D (a ∷ b ∷ p) tops) → Stands (at ++ (a ∷ b ∷ [])) C to → Stands at D to
+    pub deeper2 : (at : Point) (a b : Leg) (C D : Point → Stand → Type 0) (to : Item) → ((p : Point) (tops : Stand) → C p tops → D (a ∷ b ∷ p) tops) → Stands (at ++ (a ∷ b ∷ [])) C to → Stands at D to
     deeper2 at a b C D to go (p, tops, w, fr, c) = (a ∷ b ∷ p, tops, w ∙ ap Some (append_assoc at (a ∷ b ∷ []) p), fr, go p tops c)
 
     abbrev pub Valued : Expression → Point → ℕ → List Task → List ℤ → Held → Item → Type 0
@@ -58,13 +58,13 @@ module _ (program : Program) (launch : Launch) (buffers : List (List ℕ)) (numb
 
     abbrev pub OperandsRan : Expressions → Point → ℕ → ℕ → List Task → List ℤ → Held → Item → Type 0
     OperandsRan es at k n tasks values s to =
-        ((j : ℕ) × (p : Point) × (tops : List Frame) × (first_point to.tasks ≡ Some (at ++ (Operand (k + j) ∷ p))) × (to.frames ≡ tops ++ frames) × ComesAt (who program launch buffers number d frame) es s j p tops)
+        ((j : ℕ) × (p : Point) × (tops : Stand) × (first_point to.tasks ≡ Some (at ++ (Operand (k + j) ∷ p))) × ((to.frames ≡ tops.frames ++ frames) × (last to.values ≡ tops.value)) × ComesAt (who program launch buffers number d frame) es s j p tops)
         ⊎ ((args : List ℤ) × (after : Held) × EvalAll (who program launch buffers number d frame) es s args after × Soon n (it tasks (onto args values) after) to)
 
     -- what a call does from its first step on
     abbrev pub Called : ℕ → ℕ → List (Option Root) → List ℤ → Point → ℕ → List Task → List ℤ → Held → Item → Type 0
     Called site g roots args at n rest values s to =
-        ((p : Point) × (inner : List Frame) × (first_point to.tasks ≡ Some (at ++ (Into ∷ p))) × (to.frames ≡ inner ++ (here (who program launch buffers number d frame) s ++ frames)) × PointsAt program launch buffers number d frame site g roots args p inner)
+        ((p : Point) × (inner : Stand) × (first_point to.tasks ≡ Some (at ++ (Into ∷ p))) × ((to.frames ≡ inner.frames ++ (here (who program launch buffers number d frame) s ++ frames)) × (last to.values ≡ inner.value)) × PointsAt program launch buffers number d frame site g roots args p inner)
         ⊎ (((top : Frame) × (first_point to.tasks ≡ Some (at ++ (Own 1 ∷ []))) × (top.function ≡ g) × (to.frames ≡ top ∷ (here (who program launch buffers number d frame) s ++ frames)))
         ⊎ ((x : ℤ) × CallsAt program launch buffers number d frame site g roots args x × Later n (it rest (x ∷ values) s) to))
 
@@ -123,8 +123,8 @@ module _ (program : Program) (launch : Launch) (buffers : List (List ℕ)) (numb
           let after : List ℤ → List ℤ → Item = λ xs ys. record { number = number; tasks = tasks; values = ys; frames = new_frame program launch i site g roots xs ∷ (here (who program launch buffers number d frame) mid ++ frames) } in
           let e : next ≡ after args values = l ∙ ap (λ xs. after xs (below (count_of es) (onto args values))) (taken_all args values (count_of es) c) ∙ ap (λ ys. after args ys) (below_taken args values (count_of es) c) in
           elim (called site g roots es inside site roots args at m rest values mid (new_frame program launch i site g roots args) to (entered_new (Enter at site g roots (count_of es) ∷ rest) (onto args values) mid site g roots args) (subst (λ j. H m j to) e h)) [
-            | inl (p, inner, w, fr, x) ↦ inl (Into ∷ p, inner ++ here (who program launch buffers number d frame) mid, w, fr ∙ sym (append_assoc inner (here (who program launch buffers number d frame) mid) frames), (args, mid, inner, v, x, refl))
-            | inr (inl (top, w, is, fr)) ↦ inl (Own 1 ∷ [], top ∷ here (who program launch buffers number d frame) mid, w, fr, (args, mid, top, v, is, refl))
+            | inl (p, inner, w, fr, x) ↦ inl (Into ∷ p, record { frames = inner.frames ++ here (who program launch buffers number d frame) mid; value = inner.value }, w, (fr.0 ∙ sym (append_assoc inner.frames (here (who program launch buffers number d frame) mid) frames), fr.1), (args, mid, inner.frames, v, x, refl))
+            | inr (inl (top, w, is, fr)) ↦ inl (Own 1 ∷ [], record { frames = top ∷ here (who program launch buffers number d frame) mid; value = last to.values }, w, (fr, refl), (args, mid, top, v, is, refl))
             | inr (inr (x, y, (k, lk, hk))) ↦ inr (x, mid, (args, v, y), (k, omega arith, hk))
           ]
 
@@ -177,7 +177,7 @@ module _ (program : Program) (launch : Launch) (buffers : List (List ℕ)) (numb
               | inr (m, lt, h1) ↦ elim (evaluate_runs t scope o.1 (at ++ Tested ∷ []) m _ values s to h1) [
                 | inl w ↦ inl (deeper at Tested (ComesIn (who program launch buffers number d frame) t s) (ComesIn (who program launch buffers number d frame) (Choose site t a b) s) to (λ p tops c. c) w)
                 | inr (v, mid, e, (m2, lt2, h2)) ↦ elim (peel m2 _ (it (cond (is_zero v) (Evaluate (at ++ Other ∷ []) b) (Evaluate (at ++ Chosen ∷ []) a) ∷ rest) values mid) to (λ next l. l) h2) [
-                  | inl q ↦ inl (at_leg at (Own 0 ∷ []) (ComesIn (who program launch buffers number d frame) (Choose site t a b) s) (Decide at a b ∷ rest) (v ∷ values) mid to q refl (v, mid, e, refl))
+                  | inl q ↦ inl (at_leg at (Own 0 ∷ []) (ComesIn (who program launch buffers number d frame) (Choose site t a b) s) (Decide at a b ∷ rest) (v ∷ values) mid to q refl (v, mid, e, refl, refl))
                   | inr (m3, lt3, h3) ↦
                       elim (is_zero v) as (λ z. is_zero v ≡ z → H m3 (it (cond z (Evaluate (at ++ Other ∷ []) b) (Evaluate (at ++ Chosen ∷ []) a) ∷ rest) values mid) to → Valued (Choose site t a b) at n rest values s to) [
                         | true ↦ λ z h3. elim (evaluate_runs b scope o.3 (at ++ Other ∷ []) m3 rest values mid to h3) [

@@ -14,3 +14,5 @@ pub mod Nesting
 pub mod Constants
 pub mod Callers
 pub mod Once
+pub mod Tests
+pub mod Tested

@@ -10,13 +10,13 @@ use Rattle.cl_model.specs.Tree.{Call, Expressions, Block, Program}
 use Rattle.cl_model.specs.Sizes.{Launch, group_of, groups_at, groups_of, product, answer_within, answer_outside, answer_of}
 use Rattle.cl_model.specs.Calls.{function_at}
 use Rattle.cl_model.specs.Task.{Into, Point, Task, InCall, Frame, Item, first_point}
-use Rattle.cl_model.specs.Steps.{nth, first_next, item_next}
+use Rattle.cl_model.specs.Steps.{last, nth, first_next, item_next}
 use Rattle.cl_model.specs.Meaning.{MayBeTold, ItemHistory, lengths_of, kernel_frame, start_item}
 use Rattle.cl_model.specs.Valid.{Scope, numbers_below, CallsEnd, IsValid}
 use Rattle.cl_model.specs.Fitting.{FitsProgram}
 use Rattle.cl_model.specs.Varying.{is_own, AVariable, AResult, Varies}
 use Rattle.cl_model.specs.Agreement.{Owned, IsInBody, held_in, Agrees}
-use Rattle.cl_agreement.proofs.Ran.{Held, How, Normal, Broke, Continued, Returned, Who, here, Exec, Comes}
+use Rattle.cl_agreement.proofs.Ran.{Stand, Held, How, Normal, Broke, Continued, Returned, Who, here, Exec, Comes}
 use Rattle.cl_agreement.proofs.Keeps.{Answer, Cell, look, gives}
 use Rattle.cl_agreement.proofs.Exits.{same_how, return_held, Leaves, all_leave}
 use Rattle.cl_agreement.proofs.Parts.{GoodRun}
@@ -60,35 +60,35 @@ asked launch one other same what (pos d) h = ap (λ n. pos (cond (nat_lt d 3) n 
 asked launch one other same what (negsuc d) h = refl
 
 module _ (program : Program) (launch : Launch) (buffers : List (List ℕ)) (valid : IsValid program) where
-  abbrev scope_of : ℕ → Scope
+  abbrev pub scope_of : ℕ → Scope
   scope_of g = numbers_below (function_at program g).parameters
 
-  good_body : (g : ℕ) → GoodRun (InBody program g) (UnderBody program g) (BackBody program g) (scope_of g) (Block (function_at program g).body)
+  pub good_body : (g : ℕ) → GoodRun (InBody program g) (UnderBody program g) (BackBody program g) (scope_of g) (Block (function_at program g).body)
   good_body g = record { parts = λ a m. m; under = λ a m. m; back = λ a m. m; names = scoped_body program valid g }
 
-  part_body : (g : ℕ) → Part program g (gives (Block (function_at program g).body))
+  pub part_body : (g : ℕ) → Part program g (gives (Block (function_at program g).body))
   part_body g Answer un = un
   part_body g (Cell x) un = un
 
   module _ (one other : ℕ) (same : group_of launch one ≡ group_of launch other) where
-    abbrev One : ℕ → Frame → Who
+    abbrev pub One : ℕ → Frame → Who
     One d frame = who program launch buffers one d frame
 
-    abbrev Two' : ℕ → Frame → Who
+    abbrev pub Two' : ℕ → Frame → Who
     Two' d frame = who program launch buffers other d frame
 
-    start_alike : (g : ℕ) (frame frame' : Frame) (roots : List (Option Root)) (args args' : List ℤ) (top top' : Frame) → IsEntered program launch one frame g roots args top → IsEntered program launch other frame' g roots args' top'
+    pub start_alike : (g : ℕ) (frame frame' : Frame) (roots : List (Option Root)) (args args' : List ℤ) (top top' : Frame) → IsEntered program launch one frame g roots args top → IsEntered program launch other frame' g roots args' top'
         → ((n : ℕ) → (Varies program (AVariable g n) → ⊥) → nth args n ≡ nth args' n) → Alike program g (scope_of g) (first_held top) (first_held top')
     start_alike g frame frame' roots args args' top top' en en' al Answer has nv = refl
     start_alike g frame frame' roots args args' top top' en en' al (Cell x) has nv = en.variables x ∙ al x nv ∙ sym (en'.variables x)
 
     -- what calls of one site give
-    abbrev CallsAlike : ℕ → ℕ → ℕ → Frame → Frame → Type 0
+    abbrev pub CallsAlike : ℕ → ℕ → ℕ → Frame → Frame → Type 0
     CallsAlike d d' f frame frame' =
         (site g : ℕ) (roots : List (Option Root)) (es : Expressions) → InBody program f (Call site g roots es) → (args args' : List ℤ) (x x' : ℤ) → ((n : ℕ) → (Varies program (AVariable g n) → ⊥) → nth args n ≡ nth args' n)
         → CallsAt program launch buffers one d frame site g roots args x → CallsAt program launch buffers other d' frame' site g roots args' x' → (Varies program (AResult g) → ⊥) → x ≡ x'
 
-    two_with : (d d' m f : ℕ) (frame frame' : Frame) → SameConstants program launch buffers valid f frame frame' → CallsEnd program (suc m) f → (CallsEnd program m program.kernel → ⊥) → CallsAlike d d' f frame frame' → Two program f (One d frame) (Two' d' frame')
+    pub two_with : (d d' m f : ℕ) (frame frame' : Frame) → SameConstants program launch buffers valid f frame frame' → CallsEnd program (suc m) f → (CallsEnd program m program.kernel → ⊥) → CallsAlike d d' f frame frame' → Two program f (One d frame) (Two' d' frame')
     two_with d d' m f frame frame' sc ends low calls = record {
       asks = asked launch one other same;
       loads = loads_alike program launch buffers valid f one other frame frame' sc;
@@ -96,7 +96,7 @@ module _ (program : Program) (launch : Launch) (buffers : List (List ℕ)) (vali
       no_kernel = λ site g roots es inside q. low (subst (CallsEnd program m) q (callee_ends program m f site g roots es ends inside));
     }
 
-    calls_alike : (d d' m f : ℕ) (frame frame' : Frame) → SameConstants program launch buffers valid f frame frame' → CallsEnd program (suc m) f → (CallsEnd program m program.kernel → ⊥) → CallsAlike d d' f frame frame'
+    pub calls_alike : (d d' m f : ℕ) (frame frame' : Frame) → SameConstants program launch buffers valid f frame frame' → CallsEnd program (suc m) f → (CallsEnd program m program.kernel → ⊥) → CallsAlike d d' f frame frame'
     calls_alike zero d' m f frame frame' sc ends low site g roots es inside args args' x x' al c c' nv = absurd c
     calls_alike (suc d) zero m f frame frame' sc ends low site g roots es inside args args' x x' al c c' nv = absurd c'
     calls_alike (suc d) (suc d') zero f frame frame' sc ends low site g roots es inside args args' x x' al c c' nv = absurd (callee_ends program zero f site g roots es ends inside)
@@ -116,8 +116,8 @@ module _ (program : Program) (launch : Launch) (buffers : List (List ℕ)) (vali
         ]
 
     -- the frames of calls
-    points_lone : (number d m : ℕ) (frame : Frame) (site g : ℕ) (roots : List (Option Root)) (args : List ℤ) (p : Point) (inner : List Frame) (v : Owned) → CallsEnd program m g → (CallsEnd program m v.function → ⊥)
-        → PointsAt program launch buffers number d frame site g roots args p inner → finds inner v ≡ None
+    points_lone : (number d m : ℕ) (frame : Frame) (site g : ℕ) (roots : List (Option Root)) (args : List ℤ) (p : Point) (inner : Stand) (v : Owned) → CallsEnd program m g → (CallsEnd program m v.function → ⊥)
+        → PointsAt program launch buffers number d frame site g roots args p inner → finds inner.frames v ≡ None
     points_lone number zero m frame site g roots args p inner v ends low c = absurd c
     points_lone number (suc d) zero frame site g roots args p inner v ends low c = absurd ends
     points_lone number (suc d) (suc m) frame site g roots args p inner v ends low (top, en, c) =
@@ -127,12 +127,12 @@ module _ (program : Program) (launch : Launch) (buffers : List (List ℕ)) (vali
         (λ site' h rs es inside args' p' inner' x. points_lone number d m top site' h rs args' p' inner' v (callee_ends program m g site' h rs es ends inside) low' x)
         (Block (function_at program g).body) (scope_of g) p (first_held top) inner (good_body g) c
 
-    abbrev PointsAlike : ℕ → ℕ → Frame → Frame → Type 0
+    abbrev pub PointsAlike : ℕ → ℕ → Frame → Frame → Type 0
     PointsAlike d f frame frame' =
-        (site g : ℕ) (roots : List (Option Root)) (es : Expressions) → InBody program f (Call site g roots es) → (args args' : List ℤ) (p : Point) (inner inner' : List Frame) → ((n : ℕ) → (Varies program (AVariable g n) → ⊥) → nth args n ≡ nth args' n)
-        → PointsAt program launch buffers one d frame site g roots args p inner → PointsAt program launch buffers other d frame' site g roots args' p inner' → (v : Owned) → IsInBody program d g p v → (VO program v → ⊥) → FoundAlike inner inner' v
+        (site g : ℕ) (roots : List (Option Root)) (es : Expressions) → InBody program f (Call site g roots es) → (args args' : List ℤ) (p : Point) (inner inner' : Stand) → ((n : ℕ) → (Varies program (AVariable g n) → ⊥) → nth args n ≡ nth args' n)
+        → PointsAt program launch buffers one d frame site g roots args p inner → PointsAt program launch buffers other d frame' site g roots args' p inner' → (v : Owned) → IsInBody program d g p v → (VO program v → ⊥) → FoundAlike inner.frames inner'.frames v
 
-    points_with : (d m f : ℕ) (frame frame' : Frame) → SameConstants program launch buffers valid f frame frame' → frame.function ≡ f → frame'.function ≡ f → CallsEnd program (suc m) f → (CallsEnd program m program.kernel → ⊥) → PointsAlike d f frame frame'
+    pub points_with : (d m f : ℕ) (frame frame' : Frame) → SameConstants program launch buffers valid f frame frame' → frame.function ≡ f → frame'.function ≡ f → CallsEnd program (suc m) f → (CallsEnd program m program.kernel → ⊥) → PointsAlike d f frame frame'
         → TwoPoints program f (IsInBody program d) (One d frame) (Two' d frame')
     points_with d m f frame frame' sc mine mine' ends low points =
         let (l, el, nl) = least_depth program (suc m) f ends in
@@ -146,7 +146,7 @@ module _ (program : Program) (launch : Launch) (buffers : List (List ℕ)) (vali
           points = points;
         }
 
-    points_alike : (d m f : ℕ) (frame frame' : Frame) → SameConstants program launch buffers valid f frame frame' → CallsEnd program (suc m) f → (CallsEnd program m program.kernel → ⊥) → PointsAlike d f frame frame'
+    pub points_alike : (d m f : ℕ) (frame frame' : Frame) → SameConstants program launch buffers valid f frame frame' → CallsEnd program (suc m) f → (CallsEnd program m program.kernel → ⊥) → PointsAlike d f frame frame'
     points_alike zero m f frame frame' sc ends low site g roots es inside args args' p inner inner' al c c' v i nv = absurd c
     points_alike (suc d) zero f frame frame' sc ends low site g roots es inside args args' p inner inner' al c c' v i nv = absurd (callee_ends program zero f site g roots es ends inside)
     points_alike (suc d) (suc m) f frame frame' sc ends low site g roots es inside args args' p inner inner' al (top, en, c) (top', en', c') v i nv =
@@ -214,7 +214,7 @@ module _ (program : Program) (launch : Launch) (buffers : List (List ℕ)) (vali
 
   -- where an item of the launch stands in the kernel
   pub stands : (d number : ℕ) → CallsEnd program (suc d) program.kernel → (deeds : List Deed) (i : Item) (point : Point) → ItemHistory program launch buffers number deeds i → first_point i.tasks ≡ Some point
-      → (tops : List Frame) × (i.frames ≡ tops ++ []) × Comes (who program launch buffers number d (kernel_frame program launch number)) (Block (function_at program program.kernel).body) (first_held (kernel_frame program launch number)) point tops
+      → (tops : Stand) × ((i.frames ≡ tops.frames ++ []) × (last i.values ≡ tops.value)) × Comes (who program launch buffers number d (kernel_frame program launch number)) (Block (function_at program program.kernel).body) (first_held (kernel_frame program launch number)) point tops
   stands d number ends deeds i point h w =
       let frame = kernel_frame program launch number in
       let called = calls_run number d program.kernel frame [] ends in
@@ -240,7 +240,7 @@ module _ (program : Program) (launch : Launch) (buffers : List (List ℕ)) (vali
         (points_alike one other same d m k (kernel_frame program launch one) (kernel_frame program launch other) sc em nm) in
         let r = comes_alike program k (IsInBody program d) (who program launch buffers one d (kernel_frame program launch one)) (who program launch buffers other d (kernel_frame program launch other)) t2
         (Block (function_at program k).body) (scope_of k) point (first_held (kernel_frame program launch one)) (first_held (kernel_frame program launch other)) tops tops' (good_body k) (part_body k) (start_kernel one other) c c' v has nv in
-        ap (λ fs. held_in fs v) fr ∙ finds_held (tops ++ []) v r.0 (finds_before tops [] v r.0 r.1) ∙ sym (ap (λ fs. held_in fs v) fr' ∙ finds_held (tops' ++ []) v r.0 (finds_before tops' [] v r.0 r.2))
+        ap (λ fs. held_in fs v) fr.0 ∙ finds_held (tops.frames ++ []) v r.0 (finds_before tops.frames [] v r.0 r.1) ∙ sym (ap (λ fs. held_in fs v) fr'.0 ∙ finds_held (tops'.frames ++ []) v r.0 (finds_before tops'.frames [] v r.0 r.2))
       where
         start_kernel : (one other : ℕ) → Alike program program.kernel (scope_of program.kernel) (first_held (kernel_frame program launch one)) (first_held (kernel_frame program launch other))
         start_kernel one other Answer has nv = refl

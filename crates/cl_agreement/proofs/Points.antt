@@ -10,7 +10,7 @@ use Rattle.cl_model.specs.Steps.{nth}
 use Rattle.cl_model.specs.Valid.{Scope, Has, scope_after}
 use Rattle.cl_model.specs.Varying.{AVariable, Varies, passed}
 use Rattle.cl_model.specs.Agreement.{Owned, owned_by, HasOwned, IsInScope, IsInScopeAmong, IsInScopeOptional, IsInScopeAt, IsInScopeList, IsInScopeArm, held_in}
-use Rattle.cl_agreement.proofs.Ran.{Held, Normal, Who, here, Eval, Enters, Begun, Heads, Exec, Reaches, entered, ComesIn, ComesAt, ComesInOptional, Comes, ComesAmong, ComesArm}
+use Rattle.cl_agreement.proofs.Ran.{Stand, Held, Normal, Who, here, Eval, Steps, Found, Enters, Begun, Heads, Exec, Reaches, entered, ComesIn, ComesAt, ComesInOptional, Comes, ComesAmong, ComesArm}
 use Rattle.cl_agreement.proofs.Keeps.{Cell, gives, some_give, arms_give, quiet_if, quiet_loop, quiet_switch, quiet_block, quiet_also, quiet_arm, reaches_kept}
 use Rattle.cl_agreement.proofs.Parts.{Good, GoodAll, GoodOptional, GoodRun, GoodList, GoodArms, good_apply, good_more, good_update, good_choose, good_call, good_do, good_declare, good_fill, good_block, good_if, good_loop, good_switch, good_return, good_also, good_arm, switch_condition}
 use Rattle.cl_agreement.proofs.Values.{InBody, UnderBody, BackBody, Alike, cond_gives, unassigned_under, moved_alike, Two, eval_alike, eval_all_alike, steps_alike, passes_alike}
@@ -77,6 +77,10 @@ in_scope_after inside f scope (Continue site) rest k p v h = h
 in_scope_after inside f scope (Return site value) rest k p v h = h
 in_scope_after inside f scope (Barrier site) rest k p v h = h
 
+pub found_steps : (u : Who) (e : Option Expression) (from to : Held) (x : ℤ) → Found u e from to x → Steps u e from to
+found_steps u None from to x h = h
+found_steps u (Some e) from to x h = (x, h)
+
 module _ (program : Program) where
   abbrev pub VO : Owned → Type 0
   VO v = Varies program (AVariable v.function v.variable)
@@ -87,10 +91,10 @@ module _ (program : Program) where
     pub mine : w.frame.function ≡ f
     pub mine' : w'.frame.function ≡ f
     pub other : (site g : ℕ) (roots : List (Option Root)) (es : Expressions) → InBody program f (Call site g roots es) → g ≢ f
-    pub away : (site g : ℕ) (roots : List (Option Root)) (es : Expressions) → InBody program f (Call site g roots es) → (args : List ℤ) (p : Point) (inner : List Frame) → w.comes site g roots args p inner → Without f inner
-    pub away' : (site g : ℕ) (roots : List (Option Root)) (es : Expressions) → InBody program f (Call site g roots es) → (args : List ℤ) (p : Point) (inner : List Frame) → w'.comes site g roots args p inner → Without f inner
-    pub points : (site g : ℕ) (roots : List (Option Root)) (es : Expressions) → InBody program f (Call site g roots es) → (args args' : List ℤ) (p : Point) (inner inner' : List Frame)
-        → ((n : ℕ) → (Varies program (AVariable g n) → ⊥) → nth args n ≡ nth args' n) → w.comes site g roots args p inner → w'.comes site g roots args' p inner' → (v : Owned) → inside g p v → (VO v → ⊥) → FoundAlike inner inner' v
+    pub away : (site g : ℕ) (roots : List (Option Root)) (es : Expressions) → InBody program f (Call site g roots es) → (args : List ℤ) (p : Point) (inner : Stand) → w.comes site g roots args p inner → Without f inner.frames
+    pub away' : (site g : ℕ) (roots : List (Option Root)) (es : Expressions) → InBody program f (Call site g roots es) → (args : List ℤ) (p : Point) (inner : Stand) → w'.comes site g roots args p inner → Without f inner.frames
+    pub points : (site g : ℕ) (roots : List (Option Root)) (es : Expressions) → InBody program f (Call site g roots es) → (args args' : List ℤ) (p : Point) (inner inner' : Stand)
+        → ((n : ℕ) → (Varies program (AVariable g n) → ⊥) → nth args n ≡ nth args' n) → w.comes site g roots args p inner → w'.comes site g roots args' p inner' → (v : Owned) → inside g p v → (VO v → ⊥) → FoundAlike inner.frames inner'.frames v
 
   module _ (f : ℕ) (inside : ℕ → Point → Owned → Type 0) (w w' : Who) (t2 : TwoPoints f inside w w') where
     finds_here : (u : Who) (g : Held) (v : Owned) → u.frame.function ≡ f → f ≡ v.function → finds (here u g) v ≡ Some (g.variables v.variable)
@@ -125,13 +129,13 @@ module _ (program : Program) where
         ] refl
 
     mutual
-      comes_in_alike : (e : Expression) (scope : Scope) (p : Point) (g g' : Held) (to to' : List Frame) → Good (InBody program f) (UnderBody program f) (BackBody program f) scope e → Alike program f scope g g' → ComesIn w e g p to → ComesIn w' e g' p to'
-          → (v : Owned) → IsInScope inside (owned_by f scope) e p v → (VO v → ⊥) → FoundAlike to to' v
+      comes_in_alike : (e : Expression) (scope : Scope) (p : Point) (g g' : Held) (to to' : Stand) → Good (InBody program f) (UnderBody program f) (BackBody program f) scope e → Alike program f scope g g' → ComesIn w e g p to → ComesIn w' e g' p to'
+          → (v : Owned) → IsInScope inside (owned_by f scope) e p v → (VO v → ⊥) → FoundAlike to.frames to'.frames v
       comes_in_alike (Apply action es) scope (Operand k ∷ p) g g' to to' ok al x x' =
           comes_at_alike es scope k p g g' to to' (good_apply (InBody program f) (UnderBody program f) (BackBody program f) scope action es ok).1 al x x'
       comes_in_alike (Apply action es) scope (Own k ∷ p) g g' to to' ok al (args, m, e, q) (args', m', e', q') = λ v has nv.
           let o = good_apply (InBody program f) (UnderBody program f) (BackBody program f) scope action es ok in
-          at_here scope m m' to to' v (eval_all_alike program f w w' t2.two es scope g g' args args' m m' o.1 al e e').0 q q' has nv
+          at_here scope m m' to.frames to'.frames v (eval_all_alike program f w w' t2.two es scope g g' args args' m m' o.1 al e e').0 q q' has nv
       comes_in_alike (Update site element root op of back old index value) scope (Operand zero ∷ p) g g' to to' ok al x x' =
           comes_in_alike index scope p g g' to to' (good_update (InBody program f) (UnderBody program f) (BackBody program f) scope site element root op of back old index value ok).0 al x x'
       comes_in_alike (Update site element root op of back old index value) scope (Operand (suc k) ∷ p) g g' to to' ok al (i, m, e, x) (i', m', e', x') =
@@ -139,15 +143,15 @@ module _ (program : Program) where
           comes_in_alike value scope p m m' to to' o.1 (eval_alike program f w w' t2.two index scope g g' i i' m m' o.0 al e e').0 x x'
       comes_in_alike (Update site element root op of back old index value) scope (Own zero ∷ p) g g' to to' ok al (i, m, e, q) (i', m', e', q') = λ v has nv.
           let o = good_update (InBody program f) (UnderBody program f) (BackBody program f) scope site element root op of back old index value ok in
-          at_here scope m m' to to' v (eval_alike program f w w' t2.two index scope g g' i i' m m' o.0 al e e').0 q q' has nv
+          at_here scope m m' to.frames to'.frames v (eval_alike program f w w' t2.two index scope g g' i i' m m' o.0 al e e').0 q q' has nv
       comes_in_alike (Update site element root op of back old index value) scope (Own (suc k) ∷ p) g g' to to' ok al (i, y, m, n, e, d, q) (i', y', m', n', e', d', q') = λ v has nv.
           let o = good_update (InBody program f) (UnderBody program f) (BackBody program f) scope site element root op of back old index value ok in
           let l = eval_alike program f w w' t2.two index scope g g' i i' m m' o.0 al e e' in
-          at_here scope n n' to to' v (eval_alike program f w w' t2.two value scope m m' y y' n n' o.1 l.0 d d').0 q q' has nv
+          at_here scope n n' to.frames to'.frames v (eval_alike program f w w' t2.two value scope m m' y y' n n' o.1 l.0 d d').0 q q' has nv
       comes_in_alike (Choose site t a b) scope (Tested ∷ p) g g' to to' ok al x x' = comes_in_alike t scope p g g' to to' (good_choose (InBody program f) (UnderBody program f) (BackBody program f) scope site t a b ok).1 al x x'
-      comes_in_alike (Choose site t a b) scope (Own k ∷ p) g g' to to' ok al (i, m, e, q) (i', m', e', q') = λ v has nv.
+      comes_in_alike (Choose site t a b) scope (Own k ∷ p) g g' to to' ok al (i, m, e, q, val) (i', m', e', q', val') = λ v has nv.
           let o = good_choose (InBody program f) (UnderBody program f) (BackBody program f) scope site t a b ok in
-          at_here scope m m' to to' v (eval_alike program f w w' t2.two t scope g g' i i' m m' o.1 al e e').0 q q' has nv
+          at_here scope m m' to.frames to'.frames v (eval_alike program f w w' t2.two t scope g g' i i' m m' o.1 al e e').0 q q' has nv
       comes_in_alike (Choose site t a b) scope (Chosen ∷ p) g g' to to' ok al (i, m, e, x) (i', m', e', x') =
           let o = good_choose (InBody program f) (UnderBody program f) (BackBody program f) scope site t a b ok in
           comes_in_alike a scope p m m' to to' o.2 (eval_alike program f w w' t2.two t scope g g' i i' m m' o.1 al e e').0 x x'
@@ -158,51 +162,51 @@ module _ (program : Program) where
           comes_at_alike es scope k p g g' to to' (good_call (InBody program f) (UnderBody program f) (BackBody program f) scope site h roots es ok).1 al x x'
       comes_in_alike (Call site h roots es) scope (Own zero ∷ p) g g' to to' ok al (args, m, e, q) (args', m', e', q') = λ v has nv.
           let o = good_call (InBody program f) (UnderBody program f) (BackBody program f) scope site h roots es ok in
-          at_here scope m m' to to' v (eval_all_alike program f w w' t2.two es scope g g' args args' m m' o.1 al e e').0 q q' has nv
+          at_here scope m m' to.frames to'.frames v (eval_all_alike program f w w' t2.two es scope g g' args args' m m' o.1 al e e').0 q q' has nv
       comes_in_alike (Call site h roots es) scope (Own (suc k) ∷ p) g g' to to' ok al (args, m, top, e, y, q) (args', m', top', e', y', q') = λ v has nv.
           let o = good_call (InBody program f) (UnderBody program f) (BackBody program f) scope site h roots es ok in
           let ne = t2.other site h roots es o.0 in
-          at_call scope m m' (top ∷ []) (top' ∷ []) to to' v (eval_all_alike program f w w' t2.two es scope g g' args args' m m' o.1 al e e').0 (without_top top h y ne) (without_top top' h y' ne) q q' has nv
+          at_call scope m m' (top ∷ []) (top' ∷ []) to.frames to'.frames v (eval_all_alike program f w w' t2.two es scope g g' args args' m m' o.1 al e e').0 (without_top top h y ne) (without_top top' h y' ne) q q' has nv
       comes_in_alike (Call site h roots es) scope (Into ∷ p) g g' to to' ok al (args, m, inner, e, c, q) (args', m', inner', e', c', q') = λ v has nv.
           let o = good_call (InBody program f) (UnderBody program f) (BackBody program f) scope site h roots es ok in
           let r = eval_all_alike program f w w' t2.two es scope g g' args args' m m' o.1 al e e' in
           elim has [
-            | inl i ↦ at_call scope m m' inner inner' to to' v r.0 (t2.away site h roots es o.0 args p inner c) (t2.away' site h roots es o.0 args' p inner' c') q q' i nv
+            | inl i ↦ at_call scope m m' inner inner' to.frames to'.frames v r.0 (t2.away site h roots es o.0 args p (record { frames = inner; value = to.value }) c) (t2.away' site h roots es o.0 args' p (record { frames = inner'; value = to'.value }) c') q q' i nv
             | inr i ↦
-                let z = t2.points site h roots es o.0 args args' p inner inner' (λ n y. r.1 n (λ d at vd. y (passed site roots es (t2.two.no_kernel site h roots es o.0) o.0 at vd))) c c' v i nv in
-                moved_found (inner ++ here w m) (inner' ++ here w' m') to to' v q q' (z.0, finds_before inner (here w m) v z.0 z.1, finds_before inner' (here w' m') v z.0 z.2)
+                let z = t2.points site h roots es o.0 args args' p (record { frames = inner; value = to.value }) (record { frames = inner'; value = to'.value }) (λ n y. r.1 n (λ d at vd. y (passed site roots es (t2.two.no_kernel site h roots es o.0) o.0 at vd))) c c' v i nv in
+                moved_found (inner ++ here w m) (inner' ++ here w' m') to.frames to'.frames v q q' (z.0, finds_before inner (here w m) v z.0 z.1, finds_before inner' (here w' m') v z.0 z.2)
           ]
-      comes_in_alike e scope p g g' to to' ok al x x' = λ v has nv. at_here scope g g' to to' v al x x' has nv
+      comes_in_alike e scope p g g' to to' ok al x x' = λ v has nv. at_here scope g g' to.frames to'.frames v al x x' has nv
 
-      comes_at_alike : (es : Expressions) (scope : Scope) (k : ℕ) (p : Point) (g g' : Held) (to to' : List Frame) → GoodAll (InBody program f) (UnderBody program f) (BackBody program f) scope es → Alike program f scope g g' → ComesAt w es g k p to → ComesAt w' es g' k p to'
-          → (v : Owned) → IsInScopeAmong inside (owned_by f scope) es k p v → (VO v → ⊥) → FoundAlike to to' v
+      comes_at_alike : (es : Expressions) (scope : Scope) (k : ℕ) (p : Point) (g g' : Held) (to to' : Stand) → GoodAll (InBody program f) (UnderBody program f) (BackBody program f) scope es → Alike program f scope g g' → ComesAt w es g k p to → ComesAt w' es g' k p to'
+          → (v : Owned) → IsInScopeAmong inside (owned_by f scope) es k p v → (VO v → ⊥) → FoundAlike to.frames to'.frames v
       comes_at_alike none scope k p g g' to to' ok al x x' = absurd x
       comes_at_alike (more e rest) scope zero p g g' to to' ok al x x' = comes_in_alike e scope p g g' to to' (good_more (InBody program f) (UnderBody program f) (BackBody program f) scope e rest ok).0 al x x'
       comes_at_alike (more e rest) scope (suc k) p g g' to to' ok al (i, m, d, x) (i', m', d', x') =
           let o = good_more (InBody program f) (UnderBody program f) (BackBody program f) scope e rest ok in
           comes_at_alike rest scope k p m m' to to' o.1 (eval_alike program f w w' t2.two e scope g g' i i' m m' o.0 al d d').0 x x'
 
-    comes_optional_alike : (e : Option Expression) (scope : Scope) (p : Point) (g g' : Held) (to to' : List Frame) → GoodOptional (InBody program f) (UnderBody program f) (BackBody program f) scope e → Alike program f scope g g' → ComesInOptional w e g p to → ComesInOptional w' e g' p to'
-        → (v : Owned) → IsInScopeOptional inside (owned_by f scope) e p v → (VO v → ⊥) → FoundAlike to to' v
+    comes_optional_alike : (e : Option Expression) (scope : Scope) (p : Point) (g g' : Held) (to to' : Stand) → GoodOptional (InBody program f) (UnderBody program f) (BackBody program f) scope e → Alike program f scope g g' → ComesInOptional w e g p to → ComesInOptional w' e g' p to'
+        → (v : Owned) → IsInScopeOptional inside (owned_by f scope) e p v → (VO v → ⊥) → FoundAlike to.frames to'.frames v
     comes_optional_alike None scope p g g' to to' ok al x x' = absurd x
     comes_optional_alike (Some e) scope p g g' to to' ok al x x' = comes_in_alike e scope p g g' to to' ok al x x'
 
     -- the beginnings of iterations, and the tests behind as many
     module _ (site : ℕ) (first : Bool) (t st : Option Expression) (b : Statement) (scope : Scope) (ok : GoodRun (InBody program f) (UnderBody program f) (BackBody program f) scope (Loop site first t st b)) (part : Part program f (gives (Loop site first t st b))) where
-      body_alike : EndAlike program f w w' t2.two scope b
+      pub body_alike : EndAlike program f w w' t2.two scope b
       body_alike = end_alike program f w w' t2.two b scope (good_loop (InBody program f) (UnderBody program f) (BackBody program f) scope site first t st b ok).3 (λ k un. (quiet_loop site first t st b k (part k un)).2)
 
       enters_alike : (one : Bool) (g g' h h' : Held) → Alike program f scope g g' → Enters w one t g h → Enters w' one t g' h' → Alike program f scope h h'
       enters_alike true g g' h h' al x x' = passes_alike program f w w' t2.two t scope g g' h h' (good_loop (InBody program f) (UnderBody program f) (BackBody program f) scope site first t st b ok).1 al x x'
       enters_alike false g g' h h' al x x' = moved_alike program f scope g g' h h' al x x'
 
-      begun_alike : (k : ℕ) (g g' h h' : Held) → Alike program f scope g g' → Begun w first t st (Exec w b) k g h → Begun w' first t st (Exec w' b) k g' h' → Alike program f scope h h'
+      pub begun_alike : (k : ℕ) (g g' h h' : Held) → Alike program f scope g g' → Begun w first t st (Exec w b) k g h → Begun w' first t st (Exec w' b) k g' h' → Alike program f scope h h'
       begun_alike zero g g' h h' al x x' = enters_alike first g g' h h' al x x'
       begun_alike (suc k) g g' h h' al (start, mid, y, r, p) (start', mid', y', r', p') =
           passes_alike program f w w' t2.two t scope mid mid' h h' (good_loop (InBody program f) (UnderBody program f) (BackBody program f) scope site first t st b ok).1
           (rounds_alike program f w w' t2.two site first t st b scope ok part body_alike start start' mid mid' (begun_alike k g g' start start' al y y') r r') p p'
 
-      heads_alike : (k : ℕ) (g g' h h' : Held) → Alike program f scope g g' → Heads w first t st (Exec w b) k g h → Heads w' first t st (Exec w' b) k g' h' → Alike program f scope h h'
+      pub heads_alike : (k : ℕ) (g g' h h' : Held) → Alike program f scope g g' → Heads w first t st (Exec w b) k g h → Heads w' first t st (Exec w' b) k g' h' → Alike program f scope h h'
       heads_alike zero g g' h h' al (x, e) (x', e') = moved_alike program f scope g g' h h' al e e'
       heads_alike (suc k) g g' h h' al (start, y, r) (start', y', r') =
           rounds_alike program f w w' t2.two site first t st b scope ok part body_alike start start' h h' (begun_alike k g g' start start' al y y') r r'
@@ -220,7 +224,7 @@ module _ (program : Program) where
         reaches_alike rest j i scope (good_arm (InBody program f) (UnderBody program f) (BackBody program f) scope labels other body rest ok).1 (λ k un. (quiet_arm labels other body rest k (part k un)).1) g g' h h' al x x'
 
     -- two items that may have come to it from different entries
-    arm_starts_alike : (site : ℕ) (e : Expression) (arms : Arms) (scope : Scope) → GoodRun (InBody program f) (UnderBody program f) (BackBody program f) scope (Switch site e arms) → Part program f (gives (Switch site e arms)) → (i : ℕ) (x x' : ℤ) (g g' m m' h h' : Held)
+    pub arm_starts_alike : (site : ℕ) (e : Expression) (arms : Arms) (scope : Scope) → GoodRun (InBody program f) (UnderBody program f) (BackBody program f) scope (Switch site e arms) → Part program f (gives (Switch site e arms)) → (i : ℕ) (x x' : ℤ) (g g' m m' h h' : Held)
         → Alike program f scope g g' → Eval w e g x m → Eval w' e g' x' m' → Reaches w arms (entered x arms) i m h → Reaches w' arms (entered x' arms) i m' h' → Alike program f scope h h'
     arm_starts_alike site e arms scope ok part i x x' g g' m m' h h' al d d' r r' =
         let o = good_switch (InBody program f) (UnderBody program f) (BackBody program f) scope site e arms ok in
@@ -233,22 +237,22 @@ module _ (program : Program) where
         ]
 
     mutual
-      pub comes_alike : (s : Statement) (scope : Scope) (p : Point) (g g' : Held) (to to' : List Frame) → GoodRun (InBody program f) (UnderBody program f) (BackBody program f) scope s → Part program f (gives s) → Alike program f scope g g' → Comes w s g p to → Comes w' s g' p to'
-          → (v : Owned) → IsInScopeAt inside f (owned_by f scope) s p v → (VO v → ⊥) → FoundAlike to to' v
+      pub comes_alike : (s : Statement) (scope : Scope) (p : Point) (g g' : Held) (to to' : Stand) → GoodRun (InBody program f) (UnderBody program f) (BackBody program f) scope s → Part program f (gives s) → Alike program f scope g g' → Comes w s g p to → Comes w' s g' p to'
+          → (v : Owned) → IsInScopeAt inside f (owned_by f scope) s p v → (VO v → ⊥) → FoundAlike to.frames to'.frames v
       comes_alike (Do e) scope (Operand k ∷ p) g g' to to' ok part al x x' = comes_in_alike e scope p g g' to to' (good_do (InBody program f) (UnderBody program f) (BackBody program f) scope e ok) al x x'
       comes_alike (Do e) scope (Own k ∷ p) g g' to to' ok part al (i, m, d, q) (i', m', d', q') = λ v has nv.
-          at_here scope m m' to to' v (eval_alike program f w w' t2.two e scope g g' i i' m m' (good_do (InBody program f) (UnderBody program f) (BackBody program f) scope e ok) al d d').0 q q' has nv
+          at_here scope m m' to.frames to'.frames v (eval_alike program f w w' t2.two e scope g g' i i' m m' (good_do (InBody program f) (UnderBody program f) (BackBody program f) scope e ok) al d d').0 q q' has nv
       comes_alike (Declare y (Some e)) scope (Operand k ∷ p) g g' to to' ok part al x x' = comes_in_alike e scope p g g' to to' (good_declare (InBody program f) (UnderBody program f) (BackBody program f) scope y e ok).1 al x x'
       comes_alike (Declare y (Some e)) scope (Own k ∷ p) g g' to to' ok part al (i, m, d, q) (i', m', d', q') = λ v has nv.
-          at_here scope m m' to to' v (eval_alike program f w w' t2.two e scope g g' i i' m m' (good_declare (InBody program f) (UnderBody program f) (BackBody program f) scope y e ok).1 al d d').0 q q' has nv
+          at_here scope m m' to.frames to'.frames v (eval_alike program f w w' t2.two e scope g g' i i' m m' (good_declare (InBody program f) (UnderBody program f) (BackBody program f) scope y e ok).1 al d d').0 q q' has nv
       comes_alike (Fill site array es) scope (Operand k ∷ p) g g' to to' ok part al x x' = comes_at_alike es scope k p g g' to to' (good_fill (InBody program f) (UnderBody program f) (BackBody program f) scope site array es ok) al x x'
       comes_alike (Fill site array es) scope (Own k ∷ p) g g' to to' ok part al (i, m, d, q) (i', m', d', q') = λ v has nv.
-          at_here scope m m' to to' v (eval_all_alike program f w w' t2.two es scope g g' i i' m m' (good_fill (InBody program f) (UnderBody program f) (BackBody program f) scope site array es ok) al d d').0 q q' has nv
+          at_here scope m m' to.frames to'.frames v (eval_all_alike program f w w' t2.two es scope g g' i i' m m' (good_fill (InBody program f) (UnderBody program f) (BackBody program f) scope site array es ok) al d d').0 q q' has nv
       comes_alike (Block list) scope (Nth k ∷ p) g g' to to' ok part al x x' =
           among_alike list scope k p g g' to to' (good_block (InBody program f) (UnderBody program f) (BackBody program f) scope list ok) (λ j un. quiet_block list j (part j un)) al x x'
       comes_alike (If site t a b) scope (Tested ∷ p) g g' to to' ok part al x x' = comes_in_alike t scope p g g' to to' (good_if (InBody program f) (UnderBody program f) (BackBody program f) scope site t a b ok).1 al x x'
-      comes_alike (If site t a b) scope (Own k ∷ p) g g' to to' ok part al (i, m, d, q) (i', m', d', q') = λ v has nv.
-          at_here scope m m' to to' v (eval_alike program f w w' t2.two t scope g g' i i' m m' (good_if (InBody program f) (UnderBody program f) (BackBody program f) scope site t a b ok).1 al d d').0 q q' has nv
+      comes_alike (If site t a b) scope (Own k ∷ p) g g' to to' ok part al (i, m, d, q, val) (i', m', d', q', val') = λ v has nv.
+          at_here scope m m' to.frames to'.frames v (eval_alike program f w w' t2.two t scope g g' i i' m m' (good_if (InBody program f) (UnderBody program f) (BackBody program f) scope site t a b ok).1 al d d').0 q q' has nv
       comes_alike (If site t a b) scope (Chosen ∷ Nth k ∷ p) g g' to to' ok part al (i, m, d, x) (i', m', d', x') =
           let o = good_if (InBody program f) (UnderBody program f) (BackBody program f) scope site t a b ok in
           among_alike a scope k p m m' to to' o.2 (λ j un. (quiet_if site t a b j (part j un)).1) (eval_alike program f w w' t2.two t scope g g' i i' m m' o.1 al d d').0 x x'
@@ -258,9 +262,9 @@ module _ (program : Program) where
       comes_alike (Loop site first t st b) scope (Turn k ∷ Tested ∷ p) g g' to to' ok part al (m, h, x) (m', h', x') =
           comes_optional_alike t scope p m m' to to' (good_loop (InBody program f) (UnderBody program f) (BackBody program f) scope site first t st b ok).1 (heads_alike site first t st b scope ok part k g g' m m' al h h') x x'
       comes_alike (Loop site first t st b) scope (Turn k ∷ Own zero ∷ p) g g' to to' ok part al (m, n, h, s, q) (m', n', h', s', q') = λ v has nv.
-          at_here scope n n' to to' v (steps_alike program f w w' t2.two t scope m m' n n' (good_loop (InBody program f) (UnderBody program f) (BackBody program f) scope site first t st b ok).1 (heads_alike site first t st b scope ok part k g g' m m' al h h') s s') q q' has nv
+          at_here scope n n' to.frames to'.frames v (steps_alike program f w w' t2.two t scope m m' n n' (good_loop (InBody program f) (UnderBody program f) (BackBody program f) scope site first t st b ok).1 (heads_alike site first t st b scope ok part k g g' m m' al h h') (found_steps w t m n to.value s) (found_steps w' t m' n' to'.value s')) q q' has nv
       comes_alike (Loop site first t st b) scope (Turn k ∷ Own (suc j) ∷ p) g g' to to' ok part al (m, h, q) (m', h', q') = λ v has nv.
-          at_here scope m m' to to' v (heads_alike site first t st b scope ok part k g g' m m' al h h') q q' has nv
+          at_here scope m m' to.frames to'.frames v (heads_alike site first t st b scope ok part k g g' m m' al h h') q q' has nv
       comes_alike (Loop site first t st b) scope (Turn zero ∷ Step ∷ p) g g' to to' ok part al x x' = absurd x
       comes_alike (Loop site first t st b) scope (Turn (suc k) ∷ Step ∷ p) g g' to to' ok part al (m, a, n, h, e, go, x) (m', a', n', h', e', go', x') =
           comes_optional_alike st scope p n n' to to' (good_loop (InBody program f) (UnderBody program f) (BackBody program f) scope site first t st b ok).2
@@ -269,22 +273,22 @@ module _ (program : Program) where
       comes_alike (Loop site first t st b) scope (Turn (suc k) ∷ Body ∷ p) g g' to to' ok part al (m, h, x) (m', h', x') =
           comes_alike b scope p m m' to to' (good_loop (InBody program f) (UnderBody program f) (BackBody program f) scope site first t st b ok).3 (λ j un. (quiet_loop site first t st b j (part j un)).2) (begun_alike site first t st b scope ok part k g g' m m' al h h') x x'
       comes_alike (Switch site e arms) scope (Tested ∷ p) g g' to to' ok part al x x' = comes_in_alike e scope p g g' to to' (good_switch (InBody program f) (UnderBody program f) (BackBody program f) scope site e arms ok).1 al x x'
-      comes_alike (Switch site e arms) scope (Own zero ∷ p) g g' to to' ok part al (i, m, d, q) (i', m', d', q') = λ v has nv.
-          at_here scope m m' to to' v (eval_alike program f w w' t2.two e scope g g' i i' m m' (good_switch (InBody program f) (UnderBody program f) (BackBody program f) scope site e arms ok).1 al d d').0 q q' has nv
+      comes_alike (Switch site e arms) scope (Own zero ∷ p) g g' to to' ok part al (i, m, d, q, val) (i', m', d', q', val') = λ v has nv.
+          at_here scope m m' to.frames to'.frames v (eval_alike program f w w' t2.two e scope g g' i i' m m' (good_switch (InBody program f) (UnderBody program f) (BackBody program f) scope site e arms ok).1 al d d').0 q q' has nv
       comes_alike (Switch site e arms) scope (Own (suc k) ∷ p) g g' to to' ok part al (i, m, n, d, x, q) (i', m', n', d', x', q') = λ v has nv.
-          at_here scope n n' to to' v (end_alike program f w w' t2.two (Switch site e arms) scope ok part g g' n n' Normal Normal al (i, m, Normal, d, x, refl) (i', m', Normal, d', x', refl)).0 q q' has nv
+          at_here scope n n' to.frames to'.frames v (end_alike program f w w' t2.two (Switch site e arms) scope ok part g g' n n' Normal Normal al (i, m, Normal, d, x, refl) (i', m', Normal, d', x', refl)).0 q q' has nv
       comes_alike (Switch site e arms) scope (Arm j ∷ Nth k ∷ p) g g' to to' ok part al (i, m, n, d, r, x) (i', m', n', d', r', x') =
           arm_alike arms j scope k p n n' to to' (good_switch (InBody program f) (UnderBody program f) (BackBody program f) scope site e arms ok).2 (λ l un. (quiet_switch site e arms l (part l un)).1)
           (arm_starts_alike site e arms scope ok part j i i' g g' m m' n n' al d d' r r') x x'
       comes_alike (Return site (Some e)) scope (Operand k ∷ p) g g' to to' ok part al x x' = comes_in_alike e scope p g g' to to' (good_return (InBody program f) (UnderBody program f) (BackBody program f) scope site e ok).1 al x x'
       comes_alike (Return site (Some e)) scope (Own k ∷ p) g g' to to' ok part al (i, m, d, q) (i', m', d', q') = λ v has nv.
-          at_here scope m m' to to' v (eval_alike program f w w' t2.two e scope g g' i i' m m' (good_return (InBody program f) (UnderBody program f) (BackBody program f) scope site e ok).1 al d d').0 q q' has nv
-      comes_alike (Declare y None) scope (Operand k ∷ p) g g' to to' ok part al x x' = λ v has nv. at_here scope g g' to to' v al x x' has nv
-      comes_alike (Return site None) scope (Operand k ∷ p) g g' to to' ok part al x x' = λ v has nv. at_here scope g g' to to' v al x x' has nv
-      comes_alike s scope p g g' to to' ok part al x x' = λ v has nv. at_here scope g g' to to' v al x x' has nv
+          at_here scope m m' to.frames to'.frames v (eval_alike program f w w' t2.two e scope g g' i i' m m' (good_return (InBody program f) (UnderBody program f) (BackBody program f) scope site e ok).1 al d d').0 q q' has nv
+      comes_alike (Declare y None) scope (Operand k ∷ p) g g' to to' ok part al x x' = λ v has nv. at_here scope g g' to.frames to'.frames v al x x' has nv
+      comes_alike (Return site None) scope (Operand k ∷ p) g g' to to' ok part al x x' = λ v has nv. at_here scope g g' to.frames to'.frames v al x x' has nv
+      comes_alike s scope p g g' to to' ok part al x x' = λ v has nv. at_here scope g g' to.frames to'.frames v al x x' has nv
 
-      among_alike : (list : Statements) (scope : Scope) (k : ℕ) (p : Point) (g g' : Held) (to to' : List Frame) → GoodList (InBody program f) (UnderBody program f) (BackBody program f) scope list → Part program f (some_give list) → Alike program f scope g g'
-          → ComesAmong w list g k p to → ComesAmong w' list g' k p to' → (v : Owned) → IsInScopeList inside f (owned_by f scope) list k p v → (VO v → ⊥) → FoundAlike to to' v
+      among_alike : (list : Statements) (scope : Scope) (k : ℕ) (p : Point) (g g' : Held) (to to' : Stand) → GoodList (InBody program f) (UnderBody program f) (BackBody program f) scope list → Part program f (some_give list) → Alike program f scope g g'
+          → ComesAmong w list g k p to → ComesAmong w' list g' k p to' → (v : Owned) → IsInScopeList inside f (owned_by f scope) list k p v → (VO v → ⊥) → FoundAlike to.frames to'.frames v
       among_alike empty scope k p g g' to to' ok part al x x' = absurd x
       among_alike (also s rest) scope zero p g g' to to' ok part al x x' =
           comes_alike s scope p g g' to to' (good_also (InBody program f) (UnderBody program f) (BackBody program f) scope s rest ok).0 (λ j un. (quiet_also s rest j (part j un)).0) al x x'
@@ -293,8 +297,8 @@ module _ (program : Program) where
           among_alike rest (scope_after scope s) k p m m' to to' o.1 (λ j un. (quiet_also s rest j (part j un)).1)
           ((end_alike program f w w' t2.two s scope o.0 (λ j un. (quiet_also s rest j (part j un)).0) g g' m m' Normal Normal al e e').1 refl refl) x x' v (in_scope_after inside f scope s rest k p v has) nv
 
-      arm_alike : (arms : Arms) (j : ℕ) (scope : Scope) (k : ℕ) (p : Point) (g g' : Held) (to to' : List Frame) → GoodArms (InBody program f) (UnderBody program f) (BackBody program f) scope arms → Part program f (arms_give arms) → Alike program f scope g g'
-          → ComesArm w arms j g k p to → ComesArm w' arms j g' k p to' → (v : Owned) → IsInScopeArm inside f (owned_by f scope) arms j k p v → (VO v → ⊥) → FoundAlike to to' v
+      arm_alike : (arms : Arms) (j : ℕ) (scope : Scope) (k : ℕ) (p : Point) (g g' : Held) (to to' : Stand) → GoodArms (InBody program f) (UnderBody program f) (BackBody program f) scope arms → Part program f (arms_give arms) → Alike program f scope g g'
+          → ComesArm w arms j g k p to → ComesArm w' arms j g' k p to' → (v : Owned) → IsInScopeArm inside f (owned_by f scope) arms j k p v → (VO v → ⊥) → FoundAlike to.frames to'.frames v
       arm_alike no_arm j scope k p g g' to to' ok part al x x' = absurd x
       arm_alike (arm labels other body rest) zero scope k p g g' to to' ok part al x x' =
           among_alike body scope k p g g' to to' (good_arm (InBody program f) (UnderBody program f) (BackBody program f) scope labels other body rest ok).0 (λ i un. (quiet_arm labels other body rest i (part i un)).0) al x x'

@@ -32,6 +32,11 @@ pub data How : Type 0 where
   Continued : How
   Returned : How
 
+-- where an item stands in a function: its frames, down to that of the function, and its last value
+pub record Stand : Type 0 where
+  pub frames : List Frame
+  pub value : ℤ
+
 -- an item in a function: its frame but for the variables, what a load or a work-item function may give, what a call with these roots and
 -- arguments may give, and in which frames of the call an item may stand at a point of it
 pub record Who : Type 1 where
@@ -39,7 +44,7 @@ pub record Who : Type 1 where
   pub gives : Root → IntType → ℤ → ℤ → Type 0
   pub asks : Query → ℤ → ℤ
   pub calls : ℕ → ℕ → List (Option Root) → List ℤ → ℤ → Type 0
-  pub comes : ℕ → ℕ → List (Option Root) → List ℤ → Point → List Frame → Type 0
+  pub comes : ℕ → ℕ → List (Option Root) → List ℤ → Point → Stand → Type 0
 
 -- the frame with what is held
 abbrev pub here : Who → Held → List Frame
@@ -88,6 +93,11 @@ Passes w (Some e) from to = (x : ℤ) × Eval w e from x to × (is_zero x ≡ fa
 abbrev pub Fails : Who → Option Expression → Held → Held → Type 0
 Fails w None from to = ⊥
 Fails w (Some e) from to = (x : ℤ) × Eval w e from x to × (is_zero x ≡ true)
+
+-- a test that is there has this value
+abbrev pub Found : Who → Option Expression → Held → Held → ℤ → Type 0
+Found w None from to x = to ≡ from
+Found w (Some e) from to x = Eval w e from x to
 
 -- a loop goes on after its body ended so; or it ends, and so
 abbrev pub GoesOn : How → Type 0
@@ -192,78 +202,78 @@ Reaches w (arm labels other body rest) (suc k) (suc j) from to = Reaches w rest 
 
 -- an item that began the expression stands at the point in it, in these frames
 abbrev mutual
-  pub ComesIn : Who → Expression → Held → Point → List Frame → Type 0
+  pub ComesIn : Who → Expression → Held → Point → Stand → Type 0
   ComesIn w (Apply action operands) from (Operand k ∷ p) to = ComesAt w operands from k p to
-  ComesIn w (Apply action operands) from (Own k ∷ p) to = (args : List ℤ) × (mid : Held) × EvalAll w operands from args mid × (to ≡ here w mid)
+  ComesIn w (Apply action operands) from (Own k ∷ p) to = (args : List ℤ) × (mid : Held) × EvalAll w operands from args mid × (to.frames ≡ here w mid)
   ComesIn w (Update site element root op of back old index value) from (Operand zero ∷ p) to = ComesIn w index from p to
   ComesIn w (Update site element root op of back old index value) from (Operand (suc k) ∷ p) to = (i : ℤ) × (mid : Held) × Eval w index from i mid × ComesIn w value mid p to
-  ComesIn w (Update site element root op of back old index value) from (Own zero ∷ p) to = (i : ℤ) × (mid : Held) × Eval w index from i mid × (to ≡ here w mid)
+  ComesIn w (Update site element root op of back old index value) from (Own zero ∷ p) to = (i : ℤ) × (mid : Held) × Eval w index from i mid × (to.frames ≡ here w mid)
   ComesIn w (Update site element root op of back old index value) from (Own (suc k) ∷ p) to =
-      (i : ℤ) × (v : ℤ) × (mid : Held) × (end : Held) × Eval w index from i mid × Eval w value mid v end × (to ≡ here w end)
+      (i : ℤ) × (v : ℤ) × (mid : Held) × (end : Held) × Eval w index from i mid × Eval w value mid v end × (to.frames ≡ here w end)
   ComesIn w (Choose site test chosen other) from (Tested ∷ p) to = ComesIn w test from p to
-  ComesIn w (Choose site test chosen other) from (Own k ∷ p) to = (v : ℤ) × (mid : Held) × Eval w test from v mid × (to ≡ here w mid)
+  ComesIn w (Choose site test chosen other) from (Own k ∷ p) to = (v : ℤ) × (mid : Held) × Eval w test from v mid × (to.frames ≡ here w mid) × (to.value ≡ v)
   ComesIn w (Choose site test chosen other) from (Chosen ∷ p) to = (v : ℤ) × (mid : Held) × Eval w test from v mid × ComesIn w chosen mid p to
   ComesIn w (Choose site test chosen other) from (Other ∷ p) to = (v : ℤ) × (mid : Held) × Eval w test from v mid × ComesIn w other mid p to
   ComesIn w (Call site g roots arguments) from (Operand k ∷ p) to = ComesAt w arguments from k p to
-  ComesIn w (Call site g roots arguments) from (Own zero ∷ p) to = (args : List ℤ) × (mid : Held) × EvalAll w arguments from args mid × (to ≡ here w mid)
+  ComesIn w (Call site g roots arguments) from (Own zero ∷ p) to = (args : List ℤ) × (mid : Held) × EvalAll w arguments from args mid × (to.frames ≡ here w mid)
   ComesIn w (Call site g roots arguments) from (Own (suc k) ∷ p) to =
-      (args : List ℤ) × (mid : Held) × (top : Frame) × EvalAll w arguments from args mid × (top.function ≡ g) × (to ≡ top ∷ here w mid)
+      (args : List ℤ) × (mid : Held) × (top : Frame) × EvalAll w arguments from args mid × (top.function ≡ g) × (to.frames ≡ top ∷ here w mid)
   ComesIn w (Call site g roots arguments) from (Into ∷ p) to =
-      (args : List ℤ) × (mid : Held) × (inner : List Frame) × EvalAll w arguments from args mid × w.comes site g roots args p inner × (to ≡ inner ++ here w mid)
-  ComesIn w _ from _ to = to ≡ here w from
+      (args : List ℤ) × (mid : Held) × (inner : List Frame) × EvalAll w arguments from args mid × w.comes site g roots args p (record { frames = inner; value = to.value }) × (to.frames ≡ inner ++ here w mid)
+  ComesIn w _ from _ to = to.frames ≡ here w from
 
   -- the operand with this number
-  pub ComesAt : Who → Expressions → Held → ℕ → Point → List Frame → Type 0
+  pub ComesAt : Who → Expressions → Held → ℕ → Point → Stand → Type 0
   ComesAt w none from k p to = ⊥
   ComesAt w (more e rest) from zero p to = ComesIn w e from p to
   ComesAt w (more e rest) from (suc k) p to = (x : ℤ) × (mid : Held) × Eval w e from x mid × ComesAt w rest mid k p to
 
-abbrev pub ComesInOptional : Who → Option Expression → Held → Point → List Frame → Type 0
+abbrev pub ComesInOptional : Who → Option Expression → Held → Point → Stand → Type 0
 ComesInOptional w None from p to = ⊥
 ComesInOptional w (Some e) from p to = ComesIn w e from p to
 
 -- an item that began the statement stands at the point in it
 abbrev mutual
-  pub Comes : Who → Statement → Held → Point → List Frame → Type 0
+  pub Comes : Who → Statement → Held → Point → Stand → Type 0
   Comes w (Do e) from (Operand k ∷ p) to = ComesIn w e from p to
-  Comes w (Do e) from (Own k ∷ p) to = (x : ℤ) × (mid : Held) × Eval w e from x mid × (to ≡ here w mid)
+  Comes w (Do e) from (Own k ∷ p) to = (x : ℤ) × (mid : Held) × Eval w e from x mid × (to.frames ≡ here w mid)
   Comes w (Declare y (Some e)) from (Operand k ∷ p) to = ComesIn w e from p to
-  Comes w (Declare y (Some e)) from (Own k ∷ p) to = (x : ℤ) × (mid : Held) × Eval w e from x mid × (to ≡ here w mid)
+  Comes w (Declare y (Some e)) from (Own k ∷ p) to = (x : ℤ) × (mid : Held) × Eval w e from x mid × (to.frames ≡ here w mid)
   Comes w (Fill site array values) from (Operand k ∷ p) to = ComesAt w values from k p to
-  Comes w (Fill site array values) from (Own k ∷ p) to = (args : List ℤ) × (mid : Held) × EvalAll w values from args mid × (to ≡ here w mid)
+  Comes w (Fill site array values) from (Own k ∷ p) to = (args : List ℤ) × (mid : Held) × EvalAll w values from args mid × (to.frames ≡ here w mid)
   Comes w (Block list) from (Nth k ∷ p) to = ComesAmong w list from k p to
   Comes w (If site test chosen other) from (Tested ∷ p) to = ComesIn w test from p to
-  Comes w (If site test chosen other) from (Own k ∷ p) to = (v : ℤ) × (mid : Held) × Eval w test from v mid × (to ≡ here w mid)
+  Comes w (If site test chosen other) from (Own k ∷ p) to = (v : ℤ) × (mid : Held) × Eval w test from v mid × (to.frames ≡ here w mid) × (to.value ≡ v)
   Comes w (If site test chosen other) from (Chosen ∷ Nth k ∷ p) to = (v : ℤ) × (mid : Held) × Eval w test from v mid × ComesAmong w chosen mid k p to
   Comes w (If site test chosen other) from (Other ∷ Nth k ∷ p) to = (v : ℤ) × (mid : Held) × Eval w test from v mid × ComesAmong w other mid k p to
   Comes w (Loop site test_first test step body) from (Turn k ∷ Tested ∷ p) to =
       (head : Held) × Heads w test_first test step (Exec w body) k from head × ComesInOptional w test head p to
   Comes w (Loop site test_first test step body) from (Turn k ∷ Own zero ∷ p) to =
-      (head : Held) × (mid : Held) × Heads w test_first test step (Exec w body) k from head × Steps w test head mid × (to ≡ here w mid)
-  Comes w (Loop site test_first test step body) from (Turn k ∷ Own (suc n) ∷ p) to = (head : Held) × Heads w test_first test step (Exec w body) k from head × (to ≡ here w head)
+      (head : Held) × (mid : Held) × Heads w test_first test step (Exec w body) k from head × Found w test head mid to.value × (to.frames ≡ here w mid)
+  Comes w (Loop site test_first test step body) from (Turn k ∷ Own (suc n) ∷ p) to = (head : Held) × Heads w test_first test step (Exec w body) k from head × (to.frames ≡ here w head)
   Comes w (Loop site test_first test step body) from (Turn zero ∷ Step ∷ p) to = ⊥
   Comes w (Loop site test_first test step body) from (Turn (suc k) ∷ Step ∷ p) to =
       (start : Held) × (how : How) × (mid : Held) × Begun w test_first test step (Exec w body) k from start × Exec w body start how mid × GoesOn how × ComesInOptional w step mid p to
   Comes w (Loop site test_first test step body) from (Turn zero ∷ Body ∷ p) to = ⊥
   Comes w (Loop site test_first test step body) from (Turn (suc k) ∷ Body ∷ p) to = (start : Held) × Begun w test_first test step (Exec w body) k from start × Comes w body start p to
   Comes w (Switch site value arms) from (Tested ∷ p) to = ComesIn w value from p to
-  Comes w (Switch site value arms) from (Own zero ∷ p) to = (v : ℤ) × (mid : Held) × Eval w value from v mid × (to ≡ here w mid)
+  Comes w (Switch site value arms) from (Own zero ∷ p) to = (v : ℤ) × (mid : Held) × Eval w value from v mid × (to.frames ≡ here w mid) × (to.value ≡ v)
   Comes w (Switch site value arms) from (Own (suc k) ∷ p) to =
-      (v : ℤ) × (mid : Held) × (end : Held) × Eval w value from v mid × ExecArms w arms (entered v arms) mid Normal end × (to ≡ here w end)
+      (v : ℤ) × (mid : Held) × (end : Held) × Eval w value from v mid × ExecArms w arms (entered v arms) mid Normal end × (to.frames ≡ here w end)
   Comes w (Switch site value arms) from (Arm j ∷ Nth k ∷ p) to =
       (v : ℤ) × (mid : Held) × (start : Held) × Eval w value from v mid × Reaches w arms (entered v arms) j mid start × ComesArm w arms j start k p to
   Comes w (Return site (Some e)) from (Operand k ∷ p) to = ComesIn w e from p to
-  Comes w (Return site (Some e)) from (Own k ∷ p) to = (x : ℤ) × (mid : Held) × Eval w e from x mid × (to ≡ here w mid)
-  Comes w _ from _ to = to ≡ here w from
+  Comes w (Return site (Some e)) from (Own k ∷ p) to = (x : ℤ) × (mid : Held) × Eval w e from x mid × (to.frames ≡ here w mid)
+  Comes w _ from _ to = to.frames ≡ here w from
 
   -- the statement of a list with this number
-  pub ComesAmong : Who → Statements → Held → ℕ → Point → List Frame → Type 0
+  pub ComesAmong : Who → Statements → Held → ℕ → Point → Stand → Type 0
   ComesAmong w empty from k p to = ⊥
   ComesAmong w (also s rest) from zero p to = Comes w s from p to
   ComesAmong w (also s rest) from (suc k) p to = (mid : Held) × Exec w s from Normal mid × ComesAmong w rest mid k p to
 
   -- the statement with this number of the arm with that number
-  pub ComesArm : Who → Arms → ℕ → Held → ℕ → Point → List Frame → Type 0
+  pub ComesArm : Who → Arms → ℕ → Held → ℕ → Point → Stand → Type 0
   ComesArm w no_arm j from k p to = ⊥
   ComesArm w (arm labels other body rest) zero from k p to = ComesAmong w body from k p to
   ComesArm w (arm labels other body rest) (suc j) from k p to = ComesArm w rest j from k p to

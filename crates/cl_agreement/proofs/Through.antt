@@ -5,9 +5,9 @@ use Rattle.cl_model.specs.Tree.{Expression, Expressions, Statement, Do, Declare,
 use Rattle.cl_model.specs.Sizes.{Launch}
 use Rattle.cl_model.specs.Values.{is_zero}
 use Rattle.cl_model.specs.Task.{Leg, Operand, Own, Tested, Chosen, Other, Nth, Turn, Body, Step, Arm, Point, Task, Run, Evaluate, Discard, Keep, Clear, Initialise, Branch, InLoop, Select, InSwitch, Leave, Frame, Item, first_point}
-use Rattle.cl_model.specs.Steps.{before, below, each_operand, count_of, in_order, test_tasks, step_tasks, iteration, behind_break, behind_continue, behind_return, entry_of, arm_tasks, entry_tasks, initial_tasks, item_next}
+use Rattle.cl_model.specs.Steps.{last, before, below, each_operand, count_of, in_order, test_tasks, step_tasks, iteration, behind_break, behind_continue, behind_return, entry_of, arm_tasks, entry_tasks, initial_tasks, item_next}
 use Rattle.cl_model.specs.Valid.{Scope, scope_after}
-use Rattle.cl_agreement.proofs.Ran.{Held, put, answered, How, Normal, Broke, Continued, Returned, Who, here, Eval, EvalAll, Steps, Passes, Fails, GoesOn, Iterates, Loops, Enters, Begun, Heads, Exec, ExecAll, ExecArms, Reaches, entered, ComesIn, ComesInOptional, Comes, ComesAmong, ComesArm}
+use Rattle.cl_agreement.proofs.Ran.{Stand, Found, Held, put, answered, How, Normal, Broke, Continued, Returned, Who, here, Eval, EvalAll, Steps, Passes, Fails, GoesOn, Iterates, Loops, Enters, Begun, Heads, Exec, ExecAll, ExecArms, Reaches, entered, ComesIn, ComesInOptional, Comes, ComesAmong, ComesArm}
 use Rattle.cl_agreement.proofs.Parts.{Good, GoodOptional, GoodRun, GoodList, GoodArms, good_do, good_declare, good_fill, good_block, good_if, good_loop, good_switch, good_return, good_also, good_arm}
 use Rattle.cl_agreement.proofs.Values.{InBody, UnderBody, BackBody}
 use Rattle.cl_agreement.proofs.Deep.{who, Leads}
@@ -56,19 +56,19 @@ module _ (program : Program) (launch : Launch) (buffers : List (List ℕ)) (numb
   abbrev SS : ℕ → Item → Item → Type 0
   SS = Soon program launch buffers number
 
-  abbrev St : Point → (Point → List Frame → Type 0) → Item → Type 0
+  abbrev St : Point → (Point → Stand → Type 0) → Item → Type 0
   St = Stands program launch buffers number d f frame frames
 
-  root : (at : Point) (C : Point → List Frame → Type 0) (tasks : List Task) (values : List ℤ) (s : Held) (to : Item) → to ≡ I tasks values s → first_point tasks ≡ Some at → C [] (here W s) → St at C to
+  root : (at : Point) (C : Point → Stand → Type 0) (tasks : List Task) (values : List ℤ) (s : Held) (to : Item) → to ≡ I tasks values s → first_point tasks ≡ Some at → C [] (record { frames = here W s; value = last values }) → St at C to
   root = at_root program launch buffers number d f frame frames
 
-  leg : (at p : Point) (C : Point → List Frame → Type 0) (tasks : List Task) (values : List ℤ) (s : Held) (to : Item) → to ≡ I tasks values s → first_point tasks ≡ Some (at ++ p) → C p (here W s) → St at C to
+  leg : (at p : Point) (C : Point → Stand → Type 0) (tasks : List Task) (values : List ℤ) (s : Held) (to : Item) → to ≡ I tasks values s → first_point tasks ≡ Some (at ++ p) → C p (record { frames = here W s; value = last values }) → St at C to
   leg = at_leg program launch buffers number d f frame frames
 
-  down : (at : Point) (l : Leg) (C D : Point → List Frame → Type 0) (to : Item) → ((p : Point) (tops : List Frame) → C p tops → D (l ∷ p) tops) → St (at ++ l ∷ []) C to → St at D to
+  down : (at : Point) (l : Leg) (C D : Point → Stand → Type 0) (to : Item) → ((p : Point) (tops : Stand) → C p tops → D (l ∷ p) tops) → St (at ++ l ∷ []) C to → St at D to
   down = deeper program launch buffers number d f frame frames
 
-  down2 : (at : Point) (a b : Leg) (C D : Point → List Frame → Type 0) (to : Item) → ((p : Point) (tops : List Frame) → C p tops → D (a ∷ b ∷ p) tops) → St (at ++ (a ∷ b ∷ [])) C to → St at D to
+  down2 : (at : Point) (a b : Leg) (C D : Point → Stand → Type 0) (to : Item) → ((p : Point) (tops : Stand) → C p tops → D (a ∷ b ∷ p) tops) → St (at ++ (a ∷ b ∷ [])) C to → St at D to
   down2 = deeper2 program launch buffers number d f frame frames
 
   abbrev GE : Scope → Expression → Type 0
@@ -107,7 +107,7 @@ module _ (program : Program) (launch : Launch) (buffers : List (List ℕ)) (numb
 
   abbrev RanAll : Statements → Point → ℕ → ℕ → List Task → List ℤ → Held → Item → Type 0
   RanAll list at k n rest values from to =
-      ((j : ℕ) × (p : Point) × (tops : List Frame) × (first_point to.tasks ≡ Some (at ++ (Nth (k + j) ∷ p))) × (to.frames ≡ tops ++ frames) × ComesAmong W list from j p tops)
+      ((j : ℕ) × (p : Point) × (tops : Stand) × (first_point to.tasks ≡ Some (at ++ (Nth (k + j) ∷ p))) × ((to.frames ≡ tops.frames ++ frames) × (last to.values ≡ tops.value)) × ComesAmong W list from j p tops)
       ⊎ ((how : How) × (after : Held) × ExecAll W list from how after × SS n (left how rest values after) to)
 
   -- a loop
@@ -118,7 +118,7 @@ module _ (program : Program) (launch : Launch) (buffers : List (List ℕ)) (numb
   module _ (site : ℕ) (first : Bool) (t st : Option Expression) (b : Statement) (scope : Scope) (okt : GoodOptional (InBody program f) (UnderBody program f) (BackBody program f) scope t) (oks : GoodOptional (InBody program f) (UnderBody program f) (BackBody program f) scope st)
       (at : Point) (rest : List Task) (values : List ℤ) (from : Held) (to : Item)
       (body : (at : Point) (n : ℕ) (rest : List Task) (values : List ℤ) (s : Held) (to : Item) → HH n (I (Run at b ∷ rest) values s) to → Ran b at n rest values s to) where
-    abbrev C : Point → List Frame → Type 0
+    abbrev C : Point → Stand → Type 0
     C = Comes W (Loop site first t st b) from
 
     abbrev LR : ℕ → Type 0
@@ -138,7 +138,7 @@ module _ (program : Program) (launch : Launch) (buffers : List (List ℕ)) (numb
     -- the test is there, or there is none
     decided : (bound : ℕ) → Anew bound → (n k : ℕ) (e : Expression) (head s : Held) (x : ℤ) → t ≡ Some e → n < bound → Heads W first t st (Exec W b) k from head → Eval W e head x s → HH n (I (marker k) (x ∷ values) s) to → LR n
     decided bound again zero k e head s x is lt hd vx h =
-        inl (leg at (Turn k ∷ Own 0 ∷ []) C (marker k) (x ∷ values) s to h refl (head, s, hd, subst (λ o. Steps W o head s) (sym is) (x, vx), refl))
+        inl (leg at (Turn k ∷ Own 0 ∷ []) C (marker k) (x ∷ values) s to h refl (head, s, hd, subst (λ o. Found W o head s x) (sym is) vx, refl))
     decided bound again (suc n) k e head s x is lt hd vx (mid, l, h) =
         elim (is_zero x) as (λ z. is_zero x ≡ z → Leads program launch buffers (cond z (Goes (I rest values s)) (Begins (I (iteration at site (Some e) st b (suc k) rest) values s))) mid → LR (suc n)) [
           | true ↦ λ z l. inr (Normal, s, fails_at W first t st b k from head s hd (subst (λ o. Fails W o head s) (sym is) (x, vx, z)), (n, omega arith, subst (λ i. HH n i to) l h))
@@ -147,7 +147,7 @@ module _ (program : Program) (launch : Launch) (buffers : List (List ℕ)) (numb
         ] refl (subst (λ o. Leads program launch buffers (item_next program launch (I (InLoop at site o st b k ∷ rest) (x ∷ values) s)) mid) is l)
 
     untested : (bound : ℕ) → Anew bound → (n k : ℕ) (head : Held) → t ≡ None → n < bound → Heads W first t st (Exec W b) k from head → HH n (I (marker k) values head) to → LR n
-    untested bound again zero k head is lt hd h = inl (leg at (Turn k ∷ Own 0 ∷ []) C (marker k) values head to h refl (head, head, hd, subst (λ o. Steps W o head head) (sym is) refl, refl))
+    untested bound again zero k head is lt hd h = inl (leg at (Turn k ∷ Own 0 ∷ []) C (marker k) values head to h refl (head, head, hd, subst (λ o. Found W o head head (last values)) (sym is) refl, refl))
     untested bound again (suc n) k head is lt hd (mid, l, h) =
         let l1 = subst (λ o. Leads program launch buffers (item_next program launch (I (InLoop at site o st b k ∷ rest) values head)) mid) is l in
         longer n (suc n) (omega arith) (again n (omega arith) k head (begun_at W first t st b k from head head hd (subst (λ o. Passes W o head head) (sym is) refl))
@@ -206,12 +206,12 @@ module _ (program : Program) (launch : Launch) (buffers : List (List ℕ)) (numb
     loop_tested n hd h = tested (suc n) (λ m lt. loop_runs n m (omega arith)) n 0 from (omega arith) hd h
 
   -- stores into a new array
-  filled : (at : Point) (D : Point → List Frame → Type 0) (site array : ℕ) (s : Held) → ((k : ℕ) → D (Own k ∷ []) (here W s)) → (k : ℕ) (vs : List ℤ) (n : ℕ) (rest : List Task) (values : List ℤ) (to : Item)
+  filled : (at : Point) (D : Point → Stand → Type 0) (site array : ℕ) (s : Held) → ((k : ℕ) (x : ℤ) → D (Own k ∷ []) (record { frames = here W s; value = x })) → (k : ℕ) (vs : List ℤ) (n : ℕ) (rest : List Task) (values : List ℤ) (to : Item)
       → HH n (I (initial_tasks at site array k vs rest) values s) to → St at D to ⊎ SS n (I rest values s) to
   filled at D site array s c k [] n rest values to h = inr (n, omega arith, h)
   filled at D site array s c k (v ∷ vs) n rest values to h =
       elim (peel program launch buffers number n _ (I (initial_tasks at site array (suc k) vs rest) values s) to (λ mid l. l) h) [
-        | inl q ↦ inl (leg at (Own (suc k) ∷ []) D (Initialise at site array k v ∷ initial_tasks at site array (suc k) vs rest) values s to q refl (c (suc k)))
+        | inl q ↦ inl (leg at (Own (suc k) ∷ []) D (Initialise at site array k v ∷ initial_tasks at site array (suc k) vs rest) values s to q refl (c (suc k) (last values)))
         | inr (m, lt, h1) ↦ elim (filled at D site array s c (suc k) vs m rest values to h1) [
           | inl w ↦ inl w
           | inr (m2, le, h2) ↦ inr (m2, omega arith, h2)
@@ -225,7 +225,7 @@ module _ (program : Program) (launch : Launch) (buffers : List (List ℕ)) (numb
       let c = count_is W es s args mid v in
       let e : next ≡ I (initial_tasks at site array 0 args rest) values mid =
       l ∙ ap (λ xs. I (initial_tasks at site array 0 xs rest) (below (count_of es) (onto args values)) mid) (taken_all args values (count_of es) c) ∙ ap (λ ys. I (initial_tasks at site array 0 args rest) ys mid) (below_taken args values (count_of es) c) in
-      elim (filled at (Comes W (Fill site array es) s) site array mid (λ k. (args, mid, v, refl)) 0 args m rest values to (subst (λ i. HH m i to) e h)) [
+      elim (filled at (Comes W (Fill site array es) s) site array mid (λ k x. (args, mid, v, refl)) 0 args m rest values to (subst (λ i. HH m i to) e h)) [
         | inl w ↦ inl w
         | inr (m2, le, h2) ↦ inr (Normal, mid, (args, v, refl), (m2, omega arith, h2))
       ]
@@ -244,7 +244,7 @@ module _ (program : Program) (launch : Launch) (buffers : List (List ℕ)) (numb
 
   abbrev ArmsRan : Arms → ℕ → Point → ℕ → ℕ → List Task → List ℤ → Held → Item → Type 0
   ArmsRan arms e at b n tail values s to =
-      ((i : ℕ) × (k : ℕ) × (p : Point) × (tops : List Frame) × (start : Held) × (first_point to.tasks ≡ Some (at ++ (Arm (b + i) ∷ Nth k ∷ p))) × (to.frames ≡ tops ++ frames) × Reaches W arms e i s start × ComesArm W arms i start k p tops)
+      ((i : ℕ) × (k : ℕ) × (p : Point) × (tops : Stand) × (start : Held) × (first_point to.tasks ≡ Some (at ++ (Arm (b + i) ∷ Nth k ∷ p))) × ((to.frames ≡ tops.frames ++ frames) × (last to.values ≡ tops.value)) × Reaches W arms e i s start × ComesArm W arms i start k p tops)
       ⊎ ((how : How) × (after : Held) × ExecArms W arms e s how after × SS n (left how tail values after) to)
 
   mutual
@@ -299,7 +299,7 @@ module _ (program : Program) (launch : Launch) (buffers : List (List ℕ)) (numb
           | inr (m, lt, h1) ↦ elim (evaluate_runs program launch buffers number d f frame frames called t scope o.1 (at ++ Tested ∷ []) m (Branch at a b ∷ rest) values s to h1) [
             | inl w ↦ inl (down at Tested (ComesIn W t s) (Comes W (If site t a b) s) to (λ p tops c. c) w)
             | inr (v, mid, vx, (m2, lt2, h2)) ↦ elim (peel program launch buffers number m2 _ (I (cond (is_zero v) (in_order (at ++ Other ∷ []) 0 b rest) (in_order (at ++ Chosen ∷ []) 0 a rest)) values mid) to (λ next l. l) h2) [
-              | inl q ↦ inl (leg at (Own 0 ∷ []) (Comes W (If site t a b) s) (Branch at a b ∷ rest) (v ∷ values) mid to q refl (v, mid, vx, refl))
+              | inl q ↦ inl (leg at (Own 0 ∷ []) (Comes W (If site t a b) s) (Branch at a b ∷ rest) (v ∷ values) mid to q refl (v, mid, vx, refl, refl))
               | inr (m3, lt3, h3) ↦
                   elim (is_zero v) as (λ z. is_zero v ≡ z → HH m3 (I (cond z (in_order (at ++ Other ∷ []) 0 b rest) (in_order (at ++ Chosen ∷ []) 0 a rest)) values mid) to → Ran (If site t a b) at n rest values s to) [
                     | true ↦ λ z h3. elim (all_run b scope o.3 (at ++ Other ∷ []) 0 m3 rest values mid to h3) [
@@ -343,7 +343,7 @@ module _ (program : Program) (launch : Launch) (buffers : List (List ℕ)) (numb
           | inr (m, lt, h1) ↦ elim (evaluate_runs program launch buffers number d f frame frames called value scope o.1 (at ++ Tested ∷ []) m (Select at site arms ∷ rest) values s to h1) [
             | inl w ↦ inl (down at Tested (ComesIn W value s) (Comes W (Switch site value arms) s) to (λ p tops c. c) w)
             | inr (v, mid, vx, (m2, lt2, h2)) ↦ elim (peel program launch buffers number m2 _ (I (entry_tasks at (entry_of v arms) (InSwitch at site ∷ rest)) values mid) to (λ next l. l) h2) [
-              | inl q ↦ inl (leg at (Own 0 ∷ []) (Comes W (Switch site value arms) s) (Select at site arms ∷ rest) (v ∷ values) mid to q refl (v, mid, vx, refl))
+              | inl q ↦ inl (leg at (Own 0 ∷ []) (Comes W (Switch site value arms) s) (Select at site arms ∷ rest) (v ∷ values) mid to q refl (v, mid, vx, refl, refl))
               | inr (m3, lt3, h3) ↦
                   let e0 : entered v arms ≡ 0 + entered v arms = omega arith in
                   elim (arms_run arms scope o.2 (entered v arms) at 0 (entered v arms) e0 m3 (InSwitch at site ∷ rest) values mid to (subst (λ ts. HH m3 (I ts values mid) to) (entry_is at v arms (InSwitch at site ∷ rest)) h3)) [

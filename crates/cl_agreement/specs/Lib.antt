@@ -1,2 +1,3 @@
 pub mod InRuns
 pub mod Once
+pub mod Tests

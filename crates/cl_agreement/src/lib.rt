@@ -6,6 +6,7 @@ ghost use Rattle.cl_model.specs.Valid.{IsValid};
 ghost use Rattle.cl_model.specs.Fitting.{FitsProgram};
 ghost use Rattle.cl_agreement.specs.InRuns.{CarriesToRuns};
 ghost use Rattle.cl_agreement.specs.Once.{AgreeUnlessVarying, AgreeInRunsUnlessVarying};
+ghost use Rattle.cl_agreement.specs.Tests.{TestsAgreeUnlessVarying};
 
 use cl_model::{Buffers, Launch, Program};
 
@@ -20,10 +21,11 @@ pub fn runs_law(program: &Program, launch: &Launch, buffers: &Buffers)
 /// A variable that does not vary agrees, in each launch that fits, whether it races or not: whenever
 /// two histories of items of one group end at one point in its scope, whatever their loads gave,
 /// they hold equal values of it; and so whenever two items of one group stand, at any two moments of
-/// a run, at one such point.
+/// a run, at one such point. A test or value that does not vary is found equal at one point.
 pub fn once_law(program: &Program, launch: &Launch, buffers: &Buffers)
     requires valid { IsValid (program_of program.now) }
     requires fits { FitsProgram (program_of program.now) (launch_of launch.now) }
     ensures histories { AgreeUnlessVarying (program_of program.now) (launch_of launch.now) (buffers_of buffers.now) }
     ensures runs { AgreeInRunsUnlessVarying (program_of program.now) (launch_of launch.now) (buffers_of buffers.now) }
+    ensures tests { TestsAgreeUnlessVarying (program_of program.now) (launch_of launch.now) (buffers_of buffers.now) }
 {}

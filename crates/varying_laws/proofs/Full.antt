@@ -1,13 +1,12 @@
 -- What varies is marked: in a round that adds nothing, what is found in an expression obeys the rules.
-use Rattle.std.proofs.Common.{◌≡◌, ◌≢◌, ℕ, zero, suc, ◌+◌, Bool, true, false, ◌||◌, not, cond, nat_eq, List, [], ◌∷◌, ◌++◌, Option, Some, None, ◌⊎◌, inl, inr, refl, sym, ap, ◌∙◌, subst, arith}
-use Rattle.std.proofs.lemmas.Bool.{eqb-true, eq-eqb}
-use Rattle.wg_num.specs.declared.types.IntType.{IntType}
+use Rattle.std.proofs.Common.{◌≡◌, ◌≢◌, ℕ, zero, suc, ◌+◌, Bool, true, false, ◌||◌, not, cond, nat_eq, List, [], ◌∷◌, ◌++◌, Option, Some, ◌⊎◌, inl, inr, refl, sym, ap, ◌∙◌, subst, arith}
+use Rattle.std.proofs.lemmas.Bool.{eqb-true}
 use Rattle.cl_model.specs.declared.program.Root.{Root}
 use Rattle.cl_model.specs.Tree.{Action, Literal, Variable, Unary, Binary, Builtin, Convert, Ask, Second, Truth, Decided, Set, Change, Load, Store, Expression, Apply, Update, Choose, Call, Expressions, none, more, Function, Program}
 use Rattle.cl_model.specs.Lists.{IsOneOf}
 use Rattle.cl_model.specs.Calls.{function_at}
-use Rattle.cl_model.specs.Valid.{Scope, Has, action_sites, sites_in, sites_among, IsValid}
-use Rattle.cl_model.specs.Varying.{Condition, sets, assigns_in, conditions_in, conditions_among, parts_of, parts_among, IsNth, is_own, is_constant_root, is_store}
+use Rattle.cl_model.specs.Valid.{Scope, action_sites, sites_in, sites_among, IsValid}
+use Rattle.cl_model.specs.Varying.{Condition, sets, conditions_in, conditions_among, parts_of, parts_among, IsNth, is_own, is_constant_root, is_store}
 use Rattle.diverge.specs.declared.known.Entry.{Entry}
 use Rattle.diverge.specs.declared.known.Spot.{Spot}
 use Rattle.diverge.specs.Known as known
@@ -19,7 +18,7 @@ use Rattle.cl_agreement.proofs.Values.{InBody, UnderBody, BackBody, cond_gives}
 use Rattle.cl_agreement.proofs.Nesting.{in_either}
 use Rattle.varying_laws.proofs.Slots.{entry, with_key}
 use Rattle.varying_laws.proofs.Sound.{either, fn, spot, store_two}
-use Rattle.varying_laws.proofs.Steps.{mark, Onto, onto_same, onto_then, onto_change, Final, final_before, marked_new, Flag, flag_new, flag_on, Apart, apart_left, apart_right, apart_rest, apart_on, apart_under, not_since, not_under}
+use Rattle.varying_laws.proofs.Steps.{Onto, onto_same, onto_then, onto_change, Final, final_before, marked_new, Flag, flag_new, flag_on, Apart, apart_left, apart_right, apart_rest, apart_on, apart_under, not_since, not_under}
 
 module _ (program : Program) (M : ℕ → Key → Bool) (f : ℕ) where
   -- an action varies by the marks, whatever its operands do
@@ -313,27 +312,25 @@ module _ (program : Program) (M : ℕ → Key → Bool) (f : ℕ) where
           let after = seen_among fun (sp guard) (is_store action) es first in
           let t = settled (sp guard) action after in
           let a = among_full es sc guard (is_store action) first o.1 (apart_right f guard s sc (action_sites action) (sites_among es) apart) in
-          let st = settles sc guard action after in
-          (
+          let st = settles sc guard action after in (
             onto_then f sc s after.state t.state a.0 st.0,
             λ fin.
-            let fa = final_before M f sc after.state t.state st.0 fin in
-            let fs = final_before M f sc s after.state a.0 fa in
-            let F = a.1 fa in
-            let value : by_marks (Apply action es) ≡ true → after.varies ≡ true = apply_value action es first.varies after.varies o.0 (itself_found guard action s fs) F.0.0 F.0.1 in
-            let S : Facts sc guard after.state t.state [] [] (sets_key action) =
-                record { assigns = λ b xs x m. absurd m; passes = λ i g r xs m. absurd m; under = λ c m. absurd m; guarded = λ k h has away. ((st.2 fin).1 k h).0 away; flags = λ k h has. ((st.2 fin).1 k h).1 } in
-            (
-              (λ h. st.1 ∙ value h),
-              facts_node sc guard s t.state (Apply action es) (parts_among es) (conditions_among sc es) (gives_in (Apply action es))
-              (λ action' es' x q h v.
-              let same : action ≡ action' = cc q in
-              (st.2 fin).0 x (subst (λ b. sets b x ≡ true) (sym same) h) (value (subst (λ d. by_marks d ≡ true) (sym q) v)))
-              (λ site g roots es' q. absurd (cc q))
-              (facts_less sc guard s t.state (parts_among es ++ []) (parts_among es) (conditions_among sc es ++ []) (conditions_among sc es) (gives_in (Apply action es)) (gives_in (Apply action es)) (λ d m. in_left (parts_among es) [] d m) (λ d m. in_left (conditions_among sc es) [] d m) (λ k h. h)
-              (facts_both sc sc guard s after.state t.state (parts_among es) [] (conditions_among sc es) [] (gives_among es) (sets_key action) (gives_in (Apply action es)) (λ k h. h) a.0 st.0
-              (λ k h. elim (split_apply action es k h) [ inl q ↦ inr q | inr q ↦ inl q ]) F.1 S)),
-            ),
+                let fa = final_before M f sc after.state t.state st.0 fin in
+                let fs = final_before M f sc s after.state a.0 fa in
+                let F = a.1 fa in
+                let value : by_marks (Apply action es) ≡ true → after.varies ≡ true = apply_value action es first.varies after.varies o.0 (itself_found guard action s fs) F.0.0 F.0.1 in
+                let S : Facts sc guard after.state t.state [] [] (sets_key action) =
+                record { assigns = λ b xs x m. absurd m; passes = λ i g r xs m. absurd m; under = λ c m. absurd m; guarded = λ k h has away. ((st.2 fin).1 k h).0 away; flags = λ k h has. ((st.2 fin).1 k h).1 } in (
+                  (λ h. st.1 ∙ value h),
+                  facts_node sc guard s t.state (Apply action es) (parts_among es) (conditions_among sc es) (gives_in (Apply action es))
+                      (λ action' es' x q h v.
+                      let same : action ≡ action' = cc q in
+                      (st.2 fin).0 x (subst (λ b. sets b x ≡ true) (sym same) h) (value (subst (λ d. by_marks d ≡ true) (sym q) v)))
+                      (λ site g roots es' q. absurd (cc q))
+                      (facts_less sc guard s t.state (parts_among es ++ []) (parts_among es) (conditions_among sc es ++ []) (conditions_among sc es) (gives_in (Apply action es)) (gives_in (Apply action es)) (λ d m. in_left (parts_among es) [] d m) (λ d m. in_left (conditions_among sc es) [] d m) (λ k h. h)
+                      (facts_both sc sc guard s after.state t.state (parts_among es) [] (conditions_among sc es) [] (gives_among es) (sets_key action) (gives_in (Apply action es)) (λ k h. h) a.0 st.0
+                      (λ k h. elim (split_apply action es k h) [ inl q ↦ inr q | inr q ↦ inl q ]) F.1 S)),
+                ),
           )
       seen_full (Update site element root op of back old index value) sc guard s ok apart =
           let o = good_update (InBody program f) (UnderBody program f) (BackBody program f) sc site element root op of back old index value ok in
@@ -341,15 +338,14 @@ module _ (program : Program) (M : ℕ → Key → Bool) (f : ℕ) where
           let x = seen_in fun (sp guard) index s in
           let y = seen_in fun (sp guard) value x.state in
           let a = seen_full index sc guard s o.0 (apart_left f guard s sc (sites_in index) (sites_in value) rest) in
-          let b = seen_full value sc guard x.state o.1 (apart_on f guard s x.state sc (sites_in value) a.0 (apart_right f guard s sc (sites_in index) (sites_in value) rest)) in
-          (
+          let b = seen_full value sc guard x.state o.1 (apart_on f guard s x.state sc (sites_in value) a.0 (apart_right f guard s sc (sites_in index) (sites_in value) rest)) in (
             onto_then f sc s x.state y.state a.0 b.0,
             λ fin. (
               (λ h. refl),
               facts_node sc guard s y.state (Update site element root op of back old index value) (parts_of index ++ parts_of value) (conditions_in sc index ++ conditions_in sc value) (gives_in (Update site element root op of back old index value))
-              (λ action es z q. absurd (cc q)) (λ i g roots es q. absurd (cc q))
-              (facts_both sc sc guard s x.state y.state (parts_of index) (parts_of value) (conditions_in sc index) (conditions_in sc value) (gives_in index) (gives_in value) (gives_in (Update site element root op of back old index value)) (λ k h. h) a.0 b.0
-              (split_update site element root op of back old index value) (a.1 (final_before M f sc x.state y.state b.0 fin)).1 (b.1 fin).1),
+                  (λ action es z q. absurd (cc q)) (λ i g roots es q. absurd (cc q))
+                  (facts_both sc sc guard s x.state y.state (parts_of index) (parts_of value) (conditions_in sc index) (conditions_in sc value) (gives_in index) (gives_in value) (gives_in (Update site element root op of back old index value)) (λ k h. h) a.0 b.0
+                  (split_update site element root op of back old index value) (a.1 (final_before M f sc x.state y.state b.0 fin)).1 (b.1 fin).1),
             ),
           )
       seen_full (Choose site t a b) sc guard s ok apart =
@@ -367,45 +363,41 @@ module _ (program : Program) (M : ℕ → Key → Bool) (f : ℕ) where
           let apart2 : Apart f inner x.state sc ab = apart_right f inner x.state sc (sites_in t) ab (apart_under f guard x.state sc site ys x.varies apart1) in
           let ra = seen_full a sc inner x.state o.2 (apart_left f inner x.state sc (sites_in a) (sites_in b) apart2) in
           let rb = seen_full b sc inner y.state o.3 (apart_on f inner x.state y.state sc (sites_in b) ra.0 (apart_right f inner x.state sc (sites_in a) (sites_in b) apart2)) in
-          let both = onto_then f sc x.state y.state z.state ra.0 rb.0 in
-          (
+          let both = onto_then f sc x.state y.state z.state ra.0 rb.0 in (
             onto_then f sc s x.state z.state rt.0 both,
             λ fin.
-            let fy = final_before M f sc y.state z.state rb.0 fin in
-            let Ft = rt.1 (final_before M f sc x.state z.state both fin) in
-            let Fa = ra.1 fy in
-            let Fb = rb.1 fin in
-            let F2 = facts_both sc sc inner x.state y.state z.state (parts_of a) (parts_of b) (conditions_in sc a) (conditions_in sc b) (gives_in a) (gives_in b) there (λ k h. h) ra.0 rb.0 (split_arms sc t a b) Fa.1 Fb.1 in
-            let F3 = facts_condition sc guard site ys x.varies x.state z.state (parts_of a ++ parts_of b) c (conditions_in sc a ++ conditions_in sc b) there apart1 Ft.0 (λ k h. h) (λ k h. h) F2 in
-            let F4 = facts_both sc sc guard s x.state z.state (parts_of t) (parts_of a ++ parts_of b) (conditions_in sc t) (c ∷ (conditions_in sc a ++ conditions_in sc b)) (gives_in t) there (gives_in (Choose site t a b)) (λ k h. h) rt.0 both (split_choice sc site t a b) Ft.1 F3 in
-            (
-              (λ h. elim (either (by_marks t) _ h) [
-                | inl q ↦ or_left x.varies _ (Ft.0 q)
-                | inr h1 ↦ or_right x.varies _ (elim (either (by_marks a) (by_marks b) h1) [ inl q ↦ or_left y.varies z.varies (Fa.0 q) | inr q ↦ or_right y.varies z.varies (Fb.0 q) ])
-              ]),
-              facts_node sc guard s z.state (Choose site t a b) (parts_of t ++ (parts_of a ++ parts_of b)) (conditions_in sc (Choose site t a b)) (gives_in (Choose site t a b)) (λ action es w q. absurd (cc q)) (λ i g roots es q. absurd (cc q))
-              (facts_less sc guard s z.state (parts_of t ++ (parts_of a ++ parts_of b)) (parts_of t ++ (parts_of a ++ parts_of b)) (conditions_in sc t ++ (c ∷ (conditions_in sc a ++ conditions_in sc b))) (conditions_in sc (Choose site t a b)) (gives_in (Choose site t a b)) (gives_in (Choose site t a b))
-              (λ d m. m) (λ d m. swap c d (conditions_in sc t) (conditions_in sc a ++ conditions_in sc b) m) (λ k h. h) F4),
-            ),
+                let fy = final_before M f sc y.state z.state rb.0 fin in
+                let Ft = rt.1 (final_before M f sc x.state z.state both fin) in
+                let Fa = ra.1 fy in
+                let Fb = rb.1 fin in
+                let F2 = facts_both sc sc inner x.state y.state z.state (parts_of a) (parts_of b) (conditions_in sc a) (conditions_in sc b) (gives_in a) (gives_in b) there (λ k h. h) ra.0 rb.0 (split_arms sc t a b) Fa.1 Fb.1 in
+                let F3 = facts_condition sc guard site ys x.varies x.state z.state (parts_of a ++ parts_of b) c (conditions_in sc a ++ conditions_in sc b) there apart1 Ft.0 (λ k h. h) (λ k h. h) F2 in
+                let F4 = facts_both sc sc guard s x.state z.state (parts_of t) (parts_of a ++ parts_of b) (conditions_in sc t) (c ∷ (conditions_in sc a ++ conditions_in sc b)) (gives_in t) there (gives_in (Choose site t a b)) (λ k h. h) rt.0 both (split_choice sc site t a b) Ft.1 F3 in (
+                  (λ h. elim (either (by_marks t) _ h) [
+                    | inl q ↦ or_left x.varies _ (Ft.0 q)
+                    | inr h1 ↦ or_right x.varies _ (elim (either (by_marks a) (by_marks b) h1) [ inl q ↦ or_left y.varies z.varies (Fa.0 q) | inr q ↦ or_right y.varies z.varies (Fb.0 q) ])
+                  ]),
+                  facts_node sc guard s z.state (Choose site t a b) (parts_of t ++ (parts_of a ++ parts_of b)) (conditions_in sc (Choose site t a b)) (gives_in (Choose site t a b)) (λ action es w q. absurd (cc q)) (λ i g roots es q. absurd (cc q))
+                      (facts_less sc guard s z.state (parts_of t ++ (parts_of a ++ parts_of b)) (parts_of t ++ (parts_of a ++ parts_of b)) (conditions_in sc t ++ (c ∷ (conditions_in sc a ++ conditions_in sc b))) (conditions_in sc (Choose site t a b)) (gives_in (Choose site t a b)) (gives_in (Choose site t a b))
+                      (λ d m. m) (λ d m. swap c d (conditions_in sc t) (conditions_in sc a ++ conditions_in sc b) m) (λ k h. h) F4),
+                ),
           )
       seen_full (Call site g roots es) sc guard s ok apart =
           let o = good_call (InBody program f) (UnderBody program f) (BackBody program f) sc site g roots es ok in
           let after = seen_arguments fun (sp guard) g 0 es s in
-          let a = arguments_full es sc guard s g 0 o.1 (apart_rest f guard s sc site (sites_among es) apart) in
-          (
+          let a = arguments_full es sc guard s g 0 o.1 (apart_rest f guard s sc site (sites_among es) apart) in (
             a.0,
             λ fin.
-            let F = a.1 fin in
-            (
-              (λ h. fin.1 g Answer ∙ h),
-              facts_node sc guard s after (Call site g roots es) (parts_among es) (conditions_among sc es) (gives_in (Call site g roots es)) (λ action xs w q. absurd (cc q))
-              (λ site' g' roots' es' q ne n e at v.
-              let same : g ≡ g' = cc q in
-              let list : es ≡ es' = cc q in
-              let z : 0 + n ≡ n = omega arith in
-              subst (λ i. M i (Cell n) ≡ true) same (subst (λ i. M g (Cell i) ≡ true) z (F.0 n e (subst (λ xs. IsNth xs n e) (sym list) at) v (λ w. ne (sym same ∙ w)))))
-              (facts_less sc guard s after (parts_among es) (parts_among es) (conditions_among sc es) (conditions_among sc es) (gives_among es) (gives_in (Call site g roots es)) (λ d m. m) (λ d m. m) (call_gives site g roots es) F.1),
-            ),
+                let F = a.1 fin in (
+                  (λ h. fin.1 g Answer ∙ h),
+                  facts_node sc guard s after (Call site g roots es) (parts_among es) (conditions_among sc es) (gives_in (Call site g roots es)) (λ action xs w q. absurd (cc q))
+                      (λ site' g' roots' es' q ne n e at v.
+                      let same : g ≡ g' = cc q in
+                      let list : es ≡ es' = cc q in
+                      let z : 0 + n ≡ n = omega arith in
+                      subst (λ i. M i (Cell n) ≡ true) same (subst (λ i. M g (Cell i) ≡ true) z (F.0 n e (subst (λ xs. IsNth xs n e) (sym list) at) v (λ w. ne (sym same ∙ w)))))
+                      (facts_less sc guard s after (parts_among es) (parts_among es) (conditions_among sc es) (conditions_among sc es) (gives_among es) (gives_in (Call site g roots es)) (λ d m. m) (λ d m. m) (call_gives site g roots es) F.1),
+                ),
           )
 
       pub among_full : (es : Expressions) (sc : Scope) (guard : Option ℕ) (last : Bool) (r : Seen) → GA sc es → Apart f guard r.state sc (sites_among es)
@@ -421,19 +413,17 @@ module _ (program : Program) (M : ℕ → Key → Bool) (f : ℕ) where
           let next : Seen = record { varies = cond last x.varies (r.varies || x.varies); state = x.state } in
           let t = seen_among fun (sp guard) last rest next in
           let a = seen_full e sc guard r.state o.0 (apart_left f guard r.state sc (sites_in e) (sites_among rest) apart) in
-          let b = among_full rest sc guard last next o.1 (apart_on f guard r.state x.state sc (sites_among rest) a.0 (apart_right f guard r.state sc (sites_in e) (sites_among rest) apart)) in
-          (
+          let b = among_full rest sc guard last next o.1 (apart_on f guard r.state x.state sc (sites_among rest) a.0 (apart_right f guard r.state sc (sites_in e) (sites_among rest) apart)) in (
             onto_then f sc r.state x.state t.state a.0 b.0,
             λ fin.
-            let Fa = a.1 (final_before M f sc x.state t.state b.0 fin) in
-            let Fb = b.1 fin in
-            (
-              (
-                some_value last e rest r.varies x.varies t.varies Fa.0 Fb.0.0,
-                final_value guard last e rest r.varies x.varies x.state Fa.0 Fb.0.1,
-              ),
-              facts_both sc sc guard r.state x.state t.state (parts_of e) (parts_among rest) (conditions_in sc e) (conditions_among sc rest) (gives_in e) (gives_among rest) (gives_among (more e rest)) (λ k h. h) a.0 b.0 (split_more e rest) Fa.1 Fb.1,
-            ),
+                let Fa = a.1 (final_before M f sc x.state t.state b.0 fin) in
+                let Fb = b.1 fin in (
+                  (
+                    some_value last e rest r.varies x.varies t.varies Fa.0 Fb.0.0,
+                    final_value guard last e rest r.varies x.varies x.state Fa.0 Fb.0.1,
+                  ),
+                  facts_both sc sc guard r.state x.state t.state (parts_of e) (parts_among rest) (conditions_in sc e) (conditions_among sc rest) (gives_in e) (gives_among rest) (gives_among (more e rest)) (λ k h. h) a.0 b.0 (split_more e rest) Fa.1 Fb.1,
+                ),
           )
 
       arguments_full : (es : Expressions) (sc : Scope) (guard : Option ℕ) (s : State) (g n : ℕ) → GA sc es → Apart f guard s sc (sites_among es)
@@ -449,16 +439,14 @@ module _ (program : Program) (M : ℕ → Key → Bool) (f : ℕ) where
           let a = seen_full e sc guard s o.0 (apart_left f guard s sc (sites_in e) (sites_among rest) apart) in
           let p = pass_full sc guard g n x.varies x.state in
           let one = onto_then f sc s x.state u a.0 p.0 in
-          let b = arguments_full rest sc guard u g (suc n) o.1 (apart_on f guard s u sc (sites_among rest) one (apart_right f guard s sc (sites_in e) (sites_among rest) apart)) in
-          (
+          let b = arguments_full rest sc guard u g (suc n) o.1 (apart_on f guard s u sc (sites_among rest) one (apart_right f guard s sc (sites_in e) (sites_among rest) apart)) in (
             onto_then f sc s u t one b.0,
             λ fin.
-            let fu = final_before M f sc u t b.0 fin in
-            let Fa = a.1 (final_before M f sc x.state u p.0 fu) in
-            let Fb = b.1 fin in
-            (
-              argument_marks n g e rest (λ v ne. p.1 fu (Fa.0 v) ne) Fb.0,
-              facts_both sc sc guard s u t (parts_of e) (parts_among rest) (conditions_in sc e) (conditions_among sc rest) (gives_in e) (gives_among rest) (gives_among (more e rest)) (λ k h. h) one b.0 (split_more e rest)
-              (facts_on sc guard s x.state u (parts_of e) (conditions_in sc e) (gives_in e) p.0 Fa.1) Fb.1,
-            ),
+                let fu = final_before M f sc u t b.0 fin in
+                let Fa = a.1 (final_before M f sc x.state u p.0 fu) in
+                let Fb = b.1 fin in (
+                  argument_marks n g e rest (λ v ne. p.1 fu (Fa.0 v) ne) Fb.0,
+                  facts_both sc sc guard s u t (parts_of e) (parts_among rest) (conditions_in sc e) (conditions_among sc rest) (gives_in e) (gives_among rest) (gives_among (more e rest)) (λ k h. h) one b.0 (split_more e rest)
+                      (facts_on sc guard s x.state u (parts_of e) (conditions_in sc e) (gives_in e) p.0 Fa.1) Fb.1,
+                ),
           )

@@ -1,11 +1,11 @@
 -- Scopes of the text: what is not in scope is not assigned, what is in scope is not declared again, and where all assignments of a variable stand.
-use Rattle.std.proofs.Common.{◌≡◌, ◌≢◌, ℕ, zero, suc, ◌+◌, ◌≤◌, ℤ, Bool, true, false, ◌||◌, cond, nat_eq, List, [], ◌∷◌, ◌++◌, Option, Some, None, ◌⊎◌, inl, inr, refl, sym, ap, ◌∙◌, subst, arith}
+use Rattle.std.proofs.Common.{◌≡◌, ℕ, zero, suc, ◌+◌, ◌≤◌, ℤ, Bool, true, false, ◌||◌, cond, nat_eq, List, ◌++◌, Option, Some, None, ◌⊎◌, inl, inr, refl, sym, ap, ◌∙◌, subst, arith}
 use Rattle.std.proofs.lemmas.Bool.{eqb-true, eq-eqb}
 use Rattle.cl_model.specs.Tree.{Action, Literal, Variable, Unary, Binary, Builtin, Convert, Ask, Second, Truth, Decided, Set, Change, Load, Store, Expression, Apply, Update, Choose, Call, Expressions, none, more, Statement, Do, Declare, Fill, Block, If, Loop, Switch, Break, Continue, Return, Barrier, Statements, empty, also, Arms, no_arm, arm}
 use Rattle.cl_model.specs.Lists.{IsOneOf}
 use Rattle.cl_model.specs.Valid.{Scope, Has, ActionNames, NamesIn, NamesAmong, NamesInOptional, scope_after, IsScopedList, AreScopedArms, declarations, all_declarations, arms_declarations}
 use Rattle.cl_model.specs.Varying.{Condition, sets, assigns_in, assigns_among, assigns_in_optional, assigns, some_assigns, arms_assign, conditions_in, conditions_among, conditions_in_optional}
-use Rattle.cl_agreement.proofs.Keeps.{true_or_false, not_true, Cell, Sound, sound_list, branch_scoped, body_sound, has_after}
+use Rattle.cl_agreement.proofs.Keeps.{not_true, Cell, Sound, sound_list, branch_scoped, body_sound, has_after}
 use Rattle.cl_agreement.proofs.Nesting.{in_either}
 use Rattle.varying_laws.proofs.Sound.{either}
 
@@ -164,13 +164,13 @@ pub cover_part : (sc : Scope) (everywhere there part others : ℕ → Bool) (cou
 cover_part sc everywhere there part others count here elsewhere sum split novel outside c = record {
   one = λ y. let s = sum y in let o = c.one y in omega (arith, s, o);
   all = λ y ne b.
-  let s = sum y in
-  let o = c.one y in
-  let p = at_least_one (here y) ne in
-  elim (split y (c.all y (λ z. ne (omega (arith, s, z))) b)) [
-    | inl h ↦ h
-    | inr h ↦ let f = outside y ne (λ has. ne (novel y has)) (omega (arith, s, o, p)) in let q : true ≡ false = sym h ∙ f in cc q
-  ];
+      let s = sum y in
+      let o = c.one y in
+      let p = at_least_one (here y) ne in
+      elim (split y (c.all y (λ z. ne (omega (arith, s, z))) b)) [
+        | inl h ↦ h
+        | inr h ↦ let f = outside y ne (λ has. ne (novel y has)) (omega (arith, s, o, p)) in let q : true ≡ false = sym h ∙ f in cc q
+      ];
 }
 
 -- how often a statement declares a variable in a list of its own

@@ -1,9 +1,9 @@
 -- What is known of a variable or a result, and what a change of an entry leaves.
-use Rattle.std.proofs.Common.{◌≡◌, ◌≢◌, ℕ, zero, suc, Bool, true, false, ◌||◌, ◌&&◌, not, nat_eq, List, [], ◌∷◌, Option, Some, None, map, set, slice_get, unwrap_or, ◌⊎◌, inl, inr, refl, sym, ap, ◌∙◌, subst}
+use Rattle.std.proofs.Common.{◌≡◌, ◌≢◌, ℕ, zero, suc, true, false, nat_eq, List, [], ◌∷◌, Option, Some, None, set, slice_get, unwrap_or, ◌⊎◌, inl, inr, refl, sym, ap, ◌∙◌, subst}
 use Rattle.std.proofs.lemmas.Bool.{eqb-true, eq-eqb}
-use Rattle.std.proofs.lemmas.Option.{none-some, same_Some}
+use Rattle.std.proofs.lemmas.Option.{none-some}
 use Rattle.diverge.specs.declared.known.Entry.{Entry}
-use Rattle.diverge.specs.Known.{Row, State, absent, entry_in, result_in, variable_at, result_at, change_row, with_entry, with_result_entry, with_variable, with_result, grows}
+use Rattle.diverge.specs.Known.{Row, State, absent, entry_in, result_in, variable_at, result_at, change_row, with_entry, with_result_entry, with_variable, with_result}
 use Rattle.cl_agreement.proofs.Keeps.{true_or_false, Key, Answer, Cell}
 
 -- what is known of it, if it is there

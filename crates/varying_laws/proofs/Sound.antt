@@ -1,26 +1,26 @@
 -- What the analysis marks varies: a round over code of a function keeps that marks stay within what varies.
-use Rattle.std.proofs.Common.{◌≡◌, ◌≢◌, ℕ, zero, suc, ◌+◌, ◌<◌, length, ℤ, Bool, true, false, ◌||◌, ◌&&◌, not, cond, nat_eq, List, [], ◌∷◌, Option, Some, None, slice_get, unwrap_or, ◌⊎◌, inl, inr, refl, sym, ap, ◌∙◌, subst, arith}
-use Rattle.std.proofs.lemmas.Bool.{eqb-true, eq-eqb}
+use Rattle.std.proofs.Common.{◌≡◌, ◌≢◌, ℕ, suc, ◌+◌, ◌<◌, length, Bool, true, false, ◌||◌, not, cond, nat_eq, List, [], ◌∷◌, Option, Some, None, slice_get, unwrap_or, ◌⊎◌, inl, inr, refl, sym, ap, ◌∙◌, subst, arith}
+use Rattle.std.proofs.lemmas.Bool.{eq-eqb}
 use Rattle.std.proofs.lemmas.Option.{none-some, same_Some, slice_get_within}
 use Rattle.wg_num.specs.declared.types.IntType.{IntType}
 use Rattle.cl_model.specs.declared.program.Root.{Root}
-use Rattle.cl_model.specs.Tree.{Action, Literal, Variable, Unary, Binary, Builtin, Convert, Ask, Second, Truth, Decided, Set, Change, Load, Store, Expression, Apply, Update, Choose, Call, Expressions, none, more, single, Statement, Do, Declare, Fill, Block, If, Loop, Switch, Break, Continue, Return, Barrier, Statements, empty, also, Arms, no_arm, arm, Function, Program}
+use Rattle.cl_model.specs.Tree.{Action, Literal, Variable, Unary, Binary, Builtin, Convert, Ask, Second, Truth, Decided, Set, Change, Load, Store, Expression, Apply, Update, Choose, Call, Expressions, none, more, Statement, Do, Declare, Fill, Block, If, Loop, Switch, Break, Continue, Return, Barrier, Statements, Arms, Function, Program}
 use Rattle.cl_model.specs.Lists.{IsOneOf}
 use Rattle.cl_model.specs.Calls.{function_at, no_function}
-use Rattle.cl_model.specs.Valid.{Scope, Has, ActionNames, HasType, HaveTypes, ActionFits, scope_after, IsValid}
-use Rattle.cl_model.specs.Varying.{Condition, some_exits, arms_exit, exits, some_returns, some_assigns, assigns_in, IsAmong, IsNth, is_own, is_constant_root, is_store, expressions_of_list, AVariable, AResult, AnExpression, Varies, own_id, loaded, named, operand, stored, updated, tested, chosen, otherwise, called, passed, returning, return_under, return_beside, assigned, assigned_under, exit_under}
+use Rattle.cl_model.specs.Valid.{Scope, Has, ActionNames, HaveTypes, ActionFits, scope_after, IsValid}
+use Rattle.cl_model.specs.Varying.{Condition, exits, assigns_in, IsAmong, IsNth, is_store, expressions_of_list, own_id, loaded, named, operand, stored, updated, tested, chosen, otherwise, called, passed, return_under, return_beside, assigned, assigned_under, exit_under}
 use Rattle.diverge.specs.declared.known.Entry.{Entry}
 use Rattle.diverge.specs.declared.known.Spot.{Spot}
 use Rattle.diverge.specs.declared.known.Ways.{Ways}
 use Rattle.diverge.specs.Known as known
 use Rattle.diverge.specs.Known.{State, absent, variable_at, result_at, with_variable, same_guard, assign, declare, pass, give, leave, under, behind}
-use Rattle.diverge.specs.Rounds.{Seen, varies_itself, settled, seen_in, seen_among, seen_arguments, seen_optional, unseen, closed, gone_over, gone_over_all, gone_over_arms}
-use Rattle.cl_agreement.proofs.Keeps.{true_or_false, or_left, or_right, neither, not_true, Key, Answer, Cell, HasKey, sets_key, gives_in, gives_among, gives_optional, gives, some_give, arms_give, quiet_apply, quiet_more, quiet_choose, quiet_update, quiet_call, quiet_if, quiet_loop, quiet_switch, quiet_do, quiet_declare, quiet_fill, quiet_block, quiet_return, quiet_also, quiet_arm, has_after, declared_other}
-use Rattle.cl_agreement.proofs.Parts.{Good, GoodAll, GoodOptional, GoodRun, GoodList, GoodArms, TurnUnder, good_apply, good_more, good_update, good_choose, good_call, good_do, good_declare, good_fill, good_block, good_if, good_loop, good_switch, good_return, good_also, good_arm, choice_condition, if_condition, turn_condition, switch_condition}
+use Rattle.diverge.specs.Rounds.{Seen, varies_itself, settled, seen_in, seen_among, seen_arguments, seen_optional, gone_over}
+use Rattle.cl_agreement.proofs.Keeps.{neither, Key, Answer, Cell, HasKey, sets_key, gives_in, gives_among, gives_optional, some_give, quiet_apply, quiet_more, quiet_choose, quiet_update, quiet_call}
+use Rattle.cl_agreement.proofs.Parts.{Good, GoodAll, GoodOptional, GoodRun, GoodList, GoodArms, good_apply, good_more, good_update, good_choose, good_call, choice_condition}
 use Rattle.cl_agreement.proofs.Values.{InBody, UnderBody, BackBody, V, VKey, cond_gives}
 use Rattle.cl_agreement.proofs.Endings.{Part}
 use Rattle.cl_agreement.proofs.Nesting.{typed_of_all, typed_body}
-use Rattle.varying_laws.proofs.Slots.{slot, entry, with_key, entry_is, same_number, changed, changed_slot}
+use Rattle.varying_laws.proofs.Slots.{slot, entry, with_key, entry_is, changed, changed_slot}
 
 pub either : (a b : Bool) → (a || b) ≡ true → (a ≡ true) ⊎ (b ≡ true)
 either true b h = inl refl
@@ -156,16 +156,16 @@ module _ (program : Program) (valid : IsValid program) (f : ℕ) where
   assigned_sound sc guard k varies s there sound g has on part value rule now is old at =
       let e : now ≡ known.assigned guard varies old = is ∙ ap (known.assigned guard varies) (entry_some s f k old at) in (
         λ v.
-        elim (either old.varies (varies || not (same_guard old.since guard)) (sym (ap (λ (x : Entry). x.varies) e) ∙ v)) [
-          | inl y ↦ (sound.0 f k old at).0 y
-          | inr y ↦ elim (either varies (not (same_guard old.since guard)) y) [
-            | inl z ↦ value z
-            | inr z ↦ elim (g k has old at) [
-              | inl q ↦ absurd (let w : false ≡ true = sym (not_false _ z) ∙ ap (λ o. same_guard o guard) q ∙ same_guard_self guard in cc)
-              | inr (c, u, vc, i, q) ↦ rule c u vc i (turned (there k) (cond_gives program f c k) q on)
-            ]
-          ]
-        ],
+            elim (either old.varies (varies || not (same_guard old.since guard)) (sym (ap (λ (x : Entry). x.varies) e) ∙ v)) [
+              | inl y ↦ (sound.0 f k old at).0 y
+              | inr y ↦ elim (either varies (not (same_guard old.since guard)) y) [
+                | inl z ↦ value z
+                | inr z ↦ elim (g k has old at) [
+                  | inl q ↦ absurd (let w : false ≡ true = sym (not_false _ z) ∙ ap (λ o. same_guard o guard) q ∙ same_guard_self guard in cc)
+                  | inr (c, u, vc, i, q) ↦ rule c u vc i (turned (there k) (cond_gives program f c k) q on)
+                ]
+              ]
+            ],
         λ _. turned (there k) (some_give fn.body k) (part k) on,
       )
 
@@ -183,7 +183,7 @@ module _ (program : Program) (valid : IsValid program) (f : ℕ) where
   set_sound sc guard x action es r inside on has sound g part v =
       let now : Entry = known.assigned guard r.varies (variable_at r.state f x) in (
         sound_change program f (Cell x) now r.state sound
-        (assigned_sound sc guard (Cell x) r.varies r.state (sets_key action) sound g has on part (λ y. assigned inside on (v y)) (under_rule (Cell x)) now refl),
+            (assigned_sound sc guard (Cell x) r.varies r.state (sets_key action) sound g has on part (λ y. assigned inside on (v y)) (under_rule (Cell x)) now refl),
         since_change f sc f (Cell x) now r.state (λ old at. ap (λ (o : Entry). o.since) (entry_some r.state f (Cell x) old at)),
       )
 
@@ -357,7 +357,7 @@ module _ (program : Program) (valid : IsValid program) (f : ℕ) where
         let first : Seen = record { varies = varies_itself fn (spot guard) action s; state = s } in
         let there : (x : ℕ) → action ≡ Variable x → (old : Entry) × (slot s f (Cell x) ≡ Some old) = λ x q. names_there s sound.1 x es (subst (λ a. InBody program f (Apply a es)) q o.0) in
         let r = among_sound es sc guard (is_store action) first (Apply action es) o.1 (λ k un. (quiet_apply action es k (part k un)).1) sound (guarded_part s sc guard (gives_in (Apply action es)) (gives_among es) (λ k un. (quiet_apply action es k un).1) g)
-            (λ _ h. itself_sound guard action es s sound there h) (counts_rule action es o.0) in
+        (λ _ h. itself_sound guard action es s sound there h) (counts_rule action es o.0) in
         let after = seen_among fn (spot guard) (is_store action) es first in
         let z = settle_sound sc guard action es after o.0 o.2 r.0.0 (guarded_on s after.state sc guard (sets_key action) r.0.1 (guarded_part s sc guard (gives_in (Apply action es)) (sets_key action) (λ k un. (quiet_apply action es k un).0) g)) (λ k un. (quiet_apply action es k (part k un)).0) r.1 in
         (kept_then sc s after.state (settled (spot guard) action after).state r.0 z.0, z.1)
@@ -378,10 +378,9 @@ module _ (program : Program) (valid : IsValid program) (f : ℕ) where
         let inner : Option ℕ = cond x.varies (Some site) guard in
         let y = seen_in fn (spot inner) a x.state in
         let ra = seen_sound a sc inner x.state o.2 (λ k un. (quiet k (part k un)).1) rt.0.0
-            (under_guarded x.state sc guard (gives_in (Choose site t a b)) (gives_in a) site x.varies c o.0 (λ k h. h) rt.1 (λ k un. (choice_quiet sc t a b k un).0) (λ k un. (quiet k un).1) g1) in
+        (under_guarded x.state sc guard (gives_in (Choose site t a b)) (gives_in a) site x.varies c o.0 (λ k h. h) rt.1 (λ k un. (choice_quiet sc t a b k un).0) (λ k un. (quiet k un).1) g1) in
         let rb = seen_sound b sc inner y.state o.3 (λ k un. (quiet k (part k un)).2) ra.0.0
-            (guarded_on x.state y.state sc inner (gives_in b) ra.0.1 (under_guarded x.state sc guard (gives_in (Choose site t a b)) (gives_in b) site x.varies c o.0 (λ k h. h) rt.1 (λ k un. (choice_quiet sc t a b k un).1) (λ k un. (quiet k un).2) g1)) in
-        (
+        (guarded_on x.state y.state sc inner (gives_in b) ra.0.1 (under_guarded x.state sc guard (gives_in (Choose site t a b)) (gives_in b) site x.varies c o.0 (λ k h. h) rt.1 (λ k un. (choice_quiet sc t a b k un).1) (λ k un. (quiet k un).2) g1)) in (
           kept_then sc s x.state (seen_in fn (spot inner) b y.state).state rt.0 (kept_then sc x.state y.state (seen_in fn (spot inner) b y.state).state ra.0 rb.0),
           λ h. elim (either x.varies _ h) [
             | inl v ↦ tested (rt.1 v)
@@ -391,12 +390,11 @@ module _ (program : Program) (valid : IsValid program) (f : ℕ) where
     seen_sound (Call site h roots es) sc guard s ok part sound g =
         let o = good_call (InBody program f) (UnderBody program f) (BackBody program f) sc site h roots es ok in
         let r = arguments_sound es sc guard s h 0 o.1 (λ k un. quiet_call site h roots es k (part k un)) sound (guarded_part s sc guard _ (gives_among es) (λ k un. quiet_call site h roots es k un) g)
-            (λ j e at v ne. let z : j ≡ 0 + j = omega arith in subst (λ i. VKey program h (Cell i)) z (passed site roots es ne o.0 at v)) in
-        let after = seen_arguments fn (spot guard) h 0 es s in
-        (
+        (λ j e at v ne. let z : j ≡ 0 + j = omega arith in subst (λ i. VKey program h (Cell i)) z (passed site roots es ne o.0 at v)) in
+        let after = seen_arguments fn (spot guard) h 0 es s in (
           r,
           λ v. let (old, at) = callee_there after r.0.1 site h roots es o.0 in
-          called ((r.0.0 h Answer old at).0 (sym (ap (λ (e : Entry). e.varies) (entry_some after h Answer old at)) ∙ v)),
+              called ((r.0.0 h Answer old at).0 (sym (ap (λ (e : Entry). e.varies) (entry_some after h Answer old at)) ∙ v)),
         )
 
     pub among_sound : (es : Expressions) (sc : Scope) (guard : Option ℕ) (last : Bool) (r : Seen) (whole : Expression) → GA sc es → Part program f (gives_among es) → IsSound program r.state → Guarded r.state sc guard (gives_among es)
@@ -409,8 +407,8 @@ module _ (program : Program) (valid : IsValid program) (f : ℕ) where
         let x = seen_in fn (spot guard) e r.state in
         let next : Seen = record { varies = cond last x.varies (r.varies || x.varies); state = x.state } in
         let b = among_sound rest sc guard last next whole o.1 (λ k un. (quiet_more e rest k (part k un)).1) a.0.0
-            (guarded_on r.state x.state sc guard (gives_among rest) a.0.1 (guarded_part r.state sc guard _ (gives_among rest) (λ k un. (quiet_more e rest k un).1) g))
-            (operand_varies (V program f whole) last e rest r.varies x.varies old a.1 rule) (λ d c v. rule d (among_later last e rest d c) v) in
+        (guarded_on r.state x.state sc guard (gives_among rest) a.0.1 (guarded_part r.state sc guard _ (gives_among rest) (λ k un. (quiet_more e rest k un).1) g))
+        (operand_varies (V program f whole) last e rest r.varies x.varies old a.1 rule) (λ d c v. rule d (among_later last e rest d c) v) in
         (kept_then sc r.state x.state (seen_among fn (spot guard) last rest next).state a.0 b.0, b.1)
 
     arguments_sound : (es : Expressions) (sc : Scope) (guard : Option ℕ) (s : State) (h n : ℕ) → GA sc es → Part program f (gives_among es) → IsSound program s → Guarded s sc guard (gives_among es)
@@ -424,8 +422,8 @@ module _ (program : Program) (valid : IsValid program) (f : ℕ) where
         let p = pass_sound sc guard h n x.varies x.state a.0.0 (λ v ne. subst (λ i. VKey program h (Cell i)) zero_more (rule 0 e refl (a.1 v) ne)) in
         let t = pass (spot guard) h n x.varies x.state in
         let b = arguments_sound rest sc guard t h (suc n) o.1 (λ k un. (quiet_more e rest k (part k un)).1) p.0
-            (guarded_on s t sc guard (gives_among rest) (since_then f sc s x.state t a.0.1 p.1) (guarded_part s sc guard _ (gives_among rest) (λ k un. (quiet_more e rest k un).1) g))
-            (λ j d at v ne. let q : n + suc j ≡ suc n + j = omega arith in subst (λ i. VKey program h (Cell i)) q (rule (suc j) d at v ne)) in
+        (guarded_on s t sc guard (gives_among rest) (since_then f sc s x.state t a.0.1 p.1) (guarded_part s sc guard _ (gives_among rest) (λ k un. (quiet_more e rest k un).1) g))
+        (λ j d at v ne. let q : n + suc j ≡ suc n + j = omega arith in subst (λ i. VKey program h (Cell i)) q (rule (suc j) d at v ne)) in
         kept_then sc s t (seen_arguments fn (spot guard) h (suc n) rest t) (kept_then sc s x.state t a.0 p) b
 
   pub optional_sound : (e : Option Expression) (sc : Scope) (guard : Option ℕ) (s : State) → GO sc e → Part program f (gives_optional e) → IsSound program s → Guarded s sc guard (gives_optional e)
@@ -453,14 +451,14 @@ module _ (program : Program) (valid : IsValid program) (f : ℕ) where
   pub leave_sound : (sc : Scope) (k : Key) (s : State) → IsSound program s → Escape sc → HasKey sc k → (now : Entry) → now ≡ known.left (entry s f k) → Kept sc s (with_key f k now s)
   leave_sound sc k s sound (c, u, v, out, inside) has now is = (
     sound_change program f k now s sound
-    (λ old at.
-    let e : now ≡ known.left old = is ∙ ap known.left (entry_some s f k old at) in (
-      λ y. elim (either old.varies old.assigned (sym (ap (λ (x : Entry). x.varies) e) ∙ y)) [
-        | inl z ↦ (sound.0 f k old at).0 z
-        | inr z ↦ beside_rule k c u v (inside k has) out ((sound.0 f k old at).1 z)
-      ],
-      λ y. (sound.0 f k old at).1 (sym (ap (λ (x : Entry). x.assigned) e) ∙ y),
-    )),
+        (λ old at.
+        let e : now ≡ known.left old = is ∙ ap known.left (entry_some s f k old at) in (
+          λ y. elim (either old.varies old.assigned (sym (ap (λ (x : Entry). x.varies) e) ∙ y)) [
+            | inl z ↦ (sound.0 f k old at).0 z
+            | inr z ↦ beside_rule k c u v (inside k has) out ((sound.0 f k old at).1 z)
+          ],
+          λ y. (sound.0 f k old at).1 (sym (ap (λ (x : Entry). x.assigned) e) ∙ y),
+        )),
     since_change f sc f k now s (λ old at. ap (λ (x : Entry). x.since) is ∙ ap (λ (x : Entry). x.since) (entry_some s f k old at)),
   )
 

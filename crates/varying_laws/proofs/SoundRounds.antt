@@ -1,30 +1,30 @@
 -- What the analysis marks varies: rounds over statements, functions and the program.
-use Rattle.std.proofs.Common.{◌≡◌, ◌≢◌, ℕ, zero, suc, ◌+◌, ◌<◌, ◌≤◌, length, ℤ, Bool, true, false, ◌||◌, not, cond, List, [], ◌∷◌, Option, Some, None, map, replicate, slice_get, unwrap_or, ◌⊎◌, inl, inr, refl, sym, ap, ◌∙◌, subst, arith}
+use Rattle.std.proofs.Common.{◌≡◌, ℕ, zero, suc, ◌+◌, ◌<◌, ◌≤◌, length, Bool, true, false, ◌||◌, cond, List, [], ◌∷◌, Option, Some, None, map, replicate, slice_get, unwrap_or, ◌⊎◌, inl, inr, refl, sym, ap, ◌∙◌, subst, arith}
 use Rattle.std.proofs.Math.Nat.{eq-or-lt_of_le}
 use Rattle.std.proofs.lemmas.Bool.{eq-eqb}
-use Rattle.std.proofs.lemmas.Option.{none-some, same_Some, slice_get_within}
-use Rattle.cl_model.specs.Tree.{Expression, Apply, Set, Second, Expressions, single, Statement, Do, Declare, Fill, Block, If, Loop, Switch, Break, Continue, Return, Barrier, Statements, empty, also, Arms, no_arm, arm, Function, Program}
+use Rattle.std.proofs.lemmas.Option.{none-some, same_Some}
+use Rattle.cl_model.specs.Tree.{Expression, Apply, Second, Statement, Do, Declare, Fill, Block, If, Loop, Switch, Break, Continue, Return, Barrier, Statements, empty, also, Arms, no_arm, arm, Function, Program}
 use Rattle.cl_model.specs.Calls.{function_at, no_function}
 use Rattle.cl_model.specs.Valid.{Scope, Has, scope_after, numbers_below, IsValid}
-use Rattle.cl_model.specs.Varying.{Condition, some_exits, arms_exit, exits, returns, some_returns, some_assigns, AVariable, AResult, Varies, operand, returning, assigned}
+use Rattle.cl_model.specs.Varying.{Condition, some_exits, arms_exit, exits, some_returns, some_assigns, AResult, Varies, operand, returning, assigned}
 use Rattle.diverge.specs.declared.known.Entry.{Entry}
 use Rattle.diverge.specs.declared.known.Ways.{Ways}
 use Rattle.diverge.specs.Known as known
 use Rattle.diverge.specs.Known.{State, variable_at, result_at, with_variable, with_result, leave, leave_result, behind, joined}
-use Rattle.diverge.specs.Rounds.{Seen, seen_in, seen_among, seen_optional, unseen, closed, Gone, gone_over, gone_over_all, gone_over_arms, parameters_left, over_function, over_functions, round, rounds, start, start_row, known_of, round_limit}
+use Rattle.diverge.specs.Rounds.{Seen, seen_in, seen_optional, unseen, closed, Gone, gone_over, gone_over_all, gone_over_arms, parameters_left, over_function, over_functions, round, rounds, start, start_row, known_of, round_limit}
 use Rattle.cl_agreement.proofs.Keeps.{or_left, or_right, neither, Key, Answer, Cell, HasKey, gives_in, gives_among, gives_optional, gives, some_give, arms_give, quiet_if, quiet_loop, quiet_switch, quiet_do, quiet_declare, quiet_fill, quiet_block, quiet_return, quiet_also, quiet_arm, has_after}
 use Rattle.cl_agreement.proofs.Parts.{GoodRun, GoodList, GoodArms, TurnUnder, good_do, good_declare, good_fill, good_block, good_if, good_loop, good_switch, good_return, good_also, good_arm, if_condition, turn_condition, switch_condition}
 use Rattle.cl_agreement.proofs.Values.{InBody, UnderBody, BackBody, V, VKey, cond_gives}
 use Rattle.cl_agreement.proofs.Endings.{Part}
 use Rattle.cl_agreement.proofs.Nesting.{scoped_body}
-use Rattle.varying_laws.proofs.Slots.{slot, slot_in, entry, with_key}
-use Rattle.varying_laws.proofs.Sound.{either, entry_some, Marks, There, IsSound, Exists, sound_change, SinceKept, since_same, since_then, since_change, since_declared, fn, spot, Guarded, guarded_part, guarded_on, under_guarded, assigned_sound, under_rule, Kept, kept_then, seen_sound, among_sound, optional_sound, Escape, leave_sound, Gone', behind_escapes, behind_guarded}
+use Rattle.varying_laws.proofs.Slots.{slot, slot_in}
+use Rattle.varying_laws.proofs.Sound.{either, entry_some, IsSound, Exists, sound_change, SinceKept, since_same, since_then, since_change, since_declared, fn, spot, Guarded, guarded_part, guarded_on, under_guarded, assigned_sound, under_rule, Kept, kept_then, seen_sound, among_sound, optional_sound, Escape, leave_sound, behind_escapes, behind_guarded}
 
 module _ (program : Program) (valid : IsValid program) (f : ℕ) where
   abbrev GR : Scope → Statement → Type 0
   GR = GoodRun (InBody program f) (UnderBody program f) (BackBody program f)
 
-  abbrev GL : Scope → Statements → Type 0
+  abbrev pub GL : Scope → Statements → Type 0
   GL = GoodList (InBody program f) (UnderBody program f) (BackBody program f)
 
   abbrev GM : Scope → Arms → Type 0
@@ -36,7 +36,7 @@ module _ (program : Program) (valid : IsValid program) (f : ℕ) where
   abbrev K : Scope → State → State → Type 0
   K = Kept program valid f
 
-  abbrev own : Function
+  abbrev pub own : Function
   own = fn program valid f
 
   if_quiet : (sc : Scope) (t : Expression) (a b : Statements) (k : Key) → cond_gives program f (if_condition sc t a b) k ≡ false → (some_give a k ≡ false) × (some_give b k ≡ false)
@@ -105,11 +105,11 @@ module _ (program : Program) (valid : IsValid program) (f : ℕ) where
   declare_sound sc guard y v ne sound value =
       let now : Entry = known.declared guard v.varies (variable_at v.state f y) in (
         sound_change program f (Cell y) now v.state sound
-        (λ old at.
-        let e : variable_at v.state f y ≡ old = entry_some v.state f (Cell y) old at in (
-          λ h. elim (either old.varies v.varies (sym (ap (λ (x : Entry). x.varies || v.varies) e) ∙ h)) [ inl z ↦ (sound.0 f (Cell y) old at).0 z | inr z ↦ value z ],
-          λ h. (sound.0 f (Cell y) old at).1 (sym (ap (λ (x : Entry). x.assigned) e) ∙ h),
-        )),
+            (λ old at.
+            let e : variable_at v.state f y ≡ old = entry_some v.state f (Cell y) old at in (
+              λ h. elim (either old.varies v.varies (sym (ap (λ (x : Entry). x.varies || v.varies) e) ∙ h)) [ inl z ↦ (sound.0 f (Cell y) old at).0 z | inr z ↦ value z ],
+              λ h. (sound.0 f (Cell y) old at).1 (sym (ap (λ (x : Entry). x.assigned) e) ∙ h),
+            )),
         since_declared f sc y now v.state ne,
       )
 
@@ -134,7 +134,7 @@ module _ (program : Program) (valid : IsValid program) (f : ℕ) where
         (kept_then program valid f sc s v.state (known.declare (spot program valid f guard) y v.varies v.state) r.0 d, (λ h. cc h), λ h. cc h)
     gone_sound (Fill site array es) sc guard s ok part sound g =
         let r = among_sound program valid f es sc guard false (unseen s) (Apply Second es) (good_fill (InBody program f) (UnderBody program f) (BackBody program f) sc site array es ok) (λ k un. quiet_fill site array es k (part k un)) sound
-            (guarded_part program valid f s sc guard (gives (Fill site array es)) (gives_among es) (quiet_fill site array es) g) (λ _ h. cc h) (λ e c v. operand refl c v) in
+        (guarded_part program valid f s sc guard (gives (Fill site array es)) (gives_among es) (quiet_fill site array es) g) (λ _ h. cc h) (λ e c v. operand refl c v) in
         (r.0, (λ h. cc h), λ h. cc h)
     gone_sound (Block list) sc guard s ok part sound g =
         all_sound list sc guard s (good_block (InBody program f) (UnderBody program f) (BackBody program f) sc list ok) (λ k un. quiet_block list k (part k un)) sound (guarded_part program valid f s sc guard (gives (Block list)) (some_give list) (quiet_block list) g)
@@ -149,12 +149,11 @@ module _ (program : Program) (valid : IsValid program) (f : ℕ) where
         let y = gone_over_all own (spot program valid f inner) a x.state in
         let z = gone_over_all own (spot program valid f inner) b y.state in
         let ra = all_sound a sc inner x.state o.2 (λ k un. (quiet k (part k un)).1) rt.0.0
-            (under_guarded program valid f x.state sc guard (gives (If site t a b)) (some_give a) site x.varies c o.0 (λ k h. h) rt.1 (λ k un. (if_quiet sc t a b k un).0) (λ k un. (quiet k un).1) g1) in
+        (under_guarded program valid f x.state sc guard (gives (If site t a b)) (some_give a) site x.varies c o.0 (λ k h. h) rt.1 (λ k un. (if_quiet sc t a b k un).0) (λ k un. (quiet k un).1) g1) in
         let rb = all_sound b sc inner y.state o.3 (λ k un. (quiet k (part k un)).2) ra.0.0
-            (guarded_on program valid f x.state y.state sc inner (some_give b) ra.0.1 (under_guarded program valid f x.state sc guard (gives (If site t a b)) (some_give b) site x.varies c o.0 (λ k h. h) rt.1 (λ k un. (if_quiet sc t a b k un).1) (λ k un. (quiet k un).2) g1)) in
+        (guarded_on program valid f x.state y.state sc inner (some_give b) ra.0.1 (under_guarded program valid f x.state sc guard (gives (If site t a b)) (some_give b) site x.varies c o.0 (λ k h. h) rt.1 (λ k un. (if_quiet sc t a b k un).1) (λ k un. (quiet k un).2) g1)) in
         let out : (joined y.ways z.ways).exits ≡ true → some_exits a || some_exits b ≡ true =
-            λ h. elim (either y.ways.exits z.ways.exits h) [ inl q ↦ or_left (some_exits a) (some_exits b) (ra.1 q) | inr q ↦ or_right (some_exits a) (some_exits b) (rb.1 q) ] in
-        (
+        λ h. elim (either y.ways.exits z.ways.exits h) [ inl q ↦ or_left (some_exits a) (some_exits b) (ra.1 q) | inr q ↦ or_right (some_exits a) (some_exits b) (rb.1 q) ] in (
           kept_then program valid f sc s x.state z.state rt.0 (kept_then program valid f sc x.state y.state z.state ra.0 rb.0),
           out,
           behind_escapes program valid f sc c x.varies (joined y.ways z.ways) o.0 (λ k h. h) rt.1 out (λ h. elim (either y.ways.escapes z.ways.escapes h) [ inl q ↦ ra.2 q | inr q ↦ rb.2 q ]),
@@ -174,8 +173,7 @@ module _ (program : Program) (valid : IsValid program) (f : ℕ) where
         let r3 = optional_sound program valid f st sc inner x2.state o.2 (λ k un. (quiet k (part k un)).1) r2.0.0 (guarded_part program valid f x2.state sc inner all (gives_optional st) (λ k un. (quiet k un).1) g2) in
         let g3 = guarded_on program valid f x2.state x3.state sc inner all r3.0.1 g2 in
         let y = gone_over own (spot program valid f inner) b x3.state in
-        let r4 = gone_sound b sc inner x3.state o.3 (λ k un. (quiet k (part k un)).2) r3.0.0 (guarded_part program valid f x3.state sc inner all (gives b) (λ k un. (quiet k un).2) g3) in
-        (
+        let r4 = gone_sound b sc inner x3.state o.3 (λ k un. (quiet k (part k un)).2) r3.0.0 (guarded_part program valid f x3.state sc inner all (gives b) (λ k un. (quiet k un).2) g3) in (
           kept_then program valid f sc s x.state y.state r1.0 (kept_then program valid f sc x.state x2.state y.state r2.0 (kept_then program valid f sc x2.state x3.state y.state r3.0 r4.0)),
           r4.1,
           loop_escapes sc t st b x.varies y.ways o.0 r1.1 r1.2 r4.1 r4.2,
@@ -189,8 +187,7 @@ module _ (program : Program) (valid : IsValid program) (f : ℕ) where
         let inner : Option ℕ = cond x.varies (Some site) guard in
         let y = gone_over_arms own (spot program valid f inner) arms x.state in
         let ra = arms_sound arms sc inner x.state o.2 (λ k un. (quiet k (part k un)).1) rt.0.0
-            (under_guarded program valid f x.state sc guard (gives (Switch site value arms)) (arms_give arms) site x.varies c o.0 (λ k h. h) rt.1 (switch_quiet sc value arms) (λ k un. (quiet k un).1) (guarded_on program valid f s x.state sc guard (gives (Switch site value arms)) rt.0.1 g)) in
-        (
+        (under_guarded program valid f x.state sc guard (gives (Switch site value arms)) (arms_give arms) site x.varies c o.0 (λ k h. h) rt.1 (switch_quiet sc value arms) (λ k un. (quiet k un).1) (guarded_on program valid f s x.state sc guard (gives (Switch site value arms)) rt.0.1 g)) in (
           kept_then program valid f sc s x.state y.state rt.0 ra.0,
           ra.1,
           behind_escapes program valid f sc c x.varies y.ways o.0 (λ k h. h) rt.1 ra.1 ra.2,
@@ -214,10 +211,9 @@ module _ (program : Program) (valid : IsValid program) (f : ℕ) where
         let ra = gone_sound x sc guard s o.0 (λ k un. (quiet_also x rest k (part k un)).0) sound (guarded_part program valid f s sc guard (some_give (also x rest)) (gives x) (λ k un. (quiet_also x rest k un).0) g) in
         let b = gone_over_all own (spot program valid f guard) rest a.state in
         let rb = all_sound rest (scope_after sc x) guard a.state o.1 (λ k un. (quiet_also x rest k (part k un)).1) ra.0.0
-            (behind_guarded program valid f x sc guard s (some_give rest) ra.0.1 (guarded_part program valid f s sc guard (some_give (also x rest)) (some_give rest) (λ k un. (quiet_also x rest k un).1) g)) in
+        (behind_guarded program valid f x sc guard s (some_give rest) ra.0.1 (guarded_part program valid f s sc guard (some_give (also x rest)) (some_give rest) (λ k un. (quiet_also x rest k un).1) g)) in
         let t = closed (spot program valid f guard) x b.ways.escapes b.state in
-        let rc = closed_sound sc x b.ways.escapes b.state rb.0.0 rb.2 guard in
-        (
+        let rc = closed_sound sc x b.ways.escapes b.state rb.0.0 rb.2 guard in (
           (rc.0, since_then f sc s a.state t ra.0.1 (since_then f sc a.state b.state t (since_before sc x a.state b.state rb.0.1) rc.1)),
           (λ h. elim (either b.ways.exits a.ways.exits h) [ inl q ↦ or_right (exits x) (some_exits rest) (rb.1 q) | inr q ↦ or_left (exits x) (some_exits rest) (ra.1 q) ]),
           λ h. elim (either b.ways.escapes a.ways.escapes h) [ inl q ↦ escape_before sc x (rb.2 q) | inr q ↦ ra.2 q ],
@@ -231,8 +227,7 @@ module _ (program : Program) (valid : IsValid program) (f : ℕ) where
         let ra = all_sound body sc guard s o.0 (λ k un. (quiet_arm labels other body rest k (part k un)).0) sound (guarded_part program valid f s sc guard (arms_give (arm labels other body rest)) (some_give body) (λ k un. (quiet_arm labels other body rest k un).0) g) in
         let b = gone_over_arms own (spot program valid f guard) rest a.state in
         let rb = arms_sound rest sc guard a.state o.1 (λ k un. (quiet_arm labels other body rest k (part k un)).1) ra.0.0
-            (guarded_on program valid f s a.state sc guard (arms_give rest) ra.0.1 (guarded_part program valid f s sc guard (arms_give (arm labels other body rest)) (arms_give rest) (λ k un. (quiet_arm labels other body rest k un).1) g)) in
-        (
+        (guarded_on program valid f s a.state sc guard (arms_give rest) ra.0.1 (guarded_part program valid f s sc guard (arms_give (arm labels other body rest)) (arms_give rest) (λ k un. (quiet_arm labels other body rest k un).1) g)) in (
           kept_then program valid f sc s a.state b.state ra.0 rb.0,
           (λ h. elim (either b.ways.exits a.ways.exits h) [ inl q ↦ or_right (some_exits body) (arms_exit rest) (rb.1 q) | inr q ↦ or_left (some_exits body) (arms_exit rest) (ra.1 q) ]),
           λ h. elim (either b.ways.escapes a.ways.escapes h) [ inl q ↦ rb.2 q | inr q ↦ ra.2 q ],
@@ -240,17 +235,17 @@ module _ (program : Program) (valid : IsValid program) (f : ℕ) where
 
   -- the function as a whole
 
-  abbrev scope_of : Scope
+  abbrev pub scope_of : Scope
   scope_of = numbers_below own.parameters
 
-  good_body : GL scope_of own.body
+  pub good_body : GL scope_of own.body
   good_body = record { parts = λ a m. m; under = λ a m. m; back = λ a m. m; names = scoped_body program valid f }
 
   at_or_below : (n m : ℕ) → n ≤ m → (n ≡ m) ⊎ (n < m)
   at_or_below n m le = eq-or-lt_of_le le
 
   -- the first parameters
-  has_lower : (n m : ℕ) → n < m → Has (numbers_below m) n
+  pub has_lower : (n m : ℕ) → n < m → Has (numbers_below m) n
   has_lower n zero lt = absurd (omega (arith, lt))
   has_lower n (suc m) lt = elim (at_or_below n m (omega (arith, lt))) [ inl e ↦ inl (sym e) | inr l ↦ inr (has_lower n m l) ]
 
@@ -281,16 +276,16 @@ abbrev pub Open : Program → State → Type 0
 Open program s = (g : ℕ) (k : Key) → HasKey (numbers_below (function_at program g).parameters) k → (e : Entry) → slot s g k ≡ Some e → e.since ≡ None
 
 module _ (program : Program) (valid : IsValid program) where
-  abbrev Fine : State → Type 0
+  abbrev pub Fine : State → Type 0
   Fine s = IsSound program s × Open program s
 
-  function_fine : (f : ℕ) (s : State) → Fine s → Fine (over_function program.kernel f (function_at program f) s)
+  pub function_fine : (f : ℕ) (s : State) → Fine s → Fine (over_function program.kernel f (function_at program f) s)
   function_fine f s (sound, open') =
       let r = function_sound program valid f s sound (λ k has e h. inl (open' f k has e h)) in (
         r.0,
         λ g k has e h.
-        let (old, at, same) = r.1 g k (λ q. subst (λ i. HasKey (numbers_below (function_at program i).parameters) k) q has) e h in
-        same ∙ open' g k has old at,
+            let (old, at, same) = r.1 g k (λ q. subst (λ i. HasKey (numbers_below (function_at program i).parameters) k) q has) e h in
+            same ∙ open' g k has old at,
       )
 
   functions_fine : (list : List Function) (f : ℕ) → ((j : ℕ) (c : Function) → slice_get list j ≡ Some c → function_at program (f + j) ≡ c) → (s : State) → Fine s → Fine (over_functions program.kernel f list s)
@@ -301,10 +296,10 @@ module _ (program : Program) (valid : IsValid program) where
       functions_fine rest (suc f) (λ j d h. let q : suc f + j ≡ f + suc j = omega arith in ap (function_at program) q ∙ is (suc j) d h) (over_function program.kernel f c s)
       (subst (λ d. Fine (over_function program.kernel f d s)) here (function_fine f s fine))
 
-  round_fine : (s : State) → Fine s → Fine (round program s)
+  pub round_fine : (s : State) → Fine s → Fine (round program s)
   round_fine s fine = functions_fine program.functions 0 (λ j c h. let z : 0 + j ≡ j = omega arith in ap (function_at program) z ∙ ap (λ o. unwrap_or o no_function) h) (record { rows = s.rows; grew = false }) fine
 
-  rounds_fine : (limit : ℕ) (s : State) → Fine s → Fine (rounds program limit s)
+  pub rounds_fine : (limit : ℕ) (s : State) → Fine s → Fine (rounds program limit s)
   rounds_fine zero s fine = fine
   rounds_fine (suc limit) s fine =
       let t = round program s in
@@ -339,7 +334,7 @@ module _ (program : Program) (valid : IsValid program) where
   start_there (d ∷ list) zero (Cell x) lt within = fresh_there (length d.variables) x (within x refl)
   start_there (d ∷ list) (suc g) k lt within = start_there list g k (omega (arith, lt)) within
 
-  start_fine : Fine (start program)
+  pub start_fine : Fine (start program)
   start_fine = (
     (
       (λ g k e h. let q = start_slot program.functions g k e h in (

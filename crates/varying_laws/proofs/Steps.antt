@@ -1,14 +1,13 @@
 -- What a change of an entry does in a round that adds nothing: marks stay, and flags and the conditions of declarations are kept.
-use Rattle.std.proofs.Common.{◌≡◌, ◌≢◌, ℕ, zero, suc, Bool, true, false, ◌||◌, ◌&&◌, not, cond, nat_eq, List, [], ◌∷◌, ◌++◌, Option, Some, None, slice_get, unwrap_or, ◌⊎◌, inl, inr, refl, sym, ap, ◌∙◌, subst}
-use Rattle.std.proofs.lemmas.Bool.{eqb-true, eq-eqb}
+use Rattle.std.proofs.Common.{◌≡◌, ℕ, Bool, true, false, ◌||◌, ◌&&◌, not, cond, nat_eq, List, [], ◌∷◌, ◌++◌, Option, Some, None, unwrap_or, ◌⊎◌, inl, inr, refl, sym, ap, ◌∙◌, subst}
+use Rattle.std.proofs.lemmas.Bool.{eqb-true}
 use Rattle.std.proofs.lemmas.Option.{none-some, same_Some}
 use Rattle.cl_model.specs.Lists.{IsOneOf, AllDiffer}
-use Rattle.cl_model.specs.Tree.{Program}
 use Rattle.cl_model.specs.Valid.{Scope, Has}
 use Rattle.diverge.specs.declared.known.Entry.{Entry}
 use Rattle.diverge.specs.Known as known
 use Rattle.diverge.specs.Known.{State, absent, variable_at, result_at, with_variable, with_result, same_guard, grows}
-use Rattle.cl_agreement.proofs.Keeps.{true_or_false, neither, not_true, Key, Answer, Cell, HasKey}
+use Rattle.cl_agreement.proofs.Keeps.{neither, not_true, Key, Answer, Cell, HasKey}
 use Rattle.cl_agreement.proofs.Parts.{in_left, in_right}
 use Rattle.varying_laws.proofs.Slots.{slot, entry, with_key, entry_is, changed, changed_slot}
 
@@ -76,11 +75,13 @@ same_bits false false h g = refl
 
 quiet_change : (f : ℕ) (k : Key) (e : Entry) (s : State) → ((entry s f k).varies ≡ true → e.varies ≡ true) → Quiet s (with_key f k e s)
 quiet_change f k e s onward h =
-    let (g0, gr) = grew_before f k e s h in
-    (g0, λ g j. elim (landed f k e s g j) [
-      | inl q ↦ ap (λ (x : Entry). x.varies) (sym q)
-      | inr (gf, jk, q) ↦ subst (λ i. mark s i j ≡ mark (with_key f k e s) g j) (sym gf) (subst (λ i. mark s f i ≡ mark (with_key f k e s) g j) (sym jk) (same_bits (entry s f k).varies e.varies onward gr ∙ sym (ap (λ (x : Entry). x.varies) q)))
-    ])
+    let (g0, gr) = grew_before f k e s h in (
+      g0,
+      λ g j. elim (landed f k e s g j) [
+        | inl q ↦ ap (λ (x : Entry). x.varies) (sym q)
+        | inr (gf, jk, q) ↦ subst (λ i. mark s i j ≡ mark (with_key f k e s) g j) (sym gf) (subst (λ i. mark s f i ≡ mark (with_key f k e s) g j) (sym jk) (same_bits (entry s f k).varies e.varies onward gr ∙ sym (ap (λ (x : Entry). x.varies) q)))
+      ],
+    )
 
 flags_change : (f : ℕ) (k : Key) (e : Entry) (s : State) → ((entry s f k).assigned ≡ true → e.assigned ≡ true) → FlagsKept s (with_key f k e s)
 flags_change f k e s onward g j h =
@@ -158,11 +159,11 @@ pub record Apart (f : ℕ) (guard : Option ℕ) (s : State) (sc : Scope) (sites 
   pub around : (i : ℕ) → guard ≡ Some i → IsOneOf sites i → ⊥
   pub before : (k : Key) → HasKey sc k → (i : ℕ) → (entry s f k).since ≡ Some i → IsOneOf sites i → ⊥
 
-differ_left : (xs ys : List ℕ) → AllDiffer (xs ++ ys) → AllDiffer xs
+pub differ_left : (xs ys : List ℕ) → AllDiffer (xs ++ ys) → AllDiffer xs
 differ_left [] ys h = tt
 differ_left (x ∷ xs) ys h = ((λ m. h.0 (in_left xs ys x m)), differ_left xs ys h.1)
 
-differ_right : (xs ys : List ℕ) → AllDiffer (xs ++ ys) → AllDiffer ys
+pub differ_right : (xs ys : List ℕ) → AllDiffer (xs ++ ys) → AllDiffer ys
 differ_right [] ys h = h
 differ_right (x ∷ xs) ys h = differ_right xs ys h.1
 

@@ -37,14 +37,17 @@ if_more (Ok x) P Q p f = f x p
 if_more (Err e) P Q p f = tt
 
 -- each function has as many names as variables
+names_given : List Variable → List Named
+names_given vs = map (λ v. record { name = v.name; place = v.place }) vs
+
+as_many : (vs : List Variable) → length (names_given vs) ≡ length (map (λ (v : Variable). v.kind) vs)
+as_many [] = refl
+as_many (v ∷ vs) = ap suc (as_many vs)
+
 named_as : (functions : List Function) (f : ℕ)
-    → length (unwrap_or (slice_get (map (λ g. map (λ v. record { name = v.name; place = v.place }) g.variables) functions) f) []) ≡ length (unwrap_or (slice_get (map function_of functions) f) no_function).variables
+    → length {A = Named} (unwrap_or (slice_get (map (λ (g : Function). names_given g.variables) functions) f) []) ≡ length (unwrap_or (slice_get (map function_of functions) f) no_function).variables
 named_as [] f = refl
-named_as (g ∷ functions) zero = both g.variables
-  where
-    both : (vs : List Variable) → length (map (λ v. record { name = v.name; place = v.place }) vs) ≡ length (map (λ v. v.kind) vs)
-    both [] = refl
-    both (v ∷ vs) = ap suc (both vs)
+named_as (g ∷ functions) zero = as_many g.variables
 named_as (g ∷ functions) (suc f) = named_as functions f
 
 -- the codes of a tree, read from its front, are those of its regions
