@@ -22,3 +22,4 @@ pub mod Entering
 pub mod Exiting
 pub mod Ends
 pub mod Finishing
+pub mod Regions

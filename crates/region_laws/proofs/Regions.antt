@@ -1,0 +1,211 @@
+-- The code of a region does on a chunk what the chunk's items do in some order of their moves.
+use Rattle.std.proofs.Common.{◌≡◌, ℕ, zero, suc, ◌+◌, ◌*◌, ◌<◌, ◌≤◌, ℤ, List, [], ◌∷◌, ◌++◌, length, map, replicate, Option, Some, None, slice_get, refl, sym, ap, ◌∙◌, subst, ⊎_elim, inl, inr, arith, cond, IsTrue, length-append}
+use Rattle.std.specs.Prelude.{slice_index_or, slice_set, nat_lt, nat_eq, ◌&&◌, ◌||◌, option_map}
+use Rattle.std.specs.Prelude.{Bool as Test, true, false}
+use Rattle.std.proofs.lemmas.Bool.{true≢false, eq-eqb, or_left, or_right, cases_eq}
+use Rattle.std.proofs.lemmas.List.{length-replicate, get_or-replicate, length-set, get_or-set_same, get_or-set_other}
+use Rattle.std.proofs.lemmas.Option.{none-some, same_Some, slice_get_within}
+use Rattle.wg_num.specs.declared.types.IntType.{IntType}
+use Rattle.cl_model.specs.Lists.{IsOneOf}
+use Rattle.cl_model.specs.Sizes.{Launch, group_size}
+use Rattle.kir.specs.declared.line.Atom.{Atom}
+use Rattle.kir.specs.Tree.{Cell, Lines, NoLine, LoopThen, Kernel, joined_to}
+use Rattle.kir.specs.Counts.{barrier_lines}
+use Rattle.kir.specs.Places.{Place, Tasks, LinesAt}
+use Rattle.kir.specs.Live.{reads, some_reads, live_behind}
+use Rattle.kir.specs.Steps.{Item}
+use Rattle.kir.specs.Meaning.{machine_of}
+use Rattle.ctx_plan.specs.declared.plan.Home.{Home}
+use Rattle.ctx_plan.specs.Planned.{Planned}
+use Rattle.ctx_plan.specs.Asks.{Suits}
+use Rattle.lane_code.specs.declared.step.Bank.{Bank}
+use Rattle.lane_code.specs.declared.step.Bank.TheVariants as bank
+use Rattle.lane_code.specs.declared.step.Step.{Step}
+use Rattle.lane_code.specs.declared.code.Counts.{Counts}
+use Rattle.lane_code.specs.Counting.{counted}
+use Rattle.lane_code.specs.Registers.{Registers, lanes_in, existing, start_registers}
+use Rattle.lane_code.specs.Fits.{bank_of, is_code}
+use Rattle.lane_code.specs.Groups.{Group}
+use Rattle.lane_code.specs.Acts.{State}
+use Rattle.lane_code.specs.Meaning.{Ended, code_end, start_state}
+use Rattle.lane_laws.specs.Places.{HasAt}
+use Rattle.lane_laws.specs.Reading.{mask_at}
+use Rattle.lane_laws.proofs.Reading.{existing_read, existing_length}
+use Rattle.lane_laws.proofs.Steps.{has_front, has_back, has_all}
+use Rattle.group_moves.specs.Stages.{Stage}
+use Rattle.group_moves.specs.Lanes.{IsLane}
+use Rattle.group_moves.proofs.Moves.{reached_none}
+use Rattle.kir_moves.specs.Leads.{ComesTo, there}
+use Rattle.regions.specs.Tree.{RegionOf}
+use Rattle.regions.specs.Spans.{IsEnd, past_lines}
+use Rattle.mask_lower.specs.declared.registers.Free.{Free}
+use Rattle.mask_lower.specs.declared.registers.Operand.{Operand}
+use Rattle.mask_lower.specs.Banks.{register_at, advanced}
+use Rattle.mask_lower.specs.Atoms.{atoms_in, atoms_voted, cell_atom, region_atoms}
+use Rattle.mask_lower.specs.Layout.{kernel_chunk, HasShape, Mirrors}
+use Rattle.mask_lower.specs.Standing.{type_of, HasLive, AtHome, LanesStand}
+use Rattle.mask_lower.specs.Following.{ChunkOf}
+use Rattle.mask_lower.specs.Homes.{entry_code, exit_code}
+use Rattle.mask_lower.specs.Registers.{Frame, frame_for, first_constants, constants, past, past_atom}
+use Rattle.mask_lower.specs.Lowered.{lines_code, begun_code, vote_code, steps_with, region_steps}
+use Rattle.region_laws.specs.View.{value_at, is_lane, Shaped}
+use Rattle.region_laws.specs.Framed.{number_in, IsFramed, HeldAt, Held}
+use Rattle.region_laws.specs.Sim.{Ground, Agrees, Above, Sim, Closed}
+use Rattle.region_laws.specs.Follows.{Done, Says, RegionFits, ReadsVote}
+use Rattle.region_laws.proofs.LaneValues.{lane_in}
+use Rattle.region_laws.proofs.Frames.{register_bank, type_lane, framed, some_left, some_right, held_left, held_right}
+use Rattle.region_laws.proofs.Standing.{sim_names, cond_set}
+use Rattle.region_laws.proofs.Entering.{Filled, Entered, constants_run, entry_runs, loaded_lane}
+use Rattle.region_laws.proofs.Soundness.{Accessing, Fit, Lanes, Sound, Whole, whole_of}
+use Rattle.region_laws.proofs.Sounds.{sound_of}
+use Rattle.region_laws.proofs.Loads.{load_runs}
+use Rattle.region_laws.proofs.Stores.{store_runs}
+use Rattle.region_laws.proofs.Clears.{clear_runs}
+use Rattle.region_laws.proofs.Finishing.{finish}
+
+-- ---- the registers at the start
+
+zero_row : (w l : ℕ) → ◌≡◌ {A = ℕ} (slice_index_or (replicate w 0) l 0) 0
+zero_row zero l = refl
+zero_row (suc w) zero = refl
+zero_row (suc w) (suc l) = zero_row w l
+
+zero_rows : (n w k l : ℕ) → ◌≡◌ {A = ℕ} (slice_index_or (slice_index_or (replicate n (replicate w 0)) k []) l 0) 0
+zero_rows zero w k l = refl
+zero_rows (suc n) w zero l = zero_row w l
+zero_rows (suc n) w (suc k) l = zero_rows n w k l
+
+module _ (c : Counts) (some : 0 < c.masks) (width size first : ℕ) where
+  abbrev start_is : Registers
+  start_is = start_registers c.narrow c.wide c.masks c.scalars width size first
+
+  pub start_zero : (b : Bank) (n l : ℕ) → is_lane b ≡ true → slice_index_or (lanes_in start_is b n) l 0 ≡ 0
+  start_zero bank.Narrow n l e = zero_rows c.narrow width n l
+  start_zero bank.Wide n l e = zero_rows c.wide width n l
+  start_zero bank.Mask n l e = absurd (true≢false (sym e))
+  start_zero bank.Scalar n l e = absurd (true≢false (sym e))
+
+  pub start_mask : (l : ℕ) → l < width → mask_at start_is 0 l ≡ nat_lt (first + l) size
+  start_mask l lt =
+      ap (λ (row : List Test). slice_index_or row l false) (get_or-set_same (replicate c.masks (replicate width false)) 0 (existing size width first) [] (let n = length-replicate c.masks (replicate width false) in omega arith))
+      ∙ existing_read size width first l lt
+
+  pub start_shape : Shaped c width start_is
+  start_shape = record {
+    narrow_count = length-replicate c.narrow (replicate width 0);
+    each_narrow = λ k lt. ap length (get_or-replicate c.narrow k (replicate width 0) [] lt) ∙ length-replicate width 0;
+    wide_count = length-replicate c.wide (replicate width 0);
+    each_wide = λ k lt. ap length (get_or-replicate c.wide k (replicate width 0) [] lt) ∙ length-replicate width 0;
+    mask_count = length-set (replicate c.masks (replicate width false)) 0 (existing size width first) ∙ length-replicate c.masks (replicate width false);
+    each_mask = λ k lt. ⊎_elim
+        (λ e. ap (λ j. length (slice_index_or (slice_set (replicate c.masks (replicate width false)) 0 (existing size width first)) j [])) e
+        ∙ ap length (get_or-set_same (replicate c.masks (replicate width false)) 0 (existing size width first) [] (let n = length-replicate c.masks (replicate width false) in omega arith)) ∙ existing_length size width first)
+        (λ ne. ap length (get_or-set_other (replicate c.masks (replicate width false)) 0 k (existing size width first) [] ne ∙ get_or-replicate c.masks k (replicate width false) [] lt) ∙ length-replicate width false)
+        (cases_eq k 0);
+    scalar_count = length-replicate c.scalars 0;
+  }
+
+-- ---- what a region names
+
+live_named : (c : ℕ) (live : List ℕ) → IsOneOf live c → some_reads c (map cell_atom live) ≡ true
+live_named c [] m = absurd m
+live_named c (d ∷ live) m = ⊎_elim (λ e. or_left (nat_eq c d) (some_reads c (map cell_atom live)) (eq-eqb c d (sym e))) (λ more. or_right (nat_eq c d) (some_reads c (map cell_atom live)) (live_named c live more)) m
+
+-- constants stay where the registers above do
+held_above : (f : Frame) (width : ℕ) (r r' : Registers) (next : Free) (list : List Atom) → Above f width r r' → Held f width r next list → Held f width r' next list
+held_above f width r r' next [] above h = tt
+held_above f width r r' next (Rattle.kir.specs.declared.line.Atom.TheVariants.Cell c ∷ list) above h = (tt, held_above f width r r' next list above h.1)
+held_above f width r r' next (Rattle.kir.specs.declared.line.Atom.TheVariants.Const value of ∷ list) above h =
+    let same = register_bank next of in (
+      (h.0.0, λ l lt. above (register_at next of) l lt (ap is_lane same ∙ type_lane of) (subst (λ b. number_in f.scratch b < (register_at next of).number) (sym same) h.0.0) ∙ h.0.1 l lt),
+      held_above f width r r' (advanced next of) list above h.1,
+    )
+
+home_there : {A : Type 0} (xs : List A) (i : ℕ) → i < length xs → (x : A) × (slice_get xs i ≡ Some x)
+home_there [] i lt = absurd (omega arith)
+home_there (x ∷ xs) zero lt = (x, refl)
+home_there (x ∷ xs) (suc i) lt = home_there xs i (omega arith)
+
+module _ (kernel : Kernel) (plan : Planned) (suits : Suits kernel plan) (launch : Launch) (width : ℕ) (chunk : ChunkOf kernel launch width) (turns : ℕ) (w0 : Stage Item) (g0 : Group) (buffers : List (List ℕ)) (ground : Ground kernel launch w0) (region : RegionOf)
+  (valid : is_code (counted (region_steps kernel plan.homes region)) (region_steps kernel plan.homes region) ≡ true) (fits : RegionFits kernel region) (mirrors : Mirrors kernel launch chunk.group w0.memory g0 buffers) (shaped : HasShape plan.columns plan.slots (group_size launch) g0) where
+  abbrev atoms : List Atom
+  atoms = region_atoms region
+
+  abbrev frame : Frame
+  frame = frame_for kernel atoms
+
+  abbrev code : List Step
+  code = region_steps kernel plan.homes region
+
+  abbrev counts : Counts
+  counts = counted code
+
+  abbrev next : Free
+  next = first_constants frame
+
+  abbrev front : List Step
+  front = constants next atoms ++ entry_code plan.homes 0 frame.cells
+
+  abbrev behind : List Step
+  behind = vote_code frame (past next (atoms_in region.lines)) region.answer ++ exit_code plan.homes frame.cells region.live
+
+  abbrev begun : List Step
+  begun = begun_code frame (length front) next region.from_vote region.lines
+
+  abbrev Mine : Rattle.lane_code.specs.Acts.Chunk
+  Mine = kernel_chunk kernel launch width chunk.group chunk.first
+
+  some_mask : 0 < counts.masks
+  some_mask = omega arith
+
+  -- the code up to the lines: each cell that is live where the items stand has its value, and each constant
+  pub record Begun (st : State) : Type 0 where
+    pub group : st.group ≡ g0
+    pub buffers_are : st.buffers ≡ buffers
+    pub shape : Shaped counts width st.registers
+    pub mask : (l : ℕ) → l < width → mask_at st.registers 0 l ≡ nat_lt (chunk.first + l) (group_size launch)
+    pub held : Held frame width st.registers next atoms
+    pub cells : (l : ℕ) → l < width → (k : Tasks) (cells : ℕ → ℤ) → AtHome kernel plan.homes g0.columns g0.entries (chunk.first + l) k cells → (c : ℕ) (op : Operand) → slice_index_or frame.cells c None ≡ Some op → live_behind c k ≡ true → value_at st.registers op.at l ≡ lane_in op.of (cells c)
+
+  pub begin : (G : Ended → Type 0) → ((st : State) → Begun st → G (code_end Mine code turns (length front) st)) → G (code_end Mine code turns 0 (start_state Mine counts g0 buffers))
+  begin G go =
+      let start = start_state Mine counts g0 buffers in
+      let cs = constants next atoms in
+      let es = entry_code plan.homes 0 frame.cells in
+      let whole = has_all code [] in
+      let has_f = has_front code 0 front (begun ++ behind) whole in
+      let more : (of : IntType) → number_in frame.scratch (bank_of of) < number_in next (bank_of of) = λ of. above_scratch (bank_of of) (type_lane of) in
+      let len : 0 + length cs + length es ≡ length front = omega (arith, length-append cs es) in
+      constants_run kernel Mine frame atoms counts start.registers (framed kernel atoms) code valid G atoms next 0 turns start (has_front code 0 cs es has_f) more (start_shape counts some_mask width (group_size launch) chunk.first) (λ st1 filled held.
+      entry_runs kernel Mine frame atoms counts start.registers (framed kernel atoms) code valid G plan.homes 0 frame.cells (0 + length cs) turns st1 (λ i. let z : 0 + i ≡ i = omega arith in ap (λ k. slice_index_or frame.cells k None) z) (has_back code 0 cs es has_f) filled.shape (λ st2 entered.
+      subst (λ n. G (code_end Mine code turns n st2)) (sym len)
+      (go st2 (record {
+        group = entered.outer.group ∙ filled.outer.group;
+        buffers_are = entered.outer.buffers ∙ filled.outer.buffers;
+        shape = entered.shape;
+        mask = λ l lt. ap (λ rows. slice_index_or (slice_index_or rows 0 []) l false) (entered.masks ∙ filled.masks) ∙ start_mask counts some_mask width (group_size launch) chunk.first l lt;
+        held = held_above frame width st1.registers st2.registers next atoms entered.above held;
+        cells = λ l lt k cells home c op e live. cell st1 st2 filled entered l lt k cells home c op e live;
+      }))))
+    where
+      above_scratch : (b : Bank) → is_lane b ≡ true → number_in frame.scratch b < number_in next b
+      above_scratch bank.Narrow e = omega arith
+      above_scratch bank.Wide e = omega arith
+      above_scratch bank.Mask e = absurd (true≢false (sym e))
+      above_scratch bank.Scalar e = absurd (true≢false (sym e))
+
+      within : (c : ℕ) (of : IntType) (o : Option Cell) → slice_get kernel.cells c ≡ o → type_of kernel c ≡ Some of → c < length kernel.cells
+      within c of None at h = absurd (none-some of (sym (ap (option_map (λ (cell : Cell). cell.of)) at) ∙ h))
+      within c of (Some cell) at h = slice_get_within kernel.cells c cell at
+
+      cell : (st1 st2 : State) → Filled kernel Mine frame atoms counts (start_state Mine counts g0 buffers).registers (framed kernel atoms) code valid G next (start_state Mine counts g0 buffers) st1
+          → Entered kernel Mine frame atoms counts (start_state Mine counts g0 buffers).registers (framed kernel atoms) code valid G plan.homes 0 st1 st2 → (l : ℕ) → l < width → (k : Tasks) (cells : ℕ → ℤ) → AtHome kernel plan.homes g0.columns g0.entries (chunk.first + l) k cells
+          → (c : ℕ) (op : Operand) → slice_index_or frame.cells c None ≡ Some op → live_behind c k ≡ true → value_at st2.registers op.at l ≡ lane_in op.of (cells c)
+      cell st1 st2 filled entered l lt k cells home c op e live =
+          let entry = (framed kernel atoms).entries c op e in
+          let h = home_there plan.homes c (let n = suits.one_each in let m = within c op.of (slice_get kernel.cells c) refl entry.typed in omega arith) in
+          let lane : is_lane op.at.bank ≡ true = ap is_lane entry.bank ∙ type_lane op.of in
+          let none : value_at st1.registers op.at l ≡ 0 = filled.below op.at l lt lane (let b = entry.below in let a = above_scratch op.at.bank lane in omega arith) ∙ start_zero counts some_mask width (group_size launch) chunk.first op.at.bank op.at.number l lane in
+          loaded_lane h.0 st1.group chunk.first width l op.at.bank op.of (cells c) (value_at st1.registers op.at l) (value_at st2.registers op.at l) entry.bank lt none
+          (subst (λ (g : Group). Rattle.mask_lower.specs.Standing.Holds h.0 op.of g.columns g.entries (chunk.first + l) (cells c)) (sym filled.outer.group) (home c h.0 op.of h.1 entry.typed live))
+          (subst (λ o. Rattle.region_laws.proofs.Entering.Loaded o st1.group chunk.first width l op.at.bank (value_at st1.registers op.at l) (value_at st2.registers op.at l)) h.1 (entered.loaded c op (omega arith) e l lt))
