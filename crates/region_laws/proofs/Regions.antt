@@ -12,7 +12,7 @@ use Rattle.kir.specs.declared.line.Atom.{Atom}
 use Rattle.kir.specs.Tree.{Cell, Lines, NoLine, LoopThen, Kernel, joined_to}
 use Rattle.kir.specs.Counts.{barrier_lines}
 use Rattle.kir.specs.Places.{Place, Tasks, LinesAt}
-use Rattle.kir.specs.Live.{reads, some_reads, live_behind}
+use Rattle.kir.specs.Live.{reads, some_reads, live_now, live_in, live_behind}
 use Rattle.kir.specs.Steps.{Item}
 use Rattle.kir.specs.Meaning.{machine_of}
 use Rattle.ctx_plan.specs.declared.plan.Home.{Home}
@@ -209,3 +209,116 @@ module _ (kernel : Kernel) (plan : Planned) (suits : Suits kernel plan) (launch 
           loaded_lane h.0 st1.group chunk.first width l op.at.bank op.of (cells c) (value_at st1.registers op.at l) (value_at st2.registers op.at l) entry.bank lt none
           (subst (λ (g : Group). Rattle.mask_lower.specs.Standing.Holds h.0 op.of g.columns g.entries (chunk.first + l) (cells c)) (sym filled.outer.group) (home c h.0 op.of h.1 entry.typed live))
           (subst (λ o. Rattle.region_laws.proofs.Entering.Loaded o st1.group chunk.first width l op.at.bank (value_at st1.registers op.at l) (value_at st2.registers op.at l)) h.1 (entered.loaded c op (omega arith) e l lt))
+
+  -- ---- from the lines to the end
+
+  lines_names : (c : ℕ) → some_reads c (atoms_in region.lines) ≡ true → some_reads c atoms ≡ true
+  lines_names c h = some_left c (atoms_in region.lines) (atoms_voted region.answer ++ map cell_atom region.live) h
+
+  answer_names : (c : ℕ) → some_reads c (atoms_voted region.answer) ≡ true → some_reads c atoms ≡ true
+  answer_names c h = some_right c (atoms_in region.lines) (atoms_voted region.answer ++ map cell_atom region.live) (some_left c (atoms_voted region.answer) (map cell_atom region.live) h)
+
+  live_names : (c : ℕ) → IsOneOf region.live c → some_reads c atoms ≡ true
+  live_names c m = some_right c (atoms_in region.lines) (atoms_voted region.answer ++ map cell_atom region.live) (some_right c (atoms_voted region.answer) (map cell_atom region.live) (live_named c region.live m))
+
+  has_rest : HasAt code (length front) (begun ++ behind)
+  has_rest = let e : 0 + length front ≡ length front = omega arith in subst (λ n. HasAt code n (begun ++ behind)) e (has_back code 0 front (begun ++ behind) (has_all code []))
+
+  has_behind : HasAt code (length front + length begun) behind
+  has_behind = has_back code (length front) begun behind has_rest
+
+  whole_length : length code ≡ length front + length begun + length behind
+  whole_length = omega (arith, length-append front (begun ++ behind), length-append begun behind)
+
+  abbrev Stands : Tasks → Type 0
+  Stands T = LanesStand kernel plan.homes chunk.lanes chunk.first w0 g0.columns g0.entries T
+
+  abbrev StartEnd : Ended
+  StartEnd = code_end Mine code turns 0 (start_state Mine counts g0 buffers)
+
+  abbrev HasLines : State → Type 0
+  HasLines st = Held frame width st.registers next (atoms_in region.lines) × Held frame width st.registers (past next (atoms_in region.lines)) (atoms_voted region.answer)
+
+  has_lines : (st : State) → Begun st → HasLines st
+  has_lines st b = (
+    held_left frame width st.registers next (atoms_in region.lines) (atoms_voted region.answer ++ map cell_atom region.live) b.held,
+    held_left frame width st.registers (past next (atoms_in region.lines)) (atoms_voted region.answer) (map cell_atom region.live) (held_right frame width st.registers next (atoms_in region.lines) (atoms_voted region.answer ++ map cell_atom region.live) b.held),
+  )
+
+  module _ (e : Tasks) (is_end : IsEnd kernel e) (live : HasLive kernel region.live e) (reads_vote : ReadsVote region.answer e) where
+    abbrev Good : Ended → Type 0
+    Good x = Says kernel plan.homes launch width chunk region e w0 turns g0 x.end x.turns x.state
+
+    abbrev Site : ℕ → Type 0
+    Site site = 0 < barrier_lines site region.lines
+
+    closed : Closed kernel launch width chunk turns w0 Site e Good
+    closed = record {
+      faults = λ after reached l site lane fault t st. (after, record { reached = reached; lane = lane; fault = fault });
+      waits = λ after reached l site lane waits of still t st. (after, record { reached = reached; lane = lane; waits = waits; still = still; of_region = of });
+      tires = λ after reached more t st. (after, record { reached = reached; more = more });
+    }
+
+    access : (r0 : Registers) → Accessing kernel launch width chunk turns w0 g0 frame counts r0 ground atoms (framed kernel atoms) code valid Good Site e closed
+    access r0 = record {
+      loads = load_runs kernel launch width chunk turns w0 g0 frame counts r0 ground atoms (framed kernel atoms) code valid Good Site e closed refl;
+      stores = store_runs kernel launch width chunk turns w0 g0 frame counts r0 ground atoms (framed kernel atoms) code valid Good Site e closed refl;
+      clears = clear_runs kernel launch width chunk turns w0 g0 frame counts r0 ground atoms (framed kernel atoms) code valid Good Site e closed refl;
+    }
+
+    sim_start : (st : State) → Begun st → (T : Tasks) → ((c : ℕ) → live_now c T ≡ true → live_behind c T ≡ true) → Stands T → Sim kernel launch width chunk turns w0 g0 frame counts st.registers turns (λ l. T) st w0
+    sim_start st b T same stands = record {
+      reached = reached_none (machine_of kernel launch) chunk.lanes w0;
+      mirrors = subst (λ bs. Mirrors kernel launch chunk.group w0.memory st.group bs) (sym b.buffers_are) (subst (λ g. Mirrors kernel launch chunk.group w0.memory g buffers) (sym b.group) mirrors);
+      others = record { locals = λ other n lt ne below. refl; privates = λ item n ne below. refl };
+      group = record { columns = ap (λ (g : Group). g.columns) b.group; entries = ap (λ (g : Group). g.entries) b.group; exits = ap (λ (g : Group). g.exits) b.group; votes = ap (λ (g : Group). g.votes) b.group };
+      rows = subst (λ (g : Group). (n : ℕ) → n < length g.privates → length (slice_index_or g.privates n []) ≡ group_size launch) (sym b.group) shaped.each_private;
+      shape = b.shape;
+      above = λ x l lt lane more. refl;
+      stand = λ l lane. ((stands l lane).0, λ c op q alive. b.cells l (let wi = chunk.is_chunk.width_is in let lt = lane.0 in omega arith) T (w0.items (chunk.lanes.first + l)).cells (stands l lane).1 c op q (same c alive));
+      budget = omega arith;
+    }
+
+    close : (st : State) → Begun st → (t' : ℕ) (st' : State) (w' : Stage Item) → Sim kernel launch width chunk turns w0 g0 frame counts st.registers t' (λ l. e) st' w' → ((l : ℕ) → l < width → mask_at st'.registers 0 l ≡ mask_at st.registers 0 l)
+        → Good (code_end Mine code t' (length front + length begun) st')
+    close st b t' st' w' sim masks =
+        finish kernel launch width chunk turns w0 g0 frame counts st.registers ground atoms (framed kernel atoms) code valid Good Site e closed plan suits shaped region e is_end live reads_vote fits (λ t s after d. (after, d))
+        (past next (atoms_in region.lines)) (length front + length begun) t' st' w' has_behind whole_length sim (λ l lt. masks l lt ∙ b.mask l lt) (has_lines st b).1 answer_names live_names
+
+    -- where the region is lines before others of one list, or all that are left of a list
+    module _ (plain : region.from_vote ≡ false) where
+      begun_is : begun ≡ lines_code frame 0 1 (length front) next region.lines
+      begun_is = ap (λ v. begun_code frame (length front) next v region.lines) plain
+
+      has_code : HasAt code (length front) (lines_code frame 0 1 (length front) next region.lines)
+      has_code = subst (λ c. HasAt code (length front) c) begun_is (has_front code (length front) begun behind has_rest)
+
+      fit : (st : State) → Begun st → Fit kernel launch width chunk turns w0 g0 frame counts st.registers ground atoms (framed kernel atoms) code valid Good Site e closed region.lines next
+      fit st b = record { fits = fits.lines; names = lines_names; held = (has_lines st b).0; sites = λ site h. h }
+
+      ready : (st : State) → Begun st → (T : Tasks) → ((c : ℕ) → live_now c T ≡ true → live_behind c T ≡ true) → Stands T
+          → Lanes kernel launch width chunk turns w0 g0 frame counts st.registers ground atoms (framed kernel atoms) code valid Good Site e closed 0 turns chunk.lanes.alive (λ l. T) T st w0
+      ready st b T same stands = record { mask = λ l lt. b.mask l lt ∙ sym (chunk.is_chunk.alive_is l); alive = λ l h. h; sim = sim_start st b T same stands; stand = λ l lane set. refl }
+
+      close_lines : (st : State) → Begun st → (T K : Tasks) → K ≡ e → (t' : ℕ) (st' : State) (w' : Stage Item) → Sim kernel launch width chunk turns w0 g0 frame counts st.registers t' (λ l. cond (chunk.lanes.alive l) K T) st' w'
+          → ((l : ℕ) → l < width → mask_at st'.registers 0 l ≡ mask_at st.registers 0 l) → Good (code_end Mine code t' (length front + length (lines_code frame 0 1 (length front) next region.lines)) st')
+      close_lines st b T K same t' st' w' sim masks =
+          subst (λ (c : List Step). Good (code_end Mine code t' (length front + length c) st')) begun_is
+          (close st b t' st' w' (sim_names kernel launch width chunk turns w0 g0 frame counts st.registers ground t' (λ l. cond (chunk.lanes.alive l) K T) (λ l. e) st' w' (λ l lane. cond_set (chunk.lanes.alive l) K T lane.1 ∙ same) sim) masks)
+
+      pub piece_runs : (at : Place) (tail : Lines) (k : Tasks) → LinesAt (past_lines region.lines at) tail k ≡ e → Stands (LinesAt at (joined_to region.lines tail) k) → Good StartEnd
+      piece_runs at tail k same stands =
+          let T = LinesAt at (joined_to region.lines tail) k in
+          begin Good (λ st b.
+          (sound_of kernel launch width chunk turns w0 g0 frame counts st.registers ground atoms (framed kernel atoms) code valid Good Site e closed (access st.registers) region.lines).by 0 1 (length front) turns next chunk.lanes.alive (λ l. T) at tail k st w0 has_code (fit st b) (omega arith)
+          (ready st b T (λ c h. h) stands) (subst (λ x. ComesTo e x) (sym same) there)
+          (λ t' st' w' le sim masks. close_lines st b T (LinesAt (past_lines region.lines at) tail k) same t' st' w' sim (λ l lt. masks 0 l (omega arith) lt)))
+
+      pub whole_runs : (at : Place) (k : Tasks) → k ≡ e → Stands (LinesAt at region.lines k) → Good StartEnd
+      whole_runs at k same stands =
+          let T = LinesAt at region.lines k in
+          begin Good (λ st b.
+          let sound = sound_of kernel launch width chunk turns w0 g0 frame counts st.registers ground atoms (framed kernel atoms) code valid Good Site e closed (access st.registers) region.lines in
+          (whole_of kernel launch width chunk turns w0 g0 frame counts st.registers ground atoms (framed kernel atoms) code valid Good Site e closed region.lines sound).by 0 1 (length front) turns next chunk.lanes.alive (λ l. T) at k st w0 has_code (fit st b) (omega arith)
+          (ready st b T (λ c h. h) stands) (subst (λ x. ComesTo e x) (sym same) there)
+          (λ t' st' w' le sim masks. close_lines st b T k same t' st' w' sim (λ l lt. masks 0 l (omega arith) lt)))
