@@ -1,19 +1,25 @@
 -- The code of a region does on a chunk what the chunk's items do in some order of their moves.
 use Rattle.std.proofs.Common.{◌≡◌, ℕ, zero, suc, ◌+◌, ◌*◌, ◌<◌, ◌≤◌, ℤ, List, [], ◌∷◌, ◌++◌, length, map, replicate, Option, Some, None, slice_get, refl, sym, ap, ◌∙◌, subst, ⊎_elim, inl, inr, arith, cond, IsTrue, length-append}
-use Rattle.std.specs.Prelude.{slice_index_or, slice_set, nat_lt, nat_eq, ◌&&◌, ◌||◌, option_map}
+use Rattle.std.specs.Prelude.{slice_index_or, slice_set, nat_lt, nat_eq, not, ◌&&◌, ◌||◌, option_map}
 use Rattle.std.specs.Prelude.{Bool as Test, true, false}
-use Rattle.std.proofs.lemmas.Bool.{true≢false, eq-eqb, or_left, or_right, cases_eq}
+use Rattle.std.proofs.lemmas.Bool.{true≢false, eq-eqb, or_left, or_right, and_parts, cases_eq}
 use Rattle.std.proofs.lemmas.List.{length-replicate, get_or-replicate, length-set, get_or-set_same, get_or-set_other}
+use Rattle.std.specs.Simd.Lanes.{zip2}
+use Rattle.std.proofs.lemmas.Simd.{get_or-zip2, length-zip2}
 use Rattle.std.proofs.lemmas.Option.{none-some, same_Some, slice_get_within}
 use Rattle.wg_num.specs.declared.types.IntType.{IntType}
+use Rattle.work_items.specs.Memory.{Memory}
+use Rattle.work_items.specs.Items.{Goes, Begins}
+use Rattle.cl_model.specs.Values.{is_zero}
 use Rattle.cl_model.specs.Lists.{IsOneOf}
 use Rattle.cl_model.specs.Sizes.{Launch, group_size}
 use Rattle.kir.specs.declared.line.Atom.{Atom}
 use Rattle.kir.specs.Tree.{Cell, Lines, NoLine, LoopThen, Kernel, joined_to}
 use Rattle.kir.specs.Counts.{barrier_lines}
-use Rattle.kir.specs.Places.{Place, Tasks, LinesAt}
+use Rattle.kir.specs.Places.{Place, IntoTest, IntoBody, Tasks, LinesAt, AnswerAt}
 use Rattle.kir.specs.Live.{reads, some_reads, live_now, live_in, live_behind}
-use Rattle.kir.specs.Steps.{Item}
+use Rattle.kir.specs.Steps.{Item, with_tasks, atom_value, tasks_next}
+use Rattle.kir.specs.Fits.{atom_type, lines_fit, has_some_type}
 use Rattle.kir.specs.Meaning.{machine_of}
 use Rattle.ctx_plan.specs.declared.plan.Home.{Home}
 use Rattle.ctx_plan.specs.Planned.{Planned}
@@ -21,20 +27,21 @@ use Rattle.ctx_plan.specs.Asks.{Suits}
 use Rattle.lane_code.specs.declared.step.Bank.{Bank}
 use Rattle.lane_code.specs.declared.step.Bank.TheVariants as bank
 use Rattle.lane_code.specs.declared.step.Step.{Step}
+use Rattle.lane_code.specs.declared.step.Step.TheVariants as step
 use Rattle.lane_code.specs.declared.code.Counts.{Counts}
 use Rattle.lane_code.specs.Counting.{counted}
-use Rattle.lane_code.specs.Registers.{Registers, lanes_in, existing, start_registers}
-use Rattle.lane_code.specs.Fits.{bank_of, is_code}
-use Rattle.lane_code.specs.Groups.{Group}
-use Rattle.lane_code.specs.Acts.{State}
+use Rattle.lane_code.specs.Registers.{Registers, lanes_in, existing, start_registers, mask_of}
+use Rattle.lane_code.specs.Fits.{bank_of, is_below, is_code}
+use Rattle.lane_code.specs.Groups.{Group, window}
+use Rattle.lane_code.specs.Acts.{State, with_registers}
 use Rattle.lane_code.specs.Meaning.{Ended, code_end, start_state}
 use Rattle.lane_laws.specs.Places.{HasAt}
 use Rattle.lane_laws.specs.Reading.{mask_at}
-use Rattle.lane_laws.proofs.Reading.{existing_read, existing_length}
-use Rattle.lane_laws.proofs.Steps.{has_front, has_back, has_all}
+use Rattle.lane_laws.proofs.Reading.{existing_read, existing_length, window_read, window_length}
+use Rattle.lane_laws.proofs.Steps.{has_front, has_back, has_all, ahead_step}
 use Rattle.group_moves.specs.Stages.{Stage}
-use Rattle.group_moves.specs.Lanes.{IsLane}
-use Rattle.group_moves.proofs.Moves.{reached_none}
+use Rattle.group_moves.specs.Lanes.{IsLane, Reached, Does, goes, begins, some_below}
+use Rattle.group_moves.proofs.Moves.{reached_none, lanes_move}
 use Rattle.kir_moves.specs.Leads.{ComesTo, there}
 use Rattle.regions.specs.Tree.{RegionOf}
 use Rattle.regions.specs.Spans.{IsEnd, past_lines}
@@ -43,20 +50,23 @@ use Rattle.mask_lower.specs.declared.registers.Operand.{Operand}
 use Rattle.mask_lower.specs.Banks.{register_at, advanced}
 use Rattle.mask_lower.specs.Atoms.{atoms_in, atoms_voted, cell_atom, region_atoms}
 use Rattle.mask_lower.specs.Layout.{kernel_chunk, HasShape, Mirrors}
-use Rattle.mask_lower.specs.Standing.{type_of, HasLive, AtHome, LanesStand}
+use Rattle.mask_lower.specs.Standing.{type_of, HasLive, AtHome, LanesStand, LanesVoted}
 use Rattle.mask_lower.specs.Following.{ChunkOf}
 use Rattle.mask_lower.specs.Homes.{entry_code, exit_code}
 use Rattle.mask_lower.specs.Registers.{Frame, frame_for, first_constants, constants, past, past_atom}
-use Rattle.mask_lower.specs.Lowered.{lines_code, begun_code, vote_code, steps_with, region_steps}
+use Rattle.mask_lower.specs.Banks.{mask_reg}
+use Rattle.mask_lower.specs.Lowered.{lines_code, begun_code, rest_code, turn_code, vote_code, steps_with, region_steps}
 use Rattle.region_laws.specs.View.{value_at, is_lane, Shaped}
 use Rattle.region_laws.specs.Framed.{number_in, IsFramed, HeldAt, Held}
-use Rattle.region_laws.specs.Sim.{Ground, Agrees, Above, Sim, Closed}
+use Rattle.region_laws.specs.Sim.{Ground, Agrees, Above, Sim, Closed, OthersObjectsStay}
 use Rattle.region_laws.specs.Follows.{Done, Says, RegionFits, ReadsVote}
 use Rattle.region_laws.proofs.LaneValues.{lane_in}
 use Rattle.region_laws.proofs.Frames.{register_bank, type_lane, framed, some_left, some_right, held_left, held_right}
 use Rattle.region_laws.proofs.Standing.{sim_names, cond_set}
 use Rattle.region_laws.proofs.Entering.{Filled, Entered, constants_run, entry_runs, loaded_lane}
-use Rattle.region_laws.proofs.Soundness.{Accessing, Fit, Lanes, Sound, Whole, whole_of}
+use Rattle.region_laws.proofs.Masks.{flip_cond}
+use Rattle.region_laws.proofs.View.{code_well, mask_length}
+use Rattle.region_laws.proofs.Soundness.{Accessing, Fit, Lanes, Sound, Whole, whole_of, HasLoop, test_place, ask_place, type_there, masks_step, masked_sim, masked_below, turn_enter}
 use Rattle.region_laws.proofs.Sounds.{sound_of}
 use Rattle.region_laws.proofs.Loads.{load_runs}
 use Rattle.region_laws.proofs.Stores.{store_runs}
@@ -266,24 +276,37 @@ module _ (kernel : Kernel) (plan : Planned) (suits : Suits kernel plan) (launch 
       clears = clear_runs kernel launch width chunk turns w0 g0 frame counts r0 ground atoms (framed kernel atoms) code valid Good Site e closed refl;
     }
 
-    sim_start : (st : State) → Begun st → (T : Tasks) → ((c : ℕ) → live_now c T ≡ true → live_behind c T ≡ true) → Stands T → Sim kernel launch width chunk turns w0 g0 frame counts st.registers turns (λ l. T) st w0
-    sim_start st b T same stands = record {
-      reached = reached_none (machine_of kernel launch) chunk.lanes w0;
-      mirrors = subst (λ bs. Mirrors kernel launch chunk.group w0.memory st.group bs) (sym b.buffers_are) (subst (λ g. Mirrors kernel launch chunk.group w0.memory g buffers) (sym b.group) mirrors);
-      others = record { locals = λ other n lt ne below. refl; privates = λ item n ne below. refl };
+    sim_from : (st : State) → Begun st → (T : ℕ → Tasks) (w1 : Stage Item) → Reached (machine_of kernel launch) chunk.lanes w0 w1 → w1.memory ≡ w0.memory → w0.begun ≤ w1.begun
+        → ((l : ℕ) → IsLane chunk.lanes l → ((w1.items (chunk.lanes.first + l)).tasks ≡ T l) × Agrees frame st.registers l (T l) (w1.items (chunk.lanes.first + l)).cells) → Sim kernel launch width chunk turns w0 g0 frame counts st.registers turns T st w1
+    sim_from st b T w1 reached memory more stand = record {
+      reached = reached;
+      mirrors = subst (λ m. Mirrors kernel launch chunk.group m st.group st.buffers) (sym memory)
+          (subst (λ bs. Mirrors kernel launch chunk.group w0.memory st.group bs) (sym b.buffers_are) (subst (λ g. Mirrors kernel launch chunk.group w0.memory g buffers) (sym b.group) mirrors));
+      others = subst (λ m. OthersObjectsStay kernel launch chunk.group w0.memory m) (sym memory) (record { locals = λ other n lt ne below. refl; privates = λ item n ne below. refl });
       group = record { columns = ap (λ (g : Group). g.columns) b.group; entries = ap (λ (g : Group). g.entries) b.group; exits = ap (λ (g : Group). g.exits) b.group; votes = ap (λ (g : Group). g.votes) b.group };
       rows = subst (λ (g : Group). (n : ℕ) → n < length g.privates → length (slice_index_or g.privates n []) ≡ group_size launch) (sym b.group) shaped.each_private;
       shape = b.shape;
       above = λ x l lt lane more. refl;
-      stand = λ l lane. ((stands l lane).0, λ c op q alive. b.cells l (let wi = chunk.is_chunk.width_is in let lt = lane.0 in omega arith) T (w0.items (chunk.lanes.first + l)).cells (stands l lane).1 c op q (same c alive));
-      budget = omega arith;
+      stand = stand;
+      budget = omega (arith, more);
     }
+
+    in_width : (l : ℕ) → IsLane chunk.lanes l → l < width
+    in_width l lane = let wi = chunk.is_chunk.width_is in let lt = lane.0 in omega arith
+
+    sim_start : (st : State) → Begun st → (T : Tasks) → ((c : ℕ) → live_now c T ≡ true → live_behind c T ≡ true) → Stands T → Sim kernel launch width chunk turns w0 g0 frame counts st.registers turns (λ l. T) st w0
+    sim_start st b T same stands =
+        sim_from st b (λ l. T) w0 (reached_none (machine_of kernel launch) chunk.lanes w0) refl (omega arith)
+        (λ l lane. ((stands l lane).0, λ c op q alive. b.cells l (in_width l lane) T (w0.items (chunk.lanes.first + l)).cells (stands l lane).1 c op q (same c alive)))
 
     close : (st : State) → Begun st → (t' : ℕ) (st' : State) (w' : Stage Item) → Sim kernel launch width chunk turns w0 g0 frame counts st.registers t' (λ l. e) st' w' → ((l : ℕ) → l < width → mask_at st'.registers 0 l ≡ mask_at st.registers 0 l)
         → Good (code_end Mine code t' (length front + length begun) st')
     close st b t' st' w' sim masks =
         finish kernel launch width chunk turns w0 g0 frame counts st.registers ground atoms (framed kernel atoms) code valid Good Site e closed plan suits shaped region e is_end live reads_vote fits (λ t s after d. (after, d))
         (past next (atoms_in region.lines)) (length front + length begun) t' st' w' has_behind whole_length sim (λ l lt. masks l lt ∙ b.mask l lt) (has_lines st b).1 answer_names live_names
+
+    fit : (st : State) → Begun st → Fit kernel launch width chunk turns w0 g0 frame counts st.registers ground atoms (framed kernel atoms) code valid Good Site e closed region.lines next
+    fit st b = record { fits = fits.lines; names = lines_names; held = (has_lines st b).0; sites = λ site h. h }
 
     -- where the region is lines before others of one list, or all that are left of a list
     module _ (plain : region.from_vote ≡ false) where
@@ -292,9 +315,6 @@ module _ (kernel : Kernel) (plan : Planned) (suits : Suits kernel plan) (launch 
 
       has_code : HasAt code (length front) (lines_code frame 0 1 (length front) next region.lines)
       has_code = subst (λ c. HasAt code (length front) c) begun_is (has_front code (length front) begun behind has_rest)
-
-      fit : (st : State) → Begun st → Fit kernel launch width chunk turns w0 g0 frame counts st.registers ground atoms (framed kernel atoms) code valid Good Site e closed region.lines next
-      fit st b = record { fits = fits.lines; names = lines_names; held = (has_lines st b).0; sites = λ site h. h }
 
       ready : (st : State) → Begun st → (T : Tasks) → ((c : ℕ) → live_now c T ≡ true → live_behind c T ≡ true) → Stands T
           → Lanes kernel launch width chunk turns w0 g0 frame counts st.registers ground atoms (framed kernel atoms) code valid Good Site e closed 0 turns chunk.lanes.alive (λ l. T) T st w0
@@ -322,3 +342,140 @@ module _ (kernel : Kernel) (plan : Planned) (suits : Suits kernel plan) (launch 
           (whole_of kernel launch width chunk turns w0 g0 frame counts st.registers ground atoms (framed kernel atoms) code valid Good Site e closed region.lines sound).by 0 1 (length front) turns next chunk.lanes.alive (λ l. T) at k st w0 has_code (fit st b) (omega arith)
           (ready st b T (λ c h. h) stands) (subst (λ x. ComesTo e x) (sym same) there)
           (λ t' st' w' le sim masks. close_lines st b T k same t' st' w' sim (λ l lt. masks 0 l (omega arith) lt)))
+
+    -- where the region is the rest of a loop, from its answer on
+    module _ (voted : region.from_vote ≡ true) (at : Place) (site : ℕ) (first : Test) (test : Lines) (answer : Atom) (body : Lines) (n : ℕ) (is_loop : region.lines ≡ LoopThen site first test answer body NoLine) where
+      abbrev start : ℕ
+      start = length front + 3
+
+      abbrev Asks : ℕ → Tasks
+      Asks i = AnswerAt at test answer body i e
+
+      abbrev Starts : ℕ → Tasks
+      Starts i = LinesAt (IntoBody ∷ at) body (LinesAt (IntoTest ∷ at) test (Asks i))
+
+      abbrev bodies : List Step
+      bodies = lines_code frame 1 2 start next body
+
+      abbrev past_body : Free
+      past_body = past next (atoms_in body)
+
+      abbrev tests : List Step
+      tests = lines_code frame 1 2 (start + length bodies) past_body test
+
+      abbrev turning : List Step
+      turning = turn_code frame 1 (past past_body (atoms_in test)) start answer
+
+      abbrev target : ℕ
+      target = start + length bodies + length tests + 1
+
+      abbrev rests : List Step
+      rests = step.VoteGet (mask_reg 1) ∷ step.MaskAnd (mask_reg 1) (mask_reg 0) (mask_reg 1) ∷ step.Jump target ∷ (bodies ++ (tests ++ turning))
+
+      rests_are : begun ≡ rests
+      rests_are = ap (λ v. begun_code frame (length front) next v region.lines) voted ∙ ap (λ L. begun_code frame (length front) next true L) is_loop
+
+      has_rests : HasAt code (length front) rests
+      has_rests = subst (λ c. HasAt code (length front) c) rests_are (has_front code (length front) begun behind has_rest)
+
+      -- the item of a lane begins an iteration or leaves the loop
+      lane_goes : (r : Registers) (l : ℕ) (y : Test) (m : Memory) (s : Item) → s.tasks ≡ Asks n → y ≡ not (is_zero (atom_value s.cells answer))
+          → ((c : ℕ) (op : Operand) → slice_index_or frame.cells c None ≡ Some op → live_behind c (Asks n) ≡ true → value_at r op.at l ≡ lane_in op.of (s.cells c))
+          → Does (machine_of kernel launch) m s (λ s'. (s'.tasks ≡ cond y (Starts (suc n)) e) × Agrees frame r l (cond y (Starts (suc n)) e) s'.cells) m y
+      lane_goes r l true m s is value ag =
+          begins (with_tasks s (Starts (suc n))) (ap (tasks_next kernel launch s) is ∙ answer_by (is_zero (atom_value s.cells answer)) true value)
+          (refl, λ c op h live. ag c op h (or_right (live_now c e) (live_in c body (live_in c test (live_now c (Asks n)))) live))
+        where
+          answer_by : (z : Test) (y : Test) → y ≡ not z → cond z (Goes (with_tasks s e)) (Begins (with_tasks s (Starts (suc n)))) ≡ cond y (Begins (with_tasks s (Starts (suc n)))) (Goes (with_tasks s e))
+          answer_by z y h = flip_cond z _ _ ∙ ap (λ b. cond b (Begins (with_tasks s (Starts (suc n)))) (Goes (with_tasks s e))) (sym h)
+      lane_goes r l false m s is value ag =
+          goes (with_tasks s e) (ap (tasks_next kernel launch s) is ∙ answer_by (is_zero (atom_value s.cells answer)) false value)
+          (refl, λ c op h live. ag c op h (or_left (live_now c e) (live_in c body (live_in c test (live_now c (Asks n)))) live))
+        where
+          answer_by : (z : Test) (y : Test) → y ≡ not z → cond z (Goes (with_tasks s e)) (Begins (with_tasks s (Starts (suc n)))) ≡ cond y (Begins (with_tasks s (Starts (suc n)))) (Goes (with_tasks s e))
+          answer_by z y h = flip_cond z _ _ ∙ ap (λ b. cond b (Begins (with_tasks s (Starts (suc n)))) (Goes (with_tasks s e))) (sym h)
+
+      abbrev goes_on : ℕ → Test
+      goes_on l = nat_lt (chunk.first + l) (group_size launch) && slice_index_or g0.votes (chunk.first + l) false
+
+      abbrev Into : ℕ → Tasks
+      Into l = cond (goes_on l) (Starts (suc n)) e
+
+      loop_fits : (st : State) → Begun st → HasLoop kernel launch width chunk turns w0 g0 frame counts st.registers ground atoms (framed kernel atoms) code valid Good Site e closed test answer body next 1 start
+      loop_fits st b =
+          let fits_loop = subst (λ L. Fit kernel launch width chunk turns w0 g0 frame counts st.registers ground atoms (framed kernel atoms) code valid Good Site e closed L next) is_loop (fit st b) in
+          let three : length front + 1 + 1 + 1 ≡ start = omega arith in
+          let has_b = subst (λ i. HasAt code i (bodies ++ (tests ++ turning))) three has_rests.1.1.1 in
+          let has_t = has_back code start bodies (tests ++ turning) has_b in
+          let has_e = has_back code (start + length bodies) tests turning has_t in
+          let f1 = and_parts (Rattle.kir.specs.Fits.is_site kernel site && lines_fit kernel test && has_some_type (atom_type kernel answer) && lines_fit kernel body) true fits_loop.fits in
+          let f2 = and_parts (Rattle.kir.specs.Fits.is_site kernel site && lines_fit kernel test && has_some_type (atom_type kernel answer)) (lines_fit kernel body) f1.0 in
+          let f3 = and_parts (Rattle.kir.specs.Fits.is_site kernel site && lines_fit kernel test) (has_some_type (atom_type kernel answer)) f2.0 in
+          let f4 = and_parts (Rattle.kir.specs.Fits.is_site kernel site) (lines_fit kernel test) f3.0 in
+          let behind_body = λ (c : ℕ) (h : some_reads c (atoms_in test ++ (answer ∷ [])) ≡ true). fits_loop.names c (some_right c (atoms_in body) (atoms_in test ++ (answer ∷ [])) h) in
+          let held1 = held_right frame width st.registers next (atoms_in body) (atoms_in test ++ (answer ∷ [])) fits_loop.held in
+          let held2 = held_right frame width st.registers past_body (atoms_in test) (answer ∷ []) held1 in
+          record {
+            has_body = has_front code start bodies (tests ++ turning) has_b;
+            has_test = has_front code (start + length bodies) tests turning has_t;
+            has_turn = has_e;
+            fit_body = record { fits = f2.1; names = λ c h. fits_loop.names c (some_left c (atoms_in body) _ h); held = held_left frame width st.registers next (atoms_in body) (atoms_in test ++ (answer ∷ [])) fits_loop.held; sites = λ s h. fits_loop.sites s (omega arith) };
+            fit_test = record { fits = f4.1; names = λ c h. behind_body c (some_left c (atoms_in test) _ h); held = held_left frame width st.registers past_body (atoms_in test) (answer ∷ []) held1; sites = λ s h. fits_loop.sites s (omega arith) };
+            typed = type_there kernel launch width chunk turns w0 g0 frame counts st.registers ground atoms (framed kernel atoms) code valid Good Site e closed (atom_type kernel answer) f3.1;
+            names = λ c h. behind_body c (some_right c (atoms_in test) (answer ∷ []) (or_left (reads c answer) false h));
+            held = held2.0;
+          }
+
+      pub answer_runs : Stands (Asks n) → LanesVoted (Some answer) chunk.lanes chunk.first w0 g0.votes → Good StartEnd
+      answer_runs stands votes = begin Good (λ st b. enter st b)
+        where
+          all_same : (y : Test) → cond y e (cond y (Starts (suc n)) e) ≡ e
+          all_same true = refl
+          all_same false = refl
+
+          enter : (st : State) → Begun st → Good (code_end Mine code turns (length front) st)
+          enter st b =
+              let r0 = st.registers in
+              let p = length front in
+              let m = lanes_move (machine_of kernel launch) chunk.lanes w0 w0
+                  (λ l s. (s.tasks ≡ Asks n) × (goes_on l ≡ not (is_zero (atom_value s.cells answer))) × ((c : ℕ) (op : Operand) → slice_index_or frame.cells c None ≡ Some op → live_behind c (Asks n) ≡ true → value_at r0 op.at l ≡ lane_in op.of (s.cells c)))
+                  (λ l s. (s.tasks ≡ Into l) × Agrees frame r0 l (Into l) s.cells) goes_on (reached_none (machine_of kernel launch) chunk.lanes w0)
+                  (λ l lane s h. lane_goes r0 l (goes_on l) w0.memory s h.0 h.1 h.2)
+                  (λ l set. chunk.is_chunk.alive_is l ∙ (and_parts (nat_lt (chunk.first + l) (group_size launch)) (slice_index_or g0.votes (chunk.first + l) false) set).0)
+                  (λ l lane. ((stands l lane).0, ap (λ x. x && slice_index_or g0.votes (chunk.first + l) false) (sym (chunk.is_chunk.alive_is l) ∙ lane.1) ∙ votes l lane, λ c op q alive. b.cells l (in_width l lane) (Asks n) (w0.items (chunk.lanes.first + l)).cells (stands l lane).1 c op q alive))
+                  chunk.lanes.width (omega arith) in
+              let w1 = m.after in
+              let sim0 = sim_from st b Into w1 m.reached m.memory m.more (λ l lane. m.below l lane.0 lane) in
+              let seen = window false st.group.votes chunk.first width in
+              let ls = window_length false st.group.votes chunk.first width in
+              let well1 = and_parts (is_below counts (mask_reg 1)) true (code_well counts code p (step.VoteGet (mask_reg 1)) valid has_rests.0) in
+              masks_step kernel launch width chunk turns w0 g0 frame counts r0 ground atoms (framed kernel atoms) code valid Good Site e closed turns p 1 (step.VoteGet (mask_reg 1)) st seen has_rests.0 refl b.shape well1.0 ls (λ after1 k1.
+              let st1 = with_registers st after1 in
+              let sim1 = masked_sim kernel launch width chunk turns w0 g0 frame counts r0 ground atoms (framed kernel atoms) code valid Good Site e closed turns 1 Into st w1 (λ l. slice_index_or seen l false) after1 k1 sim0 in
+              let fn = λ (x : Test) (z : Test). x && z in
+              let ms0 = mask_of after1 (mask_reg 0) in
+              let ms1 = mask_of after1 (mask_reg 1) in
+              let w2 = and_parts (is_below counts (mask_reg 1) && nat_lt 0 1 && is_below counts (mask_reg 0)) (is_below counts (mask_reg 1)) (code_well counts code (p + 1) (step.MaskAnd (mask_reg 1) (mask_reg 0) (mask_reg 1)) valid has_rests.1.0) in
+              let w3 = and_parts (is_below counts (mask_reg 1) && nat_lt 0 1) (is_below counts (mask_reg 0)) w2.0 in
+              let l0 = mask_length counts width after1 k1.shape 0 w3.1 in
+              let l1 = mask_length counts width after1 k1.shape 1 w2.1 in
+              masks_step kernel launch width chunk turns w0 g0 frame counts r0 ground atoms (framed kernel atoms) code valid Good Site e closed turns (p + 1) 1 (step.MaskAnd (mask_reg 1) (mask_reg 0) (mask_reg 1)) st1 (zip2 fn ms0 ms1) has_rests.1.0 refl k1.shape well1.0 (length-zip2 fn ms0 ms1 (l0 ∙ sym l1) ∙ l0) (λ after2 k2.
+              let st2 = with_registers st1 after2 in
+              let sim2 = masked_sim kernel launch width chunk turns w0 g0 frame counts r0 ground atoms (framed kernel atoms) code valid Good Site e closed turns 1 Into st1 w1 (λ l. slice_index_or (zip2 fn ms0 ms1) l false) after2 k2 sim1 in
+              let sound = λ (L : Lines). whole_of kernel launch width chunk turns w0 g0 frame counts r0 ground atoms (framed kernel atoms) code valid Good Site e closed L (sound_of kernel launch width chunk turns w0 g0 frame counts r0 ground atoms (framed kernel atoms) code valid Good Site e closed (access r0) L) in
+              ahead_step Mine code Good turns (p + 1 + 1) target (step.Jump target) st2 st2 has_rests.1.1.0 refl (omega arith)
+              (turn_enter kernel launch width chunk turns w0 g0 frame counts r0 ground atoms (framed kernel atoms) code valid Good Site e closed test answer body next 1 start at e there (sound test) (sound body) (loop_fits st b) (suc n) turns goes_on Into st2 w1
+              (record {
+                mask = λ l lt. k2.here l lt ∙ get_or-zip2 fn ms0 ms1 l false false false (let h = l0 in omega arith) (let h = l1 in omega arith)
+                    ∙ ap (λ x. x && slice_index_or ms1 l false) (k1.there 0 l lt (λ h. omega (arith, h)) ∙ b.mask l lt)
+                    ∙ ap (λ x. nat_lt (chunk.first + l) (group_size launch) && x) (k1.here l lt ∙ window_read false st.group.votes chunk.first width l false lt ∙ ap (λ (g : Group). slice_index_or g.votes (chunk.first + l) false) b.group);
+                alive = λ l set. chunk.is_chunk.alive_is l ∙ (and_parts (nat_lt (chunk.first + l) (group_size launch)) (slice_index_or g0.votes (chunk.first + l) false) set).0;
+                sim = sim2;
+                stand = λ l lane set. cond_set (goes_on l) (Starts (suc n)) e set;
+              })
+              (λ some. let more = m.strict (subst (λ k. some_below k goes_on ≡ true) (sym chunk.is_chunk.width_is) some) in omega (arith, more))
+              (λ t' st' w' le sim masks.
+              let len : length front + length begun ≡ target + 1 = ap (λ (c : List Step). length front + length c) rests_are ∙ omega (arith, length-append bodies (tests ++ turning), length-append tests turning) in
+              subst (λ i. Good (code_end Mine code t' i st')) len
+              (close st b t' st' w' (sim_names kernel launch width chunk turns w0 g0 frame counts r0 ground t' (λ l. cond (goes_on l) e (Into l)) (λ l. e) st' w' (λ l lane. all_same (goes_on l)) sim)
+              (λ l lt. masks 0 l (omega arith) lt ∙ k2.there 0 l lt (λ h. omega (arith, h)) ∙ k1.there 0 l lt (λ h. omega (arith, h))))))))
