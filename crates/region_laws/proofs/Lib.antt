@@ -23,3 +23,5 @@ pub mod Exiting
 pub mod Ends
 pub mod Finishing
 pub mod Regions
+pub mod Among
+pub mod Following
