@@ -1,32 +1,24 @@
 -- The code of a region does on a chunk what the chunk's items do in some order of their moves.
-use Rattle.std.proofs.Common.{◌≡◌, ℕ, List, Option, Some, refl, sym, ap, ◌∙◌}
+use Rattle.std.proofs.Common.{◌≡◌, refl}
 use Rattle.std.specs.Prelude.{true}
-use Rattle.std.proofs.lemmas.Bool.{and_parts}
 use Rattle.wg_num.specs.declared.types.Width.{Width}
 use Rattle.wg_num.specs.Operators.{lanes_of}
-use Rattle.cl_model.specs.Sizes.{Launch, group_size}
-use Rattle.cl_model.specs.Fitting.{FitsProgram, FitBuffers}
 use Rattle.kir.specs.Tree.{Kernel}
 use Rattle.kir.specs.Places.{Tasks}
 use Rattle.kir.specs.Fits.{lines_fit, is_kernel}
-use Rattle.kir.specs.Steps.{shell_of, Item}
 use Rattle.ctx_plan.specs.Planned.{Planned}
 use Rattle.ctx_plan.specs.Asks.{Suits}
 use Rattle.lane_code.specs.Fits.{is_code}
 use Rattle.lane_code.specs.Counting.{counted}
-use Rattle.lane_code.specs.Groups.{Group}
 use Rattle.lane_code.specs.Meaning.{Ended, region_end}
-use Rattle.group_moves.specs.Stages.{Stage}
-use Rattle.kir_moves.specs.Stand.{start_stage, ItemsLead}
 use Rattle.regions.specs.Tree.{RegionOf}
 use Rattle.regions.specs.Split.{split_of}
 use Rattle.regions.specs.Pieces.{IsAmong}
 use Rattle.regions.specs.Spans.{Spans, piece, whole, from_answer, IsEnd}
-use Rattle.mask_lower.specs.Layout.{kernel_chunk, HasShape, Mirrors}
+use Rattle.mask_lower.specs.Layout.{kernel_chunk}
 use Rattle.mask_lower.specs.Standing.{HasLive, LanesStand, LanesVoted}
-use Rattle.mask_lower.specs.Following.{ChunkOf, vote_before}
+use Rattle.mask_lower.specs.Following.{vote_before}
 use Rattle.mask_lower.specs.Lowered.{region_steps, region_code}
-use Rattle.region_laws.specs.Values.{HasGlobalSizes}
 use Rattle.region_laws.specs.Sim.{Ground}
 use Rattle.region_laws.specs.Follows.{Says, RegionFits, ReadsVote, RegionFollows}
 use Rattle.region_laws.proofs.Among.{body_fits, among_fits}

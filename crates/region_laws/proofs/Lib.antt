@@ -25,3 +25,4 @@ pub mod Finishing
 pub mod Regions
 pub mod Among
 pub mod Following
+pub mod Votes

@@ -1,12 +1,12 @@
 -- The code of a region does on a chunk what the chunk's items do in some order of their moves.
-use Rattle.std.proofs.Common.{◌≡◌, ℕ, zero, suc, ◌+◌, ◌*◌, ◌<◌, ◌≤◌, ℤ, List, [], ◌∷◌, ◌++◌, length, map, replicate, Option, Some, None, slice_get, refl, sym, ap, ◌∙◌, subst, ⊎_elim, inl, inr, arith, cond, IsTrue, length-append}
-use Rattle.std.specs.Prelude.{slice_index_or, slice_set, nat_lt, nat_eq, not, ◌&&◌, ◌||◌, option_map}
+use Rattle.std.proofs.Common.{◌≡◌, ℕ, zero, suc, ◌+◌, ◌<◌, ◌≤◌, ℤ, List, [], ◌∷◌, ◌++◌, length, map, replicate, Option, Some, None, slice_get, refl, sym, ap, ◌∙◌, subst, ⊎_elim, arith, cond, length-append}
+use Rattle.std.specs.Prelude.{slice_index_or, slice_set, nat_lt, nat_eq, not, ◌&&◌, option_map}
 use Rattle.std.specs.Prelude.{Bool as Test, true, false}
 use Rattle.std.proofs.lemmas.Bool.{true≢false, eq-eqb, or_left, or_right, and_parts, cases_eq}
 use Rattle.std.proofs.lemmas.List.{length-replicate, get_or-replicate, length-set, get_or-set_same, get_or-set_other}
 use Rattle.std.specs.Simd.Lanes.{zip2}
 use Rattle.std.proofs.lemmas.Simd.{get_or-zip2, length-zip2}
-use Rattle.std.proofs.lemmas.Option.{none-some, same_Some, slice_get_within}
+use Rattle.std.proofs.lemmas.Option.{none-some, slice_get_within}
 use Rattle.wg_num.specs.declared.types.IntType.{IntType}
 use Rattle.work_items.specs.Memory.{Memory}
 use Rattle.work_items.specs.Items.{Goes, Begins}
@@ -21,7 +21,6 @@ use Rattle.kir.specs.Live.{reads, some_reads, live_now, live_in, live_behind}
 use Rattle.kir.specs.Steps.{Item, with_tasks, atom_value, tasks_next}
 use Rattle.kir.specs.Fits.{atom_type, lines_fit, has_some_type}
 use Rattle.kir.specs.Meaning.{machine_of}
-use Rattle.ctx_plan.specs.declared.plan.Home.{Home}
 use Rattle.ctx_plan.specs.Planned.{Planned}
 use Rattle.ctx_plan.specs.Asks.{Suits}
 use Rattle.lane_code.specs.declared.step.Bank.{Bank}
@@ -53,20 +52,20 @@ use Rattle.mask_lower.specs.Layout.{kernel_chunk, HasShape, Mirrors}
 use Rattle.mask_lower.specs.Standing.{type_of, HasLive, AtHome, LanesStand, LanesVoted}
 use Rattle.mask_lower.specs.Following.{ChunkOf}
 use Rattle.mask_lower.specs.Homes.{entry_code, exit_code}
-use Rattle.mask_lower.specs.Registers.{Frame, frame_for, first_constants, constants, past, past_atom}
+use Rattle.mask_lower.specs.Registers.{Frame, frame_for, first_constants, constants, past}
 use Rattle.mask_lower.specs.Banks.{mask_reg}
-use Rattle.mask_lower.specs.Lowered.{lines_code, begun_code, rest_code, turn_code, vote_code, steps_with, region_steps}
+use Rattle.mask_lower.specs.Lowered.{lines_code, begun_code, turn_code, vote_code, region_steps}
 use Rattle.region_laws.specs.View.{value_at, is_lane, Shaped}
-use Rattle.region_laws.specs.Framed.{number_in, IsFramed, HeldAt, Held}
+use Rattle.region_laws.specs.Framed.{number_in, Held}
 use Rattle.region_laws.specs.Sim.{Ground, Agrees, Above, Sim, Closed, OthersObjectsStay}
-use Rattle.region_laws.specs.Follows.{Done, Says, RegionFits, ReadsVote}
+use Rattle.region_laws.specs.Follows.{Says, RegionFits, ReadsVote}
 use Rattle.region_laws.proofs.LaneValues.{lane_in}
 use Rattle.region_laws.proofs.Frames.{register_bank, type_lane, framed, some_left, some_right, held_left, held_right}
 use Rattle.region_laws.proofs.Standing.{sim_names, cond_set}
 use Rattle.region_laws.proofs.Entering.{Filled, Entered, constants_run, entry_runs, loaded_lane}
 use Rattle.region_laws.proofs.Masks.{flip_cond}
 use Rattle.region_laws.proofs.View.{code_well, mask_length}
-use Rattle.region_laws.proofs.Soundness.{Accessing, Fit, Lanes, Sound, Whole, whole_of, HasLoop, test_place, ask_place, type_there, masks_step, masked_sim, masked_below, turn_enter}
+use Rattle.region_laws.proofs.Soundness.{Accessing, Fit, Lanes, whole_of, HasLoop, type_there, masks_step, masked_sim, turn_enter}
 use Rattle.region_laws.proofs.Sounds.{sound_of}
 use Rattle.region_laws.proofs.Loads.{load_runs}
 use Rattle.region_laws.proofs.Stores.{store_runs}
@@ -137,7 +136,7 @@ home_there (x ∷ xs) zero lt = (x, refl)
 home_there (x ∷ xs) (suc i) lt = home_there xs i (omega arith)
 
 module _ (kernel : Kernel) (plan : Planned) (suits : Suits kernel plan) (launch : Launch) (width : ℕ) (chunk : ChunkOf kernel launch width) (turns : ℕ) (w0 : Stage Item) (g0 : Group) (buffers : List (List ℕ)) (ground : Ground kernel launch w0) (region : RegionOf)
-  (valid : is_code (counted (region_steps kernel plan.homes region)) (region_steps kernel plan.homes region) ≡ true) (fits : RegionFits kernel region) (mirrors : Mirrors kernel launch chunk.group w0.memory g0 buffers) (shaped : HasShape plan.columns plan.slots (group_size launch) g0) where
+    (valid : is_code (counted (region_steps kernel plan.homes region)) (region_steps kernel plan.homes region) ≡ true) (fits : RegionFits kernel region) (mirrors : Mirrors kernel launch chunk.group w0.memory g0 buffers) (shaped : HasShape plan.columns plan.slots (group_size launch) g0) where
   abbrev atoms : List Atom
   atoms = region_atoms region
 
@@ -438,12 +437,12 @@ module _ (kernel : Kernel) (plan : Planned) (suits : Suits kernel plan) (launch 
               let r0 = st.registers in
               let p = length front in
               let m = lanes_move (machine_of kernel launch) chunk.lanes w0 w0
-                  (λ l s. (s.tasks ≡ Asks n) × (goes_on l ≡ not (is_zero (atom_value s.cells answer))) × ((c : ℕ) (op : Operand) → slice_index_or frame.cells c None ≡ Some op → live_behind c (Asks n) ≡ true → value_at r0 op.at l ≡ lane_in op.of (s.cells c)))
-                  (λ l s. (s.tasks ≡ Into l) × Agrees frame r0 l (Into l) s.cells) goes_on (reached_none (machine_of kernel launch) chunk.lanes w0)
-                  (λ l lane s h. lane_goes r0 l (goes_on l) w0.memory s h.0 h.1 h.2)
-                  (λ l set. chunk.is_chunk.alive_is l ∙ (and_parts (nat_lt (chunk.first + l) (group_size launch)) (slice_index_or g0.votes (chunk.first + l) false) set).0)
-                  (λ l lane. ((stands l lane).0, ap (λ x. x && slice_index_or g0.votes (chunk.first + l) false) (sym (chunk.is_chunk.alive_is l) ∙ lane.1) ∙ votes l lane, λ c op q alive. b.cells l (in_width l lane) (Asks n) (w0.items (chunk.lanes.first + l)).cells (stands l lane).1 c op q alive))
-                  chunk.lanes.width (omega arith) in
+              (λ l s. (s.tasks ≡ Asks n) × (goes_on l ≡ not (is_zero (atom_value s.cells answer))) × ((c : ℕ) (op : Operand) → slice_index_or frame.cells c None ≡ Some op → live_behind c (Asks n) ≡ true → value_at r0 op.at l ≡ lane_in op.of (s.cells c)))
+              (λ l s. (s.tasks ≡ Into l) × Agrees frame r0 l (Into l) s.cells) goes_on (reached_none (machine_of kernel launch) chunk.lanes w0)
+              (λ l lane s h. lane_goes r0 l (goes_on l) w0.memory s h.0 h.1 h.2)
+              (λ l set. chunk.is_chunk.alive_is l ∙ (and_parts (nat_lt (chunk.first + l) (group_size launch)) (slice_index_or g0.votes (chunk.first + l) false) set).0)
+              (λ l lane. ((stands l lane).0, ap (λ x. x && slice_index_or g0.votes (chunk.first + l) false) (sym (chunk.is_chunk.alive_is l) ∙ lane.1) ∙ votes l lane, λ c op q alive. b.cells l (in_width l lane) (Asks n) (w0.items (chunk.lanes.first + l)).cells (stands l lane).1 c op q alive))
+              chunk.lanes.width (omega arith) in
               let w1 = m.after in
               let sim0 = sim_from st b Into w1 m.reached m.memory m.more (λ l lane. m.below l lane.0 lane) in
               let seen = window false st.group.votes chunk.first width in

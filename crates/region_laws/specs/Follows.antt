@@ -1,5 +1,5 @@
 -- What the code of a region does on a chunk is what the chunk's items do in some order: the statement that is proved.
-use Rattle.std.specs.Prelude.{◌≡◌, ℕ, ◌+◌, ◌<◌, ◌≤◌, List, Option, Some, true}
+use Rattle.std.specs.Prelude.{◌≡◌, ℕ, ◌+◌, ◌≤◌, List, Option, Some, true}
 use Rattle.wg_num.specs.declared.types.IntType.{IntType}
 use Rattle.wg_num.specs.declared.types.Width.{Width}
 use Rattle.wg_num.specs.Operators.{lanes_of}
