@@ -1,8 +1,8 @@
 -- What the register of an atom holds, and a step that writes a cell's register or one for what is on its way.
-use Rattle.std.proofs.Common.{◌≡◌, ℕ, ◌+◌, ◌<◌, ◌≤◌, ℤ, List, [], ◌∷◌, length, Option, Some, None, slice_get, refl, sym, ap, ◌∙◌, subst, ⊎_elim, arith, cond}
-use Rattle.std.specs.Prelude.{slice_index_or, unwrap_or, nat_eq}
+use Rattle.std.proofs.Common.{◌≡◌, ℕ, ◌+◌, ◌<◌, ℤ, List, length, Option, Some, None, slice_get, refl, sym, ap, ◌∙◌, subst, arith, cond}
+use Rattle.std.specs.Prelude.{slice_index_or, unwrap_or}
 use Rattle.std.specs.Prelude.{Bool as Test, true, false}
-use Rattle.std.proofs.lemmas.Bool.{true≢false, eq-eqb}
+use Rattle.std.proofs.lemmas.Bool.{eq-eqb}
 use Rattle.std.proofs.lemmas.Option.{none-some, same_Some, slice_get_within}
 use Rattle.wg_num.specs.declared.types.IntType.{IntType}
 use Rattle.kir.specs.declared.line.Atom.{Atom}
@@ -22,11 +22,10 @@ use Rattle.lane_laws.specs.Reading.{mask_at}
 use Rattle.lane_laws.proofs.Steps.{on_step}
 use Rattle.mask_lower.specs.declared.registers.Free.{Free}
 use Rattle.mask_lower.specs.declared.registers.Operand.{Operand}
-use Rattle.mask_lower.specs.Standing.{type_of}
-use Rattle.mask_lower.specs.Banks.{reg, mask_reg, register_at}
+use Rattle.mask_lower.specs.Banks.{mask_reg, register_at}
 use Rattle.mask_lower.specs.Registers.{Frame, cell_at, operand, nowhere}
 use Rattle.region_laws.specs.View.{value_at, is_lane, Differ, Shaped, Wrote}
-use Rattle.region_laws.specs.Framed.{number_in, IsEntry, IsFramed, HeldAt}
+use Rattle.region_laws.specs.Framed.{number_in, IsFramed, HeldAt}
 use Rattle.region_laws.specs.Sim.{Above}
 use Rattle.region_laws.proofs.CellValues.{type_of_is}
 use Rattle.region_laws.proofs.LaneValues.{lane_in}

@@ -1,10 +1,10 @@
 -- The bytes of an object after lanes have stored, one lane after the other.
-use Rattle.std.proofs.Common.{◌≡◌, ◌≢◌, ℕ, zero, suc, ◌+◌, ◌-◌, ◌*◌, ◌/◌, ◌%◌, ◌^◌, ◌<◌, ◌≤◌, ℤ, pos, List, [], ◌∷◌, length, map, replicate, refl, sym, ap, ap₂, ◌∙◌, subst, ⊎_elim, arith, cond}
+use Rattle.std.proofs.Common.{◌≡◌, ◌≢◌, ℕ, zero, suc, ◌+◌, ◌*◌, ◌/◌, ◌%◌, ◌^◌, ◌<◌, ℤ, List, [], ◌∷◌, length, refl, sym, ap, ap₂, ◌∙◌, subst, ⊎_elim, arith, cond}
 use Rattle.std.specs.Prelude.{slice_index_or}
 use Rattle.std.specs.Prelude.{Bool as Test, true, false}
-use Rattle.std.specs.Simd.Lanes.{put_chunk, number_l, digits_l}
+use Rattle.std.specs.Simd.Lanes.{put_chunk, digits_l}
 use Rattle.std.proofs.lemmas.Nat.{mod-pow-add, field_of}
-use Rattle.std.proofs.lemmas.Bool.{true≢false, cases_Bool, cases_eq}
+use Rattle.std.proofs.lemmas.Bool.{cases_eq}
 use Rattle.work_items.specs.Memory.{Memory, bytes_of, overwritten, first_byte, stored}
 use Rattle.work_items.proofs.MemoryLemmas.{bytes_of-stored, bytes_of-stored_other, length-stored}
 use Rattle.wg_num.specs.declared.types.IntType.{IntType}
@@ -13,7 +13,7 @@ use Rattle.wg_num.specs.Wrap.{bits_of}
 use Rattle.wg_num.specs.Bytes.{size_of, bytes_of as bytes_of_value}
 use Rattle.lane_values.specs.Lanes.{lane}
 use Rattle.lane_values.specs.Access.{put_element, lane_put, scattered}
-use Rattle.lane_code.specs.Groups.{own_stored, own_cleared}
+use Rattle.lane_code.specs.Groups.{own_stored}
 use Rattle.region_laws.proofs.LaneValues.{lane_in, lane_32, lane_64}
 
 pub overwritten_is : (xs : List ℕ) (p : ℕ) (bs : List ℕ) → overwritten xs p bs ≡ put_chunk p xs bs

@@ -1,14 +1,13 @@
 -- Wherever a run leads, each cell of an item holds a value of the cell's type.
-use Rattle.std.proofs.Common.{◌≡◌, ℕ, zero, suc, ◌+◌, ◌-◌, ◌*◌, ◌/◌, ◌%◌, ◌^◌, ◌<◌, ◌≤◌, ℤ, pos, negsuc, List, [], ◌∷◌, length, map, Option, Some, None, slice_get, refl, sym, ap, ◌∙◌, subst, ⊎_elim, arith, cond, take, replicate, mod-lt, div-add-mod', suc-mul, mul-le-mul_right, mod-eq_of_lt}
+use Rattle.std.proofs.Common.{◌≡◌, ℕ, zero, suc, ◌+◌, ◌*◌, ◌/◌, ◌^◌, ◌<◌, ◌≤◌, ℤ, pos, negsuc, List, [], ◌∷◌, Option, Some, None, slice_get, refl, sym, ap, ◌∙◌, subst, ⊎_elim, arith, cond, take, mod-lt, div-add-mod', suc-mul, mul-le-mul_right, mod-eq_of_lt}
 use Rattle.std.proofs.lemmas.Int.{ints}
 use native.Mathlib.Nat.{div-eq-sub-div, div-le_self}
-use Rattle.std.specs.Prelude.{nat_eq, nat_lt, option_map, int_le, ◌≤ℤ◌}
+use Rattle.std.specs.Prelude.{nat_eq, nat_lt, option_map, int_le}
 use Rattle.std.specs.Prelude.{Bool as Test, true, false}
 use Rattle.std.proofs.lemmas.Bool.{and_parts, true≢false, cases_lt, eqb-true, ltb-true}
 use Rattle.std.proofs.lemmas.Option.{none-some, same_Some}
 use Rattle.std.proofs.Math.Seq.{take-length}
-use Rattle.work_items.specs.Memory.{Access, loaded}
-use Rattle.work_items.specs.Items.{Next, Goes, Begins}
+use Rattle.work_items.specs.Items.{Goes, Begins}
 use Rattle.work_items.specs.Coming.{MayLead}
 use Rattle.wg_num.specs.declared.types.IntType.{IntType}
 use Rattle.wg_num.specs.declared.types.IntType.TheVariants as types
@@ -18,9 +17,7 @@ use Rattle.wg_num.specs.declared.types.Un.{Un}
 use Rattle.wg_num.specs.declared.types.Un.TheVariants as un
 use Rattle.wg_num.specs.Wrap.{IsValue, half, modulus, lowest, highest, wrap_of}
 use Rattle.wg_num.specs.Operators.{number_of, unary_of, binary_of, unary_exact, binary_exact}
-use Rattle.wg_num.specs.Bytes.{value_of_bytes}
-use Rattle.wg_num.specs.Builtins.{builtin_of}
-use Rattle.wg_num.proofs.WrapLaws.{IsValue-wrap, IsValue-value, wrap_value}
+use Rattle.wg_num.proofs.WrapLaws.{IsValue-wrap, IsValue-value}
 use Rattle.wg_num.proofs.BuiltinLaws.{IsValue-builtin}
 use Rattle.cl_model.specs.declared.launch.Bound.{Bound}
 use Rattle.cl_model.specs.declared.launch.Bound.TheVariants as bound
@@ -32,15 +29,15 @@ use Rattle.cl_model.specs.declared.program.Space.TheVariants as space
 use Rattle.cl_model.specs.Sizes.{Launch, product, size_at, offset_at, groups_at, group_of, number_in_group, local_id, group_id, global_id, answer_within, answer_outside, answer_of}
 use Rattle.cl_model.specs.Tree.{Program}
 use Rattle.cl_model.specs.Valid.{unary_type, binary_type, query_type, kind_type}
-use Rattle.cl_model.specs.Fitting.{ArgumentFits, ArgumentsFit, DimensionFits, FitsProgram}
+use Rattle.cl_model.specs.Fitting.{ArgumentFits, ArgumentsFit, FitsProgram}
 use Rattle.cl_model.specs.Meaning.{argument_value}
 use Rattle.cl_model.specs.Values.{is_zero}
 use Rattle.kir.specs.declared.line.Atom.{Atom}
 use Rattle.kir.specs.declared.line.Atom.TheVariants.{Const, Cell as CellAtom}
-use Rattle.kir.specs.Tree.{Work, Unary, Binary, Builtin, Convert, Ask, Argument, Copy, Lines, NoLine, SetThen, LoadThen, StoreThen, ClearThen, IfThen, LoopThen, BarrierThen, Cell, Kernel}
+use Rattle.kir.specs.Tree.{Work, Unary, Binary, Builtin, Convert, Ask, Argument, Copy, NoLine, SetThen, LoadThen, StoreThen, ClearThen, IfThen, LoopThen, BarrierThen, Cell, Kernel}
 use Rattle.kir.specs.Places.{Behind, Tasks, NoTask, LinesAt, AnswerAt, iteration}
-use Rattle.kir.specs.Steps.{shell_of, Item, with_tasks, with_cell, atom_value, work_value, tasks_next, item_next}
-use Rattle.kir.specs.Meaning.{start_item, machine_of, GoesOn}
+use Rattle.kir.specs.Steps.{shell_of, Item, with_tasks, with_cell, atom_value, work_value, tasks_next}
+use Rattle.kir.specs.Meaning.{machine_of, GoesOn}
 use Rattle.kir.specs.Fits.{same_type, has_type, is_value, atom_type, type_of_cell, work_fits, work_type, cell_takes, type_of_parameter, lines_fit}
 use Rattle.group_moves.specs.Stages.{Stage}
 use Rattle.group_moves.proofs.Histories.{leads_keep}

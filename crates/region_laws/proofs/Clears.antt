@@ -1,11 +1,11 @@
 -- The code of a clearing line makes the arrays of its active lanes' items zeros, as the items do.
 use Rattle.std.proofs.Common.{◌≡◌, ◌≢◌, ℕ, zero, suc, ◌+◌, ◌*◌, ◌<◌, ◌≤◌, ℤ, pos, List, [], ◌∷◌, length, map, filter, replicate, Option, Some, None, refl, sym, ap, ap₂, ◌∙◌, subst, ⊎_elim, arith, cond, IsTrue}
-use Rattle.std.specs.Prelude.{slice_get, slice_index_or, unwrap_or, nat_eq, nat_le, ◌&&◌, ◌||◌, if◌then◌else◌}
+use Rattle.std.specs.Prelude.{slice_get, slice_index_or, unwrap_or, nat_eq, nat_le, if◌then◌else◌}
 use Rattle.std.specs.Prelude.{Bool as Test, true, false}
 use Rattle.std.proofs.lemmas.Bool.{true≢false, and_parts, eq-eqb, ne_eqb, lt-ltb, le-leb}
 use Rattle.std.proofs.lemmas.List.{length-map, length-replicate}
 use Rattle.std.proofs.lemmas.Option.{none-some, same_Some}
-use Rattle.work_items.specs.Memory.{Memory, bytes_of, first_byte, has_element, is_in_range, overwritten}
+use Rattle.work_items.specs.Memory.{Memory, bytes_of, first_byte, has_element, overwritten}
 use Rattle.cl_model.specs.declared.program.Root.{Root}
 use Rattle.cl_model.specs.declared.program.Root.TheVariants as root
 use Rattle.cl_model.specs.Tree.{Array}
@@ -13,8 +13,8 @@ use Rattle.cl_model.specs.Steps.{no_array}
 use Rattle.cl_model.specs.Objects.{is_private, array_bytes, PlacedArray, placed_from, placed_arrays, private_arrays, private_sizes, place_among, zeros, start_memory, first_private}
 use Rattle.cl_model.specs.Sizes.{Launch, group_size, item_count}
 use Rattle.kir.specs.declared.line.Atom.{Atom}
-use Rattle.kir.specs.Tree.{Lines, NoLine, ClearThen, Kernel}
-use Rattle.kir.specs.Places.{Behind, Place, Tasks, LinesAt}
+use Rattle.kir.specs.Tree.{ClearThen, Kernel}
+use Rattle.kir.specs.Places.{Behind, Tasks, LinesAt}
 use Rattle.kir.specs.Fits.{is_private_array}
 use Rattle.kir.specs.Steps.{shell_of, Item, object_at, array_size}
 use Rattle.kir.specs.Meaning.{machine_of}
@@ -22,11 +22,10 @@ use Rattle.lane_code.specs.declared.step.Step.{Step}
 use Rattle.lane_code.specs.declared.step.Step.TheVariants as step
 use Rattle.lane_code.specs.declared.code.Counts.{Counts}
 use Rattle.lane_code.specs.Registers.{Registers, mask_of}
-use Rattle.lane_code.specs.Fits.{is_below, is_code}
+use Rattle.lane_code.specs.Fits.{is_code}
 use Rattle.lane_code.specs.Groups.{Group, window, own_cleared}
 use Rattle.lane_code.specs.Acts.{State, On, act, with_own}
 use Rattle.lane_code.specs.Meaning.{Ended}
-use Rattle.lane_laws.specs.Reading.{mask_at}
 use Rattle.lane_laws.proofs.Reading.{window_read, window_length}
 use Rattle.lane_laws.proofs.Steps.{on_step}
 use Rattle.group_moves.specs.Stages.{Stage}
@@ -36,7 +35,6 @@ use Rattle.group_moves.proofs.Histories.{leads_lengths}
 use Rattle.kir_moves.specs.Leads.{past_clear}
 use Rattle.kir_moves.specs.Stand.{start_stage}
 use Rattle.kir_moves.proofs.Live.{live_leads}
-use Rattle.mask_lower.specs.declared.registers.Free.{Free}
 use Rattle.mask_lower.specs.Banks.{mask_reg}
 use Rattle.mask_lower.specs.Layout.{kernel_chunk, lane_root}
 use Rattle.mask_lower.specs.Following.{ChunkOf}
@@ -45,13 +43,13 @@ use Rattle.mask_lower.proofs.Roots.{private_root}
 use Rattle.region_laws.specs.Framed.{IsFramed}
 use Rattle.region_laws.specs.Sim.{Ground, IsGood, Sim, Closed}
 use Rattle.region_laws.proofs.View.{code_well, mask_length}
-use Rattle.region_laws.proofs.Standing.{cond_unset, good_there}
+use Rattle.region_laws.proofs.Standing.{good_there}
 use Rattle.region_laws.proofs.Bytes.{memory_below, below_other, below_own}
 use Rattle.region_laws.proofs.Numbers.{privates_differ}
 use Rattle.region_laws.proofs.StartObjects.{at_private}
 use Rattle.region_laws.proofs.Objects.{place_within}
 use Rattle.region_laws.proofs.Mirroring.{own_mirrored}
-use Rattle.region_laws.proofs.Soundness.{Lanes, Fit, Accesses}
+use Rattle.region_laws.proofs.Soundness.{Accesses}
 use Rattle.region_laws.proofs.Loads.{lane_item, number_is}
 use Rattle.region_laws.proofs.Stores.{stores_move}
 
@@ -119,8 +117,8 @@ whole_fits : (n : ℕ) → nat_le ((0 + 1) * n) n ≡ true
 whole_fits n = le-leb ((0 + 1) * n) n (grind arith)
 
 module _ (kernel : Kernel) (launch : Launch) (width : ℕ) (chunk : ChunkOf kernel launch width) (turns : ℕ) (w0 : Stage Item) (g0 : Group) (f : Frame) (counts : Counts) (r0 : Registers) (ground : Ground kernel launch w0)
-  (atoms : List Atom) (framed : IsFramed kernel f atoms) (code : List Step) (valid : is_code counts code ≡ true) (Good : Ended → Type 0) (Sites : ℕ → Type 0) (Goal : Tasks) (closed : Closed kernel launch width chunk turns w0 Sites Goal Good)
-  (arrays_are : f.arrays ≡ places_from 0 0 kernel.arrays) where
+    (atoms : List Atom) (framed : IsFramed kernel f atoms) (code : List Step) (valid : is_code counts code ≡ true) (Good : Ended → Type 0) (Sites : ℕ → Type 0) (Goal : Tasks) (closed : Closed kernel launch width chunk turns w0 Sites Goal Good)
+    (arrays_are : f.arrays ≡ places_from 0 0 kernel.arrays) where
   abbrev AtStage : ℕ → (ℕ → Tasks) → State → Stage Item → Type 0
   AtStage = Sim kernel launch width chunk turns w0 g0 f counts r0
 

@@ -1,5 +1,5 @@
 -- Where regions end: live cells have homes of their own, and those kept once are even.
-use Rattle.std.proofs.Common.{◌≡◌, ◌≢◌, ℕ, ◌<◌, List, [], ◌∷◌, Some, slice_get, refl, sym, ap, subst, ◌∙◌, arith}
+use Rattle.std.proofs.Common.{◌≡◌, ◌≢◌, ℕ, ◌<◌, List, [], ◌∷◌, Some, slice_get, refl, sym, ap, subst, ◌∙◌}
 use Rattle.std.specs.Prelude.{◌||◌}
 use Rattle.std.specs.Prelude.{Bool as Test, true, false}
 use Rattle.std.proofs.lemmas.Bool.{true≢false, or_left, or_right}
@@ -10,9 +10,8 @@ use Rattle.kir.specs.Tree.{Lines, NoLine, SetThen, LoadThen, StoreThen, ClearThe
 use Rattle.kir.specs.Fits.{lines_fit}
 use Rattle.kir.specs.Places.{Behind, IntoTest, IntoBody, ToAnswer, Place, Point, Tasks, NoTask, LinesAt, AnswerAt, iteration, begun_in, point_of, lines_at, tasks_at, behind, test_of, body_of, at_answer as answer_at}
 use Rattle.kir.specs.Steps.{shell_of, Item}
-use Rattle.kir.specs.Live.{live_now, live_behind, live_at}
+use Rattle.kir.specs.Live.{live_behind, live_at}
 use Rattle.kir.specs.Cuts.{holds_barrier, is_barrier, is_choice, is_round, is_line, is_cut, is_stop}
-use Rattle.kir.specs.Evenness.{IsEven}
 use Rattle.ctx_plan.specs.declared.plan.Home.{Home}
 use Rattle.ctx_plan.specs.declared.plan.Home.TheVariants as home
 use Rattle.ctx_plan.specs.Homes.{IsOnce}
@@ -53,7 +52,6 @@ answer_behind : (text : Lines) (at : Place) (x : Tasks) → StandsThere text at 
 answer_behind text at _ nothing_there test answer body n k e = absurd (cc)
 answer_behind text at _ (answer_there f) test answer body n k e = absurd (cc)
 answer_behind text at _ (lines_there {k = k'}) test answer body n k e = (behind (lines_at text at), (k', cc))
-
 
 -- a cut at which all cells are live that are live where a region ends
 pub record CutFor (kernel : Kernel) (e : Tasks) : Type 0 where

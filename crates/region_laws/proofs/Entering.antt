@@ -1,7 +1,7 @@
 -- How a region's code begins: constants go to their registers, and cells come from their homes.
-use Rattle.std.proofs.Common.{◌≡◌, ℕ, zero, suc, ◌+◌, ◌-◌, ◌*◌, ◌%◌, ◌^◌, ◌<◌, ◌≤◌, ℤ, pos, List, [], ◌∷◌, ◌++◌, length, map, replicate, Option, Some, None, slice_get, refl, sym, ap, ◌∙◌, subst, ⊎_elim, arith, cond, length-append, mod-eq_of_lt, mod-lt}
-use Rattle.std.specs.Prelude.{slice_index_or, slice_set, nat_lt, ◌&&◌}
-use Rattle.std.specs.Prelude.{Bool as Test, true, false}
+use Rattle.std.proofs.Common.{◌≡◌, ℕ, suc, ◌+◌, ◌-◌, ◌%◌, ◌^◌, ◌<◌, ◌≤◌, ℤ, List, [], ◌∷◌, ◌++◌, length, replicate, Option, Some, None, slice_get, refl, sym, ap, ◌∙◌, subst, ⊎_elim, arith, length-append, mod-eq_of_lt, mod-lt}
+use Rattle.std.specs.Prelude.{slice_index_or, slice_set}
+use Rattle.std.specs.Prelude.{Bool as Test, true}
 use Rattle.std.proofs.lemmas.Bool.{true≢false, and_parts, ltb-true, cases_eq}
 use Rattle.std.proofs.lemmas.List.{get_or-map, length-map, length-replicate, get_or-replicate, get_or-set_same, length-set}
 use Rattle.std.proofs.lemmas.Option.{none-some, same_Some}
@@ -23,7 +23,7 @@ use Rattle.lane_code.specs.declared.code.Counts.{Counts}
 use Rattle.lane_code.specs.Registers.{Registers, bits_in, lane_count, lanes_in, with_scalar}
 use Rattle.lane_code.specs.Fits.{bank_of, is_below, is_code, is_value}
 use Rattle.lane_code.specs.Groups.{Group, window}
-use Rattle.lane_code.specs.Acts.{Chunk, State, act, with_registers, column_lanes}
+use Rattle.lane_code.specs.Acts.{Chunk, State, with_registers, column_lanes}
 use Rattle.lane_code.specs.Meaning.{Ended, code_end}
 use Rattle.lane_laws.specs.Places.{HasAt}
 use Rattle.lane_laws.proofs.Reading.{window_read, window_length}
@@ -31,11 +31,11 @@ use Rattle.lane_laws.proofs.Steps.{has_front, has_back, on_step}
 use Rattle.mask_lower.specs.declared.registers.Free.{Free}
 use Rattle.mask_lower.specs.declared.registers.Operand.{Operand}
 use Rattle.mask_lower.specs.Banks.{register_at, advanced, slot_reg}
-use Rattle.mask_lower.specs.Registers.{Frame, constants, past_atom}
-use Rattle.mask_lower.specs.Homes.{get_code, cell_code, entry_code}
+use Rattle.mask_lower.specs.Registers.{Frame, constants}
+use Rattle.mask_lower.specs.Homes.{get_code, entry_code}
 use Rattle.mask_lower.specs.Standing.{Holds}
-use Rattle.region_laws.specs.View.{value_at, is_lane, Differ, Shaped, Wrote}
-use Rattle.region_laws.specs.Framed.{number_in, IsFramed, HeldAt, Held}
+use Rattle.region_laws.specs.View.{value_at, is_lane, Shaped, Wrote}
+use Rattle.region_laws.specs.Framed.{number_in, IsFramed, Held}
 use Rattle.region_laws.specs.Sim.{Above}
 use Rattle.region_laws.proofs.LaneValues.{lane_in, lane_32, lane_64, zero_bits}
 use Rattle.region_laws.proofs.View.{code_well, lane_count_is, fills_wrote}
@@ -117,14 +117,17 @@ module _ (kernel : Kernel) (mine : Chunk) (f : Frame) (atoms : List Atom) (count
         masks = filled.masks ∙ w.masks;
         shape = filled.shape;
         below = λ y l lt b h. filled.below y l lt b (let a = advanced_more next of y.bank in omega arith) ∙ w.there y l lt b (λ same_bank same_number. let n : y.number ≡ number_in next y.bank = same_number ∙ register_number next of ∙ ap (number_in next) (sym (register_bank next of) ∙ sym same_bank) in omega arith);
-      })
-      (((let m = more of in let n = register_number next of in omega arith),
-      λ l lt.
-      filled.below x l lt xlane
-      (let n : x.number ≡ number_in next x.bank = register_number next of ∙ ap (number_in next) (sym (register_bank next of)) in
-      let a : number_in (advanced next of) x.bank ≡ number_in next x.bank + 1 = ap (number_in (advanced next of)) (register_bank next of) ∙ advanced_same next of ∙ ap (λ b. number_in next b + 1) (sym (register_bank next of)) in omega arith)
-      ∙ w.here l lt refl ∙ get_or-replicate (lane_count mine.width x.bank) l v 0 (let c = count in omega arith) ∙ ap (λ b. lane (bits_in b) value) (register_bank next of)),
-      held))))
+      }) (
+        (
+          (let m = more of in let n = register_number next of in omega arith),
+          λ l lt.
+              filled.below x l lt xlane
+              (let n : x.number ≡ number_in next x.bank = register_number next of ∙ ap (number_in next) (sym (register_bank next of)) in
+              let a : number_in (advanced next of) x.bank ≡ number_in next x.bank + 1 = ap (number_in (advanced next of)) (register_bank next of) ∙ advanced_same next of ∙ ap (λ b. number_in next b + 1) (sym (register_bank next of)) in omega arith)
+              ∙ w.here l lt refl ∙ get_or-replicate (lane_count mine.width x.bank) l v 0 (let c = count in omega arith) ∙ ap (λ b. lane (bits_in b) value) (register_bank next of),
+        ),
+        held,
+      ))))
 
   -- ---- cells
 

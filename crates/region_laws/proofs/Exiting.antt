@@ -1,5 +1,5 @@
 -- How a region's code ends: the homes of live cells get their values.
-use Rattle.std.proofs.Common.{◌≡◌, ℕ, zero, suc, ◌+◌, ◌-◌, ◌*◌, ◌%◌, ◌^◌, ◌<◌, ◌≤◌, ℤ, pos, List, [], ◌∷◌, ◌++◌, length, map, Option, Some, None, slice_get, refl, sym, ap, ◌∙◌, subst, ⊎_elim, ◌⊎◌, inl, inr, arith, cond, length-append}
+use Rattle.std.proofs.Common.{◌≡◌, ℕ, ◌+◌, ◌-◌, ◌<◌, ℤ, List, [], ◌∷◌, ◌++◌, length, Option, Some, None, slice_get, refl, sym, ap, ◌∙◌, subst, ⊎_elim, ◌⊎◌, inl, inr, arith, cond, length-append}
 use Rattle.std.specs.Prelude.{slice_index_or, slice_set, nat_lt, ◌&&◌}
 use Rattle.std.specs.Prelude.{Bool as Test, true, false}
 use Rattle.std.specs.Simd.Lanes.{sel_l}
@@ -20,14 +20,14 @@ use Rattle.lane_code.specs.declared.step.Step.{Step}
 use Rattle.lane_code.specs.declared.step.Step.TheVariants as step
 use Rattle.lane_code.specs.declared.step.Reg.{Reg}
 use Rattle.lane_code.specs.declared.code.Counts.{Counts}
-use Rattle.lane_code.specs.Registers.{Registers, bits_in, lanes_in, lanes_of, mask_of, scalar_of, with_scalar, lowest}
+use Rattle.lane_code.specs.Registers.{Registers, lanes_in, lanes_of, mask_of, scalar_of, lowest}
 use Rattle.lane_code.specs.Fits.{bank_of, is_below, is_code}
 use Rattle.lane_code.specs.Groups.{Group, window, with_window}
-use Rattle.lane_code.specs.Acts.{Chunk, State, act, with_registers, with_group, first_of, column_stored}
+use Rattle.lane_code.specs.Acts.{Chunk, State, with_registers, with_group, first_of, column_stored}
 use Rattle.lane_code.specs.Meaning.{Ended, code_end}
 use Rattle.lane_laws.specs.Places.{HasAt}
 use Rattle.lane_laws.specs.Reading.{mask_at}
-use Rattle.lane_laws.proofs.Reading.{window_read, window_length, with_window_length, before_window, in_window, behind_window, lowest_is, none_lowest}
+use Rattle.lane_laws.proofs.Reading.{window_length, with_window_length, before_window, in_window, behind_window, lowest_is, none_lowest}
 use Rattle.lane_laws.proofs.Steps.{has_front, has_back, on_step}
 use Rattle.mask_lower.specs.declared.registers.Operand.{Operand}
 use Rattle.mask_lower.specs.Banks.{mask_reg, slot_reg}
@@ -38,7 +38,7 @@ use Rattle.region_laws.specs.View.{value_at, is_lane, Shaped}
 use Rattle.region_laws.specs.Framed.{IsFramed}
 use Rattle.region_laws.proofs.LaneValues.{lane_in, value_lane}
 use Rattle.region_laws.proofs.View.{code_well, lanes_length, mask_length}
-use Rattle.region_laws.proofs.Atoms.{entry_lane, entry_at}
+use Rattle.region_laws.proofs.Atoms.{entry_lane}
 
 -- one of a list, or none
 pub among_or_not : (c : ℕ) (xs : List ℕ) → IsOneOf xs c ⊎ (IsOneOf xs c → ⊥)
@@ -93,7 +93,7 @@ kept_then first width g g' g'' a b = record {
 }
 
 module _ (kernel : Kernel) (mine : Chunk) (f : Frame) (atoms : List Atom) (counts : Counts) (r0 : Registers) (framed : IsFramed kernel f atoms) (code : List Step) (valid : is_code counts code ≡ true) (G : Ended → Type 0)
-  (homes : List Home) (size : ℕ) (V : (c l : ℕ) → ℤ) where
+    (homes : List Home) (size : ℕ) (V : (c l : ℕ) → ℤ) where
   -- a lane with an item
   abbrev pub HasItem : ℕ → Type 0
   HasItem l = (l < mine.width) × (nat_lt (mine.first + l) size ≡ true)

@@ -1,24 +1,19 @@
 -- How a region's code goes on behind its lines: the items' votes are put, live cells go home, and the code is done.
-use Rattle.std.proofs.Common.{◌≡◌, ℕ, zero, suc, ◌+◌, ◌-◌, ◌*◌, ◌<◌, ◌≤◌, ℤ, List, [], ◌∷◌, ◌++◌, length, map, Option, Some, None, slice_get, refl, sym, ap, ap₂, ◌∙◌, subst, ⊎_elim, inl, inr, arith, cond, IsTrue, length-append}
-use Rattle.std.specs.Prelude.{slice_index_or, nat_lt, ◌&&◌, ◌||◌, not, option_map}
+use Rattle.std.proofs.Common.{◌≡◌, ℕ, ◌+◌, ◌-◌, ◌*◌, ◌<◌, ◌≤◌, List, [], ◌++◌, length, Option, Some, None, slice_get, refl, sym, ap, ◌∙◌, subst, ⊎_elim, arith, length-append}
+use Rattle.std.specs.Prelude.{slice_index_or, nat_lt, ◌&&◌, option_map}
 use Rattle.std.specs.Prelude.{Bool as Test, true, false}
-use Rattle.std.proofs.lemmas.Bool.{true≢false, and_parts, cases_lt, ltb-true, or_left}
+use Rattle.std.proofs.lemmas.Bool.{and_parts, cases_lt, ltb-true, or_left}
 use Rattle.std.proofs.lemmas.Option.{none-some, same_Some, slice_get_within}
 use Rattle.wg_num.specs.declared.types.IntType.{IntType}
-use Rattle.wg_num.specs.Wrap.{IsValue}
 use Rattle.lane_values.specs.Lanes.{zip3}
 use Rattle.cl_model.specs.Lists.{IsOneOf}
-use Rattle.cl_model.specs.Values.{is_zero}
 use Rattle.cl_model.specs.Sizes.{Launch, group_size, group_of, item_count}
-use Rattle.cl_model.specs.Fitting.{FitsProgram, FitBuffers}
 use Rattle.kir.specs.declared.line.Atom.{Atom}
 use Rattle.kir.specs.Tree.{Cell, Kernel}
 use Rattle.kir.specs.Places.{Tasks}
-use Rattle.kir.specs.Live.{reads, some_reads, live_now, live_behind}
-use Rattle.kir.specs.Fits.{atom_type}
-use Rattle.kir.specs.Steps.{shell_of, Item, atom_value}
+use Rattle.kir.specs.Live.{reads, some_reads}
+use Rattle.kir.specs.Steps.{Item}
 use Rattle.kir.specs.Meaning.{machine_of}
-use Rattle.ctx_plan.specs.declared.plan.Home.{Home}
 use Rattle.ctx_plan.specs.declared.plan.Home.TheVariants as home
 use Rattle.ctx_plan.specs.Planned.{Planned}
 use Rattle.ctx_plan.specs.Asks.{Suits}
@@ -30,21 +25,20 @@ use Rattle.lane_code.specs.declared.end.RegionEnd.TheVariants as end
 use Rattle.lane_code.specs.Registers.{Registers, mask_of}
 use Rattle.lane_code.specs.Fits.{is_below, is_code}
 use Rattle.lane_code.specs.Groups.{Group, window, with_window}
-use Rattle.lane_code.specs.Acts.{State, act, chosen, voted as put_votes, with_group, with_registers}
+use Rattle.lane_code.specs.Acts.{State, chosen, voted as put_votes, with_group, with_registers}
 use Rattle.lane_code.specs.Meaning.{Ended}
 use Rattle.lane_laws.specs.Places.{HasAt}
 use Rattle.lane_laws.specs.Reading.{mask_at}
-use Rattle.lane_laws.proofs.Reading.{window_read, window_length, with_window_length, before_window, in_window, behind_window}
+use Rattle.lane_laws.proofs.Reading.{window_length, with_window_length, before_window, in_window, behind_window}
 use Rattle.lane_laws.proofs.Steps.{has_front, has_back, on_step, at_end}
 use Rattle.group_moves.specs.Stages.{Stage}
 use Rattle.group_moves.specs.Lanes.{IsLane}
 use Rattle.group_moves.proofs.Runs.{leads_then}
-use Rattle.kir_moves.specs.Stand.{start_stage, ItemsLead}
+use Rattle.kir_moves.specs.Stand.{start_stage}
 use Rattle.kir_moves.proofs.Live.{behind_live}
 use Rattle.regions.specs.Tree.{RegionOf}
 use Rattle.regions.specs.Spans.{IsEnd}
 use Rattle.mask_lower.specs.declared.registers.Free.{Free}
-use Rattle.mask_lower.specs.declared.registers.Operand.{Operand}
 use Rattle.mask_lower.specs.Banks.{mask_reg}
 use Rattle.mask_lower.specs.Atoms.{atoms_voted}
 use Rattle.mask_lower.specs.Layout.{kernel_chunk, HasShape, Mirrors}
@@ -52,23 +46,22 @@ use Rattle.mask_lower.specs.Standing.{type_of, HasLive, HasVoted}
 use Rattle.mask_lower.specs.Following.{ChunkOf}
 use Rattle.mask_lower.specs.Registers.{Frame, cell_at, operand}
 use Rattle.mask_lower.specs.Homes.{exit_code}
-use Rattle.mask_lower.specs.Lowered.{test_step, vote_code}
-use Rattle.region_laws.specs.View.{value_at, is_lane, Shaped}
+use Rattle.mask_lower.specs.Lowered.{vote_code}
+use Rattle.region_laws.specs.View.{value_at, Shaped}
 use Rattle.region_laws.specs.Framed.{IsFramed, Held}
-use Rattle.region_laws.specs.Sim.{Ground, IsGood, Agrees, Sim, Closed, SameGroup}
+use Rattle.region_laws.specs.Sim.{Ground, Sim, Closed}
 use Rattle.region_laws.specs.Follows.{Done, RegionFits, ReadsVote}
-use Rattle.region_laws.proofs.LaneValues.{lane_in}
 use Rattle.region_laws.proofs.View.{code_well, mask_length, zip3_read, zip3_length}
 use Rattle.region_laws.proofs.Standing.{good_there}
-use Rattle.region_laws.proofs.Atoms.{IsOperand, operand_is, entry_at}
+use Rattle.region_laws.proofs.Atoms.{operand_is, entry_at}
 use Rattle.region_laws.proofs.Ends.{ends_kept, ends_apart, ends_even}
-use Rattle.region_laws.proofs.Exiting.{GroupKept, Leaving, Left, HasItem, exit_runs}
-use Rattle.region_laws.proofs.Soundness.{HasMask, yes_at, test_runs, yes_is}
+use Rattle.region_laws.proofs.Exiting.{Left, exit_runs}
+use Rattle.region_laws.proofs.Soundness.{yes_at, test_runs, yes_is}
 
 module _ (kernel : Kernel) (launch : Launch) (width : ℕ) (chunk : ChunkOf kernel launch width) (turns : ℕ) (w0 : Stage Item) (g0 : Group) (f : Frame) (counts : Counts) (r0 : Registers) (ground : Ground kernel launch w0)
-  (atoms : List Atom) (framed : IsFramed kernel f atoms) (code : List Step) (valid : is_code counts code ≡ true) (Good : Ended → Type 0) (Sites : ℕ → Type 0) (Goal : Tasks) (closed : Closed kernel launch width chunk turns w0 Sites Goal Good)
-  (plan : Planned) (suits : Suits kernel plan) (shaped : HasShape plan.columns plan.slots (group_size launch) g0) (region : RegionOf) (e : Tasks) (is_end : IsEnd kernel e) (live : HasLive kernel region.live e) (reads_vote : ReadsVote region.answer e) (fits : RegionFits kernel region)
-  (done : (t : ℕ) (st : State) (after : Stage Item) → Done kernel plan.homes launch width chunk region.answer e w0 turns g0 t st after → Good (record { end = end.Done; turns = t; state = st })) where
+    (atoms : List Atom) (framed : IsFramed kernel f atoms) (code : List Step) (valid : is_code counts code ≡ true) (Good : Ended → Type 0) (Sites : ℕ → Type 0) (Goal : Tasks) (closed : Closed kernel launch width chunk turns w0 Sites Goal Good)
+    (plan : Planned) (suits : Suits kernel plan) (shaped : HasShape plan.columns plan.slots (group_size launch) g0) (region : RegionOf) (e : Tasks) (is_end : IsEnd kernel e) (live : HasLive kernel region.live e) (reads_vote : ReadsVote region.answer e) (fits : RegionFits kernel region)
+    (done : (t : ℕ) (st : State) (after : Stage Item) → Done kernel plan.homes launch width chunk region.answer e w0 turns g0 t st after → Good (record { end = end.Done; turns = t; state = st })) where
   abbrev EndFrom : ℕ → ℕ → State → Ended
   EndFrom t p st = Rattle.lane_code.specs.Meaning.code_end (kernel_chunk kernel launch width chunk.group chunk.first) code t p st
 
@@ -192,13 +185,16 @@ module _ (kernel : Kernel) (launch : Launch) (width : ℕ) (chunk : ChunkOf kern
         reached = sim.reached;
         mirrors = mirrored st st4 st5 voted left sim;
         other_groups = sim.others;
-        stand = λ l lane. ((sim.stand l lane).0, λ c h of q typed is_live.
-            let within : c < length kernel.cells = cell_within (slice_get kernel.cells c) refl typed in
-            let m = live.listed c within is_live in
-            let en = entry c m in
-            let op_type : (cell_at f.cells c).of ≡ of = same_Some _ _ (sym (framed.entries c (cell_at f.cells c) en).typed ∙ typed) in
-            subst (λ ty. Rattle.mask_lower.specs.Standing.Holds h ty st5.group.columns st5.group.exits (chunk.first + l) ((item_at w l).cells c)) op_type
-            (left.holds c (cell_at f.cells c) h m en q (λ is_register. ends_kept kernel plan suits ground.valid launch ground.fits ground.buffers ground.fit e is_end c is_live (q ∙ ap Some is_register)) l (item_of l lane)));
+        stand = λ l lane. (
+          (sim.stand l lane).0,
+          λ c h of q typed is_live.
+              let within : c < length kernel.cells = cell_within (slice_get kernel.cells c) refl typed in
+              let m = live.listed c within is_live in
+              let en = entry c m in
+              let op_type : (cell_at f.cells c).of ≡ of = same_Some _ _ (sym (framed.entries c (cell_at f.cells c) en).typed ∙ typed) in
+              subst (λ ty. Rattle.mask_lower.specs.Standing.Holds h ty st5.group.columns st5.group.exits (chunk.first + l) ((item_at w l).cells c)) op_type
+              (left.holds c (cell_at f.cells c) h m en q (λ is_register. ends_kept kernel plan suits ground.valid launch ground.fits ground.buffers ground.fit e is_end c is_live (q ∙ ap Some is_register)) l (item_of l lane)),
+        );
         voted = λ l lane. subst (λ (votes : List Test). HasVoted region.answer (slice_index_or votes (chunk.first + l) false) (item_at w l).cells) (sym left.kept.votes) (voted.voted l lane);
         shape = λ columns slots sh. record {
           column_count = left.kept.column_count ∙ ap (λ (x : List (List ℕ)). length x) (voted.columns ∙ sim.group.columns) ∙ sh.column_count;

@@ -1,6 +1,6 @@
 -- The registers of a region: each named cell has one of its own, and constants stand above.
 use Rattle.std.proofs.Common.{◌≡◌, ℕ, zero, suc, ◌+◌, ◌<◌, ◌≤◌, List, [], ◌∷◌, ◌++◌, length, replicate, Option, Some, None, slice_get, refl, sym, ap, ◌∙◌, subst, ⊎_elim, ◌⊎◌, inl, inr, arith, cond}
-use Rattle.std.specs.Prelude.{slice_index_or, slice_set, nat_eq, ◌||◌, option_map, unwrap_or}
+use Rattle.std.specs.Prelude.{slice_index_or, slice_set, nat_eq, option_map}
 use Rattle.std.specs.Prelude.{Bool as Test, true, false}
 use Rattle.std.proofs.lemmas.Bool.{true≢false, cases_eq, cases_lt, or_cases, eqb-true, or_left, or_right}
 use Rattle.std.proofs.lemmas.List.{get_or-set_same, get_or-set_other, length-replicate}
@@ -18,12 +18,10 @@ use Rattle.lane_code.specs.Fits.{bank_of}
 use Rattle.lane_code.specs.Registers.{Registers}
 use Rattle.mask_lower.specs.declared.registers.Free.{Free}
 use Rattle.mask_lower.specs.declared.registers.Operand.{Operand}
-use Rattle.mask_lower.specs.Standing.{type_of}
-use Rattle.mask_lower.specs.Banks.{is_wide, reg, register_at, advanced}
+use Rattle.mask_lower.specs.Banks.{is_wide, register_at, advanced}
 use Rattle.mask_lower.specs.Registers.{Frame, frame_for, marks_of, marked, cells_from, behind_cells, all_free, past_atom, past}
 use Rattle.region_laws.specs.View.{is_lane, Differ}
-use Rattle.region_laws.specs.Framed.{number_in, IsEntry, IsFramed, HeldAt, Held}
-use Rattle.region_laws.proofs.LaneValues.{wide_bank, narrow_bank}
+use Rattle.region_laws.specs.Framed.{number_in, IsFramed, Held}
 
 -- ---- the register for a type
 

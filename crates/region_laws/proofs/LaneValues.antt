@@ -1,30 +1,25 @@
 -- The lane of a value, and that what an operator makes of lanes is the lane of what it makes of the values.
-use Rattle.std.proofs.Common.{◌≡◌, ℕ, zero, suc, ◌+◌, ◌-◌, ◌*◌, ◌/◌, ◌%◌, ◌^◌, ◌<◌, ◌≤◌, ℤ, pos, negsuc, refl, sym, ap, ap₂, ◌∙◌, subst, ⊎_elim, arith, cond}
+use Rattle.std.proofs.Common.{◌≡◌, ℕ, zero, suc, ◌*◌, ◌%◌, ◌^◌, ◌<◌, ◌≤◌, ℤ, pos, negsuc, refl, sym, ap, ap₂, ◌∙◌, arith, cond}
 use Rattle.std.specs.Prelude.{nat_eq, ◌*ℤ◌}
 use Rattle.std.specs.Prelude.{Bool as Test, true, false}
-use Rattle.std.proofs.lemmas.Int.{ints}
-use Rattle.std.proofs.lemmas.Bool.{true≢false, eqb-true, ne_eqb}
+use Rattle.std.proofs.lemmas.Bool.{true≢false, eqb-true}
 use Rattle.wg_num.specs.declared.types.IntType.{IntType}
 use Rattle.wg_num.specs.declared.types.IntType.TheVariants as types
 use Rattle.wg_num.specs.declared.types.Bin.{Bin}
 use Rattle.wg_num.specs.declared.types.Bin.TheVariants as bin
 use Rattle.wg_num.specs.declared.types.Un.{Un}
-use Rattle.wg_num.specs.declared.types.Fun.{Fun}
-use Rattle.wg_num.specs.Wrap.{IsValue, IsCongruent, residue, width_bits, modulus, half, bits_of, value_of, wrap_of}
-use Rattle.wg_num.specs.Operators.{is_shift, amount_of, unary_of, binary_of, binary_exact}
-use Rattle.wg_num.specs.Builtins.{builtin_of}
-use Rattle.wg_num.proofs.WrapLaws.{residue-lt, residue_congruent, residue_unique, congruent_trans, congruent_divides, wrap_value, value-bits, IsValue-wrap, wrap_congruent}
+use Rattle.wg_num.specs.Wrap.{IsValue, IsCongruent, residue, width_bits, modulus, bits_of, value_of, wrap_of}
+use Rattle.wg_num.specs.Operators.{is_shift, amount_of, unary_of, binary_of}
+use Rattle.wg_num.proofs.WrapLaws.{residue-lt, residue_congruent, residue_unique, congruent_trans, congruent_divides, value-bits, wrap_congruent}
 use Rattle.wg_num.proofs.ByteLaws.{value-low_half}
-use Rattle.wg_num.proofs.OperatorLaws.{IsValue-unary, IsValue-binary}
-use Rattle.lane_values.specs.Lanes.{lane, right_value, unary_lane, binary_lane, builtin_lane, convert_lane}
+use Rattle.lane_values.specs.Lanes.{lane, right_value, unary_lane, binary_lane}
 use Rattle.cl_model.specs.Values.{is_zero}
-use Rattle.cl_model.specs.Valid.{unary_type, binary_type}
 use Rattle.lane_code.specs.declared.step.Bank.{Bank}
 use Rattle.lane_code.specs.declared.step.Bank.TheVariants.{Narrow, Wide}
 use Rattle.lane_code.specs.Fits.{bank_of}
 use Rattle.lane_code.specs.Registers.{bits_in}
 use Rattle.mask_lower.specs.Banks.{is_wide, crosses, amount_type}
-use Rattle.region_laws.proofs.CellValues.{zero_wraps, zero_value}
+use Rattle.region_laws.proofs.CellValues.{zero_wraps}
 
 -- how many bits a lane of the type's bank has
 abbrev pub bits_for : IntType → ℕ

@@ -22,3 +22,7 @@ pub mod Entering
 pub mod Exiting
 pub mod Ends
 pub mod Finishing
+pub mod Regions
+pub mod Among
+pub mod Following
+pub mod Votes

@@ -1,20 +1,20 @@
 -- The code of a load does what the items of its active lanes do: each loads its element, or the lowest that is out of range is shown.
-use Rattle.std.proofs.Common.{◌≡◌, ℕ, zero, suc, ◌+◌, ◌-◌, ◌*◌, ◌%◌, ◌^◌, ◌<◌, ◌≤◌, ℤ, pos, negsuc, List, [], ◌∷◌, length, take, drop, Option, Some, None, refl, sym, ap, ap₂, ◌∙◌, subst, ⊎_elim, arith, cond, IsTrue, mod-lt, mod-eq_of_lt}
+use Rattle.std.proofs.Common.{◌≡◌, ℕ, zero, suc, ◌+◌, ◌*◌, ◌^◌, ◌<◌, ◌≤◌, ℤ, pos, negsuc, List, [], ◌∷◌, length, take, drop, Option, Some, None, refl, sym, ap, ◌∙◌, subst, arith, cond, mod-eq_of_lt}
 use Rattle.std.specs.Prelude.{slice_get, slice_index_or, nat_eq, nat_lt, nat_le, ◌&&◌, ◌||◌, not}
 use Rattle.std.specs.Prelude.{Bool as Test, true, false}
-use Rattle.std.specs.Simd.Lanes.{zip2, chunk as element_at, number_l}
+use Rattle.std.specs.Simd.Lanes.{number_l}
 use Rattle.std.proofs.lemmas.Int.{ints}
 use Rattle.std.proofs.lemmas.Bool.{cases_Bool, true≢false, and_parts, or_left, or_right, eqb-true, eqb-false, eq-eqb, ne_eqb, lt-ltb, le-ltb, ltb-true, not_from_false}
-use Rattle.std.proofs.lemmas.Option.{none-some, same_Some}
+use Rattle.std.proofs.lemmas.Option.{same_Some}
 use Rattle.std.proofs.lemmas.Simd.{get_or-zip2, length-zip2}
 use Rattle.work_items.specs.Memory.{bytes_of, first_byte, has_element, is_in_range, loaded as loaded_bytes}
-use Rattle.work_items.specs.Items.{Loads, fault_of}
+use Rattle.work_items.specs.Items.{fault_of}
 use Rattle.wg_num.specs.declared.types.IntType.{IntType}
 use Rattle.wg_num.specs.declared.types.IntType.TheVariants as types
 use Rattle.wg_num.specs.Wrap.{IsValue, half, modulus, value_of}
 use Rattle.wg_num.specs.Bytes.{size_of, value_of_bytes}
 use Rattle.lane_values.specs.Lanes.{lane as lane_bits}
-use Rattle.lane_values.specs.Access.{is_within, is_fault, faults, lane_from, gathered, loaded}
+use Rattle.lane_values.specs.Access.{is_within, is_fault, faults, lane_from, gathered}
 use Rattle.cl_model.specs.declared.program.Root.{Root}
 use Rattle.cl_model.specs.Objects.{local_arrays, first_private}
 use Rattle.cl_model.specs.Sizes.{Launch, group_size, group_of}
@@ -23,7 +23,7 @@ use Rattle.kir.specs.Tree.{Lines, NoLine, LoadThen, Kernel}
 use Rattle.kir.specs.Places.{Behind, Place, Tasks, LinesAt}
 use Rattle.kir.specs.Live.{reads, some_reads, live_now}
 use Rattle.kir.specs.Fits.{is_site, can_load, has_type, atom_type, cell_takes, lines_fit}
-use Rattle.kir.specs.Steps.{shell_of, Item, with_cell, atom_value, object_at, access_at, tasks_next, item_next}
+use Rattle.kir.specs.Steps.{shell_of, Item, with_cell, atom_value, object_at, access_at, tasks_next}
 use Rattle.kir.specs.Meaning.{machine_of}
 use Rattle.lane_code.specs.declared.step.Step.{Step}
 use Rattle.lane_code.specs.declared.step.Step.TheVariants as step
@@ -32,7 +32,7 @@ use Rattle.lane_code.specs.declared.code.Counts.{Counts}
 use Rattle.lane_code.specs.declared.end.RegionEnd.TheVariants as end
 use Rattle.lane_code.specs.Registers.{Registers, bits_in, lanes_of, mask_of, lowest}
 use Rattle.lane_code.specs.Fits.{bank_of, is_below, is_code}
-use Rattle.lane_code.specs.Groups.{Group, window, Reached, Buffer, Table, LocalObject, Own, reached, own_faults, own_loaded}
+use Rattle.lane_code.specs.Groups.{Group, window, Reached, Own, reached, own_faults, own_loaded}
 use Rattle.lane_code.specs.Acts.{State, act, loads, writes, load_at, shared_bytes, own_objects, with_registers}
 use Rattle.lane_code.specs.Meaning.{Ended}
 use Rattle.lane_laws.specs.Reading.{mask_at}
@@ -45,16 +45,15 @@ use Rattle.kir_moves.proofs.Live.{live_leads, reads_live}
 use Rattle.mask_lower.specs.declared.registers.Free.{Free}
 use Rattle.mask_lower.specs.declared.registers.Operand.{Operand}
 use Rattle.mask_lower.specs.Banks.{mask_reg}
-use Rattle.mask_lower.specs.Layout.{kernel_chunk, Mirrors}
+use Rattle.mask_lower.specs.Layout.{kernel_chunk}
 use Rattle.mask_lower.specs.Following.{ChunkOf}
 use Rattle.mask_lower.specs.Registers.{Frame, places_from, cell_at, operand, root_at}
-use Rattle.region_laws.specs.View.{value_at, is_lane, Shaped, Wrote}
+use Rattle.region_laws.specs.View.{value_at, is_lane, Wrote}
 use Rattle.region_laws.specs.Framed.{IsFramed}
-use Rattle.region_laws.specs.Sim.{Ground, IsGood, Agrees, Above, Sim, Closed}
+use Rattle.region_laws.specs.Sim.{Ground, IsGood, Agrees, Sim, Closed}
 use Rattle.region_laws.proofs.CellValues.{has_type_is, atom_typed}
 use Rattle.region_laws.proofs.LaneValues.{lane_in}
 use Rattle.region_laws.proofs.View.{code_well, lanes_length, mask_length}
-use Rattle.region_laws.proofs.Frames.{type_lane}
 use Rattle.region_laws.proofs.Standing.{cond_set, cond_unset, sim_move}
 use Rattle.region_laws.proofs.Atoms.{operand_is, cell_entry, entry_type, entry_bank, entry_lane, cell_above, writes_step}
 use Rattle.region_laws.proofs.Objects.{IsObject, a_buffer, a_table, a_local, an_own, group_there, load_reaches}

@@ -1,5 +1,5 @@
 -- Tests on masks, and tasks by masks.
-use Rattle.std.proofs.Common.{◌≡◌, ℕ, zero, suc, ◌+◌, ◌<◌, ◌≤◌, List, length, refl, sym, ap, ap₂, ◌∙◌, ⊎_elim, arith, cond}
+use Rattle.std.proofs.Common.{◌≡◌, ℕ, zero, suc, ◌<◌, List, length, refl, sym, ap, ap₂, ◌∙◌, ⊎_elim, arith, cond}
 use Rattle.std.specs.Prelude.{slice_index_or, ◌&&◌, ◌||◌, not}
 use Rattle.std.specs.Prelude.{Bool as Test, true, false}
 use Rattle.std.proofs.lemmas.Bool.{cases_eq, cases_Bool, true≢false, or_left, or_right}

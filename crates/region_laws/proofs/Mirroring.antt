@@ -1,15 +1,14 @@
 -- What the code of a group has of the memory after one object was stored to.
-use Rattle.std.proofs.Common.{◌≡◌, ◌≢◌, ℕ, zero, suc, ◌+◌, ◌-◌, ◌*◌, ◌<◌, ◌≤◌, List, [], ◌∷◌, length, map, refl, sym, ap, ◌∙◌, subst, ⊎_elim, arith, cond}
+use Rattle.std.proofs.Common.{◌≡◌, ◌≢◌, ℕ, ◌+◌, ◌-◌, ◌*◌, ◌<◌, List, [], length, refl, sym, ap, ◌∙◌, subst, ⊎_elim, arith}
 use Rattle.std.specs.Prelude.{slice_index_or, slice_set}
 use Rattle.std.proofs.lemmas.Bool.{cases_eq, cases_lt}
 use Rattle.std.proofs.lemmas.List.{get_or-set_same, get_or-set_other, length-set}
 use Rattle.work_items.specs.Memory.{Memory, bytes_of}
 use Rattle.cl_model.specs.Sizes.{Launch, group_size, group_count, group_of}
 use Rattle.cl_model.specs.Objects.{local_sizes, private_sizes, first_table, first_local, first_private}
-use Rattle.cl_model.specs.Tree.{Table}
 use Rattle.kir.specs.Tree.{Kernel}
 use Rattle.kir.specs.Steps.{shell_of}
-use Rattle.lane_code.specs.Groups.{Group, Buffer, LocalObject, with_window}
+use Rattle.lane_code.specs.Groups.{Buffer, LocalObject, with_window}
 use Rattle.lane_code.specs.Acts.{State, with_shared, with_group, objects_stored}
 use Rattle.lane_laws.proofs.Reading.{with_window_length, before_window, in_window, behind_window}
 use Rattle.mask_lower.specs.Layout.{Mirrors}
@@ -26,7 +25,7 @@ pub record Mirrored (kernel : Kernel) (launch : Launch) (group : ℕ) (memory af
   pub rows : (n : ℕ) → n < length st'.group.privates → length (slice_index_or st'.group.privates n []) ≡ group_size launch
 
 module _ (kernel : Kernel) (launch : Launch) (group : ℕ) (within : group < group_count launch) (memory after : Memory) (st : State) (mirrors : Mirrors kernel launch group memory st.group st.buffers)
-  (rows : (n : ℕ) → n < length st.group.privates → length (slice_index_or st.group.privates n []) ≡ group_size launch) where
+    (rows : (n : ℕ) → n < length st.group.privates → length (slice_index_or st.group.privates n []) ≡ group_size launch) where
   abbrev Same : ℕ → Type 0
   Same y = bytes_of after y ≡ bytes_of memory y
 

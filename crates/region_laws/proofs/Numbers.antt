@@ -1,8 +1,8 @@
 -- Objects of different kinds, groups and items have different numbers.
-use Rattle.std.proofs.Common.{◌≡◌, ◌≢◌, ℕ, suc, ◌+◌, ◌*◌, ◌<◌, ◌≤◌, length, sym, ap, ◌∙◌, ⊎_elim, arith, suc-mul, mul-le-mul_right}
+use Rattle.std.proofs.Common.{◌≢◌, ℕ, suc, ◌+◌, ◌*◌, ◌<◌, ◌≤◌, length, ⊎_elim, arith, suc-mul, mul-le-mul_right}
 use Rattle.std.proofs.lemmas.Bool.{cases_lt}
 use Rattle.cl_model.specs.Sizes.{Launch, group_count}
-use Rattle.cl_model.specs.Objects.{local_sizes, private_sizes, first_table, first_local, first_private}
+use Rattle.cl_model.specs.Objects.{local_sizes, private_sizes, first_local, first_private}
 use Rattle.kir.specs.Tree.{Kernel}
 use Rattle.kir.specs.Steps.{shell_of}
 

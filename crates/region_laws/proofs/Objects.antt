@@ -1,6 +1,6 @@
 -- The object that a root names to a lane's item, and what the code of a chunk reaches by it.
 use Rattle.std.proofs.Common.{◌≡◌, ℕ, zero, suc, ◌+◌, ◌*◌, ◌/◌, ◌<◌, ◌≤◌, List, [], ◌∷◌, ◌++◌, length, map, filter, take, Option, Some, None, slice_get, refl, sym, ap, ◌∙◌, subst, ⊎_elim, arith, cond, length-append, suc-mul, append-nil}
-use Rattle.std.specs.Prelude.{nat_eq, ◌&&◌, if◌then◌else◌}
+use Rattle.std.specs.Prelude.{nat_eq, if◌then◌else◌}
 use Rattle.std.specs.Prelude.{Bool as Test, true, false}
 use Rattle.std.proofs.lemmas.Bool.{true≢false, and_parts, eq-eqb, ne_eqb}
 use Rattle.std.proofs.lemmas.List.{length-map}
@@ -24,7 +24,6 @@ use Rattle.kir.specs.Tree.{Kernel}
 use Rattle.kir.specs.Fits.{points_to, table_has, array_has, can_load, can_store, points_to_written, same_type, is_written}
 use Rattle.kir.specs.Steps.{shell_of, Item, object_at}
 use Rattle.lane_code.specs.Groups.{Reached, Buffer, Table as TableAt, LocalObject, Own, reached, reached_by}
-use Rattle.mask_lower.specs.Layout.{lane_root}
 use Rattle.mask_lower.specs.Registers.{places_from, root_at}
 use Rattle.mask_lower.proofs.Roots.{local_root, private_root}
 

@@ -1,42 +1,42 @@
 -- The masked code of lines does what the items of its active lanes do, in some order of their moves.
-use Rattle.std.proofs.Common.{◌≡◌, ℕ, zero, suc, ◌+◌, ◌*◌, ◌<◌, ◌≤◌, ℤ, List, [], ◌∷◌, ◌++◌, length, Option, Some, None, refl, sym, ap, ap₂, ◌∙◌, subst, ⊎_elim, arith, cond, IsTrue, length-append}
-use Rattle.std.specs.Prelude.{slice_get, slice_index_or, nat_eq, nat_lt, ◌&&◌, ◌||◌, not, if◌then◌else◌}
+use Rattle.std.proofs.Common.{◌≡◌, ℕ, zero, suc, ◌+◌, ◌<◌, ◌≤◌, List, [], ◌∷◌, ◌++◌, length, Option, Some, None, refl, sym, ap, ap₂, ◌∙◌, subst, ⊎_elim, arith, cond, IsTrue, length-append}
+use Rattle.std.specs.Prelude.{slice_get, slice_index_or, nat_eq, nat_lt, ◌&&◌, not, if◌then◌else◌}
 use Rattle.std.specs.Prelude.{Bool as Test, true, false}
 use Rattle.std.specs.Simd.Lanes.{zip2}
 use Rattle.std.proofs.lemmas.Bool.{cases_eq, cases_Bool, true≢false, and_parts, or_cases, or_left, or_right, eqb-true, eqb-false, not_from_false}
-use Rattle.std.proofs.lemmas.Option.{none-some, same_Some}
+use Rattle.std.proofs.lemmas.Option.{same_Some}
 use Rattle.std.proofs.lemmas.Simd.{get_or-zip2, length-zip2}
 use Rattle.work_items.specs.Items.{Goes, Begins}
 use Rattle.work_items.specs.Clean.{WaitsAt}
 use Rattle.wg_num.specs.declared.types.IntType.{IntType}
 use Rattle.cl_model.specs.declared.program.Root.{Root}
 use Rattle.cl_model.specs.Values.{is_zero}
-use Rattle.cl_model.specs.Sizes.{Launch, group_size}
+use Rattle.cl_model.specs.Sizes.{Launch}
 use Rattle.kir.specs.declared.line.Atom.{Atom}
 use Rattle.kir.specs.Tree.{Work, Lines, NoLine, SetThen, LoadThen, StoreThen, ClearThen, IfThen, LoopThen, BarrierThen, joined_to, Kernel}
 use Rattle.kir.specs.Places.{Behind, IntoChosen, IntoOther, IntoTest, IntoBody, Place, Tasks, LinesAt, AnswerAt, iteration}
-use Rattle.kir.specs.Live.{reads, some_reads, work_reads, live_now}
+use Rattle.kir.specs.Live.{reads, some_reads, live_now}
 use Rattle.kir.specs.Counts.{barrier_lines, once_if}
 use Rattle.kir.specs.Fits.{lines_fit, has_some_type, atom_type, work_fits, work_type, cell_takes}
-use Rattle.kir.specs.Steps.{Item, with_tasks, with_cell, atom_value, work_value, branched, answer_next, tasks_next, item_next}
+use Rattle.kir.specs.Steps.{Item, with_tasks, with_cell, atom_value, work_value, tasks_next}
 use Rattle.kir.specs.Meaning.{machine_of}
 use Rattle.lane_code.specs.declared.step.Step.{Step}
 use Rattle.lane_code.specs.declared.step.Step.TheVariants as step
 use Rattle.lane_code.specs.declared.step.Reg.{Reg}
 use Rattle.lane_code.specs.declared.code.Counts.{Counts}
 use Rattle.lane_code.specs.declared.end.RegionEnd.TheVariants as end
-use Rattle.lane_code.specs.Registers.{Registers, lanes_of, mask_of, with_mask, lowest, is_some_set}
-use Rattle.lane_code.specs.Fits.{bank_of, is_below, is_code}
+use Rattle.lane_code.specs.Registers.{Registers, lanes_of, mask_of, with_mask, lowest}
+use Rattle.lane_code.specs.Fits.{is_below, is_code}
 use Rattle.lane_code.specs.Groups.{Group}
 use Rattle.lane_code.specs.Acts.{State, On, Ahead, Back, act, marks, with_registers}
 use Rattle.lane_code.specs.Meaning.{Ended, code_end}
 use Rattle.lane_laws.specs.Places.{HasAt}
 use Rattle.lane_laws.specs.Reading.{mask_at}
-use Rattle.lane_laws.proofs.Reading.{lowest_is, none_lowest, some_set_is, none_set_is}
+use Rattle.lane_laws.proofs.Reading.{lowest_is, none_lowest}
 use Rattle.lane_laws.proofs.Steps.{has_front, has_back, back_end, on_step, ahead_step, back_step, halt_step}
 use Rattle.group_moves.specs.Stages.{Stage}
 use Rattle.group_moves.specs.Lanes.{IsLane, Does, stays, goes, begins, some_below}
-use Rattle.kir_moves.specs.Leads.{Leads, past_end, past_set, past_barrier, into_chosen, into_other, into_test, into_body, past_loop, to_body, ComesTo, by_leg, StillComes}
+use Rattle.kir_moves.specs.Leads.{past_end, past_set, past_barrier, into_chosen, into_other, into_test, into_body, past_loop, to_body, ComesTo, by_leg, StillComes}
 use Rattle.kir_moves.proofs.Coming.{come_trans}
 use Rattle.kir_moves.proofs.Live.{live_leads, reads_live}
 use Rattle.regions.specs.Spans.{past_lines}
@@ -50,14 +50,14 @@ use Rattle.mask_lower.specs.Registers.{Frame, cell_at, operand, past_atom, past,
 use Rattle.mask_lower.specs.Lowered.{is_no_line, work_code, skipped, otherwise, test_step, turn_code, lines_code}
 use Rattle.region_laws.specs.View.{value_at, is_lane, Shaped, Masked}
 use Rattle.region_laws.specs.Framed.{IsFramed, Held}
-use Rattle.region_laws.specs.Sim.{Ground, IsGood, Agrees, Above, Sim, Closed}
+use Rattle.region_laws.specs.Sim.{Ground, IsGood, Agrees, Sim, Closed}
 use Rattle.region_laws.proofs.CellValues.{atom_typed}
 use Rattle.region_laws.proofs.LaneValues.{lane_in, zero_lane}
 use Rattle.region_laws.proofs.View.{code_well, lanes_length, mask_length, mask_masked}
 use Rattle.region_laws.proofs.Frames.{type_lane, some_left, some_right, held_left, held_right}
-use Rattle.region_laws.proofs.Standing.{SameCells, SameOuter, same_outer, cond_else, cond_set, cond_unset, sim_as, sim_names, sim_move, sim_go}
+use Rattle.region_laws.proofs.Standing.{same_outer, cond_else, cond_set, cond_unset, sim_as, sim_names, sim_move, sim_go}
 use Rattle.region_laws.proofs.Atoms.{IsOperand, operand_is, cell_entry}
-use Rattle.region_laws.proofs.Work.{Worked, Gives, some_type}
+use Rattle.region_laws.proofs.Work.{Worked, Gives}
 use Rattle.region_laws.proofs.Works.{work_runs}
 use Rattle.region_laws.proofs.Masks.{some_is, none_below, no_lane, and_false, branch_done, branch_idle, and_same, flip_cond, standing}
 use Rattle.region_laws.proofs.Through.{joined_none, no_line_is, run_through, through}

@@ -8,7 +8,7 @@ use Rattle.cl_model.specs.Sizes.{Launch, item_count}
 use Rattle.kir.specs.Tree.{Kernel}
 use Rattle.kir.specs.Places.{Tasks}
 use Rattle.kir.specs.Live.{live_now}
-use Rattle.kir.specs.Steps.{Item, tasks_next, item_next}
+use Rattle.kir.specs.Steps.{Item, tasks_next}
 use Rattle.kir.specs.Meaning.{machine_of}
 use Rattle.lane_code.specs.declared.code.Counts.{Counts}
 use Rattle.lane_code.specs.Registers.{Registers}
@@ -18,13 +18,13 @@ use Rattle.group_moves.specs.Stages.{Stage}
 use Rattle.group_moves.specs.Lanes.{IsLane, Reached, Does, stays, goes, some_below}
 use Rattle.group_moves.proofs.Moves.{lanes_move}
 use Rattle.group_moves.proofs.Runs.{leads_then}
-use Rattle.kir_moves.specs.Stand.{start_stage, ItemsLead}
+use Rattle.kir_moves.specs.Stand.{start_stage}
 use Rattle.kir_moves.proofs.Own.{items_stand}
 use Rattle.mask_lower.specs.declared.registers.Operand.{Operand}
 use Rattle.mask_lower.specs.Layout.{Mirrors}
 use Rattle.mask_lower.specs.Following.{ChunkOf}
 use Rattle.mask_lower.specs.Registers.{Frame}
-use Rattle.region_laws.specs.View.{value_at, is_lane, Shaped}
+use Rattle.region_laws.specs.View.{value_at, Shaped}
 use Rattle.region_laws.specs.Sim.{Ground, IsGood, Agrees, Above, SameGroup, OthersObjectsStay, Sim}
 use Rattle.region_laws.proofs.CellValues.{cells_hold}
 

@@ -1,5 +1,5 @@
 -- The private objects of items as a launch starts.
-use Rattle.std.proofs.Common.{◌≡◌, ℕ, zero, suc, ◌+◌, ◌*◌, ◌<◌, ◌≤◌, List, [], ◌∷◌, ◌++◌, length, map, Some, slice_get, refl, sym, ap, ◌∙◌, arith, length-append, suc-mul}
+use Rattle.std.proofs.Common.{◌≡◌, ℕ, zero, suc, ◌+◌, ◌*◌, ◌<◌, List, [], ◌∷◌, ◌++◌, length, map, Some, slice_get, refl, sym, ap, ◌∙◌, arith, length-append, suc-mul}
 use Rattle.std.specs.Prelude.{slice_index_or, unwrap_or}
 use Rattle.std.proofs.lemmas.List.{length-map}
 use Rattle.work_items.specs.Memory.{Memory, bytes_of}

@@ -1,97 +1,88 @@
 -- The code of a store does what the items of its active lanes do, lane 0 first, or the lowest that is out of range is shown.
-use Rattle.std.proofs.Common.{◌≡◌, ℕ, zero, suc, ◌+◌, ◌-◌, ◌*◌, ◌%◌, ◌^◌, ◌<◌, ◌≤◌, ℤ, pos, negsuc, List, [], ◌∷◌, length, take, drop, Option, Some, None, refl, sym, ap, ap₂, ◌∙◌, subst, ⊎_elim, arith, cond, IsTrue, mod-lt, mod-eq_of_lt}
-use Rattle.std.specs.Prelude.{slice_get, slice_index_or, nat_eq, nat_lt, nat_le, ◌&&◌, ◌||◌, not}
+use Rattle.std.proofs.Common.{◌≡◌, ℕ, suc, ◌+◌, ◌*◌, ◌<◌, ℤ, List, [], ◌∷◌, length, Option, Some, None, refl, sym, ap, ◌∙◌, subst, arith, cond}
+use Rattle.std.specs.Prelude.{slice_get, slice_index_or, ◌&&◌, ◌||◌, not}
 use Rattle.std.specs.Prelude.{Bool as Test, true, false}
 use Rattle.std.specs.Simd.Lanes.{zip2, chunk as element_at, number_l}
-use Rattle.std.proofs.lemmas.Int.{ints}
 use Rattle.std.proofs.lemmas.Bool.{cases_Bool, true≢false, and_parts, or_left, or_right, eqb-true, eqb-false, eq-eqb, ne_eqb, lt-ltb, le-ltb, ltb-true, not_from_false}
-use Rattle.std.proofs.lemmas.Option.{none-some, same_Some}
 use Rattle.std.proofs.lemmas.Simd.{get_or-zip2, length-zip2}
 use Rattle.work_items.specs.Memory.{bytes_of, first_byte, has_element, is_in_range, loaded as loaded_bytes}
-use Rattle.work_items.specs.Items.{Loads, fault_of}
+use Rattle.work_items.specs.Items.{fault_of}
 use Rattle.wg_num.specs.declared.types.IntType.{IntType}
 use Rattle.wg_num.specs.declared.types.IntType.TheVariants as types
-use Rattle.wg_num.specs.Wrap.{IsValue, half, modulus, value_of}
-use Rattle.wg_num.specs.Bytes.{size_of, value_of_bytes}
+use Rattle.wg_num.specs.Bytes.{size_of}
 use Rattle.lane_values.specs.Lanes.{lane as lane_bits}
-use Rattle.lane_values.specs.Access.{is_within, is_fault, faults, lane_from, gathered, loaded}
+use Rattle.lane_values.specs.Access.{is_within, is_fault, faults}
 use Rattle.cl_model.specs.declared.program.Root.{Root}
 use Rattle.cl_model.specs.Objects.{local_arrays, first_private}
-use Rattle.cl_model.specs.Sizes.{Launch, group_size, group_of}
+use Rattle.cl_model.specs.Sizes.{Launch, group_size}
 use Rattle.kir.specs.declared.line.Atom.{Atom}
-use Rattle.kir.specs.Tree.{Lines, NoLine, LoadThen, Kernel}
+use Rattle.kir.specs.Tree.{Lines, NoLine, Kernel}
 use Rattle.kir.specs.Places.{Behind, Place, Tasks, LinesAt}
-use Rattle.kir.specs.Live.{reads, some_reads, live_now}
-use Rattle.kir.specs.Fits.{is_site, can_load, has_type, atom_type, cell_takes, lines_fit}
-use Rattle.kir.specs.Steps.{shell_of, Item, with_cell, atom_value, object_at, access_at, tasks_next, item_next}
+use Rattle.kir.specs.Live.{reads, live_now}
+use Rattle.kir.specs.Fits.{is_site, has_type, atom_type}
+use Rattle.kir.specs.Steps.{shell_of, Item, atom_value, object_at, tasks_next}
 use Rattle.kir.specs.Meaning.{machine_of}
 use Rattle.lane_code.specs.declared.step.Step.{Step}
 use Rattle.lane_code.specs.declared.step.Step.TheVariants as step
 use Rattle.lane_code.specs.declared.step.Reg.{Reg}
 use Rattle.lane_code.specs.declared.code.Counts.{Counts}
 use Rattle.lane_code.specs.declared.end.RegionEnd.TheVariants as end
-use Rattle.lane_code.specs.Registers.{Registers, bits_in, lanes_of, mask_of, lowest}
-use Rattle.lane_code.specs.Fits.{bank_of, is_below, is_code}
-use Rattle.lane_code.specs.Groups.{Group, window, Reached, Buffer, Table, LocalObject, Own, reached, own_faults, own_loaded}
+use Rattle.lane_code.specs.Registers.{Registers, lanes_of, mask_of, lowest}
+use Rattle.lane_code.specs.Fits.{is_below, is_code}
+use Rattle.lane_code.specs.Groups.{Group, window, Reached, Own, reached, own_faults}
 use Rattle.lane_code.specs.Acts.{State, act, loads, writes, load_at, shared_bytes, own_objects, with_registers}
 use Rattle.lane_code.specs.Meaning.{Ended}
 use Rattle.lane_laws.specs.Reading.{mask_at}
 use Rattle.lane_laws.proofs.Reading.{window_read, window_length, lowest_is, none_lowest}
 use Rattle.lane_laws.proofs.Steps.{halt_step}
 use Rattle.group_moves.specs.Stages.{Stage}
-use Rattle.group_moves.specs.Lanes.{IsLane, Does, stays, loads as does_load}
-use Rattle.kir_moves.specs.Leads.{past_load}
+use Rattle.group_moves.specs.Lanes.{IsLane, Does, stays}
 use Rattle.kir_moves.proofs.Live.{live_leads, reads_live}
 use Rattle.mask_lower.specs.declared.registers.Free.{Free}
-use Rattle.mask_lower.specs.declared.registers.Operand.{Operand}
 use Rattle.mask_lower.specs.Banks.{mask_reg}
 use Rattle.mask_lower.specs.Layout.{kernel_chunk, Mirrors}
 use Rattle.mask_lower.specs.Following.{ChunkOf}
-use Rattle.mask_lower.specs.Registers.{Frame, places_from, cell_at, operand, root_at}
-use Rattle.region_laws.specs.View.{value_at, is_lane, Shaped, Wrote}
+use Rattle.mask_lower.specs.Registers.{Frame, places_from, operand, root_at}
+use Rattle.region_laws.specs.View.{value_at, is_lane, Shaped}
 use Rattle.region_laws.specs.Framed.{IsFramed}
 use Rattle.region_laws.specs.Sim.{Ground, IsGood, Agrees, Above, Sim, Closed}
 use Rattle.region_laws.proofs.CellValues.{has_type_is, atom_typed}
 use Rattle.region_laws.proofs.LaneValues.{lane_in}
 use Rattle.region_laws.proofs.View.{code_well, lanes_length, mask_length}
 use Rattle.region_laws.proofs.Frames.{type_lane}
-use Rattle.region_laws.proofs.Standing.{cond_set, cond_unset, sim_move}
-use Rattle.region_laws.proofs.Atoms.{operand_is, cell_entry, entry_type, entry_bank, entry_lane, cell_above, writes_step}
-use Rattle.region_laws.proofs.Objects.{IsObject, a_buffer, a_table, a_local, an_own, group_there, load_reaches}
+use Rattle.region_laws.proofs.Standing.{cond_set, cond_unset}
+use Rattle.region_laws.proofs.Atoms.{operand_is}
+use Rattle.region_laws.proofs.Objects.{IsObject, a_buffer, a_table, a_local, an_own, load_reaches}
 use Rattle.region_laws.proofs.Soundness.{Lanes, Fit, Accesses}
-use Rattle.std.proofs.Common.{◌≢◌, take, map}
-use Rattle.std.specs.Prelude.{slice_set}
+use Rattle.std.proofs.Common.{◌≢◌}
 use Rattle.std.proofs.lemmas.Bool.{cases_eq, cases_lt}
-use Rattle.std.proofs.lemmas.List.{get_or-set_same, get_or-set_other, length-set}
 use Rattle.work_items.specs.Memory.{Memory, overwritten}
 use Rattle.work_items.specs.Items.{Stores}
 use Rattle.wg_num.specs.Bytes.{bytes_of as bytes_of_value}
 use Rattle.wg_num.proofs.ByteLaws.{length-bytes}
 use Rattle.lane_values.specs.Access.{put_element, scattered}
 use Rattle.cl_model.specs.Objects.{local_sizes, private_sizes, first_local}
-use Rattle.cl_model.specs.Sizes.{group_count}
 use Rattle.kir.specs.Tree.{StoreThen}
 use Rattle.kir.specs.Fits.{can_store}
 use Rattle.kir.specs.Steps.{with_tasks}
-use Rattle.lane_code.specs.Groups.{with_window, own_stored}
+use Rattle.lane_code.specs.Groups.{own_stored}
 use Rattle.lane_code.specs.Acts.{On, stores, store_at, with_shared, with_own, objects_stored}
-use Rattle.lane_laws.proofs.Reading.{with_window_length, before_window, in_window, behind_window, row_length, set_read}
 use Rattle.lane_laws.proofs.Steps.{on_step}
 use Rattle.group_moves.specs.Lanes.{stores as does_store}
 use Rattle.group_moves.proofs.Moves.{lanes_do}
 use Rattle.kir_moves.specs.Leads.{past_store}
 use Rattle.mask_lower.specs.Registers.{past_atom}
-use Rattle.region_laws.specs.Sim.{SameGroup, OthersObjectsStay}
+use Rattle.region_laws.specs.Sim.{OthersObjectsStay}
 use Rattle.region_laws.proofs.Standing.{good_there}
 use Rattle.region_laws.proofs.Bytes.{overwritten_is, bytes_low, stored_below, scattered_is, below_same, memory_below, below_length, below_other, below_shared, below_own, own_stored_read, own_stored_length}
-use Rattle.region_laws.proofs.Numbers.{local_private, locals_differ, privates_differ}
+use Rattle.region_laws.proofs.Numbers.{privates_differ}
 use Rattle.region_laws.proofs.Objects.{store_loads, store_no_table}
 use Rattle.region_laws.proofs.Mirroring.{Mirrored, buffer_mirrored, local_mirrored, own_mirrored}
 use Rattle.region_laws.proofs.Loads.{within_is, first_is, own_faults_read, own_faults_length, lane_item, number_is, in_group}
 
 module _ (kernel : Kernel) (launch : Launch) (width : ℕ) (chunk : ChunkOf kernel launch width) (turns : ℕ) (w0 : Stage Item) (g0 : Group) (f : Frame) (counts : Counts) (r0 : Registers) (ground : Ground kernel launch w0)
-  (atoms : List Atom) (framed : IsFramed kernel f atoms) (code : List Step) (valid : is_code counts code ≡ true) (Good : Ended → Type 0) (Sites : ℕ → Type 0) (Goal : Tasks) (closed : Closed kernel launch width chunk turns w0 Sites Goal Good)
-  (arrays_are : f.arrays ≡ places_from 0 0 kernel.arrays) where
+    (atoms : List Atom) (framed : IsFramed kernel f atoms) (code : List Step) (valid : is_code counts code ≡ true) (Good : Ended → Type 0) (Sites : ℕ → Type 0) (Goal : Tasks) (closed : Closed kernel launch width chunk turns w0 Sites Goal Good)
+    (arrays_are : f.arrays ≡ places_from 0 0 kernel.arrays) where
   abbrev AtStage : ℕ → (ℕ → Tasks) → State → Stage Item → Type 0
   AtStage = Sim kernel launch width chunk turns w0 g0 f counts r0
 
@@ -156,9 +147,11 @@ module _ (kernel : Kernel) (launch : Launch) (width : ℕ) (chunk : ChunkOf kern
           subst (λ x. Does (machine_of kernel launch) (memory_below w.memory a object index bs l) (item_at w l) (λ s'. (s'.tasks ≡ cond (a l) after (T l)) × Agrees f st'.registers l (cond (a l) after (T l)) s'.cells) x false)
           (sym (ap (λ b. cond b (Rattle.work_items.specs.Memory.stored (memory_below w.memory a object index bs l) (object l) (index l) (bs l)) (memory_below w.memory a object index bs l)) e))
           (does_store site (object l) (index l) (bs l) (with_tasks (item_at w l) after) (ap (tasks_next kernel launch (item_at w l)) (stands.0 ∙ stand) ∙ next l lane e)
-          (ap (λ n. has_element n (length (bs l)) (index l)) (below_length w.memory a object index bs l (object l)) ∙ fits l lane e)
-          (sym (cond_set (a l) after (T l) e), agrees_on l (cond (a l) after (T l)) (item_at w l).cells
-          (λ c op h live'. stands.1 c op h (ap (live_now c) stand ∙ live c (ap (live_now c) (sym (cond_set (a l) after (T l) e)) ∙ live')))))
+          (ap (λ n. has_element n (length (bs l)) (index l)) (below_length w.memory a object index bs l (object l)) ∙ fits l lane e) (
+            sym (cond_set (a l) after (T l) e),
+            agrees_on l (cond (a l) after (T l)) (item_at w l).cells
+                (λ c op h live'. stands.1 c op h (ap (live_now c) stand ∙ live c (ap (live_now c) (sym (cond_set (a l) after (T l) e)) ∙ live'))),
+          ))
 
       idle : (l : ℕ) → chunk.lanes.alive l ≡ false → (x : Test) → a l ≡ x → memory_below w.memory a object index bs (suc l) ≡ memory_below w.memory a object index bs l
       idle l off true e = absurd (true≢false (sym (lanes.alive l e) ∙ off))
@@ -328,7 +321,6 @@ module _ (kernel : Kernel) (launch : Launch) (width : ℕ) (chunk : ChunkOf kern
 
       good : (l : ℕ) → IsGood kernel (chunk.lanes.first + l) (item_at w l)
       good l = good_there kernel launch width chunk turns w0 g0 f counts r0 ground w lanes.sim.reached (chunk.lanes.first + l)
-
 
       -- one object for all lanes
       shared : (x : ℕ) (bytes : List ℕ) (all : State) (below : ℕ → State) → act mine s st ≡ stores site (lowest (faults (size_of element) (length bytes) active places)) all below → ((l : ℕ) → IsLane chunk.lanes l → object_at kernel launch (item_at w l) r ≡ x) → bytes_of w.memory x ≡ bytes

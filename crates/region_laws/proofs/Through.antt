@@ -1,9 +1,9 @@
 -- Lines can be run through.
 use Rattle.std.proofs.Common.{◌≡◌, ℕ, suc, ◌∷◌, refl, ap, subst}
-use Rattle.std.specs.Prelude.{Bool as Test, true, false}
+use Rattle.std.specs.Prelude.{true, false}
 use Rattle.std.proofs.lemmas.Bool.{true≢false}
 use Rattle.kir.specs.Tree.{Lines, NoLine, SetThen, LoadThen, StoreThen, ClearThen, IfThen, LoopThen, BarrierThen, joined_to}
-use Rattle.kir.specs.Places.{Behind, IntoChosen, IntoOther, IntoTest, IntoBody, Place, Tasks, LinesAt, AnswerAt}
+use Rattle.kir.specs.Places.{Behind, IntoChosen, IntoTest, IntoBody, Place, Tasks, LinesAt, AnswerAt}
 use Rattle.kir_moves.specs.Leads.{past_end, past_set, past_load, past_store, past_clear, past_barrier, into_chosen, into_test, into_body, past_loop, ComesTo, there, by_leg}
 use Rattle.kir_moves.proofs.Coming.{come_trans}
 use Rattle.regions.specs.Spans.{past_lines}

@@ -1,24 +1,22 @@
 -- What each step of lane code leaves in the registers, read lane by lane.
-use Rattle.std.proofs.Common.{◌≡◌, ℕ, zero, suc, ◌+◌, ◌<◌, ◌≤◌, List, [], ◌∷◌, length, map, replicate, Some, None, slice_get, refl, sym, ap, ◌∙◌, subst, ⊎_elim, arith, cond}
-use Rattle.std.specs.Prelude.{slice_index_or, slice_set, nat_eq, nat_lt, ◌&&◌, not}
+use Rattle.std.proofs.Common.{◌≡◌, ℕ, zero, suc, ◌+◌, ◌<◌, List, [], ◌∷◌, length, Some, slice_get, refl, sym, ap, ◌∙◌, subst, arith, cond}
+use Rattle.std.specs.Prelude.{slice_index_or, nat_eq, nat_lt, ◌&&◌}
 use Rattle.std.specs.Prelude.{Bool as Test, true, false}
-use Rattle.std.specs.Simd.Lanes.{zip2, sel_l}
-use Rattle.std.proofs.lemmas.Bool.{and_parts, true≢false, eqb-true, ltb-true, eq-eqb, ne_eqb}
-use Rattle.std.proofs.lemmas.List.{get_or-map, length-map, length-replicate, get_or-replicate}
+use Rattle.std.proofs.lemmas.Bool.{and_parts, true≢false, ltb-true, eq-eqb, ne_eqb}
 use Rattle.std.proofs.lemmas.Option.{none-some, same_Some}
-use Rattle.std.proofs.lemmas.Simd.{get_or-zip2, length-zip2, length-sel_l}
+use Rattle.std.proofs.lemmas.Simd.{length-sel_l}
 use Rattle.lane_values.specs.Lanes.{zip3}
 use Rattle.lane_code.specs.declared.step.Bank.{Bank}
 use Rattle.lane_code.specs.declared.step.Bank.TheVariants.{Narrow, Wide, Mask, Scalar}
 use Rattle.lane_code.specs.declared.step.Reg.{Reg}
 use Rattle.lane_code.specs.declared.step.Step.{Step}
 use Rattle.lane_code.specs.declared.code.Counts.{Counts}
-use Rattle.lane_code.specs.Registers.{Registers, lane_count, lanes_in, lanes_of, with_in, with_lanes, mask_of, with_mask, active_in, written}
+use Rattle.lane_code.specs.Registers.{Registers, lane_count, lanes_in, lanes_of, with_lanes, mask_of, with_mask, written}
 use Rattle.lane_code.specs.Fits.{is_below, is_well, all_steps, is_code}
-use Rattle.lane_laws.specs.Reading.{mask_at, narrow_at, wide_at, HasLanes, NarrowSet, WideSet}
+use Rattle.lane_laws.specs.Reading.{mask_at, narrow_at, wide_at, NarrowSet, WideSet}
 use Rattle.lane_laws.proofs.Reading.{narrow_written, wide_written, narrow_filled, wide_filled, mask_written, narrow_shape, wide_shape, mask_shape}
 use Rattle.mask_lower.specs.Banks.{reg, mask_reg}
-use Rattle.region_laws.specs.View.{value_at, is_lane, Differ, Shaped, Wrote, Masked}
+use Rattle.region_laws.specs.View.{is_lane, Shaped, Wrote, Masked}
 
 -- ---- steps of a code are well
 

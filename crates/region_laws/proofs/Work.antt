@@ -1,18 +1,16 @@
 -- The code of a line that computes leaves the lane of what the line computes in the cell's register.
-use Rattle.std.proofs.Common.{◌≡◌, ℕ, zero, suc, ◌+◌, ◌*◌, ◌<◌, ◌≤◌, ℤ, pos, List, [], ◌∷◌, ◌++◌, length, map, replicate, Option, Some, None, slice_get, refl, sym, ap, ap₂, ◌∙◌, subst, ⊎_elim, inl, inr, arith, cond, length-append}
-use Rattle.std.specs.Prelude.{slice_index_or, unwrap_or, nat_eq, ◌&&◌, ◌||◌, not}
+use Rattle.std.proofs.Common.{◌≡◌, ℕ, suc, ◌+◌, ◌*◌, ◌<◌, ℤ, pos, List, [], ◌∷◌, ◌++◌, length, map, Option, Some, None, slice_get, refl, sym, ap, ap₂, ◌∙◌, subst, arith, cond}
+use Rattle.std.specs.Prelude.{slice_index_or, ◌&&◌, ◌||◌}
 use Rattle.std.specs.Prelude.{Bool as Test, true, false}
-use Rattle.std.proofs.lemmas.Bool.{true≢false, and_parts, or_cases, or_left, or_right}
-use Rattle.std.proofs.lemmas.List.{get_or-map, length-map, length-replicate, get_or-replicate}
-use Rattle.std.proofs.lemmas.Option.{none-some, same_Some}
+use Rattle.std.proofs.lemmas.Bool.{true≢false, and_parts, or_left, or_right}
+use Rattle.std.proofs.lemmas.List.{get_or-map, length-map}
 use Rattle.std.proofs.lemmas.Simd.{get_or-zip2, length-zip2}
 use Rattle.std.specs.Simd.Lanes.{zip2}
 use Rattle.wg_num.specs.declared.types.IntType.{IntType}
-use Rattle.wg_num.specs.declared.types.IntType.TheVariants as types
 use Rattle.wg_num.specs.declared.types.Bin.{Bin}
 use Rattle.wg_num.specs.declared.types.Un.{Un}
 use Rattle.wg_num.specs.Wrap.{IsValue, value_of, wrap_of}
-use Rattle.wg_num.specs.Operators.{is_shift, amount_of, unary_of, binary_of}
+use Rattle.wg_num.specs.Operators.{is_shift, amount_of, binary_of}
 use Rattle.wg_num.proofs.WrapLaws.{wrap_value, IsValue-wrap}
 use Rattle.wg_num.proofs.OperatorLaws.{IsValue-unary, IsValue-binary}
 use Rattle.cl_model.specs.Sizes.{Launch, group_size}
@@ -35,14 +33,13 @@ use Rattle.lane_code.specs.Acts.{Chunk, State, act, writes, with_registers}
 use Rattle.lane_code.specs.Meaning.{Ended, code_end}
 use Rattle.lane_laws.specs.Places.{HasAt}
 use Rattle.lane_laws.specs.Reading.{mask_at}
-use Rattle.lane_laws.proofs.Steps.{has_front, has_back}
 use Rattle.mask_lower.specs.declared.registers.Free.{Free}
 use Rattle.mask_lower.specs.declared.registers.Operand.{Operand}
-use Rattle.mask_lower.specs.Banks.{is_wide, crosses, amount_type, mask_reg, register_at}
+use Rattle.mask_lower.specs.Banks.{crosses, amount_type, mask_reg, register_at}
 use Rattle.mask_lower.specs.Atoms.{amount_atom, right_atom, atoms_of}
 use Rattle.mask_lower.specs.Layout.{kernel_chunk}
 use Rattle.mask_lower.specs.Registers.{Frame, cell_at, operand, past_atom}
-use Rattle.mask_lower.specs.Lowered.{result_at, brought, moves, amount_moved, right_at, binary_code, work_code}
+use Rattle.mask_lower.specs.Lowered.{result_at, brought, moves, work_code}
 use Rattle.region_laws.specs.View.{value_at, is_lane, Differ, Shaped, Wrote}
 use Rattle.region_laws.specs.Values.{HoldTypes}
 use Rattle.region_laws.specs.Framed.{IsEntry, IsFramed, HeldAt, Held}
@@ -52,7 +49,7 @@ use Rattle.region_laws.proofs.LaneValues.{lane_in, bits_for, same_bank, value_la
 use Rattle.region_laws.proofs.View.{code_well, lanes_length}
 use Rattle.region_laws.proofs.Frames.{type_lane, register_bank}
 use Rattle.region_laws.proofs.Standing.{SameOuter}
-use Rattle.region_laws.proofs.Atoms.{Reading, IsOperand, entry_at, cell_entry, entry_type, entry_bank, const_is, operand_is, scratch_differs, entry_lane, scratch_lane, scratch_above, cell_above, writes_step}
+use Rattle.region_laws.proofs.Atoms.{Reading, IsOperand, cell_entry, entry_type, entry_bank, const_is, operand_is, scratch_differs, entry_lane, scratch_lane, scratch_above, cell_above, writes_step}
 
 -- a value is converted lane by lane
 pub convert_is : (bits : ℕ) (to from : IntType) (z : ℤ) → IsValue from z → convert_lane bits to from (lane_in from z) ≡ lane bits (wrap_of to z)

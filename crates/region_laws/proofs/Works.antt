@@ -1,15 +1,14 @@
 -- The code of each other line that computes: a built-in function, a conversion, a work-item function, an argument, a copy.
-use Rattle.std.proofs.Common.{◌≡◌, ℕ, zero, suc, ◌+◌, ◌*◌, ◌<◌, ◌≤◌, ℤ, pos, List, [], ◌∷◌, ◌++◌, length, map, replicate, Option, Some, None, slice_get, refl, sym, ap, ap₂, ◌∙◌, subst, ⊎_elim, inl, inr, ◌⊎◌, arith, cond}
-use Rattle.std.specs.Prelude.{slice_index_or, nat_eq, ◌&&◌, ◌||◌}
-use Rattle.std.specs.Prelude.{Bool as Test, true, false}
+use Rattle.std.proofs.Common.{◌≡◌, ℕ, zero, suc, ◌+◌, ◌*◌, ◌<◌, ℤ, pos, List, [], ◌∷◌, length, map, replicate, Option, Some, None, slice_get, refl, sym, ap, ap₂, ◌∙◌, subst, ⊎_elim, inl, inr, ◌⊎◌, arith}
+use Rattle.std.specs.Prelude.{slice_index_or, ◌&&◌, ◌||◌}
+use Rattle.std.specs.Prelude.{true, false}
 use Rattle.std.proofs.lemmas.Bool.{true≢false, and_parts, or_left, or_right}
 use Rattle.std.proofs.lemmas.List.{get_or-map, length-map, length-replicate, get_or-replicate}
-use Rattle.std.proofs.lemmas.Option.{none-some, same_Some}
 use Rattle.wg_num.specs.declared.types.IntType.{IntType}
 use Rattle.wg_num.specs.declared.types.IntType.TheVariants as types
 use Rattle.wg_num.specs.declared.types.Fun.{Fun}
 use Rattle.wg_num.specs.declared.types.Fun.TheVariants as fun
-use Rattle.wg_num.specs.Wrap.{IsValue, value_of, wrap_of}
+use Rattle.wg_num.specs.Wrap.{value_of, wrap_of}
 use Rattle.wg_num.specs.Builtins.{unsigned_of, result_type, builtin_of}
 use Rattle.cl_model.specs.declared.launch.Bound.{Bound}
 use Rattle.cl_model.specs.declared.launch.Bound.TheVariants as bound
@@ -20,9 +19,9 @@ use Rattle.cl_model.specs.Meaning.{argument_value}
 use Rattle.kir.specs.declared.line.Atom.{Atom}
 use Rattle.kir.specs.Tree.{Work, Kernel}
 use Rattle.kir.specs.Tree as kir
-use Rattle.kir.specs.Live.{reads, some_reads, work_reads}
-use Rattle.kir.specs.Steps.{Item, atom_value, work_value}
-use Rattle.kir.specs.Fits.{has_type, has_some_type, have_types, atom_type, type_of_parameter, cell_takes}
+use Rattle.kir.specs.Live.{reads, some_reads}
+use Rattle.kir.specs.Steps.{atom_value}
+use Rattle.kir.specs.Fits.{has_type, have_types, atom_type, type_of_parameter, cell_takes}
 use Rattle.lane_values.specs.Lanes.{lane, builtin_lane, convert_lane, zip3}
 use Rattle.lane_code.specs.declared.step.Step.{Step}
 use Rattle.lane_code.specs.declared.step.Step.TheVariants as step
@@ -35,19 +34,17 @@ use Rattle.lane_code.specs.Meaning.{Ended, code_end}
 use Rattle.lane_laws.specs.Places.{HasAt}
 use Rattle.lane_laws.specs.Reading.{mask_at}
 use Rattle.mask_lower.specs.declared.registers.Free.{Free}
-use Rattle.mask_lower.specs.declared.registers.Operand.{Operand}
 use Rattle.mask_lower.specs.Banks.{mask_reg}
 use Rattle.mask_lower.specs.Registers.{Frame, cell_at, operand, past_atom}
 use Rattle.mask_lower.specs.Lowered.{work_code}
 use Rattle.region_laws.specs.View.{value_at, is_lane, Shaped}
-use Rattle.region_laws.specs.Values.{HoldTypes}
 use Rattle.region_laws.specs.Framed.{IsFramed, Held}
-use Rattle.region_laws.specs.Sim.{IsGood, Above}
+use Rattle.region_laws.specs.Sim.{Above}
 use Rattle.region_laws.proofs.CellValues.{has_type_is, atom_typed}
-use Rattle.region_laws.proofs.LaneValues.{lane_in, bits_for, value_lane}
+use Rattle.region_laws.proofs.LaneValues.{lane_in, value_lane}
 use Rattle.region_laws.proofs.View.{code_well, lanes_length, lane_count_is, zip3_read, zip3_length}
 use Rattle.region_laws.proofs.Frames.{type_lane}
-use Rattle.region_laws.proofs.Atoms.{Reading, IsOperand, operand_is, entry_lane, cell_above, writes_step}
+use Rattle.region_laws.proofs.Atoms.{IsOperand, operand_is, entry_lane, cell_above, writes_step}
 use Rattle.region_laws.proofs.Work.{convert_is, Worked, Mine, Gives, Works, Target, target, some_type, unary_works, binary_works}
 
 -- ---- what lanes are given

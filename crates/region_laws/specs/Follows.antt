@@ -1,5 +1,5 @@
 -- What the code of a region does on a chunk is what the chunk's items do in some order: the statement that is proved.
-use Rattle.std.specs.Prelude.{◌≡◌, ℕ, ◌+◌, ◌<◌, ◌≤◌, List, Option, Some, true}
+use Rattle.std.specs.Prelude.{◌≡◌, ℕ, ◌+◌, ◌≤◌, List, Option, Some, true}
 use Rattle.wg_num.specs.declared.types.IntType.{IntType}
 use Rattle.wg_num.specs.declared.types.Width.{Width}
 use Rattle.wg_num.specs.Operators.{lanes_of}
@@ -57,3 +57,16 @@ pub record RegionFits (kernel : Kernel) (region : RegionOf) : Type 0 where
 -- the atom on which items vote is read where the region ends
 abbrev pub ReadsVote : Option Atom → Tasks → Type 0
 ReadsVote answer e = (a : Atom) → answer ≡ Some a → (c : ℕ) → reads c a ≡ true → live_now c e ≡ true
+
+-- the same as `Follows`, where the sizes of the launch are numbers of a lane and the vote is read where the region ends
+abbrev pub RegionFollows : Kernel → Planned → Width → RegionOf → PlainCode → Type 0
+RegionFollows kernel plan width region code =
+    (launch : Launch) → FitsProgram (shell_of kernel) launch → HasGlobalSizes launch → (buffers0 : List (List ℕ)) → FitBuffers launch buffers0
+    → (f e : Tasks) → Spans region f e → IsEnd kernel e → HasLive kernel region.live e → ReadsVote region.answer e
+    → (chunk : ChunkOf kernel launch (lanes_of width)) (w : Stage Item) → ItemsLead kernel launch (start_stage kernel launch buffers0) w
+    → (turns : ℕ) (g : Group) (buffers : List (List ℕ)) → Mirrors kernel launch chunk.group w.memory g buffers → HasShape plan.columns plan.slots (group_size launch) g
+    → LanesStand kernel plan.homes chunk.lanes chunk.first w g.columns g.entries f → LanesVoted (vote_before f) chunk.lanes chunk.first w g.votes
+    → Says kernel plan.homes launch (lanes_of width) chunk region e w turns g
+    (region_end (kernel_chunk kernel launch (lanes_of width) chunk.group chunk.first) code.steps code.counts turns g buffers).end
+    (region_end (kernel_chunk kernel launch (lanes_of width) chunk.group chunk.first) code.steps code.counts turns g buffers).turns
+    (region_end (kernel_chunk kernel launch (lanes_of width) chunk.group chunk.first) code.steps code.counts turns g buffers).state

@@ -1,6 +1,5 @@
 -- What the registers of a region's cells and constants are.
-use Rattle.std.specs.Prelude.{◌≡◌, ℕ, ◌<◌, List, [], ◌∷◌, length, Option, Some, None, slice_index_or, true}
-use Rattle.cl_model.specs.Tree.{Array}
+use Rattle.std.specs.Prelude.{◌≡◌, ℕ, ◌<◌, List, [], ◌∷◌, length, Some, None, slice_index_or, true}
 use Rattle.kir.specs.declared.line.Atom.{Atom}
 use Rattle.kir.specs.declared.line.Atom.TheVariants.{Const, Cell as CellAtom}
 use Rattle.kir.specs.Tree.{Kernel}
@@ -8,7 +7,6 @@ use Rattle.kir.specs.Live.{some_reads}
 use Rattle.lane_values.specs.Lanes.{lane}
 use Rattle.lane_code.specs.declared.step.Bank.{Bank}
 use Rattle.lane_code.specs.declared.step.Bank.TheVariants.{Narrow, Wide, Mask, Scalar}
-use Rattle.lane_code.specs.declared.step.Reg.{Reg}
 use Rattle.lane_code.specs.Fits.{bank_of}
 use Rattle.lane_code.specs.Registers.{Registers, bits_in}
 use Rattle.mask_lower.specs.declared.registers.Free.{Free}
