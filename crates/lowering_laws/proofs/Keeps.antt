@@ -41,7 +41,7 @@ bound_absent : (c cell n : ℕ) (kinds : List VarKind) → cell + length kinds �
 bound_absent c cell n [] h = absent_none c
 bound_absent c cell n (kind ∷ kinds) h = absent_set c cell (Argument n) _ refl (ne_eqb c cell (λ e. omega (arith, h, e))) (bound_absent c (cell + 1) (n + 1) kinds (omega (arith, h)))
 
-bound_cutless : (cell n : ℕ) (kinds : List VarKind) → Cutless (bound_lines cell n kinds)
+pub bound_cutless : (cell n : ℕ) (kinds : List VarKind) → Cutless (bound_lines cell n kinds)
 bound_cutless cell n [] = record { is = refl }
 bound_cutless cell n (kind ∷ kinds) = record { is = (bound_cutless (cell + 1) (n + 1) kinds).is }
 

@@ -62,13 +62,13 @@ differ : (a b leg : Leg) → nat_eq (tag a) (tag b) ≡ false → a ≡ leg → 
 differ a b leg e p q = unequal (tag a) (tag b) e (ap tag (p ∙ sym q))
 
 -- operands, statements and arms from one on
-abbrev OperandFrom : ℕ → Leg → Type 0
+abbrev pub OperandFrom : ℕ → Leg → Type 0
 OperandFrom k leg = (j : ℕ) × (k ≤ j) × (Operand j ≡ leg)
 
-abbrev NthFrom : ℕ → Leg → Type 0
+abbrev pub NthFrom : ℕ → Leg → Type 0
 NthFrom k leg = (j : ℕ) × (k ≤ j) × (Nth j ≡ leg)
 
-abbrev ArmFrom : ℕ → Leg → Type 0
+abbrev pub ArmFrom : ℕ → Leg → Type 0
 ArmFrom k leg = (j : ℕ) × (k ≤ j) × (Arm j ≡ leg)
 
 -- of calls: what they hold stands in the function that they enter
