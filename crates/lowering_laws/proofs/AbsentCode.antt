@@ -1,22 +1,21 @@
 -- The code of expressions and statements names no cell but those of variables in it, those of ways out, and those that it makes.
-use Rattle.std.proofs.Common.{◌≡◌, ℕ, zero, suc, ◌+◌, ◌<◌, ◌≤◌, pos, List, [], ◌∷◌, ◌++◌, length, Option, Some, None, refl, sym, ap, ◌∙◌, subst, arith, true, false, ◌⊎◌, inl, inr, if◌then◌else◌}
+use Rattle.std.proofs.Common.{◌≡◌, ℕ, suc, ◌+◌, ◌<◌, ◌≤◌, pos, List, [], ◌∷◌, ◌++◌, length, Option, Some, None, refl, ap, ◌∙◌, arith, true, false, inl, inr}
 use Rattle.std.proofs.Common.{Bool as Test}
-use Rattle.std.specs.Prelude.{nat_eq, ◌&&◌, ◌||◌}
-use Rattle.std.proofs.lemmas.Option.{none-some, slice_get_within}
+use Rattle.std.specs.Prelude.{nat_eq, ◌&&◌}
+use Rattle.std.proofs.lemmas.Option.{slice_get_within}
 use Rattle.wg_num.specs.declared.types.IntType.{IntType}
-use Rattle.wg_num.specs.declared.types.IntType.TheVariants.{Int}
 use Rattle.cl_model.specs.declared.program.Root.{Root}
 use Rattle.cl_model.specs.Tree.{Expression, Apply, Update, Choose, Call, Expressions, none, more, Statement, Do, Declare, Fill, Block, If, Loop, Switch, Break, Continue, Return, Barrier, Statements, empty, also, Arms, no_arm, arm, Function, Program}
 use Rattle.cl_model.specs.Calls.{CallSite, function_at}
 use Rattle.cl_model.specs.Valid.{HasType, HaveTypes, OptionalFits, IsPlainCall, StatementFits, AllFit, ArmsFit, parameter_kinds, binary_type}
 use Rattle.kir.specs.declared.line.Atom.{Atom}
 use Rattle.kir.specs.declared.line.Atom.TheVariants.{Cell as CellAtom}
-use Rattle.kir.specs.Tree.{Lines, Copy, NoLine, joined_to, OfValue, OfFlag}
+use Rattle.kir.specs.Tree.{Lines, NoLine, OfValue, OfFlag}
 use Rattle.kir.specs.Live.{reads, some_reads}
 use Rattle.kir_lower.specs.declared.places.Value.{Value}
-use Rattle.kir_lower.specs.Made.{Made, Instance, int, with_cell, next_cell, root_in, argument_roots}
+use Rattle.kir_lower.specs.Made.{Made, Instance, int, with_cell, next_cell, argument_roots}
 use Rattle.kir_lower.specs.Ways.{way_out, way_out_of_all, way_out_of_arms, declares}
-use Rattle.kir_lower.specs.Actions.{atoms_of, action_code, opened, round_code, outward, selected, fallen_code, changed}
+use Rattle.kir_lower.specs.Actions.{atoms_of, opened, round_code, outward, selected, fallen_code, changed}
 use Rattle.kir_lower.specs.Code.{Calls, expression_code, operands_code, optional_code, Guarded, is_guarded, before_rest, in_order, entry_code, around_arm, statement_code, list_code, arms_code}
 use Rattle.lowering_laws.proofs.Quiet.{or_false}
 use Rattle.lowering_laws.proofs.Steps.{IsFree, either_quiet}
@@ -24,7 +23,7 @@ use Rattle.lowering_laws.proofs.Scoped.{free_first, free_second, fewer_ways, few
 use Rattle.lowering_laws.proofs.Making as making
 use Rattle.lowering_laws.proofs.Making.{call_of}
 use Rattle.lowering_laws.proofs.Absent.{Absent, absent_none, absent_then, absent_set, absent_load, absent_store, absent_clear, absent_barrier, absent_if, next_more, IsOut, out_within}
-use Rattle.lowering_laws.proofs.AbsentSteps.{action_uses, action_within, opened_exit, three_out, changed_absent, action_absent, initial_absent, outward_absent, round_absent, selected_absent, entry_absent, fallen_absent, before_rest_absent}
+use Rattle.lowering_laws.proofs.AbsentSteps.{action_within, opened_exit, three_out, changed_absent, action_absent, initial_absent, outward_absent, round_absent, selected_absent, entry_absent, fallen_absent, before_rest_absent}
 
 -- a statement before others makes no cell
 pub before_rest_same : (exit : ℕ) (declared : Test) (way : Option ℕ) (lines : Lines) (g : Guarded) → next_cell (before_rest exit declared way lines g).made ≡ next_cell g.made
@@ -118,11 +117,12 @@ module _ (program : Program) (c : ℕ) (calls : Calls) (calls_up : CallsUp calls
         let e = out (next_cell ci.made) (omega (arith, a)) (omega (arith, b, d, u, v, w)) in
         let q = expression_absent value h.1.0 h.1.1 ml (out_within c _ _ _ _ out (omega (arith, a, b)) (omega (arith, u, v, w))) in
         let outside = out_within c _ _ (next_cell cv.made) _ out (omega (arith, a, b, d)) (omega arith) in
-        let three = three_out c cv.made of (binary_type op of) back outside in
-        (absent_then c ci.lines _ p.0 (absent_load c site _ element _ _ _ p.1 e
-        (absent_then c cv.lines _ q.0 (changed_absent c op of back (CellAtom (next_cell ci.made)) cv.value.atom cv.made _ e q.1 outside
-        (λ ec. absent_store c site element _ _ _ NoLine p.1 ec (absent_none c))))),
-        either_quiet c old _ _ e three.2)
+        let three = three_out c cv.made of (binary_type op of) back outside in (
+          absent_then c ci.lines _ p.0 (absent_load c site _ element _ _ _ p.1 e
+              (absent_then c cv.lines _ q.0 (changed_absent c op of back (CellAtom (next_cell ci.made)) cv.value.atom cv.made _ e q.1 outside
+              (λ ec. absent_store c site element _ _ _ NoLine p.1 ec (absent_none c))))),
+          either_quiet c old _ _ e three.2,
+        )
     expression_absent (Choose site test chosen other) t h m out =
         let ct = expression_code calls here test m in
         let cy = expression_code calls here chosen ct.made in
@@ -134,16 +134,18 @@ module _ (program : Program) (c : ℕ) (calls : Calls) (calls_up : CallsUp calls
         let p = expression_absent test h.0.0 h.0.1 m (out_within c _ _ _ _ out (omega arith) (omega (arith, b, d, u))) in
         let q = expression_absent chosen t h.1 ct.made (out_within c _ _ _ _ out (omega (arith, a)) (omega (arith, d, u))) in
         let r = expression_absent other t h.2 cy.made (out_within c _ _ _ _ out (omega (arith, a, b)) (omega (arith, u))) in
-        let e = out (next_cell cn.made) (omega (arith, a, b, d)) (omega (arith, u)) in
-        (absent_then c ct.lines _ p.0 (absent_if c site ct.value.atom _ _ NoLine p.1
-        (absent_then c cy.lines _ q.0 (absent_set c _ _ NoLine q.1 e (absent_none c))) (absent_then c cn.lines _ r.0 (absent_set c _ _ NoLine r.1 e (absent_none c))) (absent_none c)), e)
+        let e = out (next_cell cn.made) (omega (arith, a, b, d)) (omega (arith, u)) in (
+          absent_then c ct.lines _ p.0 (absent_if c site ct.value.atom _ _ NoLine p.1
+              (absent_then c cy.lines _ q.0 (absent_set c _ _ NoLine q.1 e (absent_none c))) (absent_then c cn.lines _ r.0 (absent_set c _ _ NoLine r.1 e (absent_none c))) (absent_none c)),
+          e,
+        )
     expression_absent (Call site function roots arguments) t h m out =
         let ca = operands_code calls here arguments m in
         let a = operands_up calls calls_up here arguments m in
         let b = calls_up here site function (argument_roots here roots) ca.values ca.made in
         let p = operands_absent arguments h.1.0 h.1.1 m (out_within c _ _ _ _ out (omega arith) (omega (arith, b))) in
         let q = call here site function (argument_roots here roots) ca.values ca.made (operand_count arguments h.1.0 h.1.1 m ∙ argument_count program f (parameter_kinds (function_at program function)) roots h.1.0 h.1.2) p.1
-            (out_within c _ _ _ _ out (omega (arith, a)) (omega arith)) in
+        (out_within c _ _ _ _ out (omega (arith, a)) (omega arith)) in
         (absent_then c ca.lines _ p.0 q.0, q.1)
 
     pub operands_absent : (list : Expressions) (ts : List IntType) → HaveTypes program f list ts → (m : Made) → IsOut c (next_cell m) (next_cell (operands_code calls here list m).made)
@@ -177,7 +179,7 @@ module _ (program : Program) (c : ℕ) (calls : Calls) (calls_up : CallsUp calls
       let b = calls_up here site function (argument_roots here roots) ca.values ca.made in
       let p = operands_absent arguments h.1.0 h.1.1 m (out_within c _ _ _ _ out (omega arith) (omega (arith, b))) in
       let q = call here site function (argument_roots here roots) ca.values ca.made (operand_count arguments h.1.0 h.1.1 m ∙ argument_count program f (parameter_kinds (function_at program function)) roots h.1.0 h.1.2) p.1
-          (out_within c _ _ _ _ out (omega (arith, a)) (omega arith)) in
+      (out_within c _ _ _ _ out (omega (arith, a)) (omega arith)) in
       absent_then c ca.lines _ p.0 q.0
 
   do_absent : (e : Expression) → StatementFits program f (Do e) → (m : Made) → IsOut c (next_cell m) (next_cell (expression_code calls here e m).made) → Absent c (expression_code calls here e m).lines

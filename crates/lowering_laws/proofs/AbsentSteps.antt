@@ -1,7 +1,7 @@
 -- The lines of single steps name no cell but those that they are given and those that they make.
-use Rattle.std.proofs.Common.{◌≡◌, ℕ, suc, ◌+◌, ◌<◌, ◌≤◌, ℤ, pos, List, [], ◌∷◌, length, Option, Some, None, refl, sym, ap, ◌∙◌, subst, arith, true, false, if◌then◌else◌}
+use Rattle.std.proofs.Common.{◌≡◌, ℕ, ◌+◌, ◌<◌, ◌≤◌, ℤ, List, [], ◌∷◌, length, Option, Some, None, refl, subst, arith, true, false, if◌then◌else◌}
 use Rattle.std.proofs.Common.{Bool as Test}
-use Rattle.std.specs.Prelude.{nat_eq, ◌&&◌}
+use Rattle.std.specs.Prelude.{nat_eq}
 use Rattle.std.proofs.lemmas.Option.{none-some, same_Some, slice_get_within}
 use Rattle.wg_num.specs.declared.types.IntType.{IntType}
 use Rattle.wg_num.specs.declared.types.IntType.TheVariants.{Int}
@@ -10,13 +10,13 @@ use Rattle.cl_model.specs.Tree as tree
 use Rattle.cl_model.specs.Tree.{Action, Arms, no_arm, arm, Function, Program}
 use Rattle.cl_model.specs.Valid.{ActionFits, binary_type, promoted}
 use Rattle.kir.specs.declared.line.Atom.{Atom}
-use Rattle.kir.specs.declared.line.Atom.TheVariants.{Const, Cell as CellAtom}
-use Rattle.kir.specs.Tree.{Work, Copy, Convert, Binary, Lines, NoLine, SetThen, IfThen, joined_to, OfValue, OfFlag}
+use Rattle.kir.specs.declared.line.Atom.TheVariants.{Cell as CellAtom}
+use Rattle.kir.specs.Tree.{Work, Lines, NoLine, SetThen, IfThen, joined_to, OfValue, OfFlag}
 use Rattle.kir.specs.Live.{reads, some_reads, work_reads}
 use Rattle.kir_lower.specs.declared.places.Value.{Value}
-use Rattle.kir_lower.specs.Made.{Made, Instance, int, with_cell, next_cell}
-use Rattle.kir_lower.specs.Actions.{Code, Steps, first, second, atoms_of, computed, truth, changed, set_to, action_code, initial_lines, opened, is_none, guarded_before, settled, outward, round_code, label_code, labels_code, all_labels_code, selected, fallen_code}
-use Rattle.kir_lower.specs.Code.{before_rest, Guarded, entry_code, around_arm, in_order}
+use Rattle.kir_lower.specs.Made.{Made, Instance, with_cell, next_cell}
+use Rattle.kir_lower.specs.Actions.{first, second, atoms_of, changed, action_code, initial_lines, opened, is_none, guarded_before, outward, round_code, labels_code, all_labels_code, selected, fallen_code}
+use Rattle.kir_lower.specs.Code.{before_rest, Guarded, entry_code}
 use Rattle.lowering_laws.proofs.Quiet.{or_parts, or_false}
 use Rattle.lowering_laws.proofs.Steps.{IsFree, first_quiet, second_quiet, either_quiet}
 use Rattle.lowering_laws.proofs.Absent.{Absent, absent_none, absent_then, absent_set, absent_load, absent_store, absent_if, absent_loop, next_more, IsOut, out_within}
@@ -87,9 +87,11 @@ module _ (c : ℕ) where
   three_out m s t u out =
       let one = next_more m OfValue s in
       let two = next_more (with_cell m OfValue s) OfValue t in
-      let three = next_more (with_cell (with_cell m OfValue s) OfValue t) OfValue u in
-      (out (next_cell m) (omega arith) (omega (arith, one, two, three)), out (next_cell (with_cell m OfValue s)) (omega (arith, one)) (omega (arith, one, two, three)),
-      out (next_cell (with_cell (with_cell m OfValue s) OfValue t)) (omega (arith, one, two)) (omega (arith, one, two, three)))
+      let three = next_more (with_cell (with_cell m OfValue s) OfValue t) OfValue u in (
+        out (next_cell m) (omega arith) (omega (arith, one, two, three)),
+        out (next_cell (with_cell m OfValue s)) (omega (arith, one)) (omega (arith, one, two, three)),
+        out (next_cell (with_cell (with_cell m OfValue s) OfValue t)) (omega (arith, one, two)) (omega (arith, one, two, three)),
+      )
 
   pub two_out : (m : Made) (s t : IntType) → IsOut c (next_cell m) (next_cell (with_cell (with_cell m OfValue s) OfValue t)) → (nat_eq c (next_cell m) ≡ false) × (nat_eq c (next_cell (with_cell m OfValue s)) ≡ false)
   two_out m s t out =
@@ -129,9 +131,10 @@ module _ (c : ℕ) where
   action_absent here (tree.Decided answer) values m vars r out = (absent_none c, refl)
   action_absent here (tree.Set x) values m vars r out = (one_set _ _ (first_quiet c values r) (vars x refl), first_quiet c values r)
   action_absent here (tree.Change x op of back old) values m vars r out =
-      let e = three_out m of (binary_type op of) back out in
-      (changed_absent op of back (first values).atom (second values).atom m _ (first_quiet c values r) (second_quiet c values r) out (λ e. one_set _ _ e (vars x refl)),
-      either_quiet c old (first values) (changed op of back (first values).atom (second values).atom m).value (first_quiet c values r) e.2)
+      let e = three_out m of (binary_type op of) back out in (
+        changed_absent op of back (first values).atom (second values).atom m _ (first_quiet c values r) (second_quiet c values r) out (λ e. one_set _ _ e (vars x refl)),
+        either_quiet c old (first values) (changed op of back (first values).atom (second values).atom m).value (first_quiet c values r) e.2,
+      )
   action_absent here (tree.Load site element root) values m vars r out =
       let one = next_more m OfValue element in
       let e = fresh m (next_cell (with_cell m OfValue element)) (omega (arith, one)) out in

@@ -1,8 +1,6 @@
 -- Each variable of the inlined program has one cell of a lowered kernel, and there is no other cell of a variable.
-use Rattle.std.proofs.Common.{◌≡◌, ℕ, zero, suc, ◌+◌, ◌<◌, ◌≤◌, List, [], ◌∷◌, ◌++◌, length, map, Option, Some, None, slice_get, unwrap_or, refl, sym, ap, ap₂, ◌∙◌, subst, arith, append-nil, append_assoc, length-append, ◌⊎◌, inl, inr, ⊎_elim}
-use Rattle.std.specs.Prelude.{flat_map}
+use Rattle.std.proofs.Common.{◌≡◌, ℕ, zero, suc, ◌+◌, ◌<◌, ◌≤◌, List, [], ◌∷◌, ◌++◌, length, Some, unwrap_or, refl, sym, ap, ◌∙◌, subst, arith, append-nil, append_assoc, length-append, inl, inr, ⊎_elim}
 use Rattle.std.proofs.lemmas.List.Concat.{flat_map-cons}
-use Rattle.std.proofs.lemmas.Option.{none-some, same_Some}
 use Rattle.wg_num.specs.declared.types.Place.{Place}
 use Rattle.cl_model.specs.declared.program.VarKind.{VarKind}
 use Rattle.cl_model.specs.Tree.{Program}
@@ -20,7 +18,7 @@ use Rattle.lowering_laws.proofs.Members.{one_left, one_right, one_split, once_sa
 use Rattle.lowering_laws.proofs.Variables.{cell_named, get_there, variable_at}
 use Rattle.lowering_laws.proofs.Below.{IsBelow, text_below, below_text}
 use Rattle.lowering_laws.proofs.CallSites.{calls_at, sites_differ, one_call_at, site_within}
-use Rattle.lowering_laws.proofs.Kept.{kept, kept_in, kept_out, ApartCells, apart_append, apart_all, one_of_get, get_of_one, apart_one, cells_below, called_cells, kernel_cells}
+use Rattle.lowering_laws.proofs.Kept.{kept_in, kept_out, ApartCells, apart_append, apart_all, one_of_get, get_of_one, apart_one, cells_below, called_cells, kernel_cells}
 
 -- ---- one depth more
 
@@ -94,9 +92,11 @@ module _ (program : Program) (names : List (List Named)) where
   own_apart : (calls : List ℕ) (places : List Place) (f x : ℕ) (list : List Named) (kinds : List VarKind) → ApartCells (variable_cells calls places f x list kinds)
   own_apart calls places f x [] kinds = tt
   own_apart calls places f x (m ∷ list) [] = tt
-  own_apart calls places f x (m ∷ list) (kind ∷ kinds) =
-      ((λ v e is h at. let k = own_is calls places f (x + 1) list kinds v e h at in
-      let same : x ≡ (x + 1) + k.0 = ap (λ (z : Variable). z.number) (is ∙ k.2) in absurd (omega (arith, same))), own_apart calls places f (x + 1) list kinds)
+  own_apart calls places f x (m ∷ list) (kind ∷ kinds) = (
+    (λ v e is h at. let k = own_is calls places f (x + 1) list kinds v e h at in
+        let same : x ≡ (x + 1) + k.0 = ap (λ (z : Variable). z.number) (is ∙ k.2) in absurd (omega (arith, same))),
+    own_apart calls places f (x + 1) list kinds,
+  )
 
   longer : (path : List ℕ) (site : ℕ) (rest : List ℕ) → path ≡ (path ++ site ∷ []) ++ rest → ⊥
   longer path site rest e =
@@ -171,16 +171,28 @@ module _ (program : Program) (names : List (List Named)) where
       let kind = get_there (function_at program f).variables own.0 own.1 in
       let there = variable_at calls places f 0 (names_at names f) (function_at program f).variables own.0 name.0 kind.0 name.1 kind.1 in
       let zero_n : 0 + own.0 ≡ own.0 = omega arith in
-      subst (NamedBelow (suc depth) calls places f) (sym own.2)
-      (name.0, kind.0, places, name.1, kind.1, at,
-      one_left (variable_cells calls places f 0 (names_at names f) (function_at program f).variables) (called_cells program names depth calls places (calls_of_all (function_at program f).body)) (cell_named calls places f own.0 name.0 kind.0)
-      (one_of_get (variable_cells calls places f 0 (names_at names f) (function_at program f).variables) own.0 (cell_named calls places f own.0 name.0 kind.0) (there ∙ ap (λ z. Some (cell_named calls places f z name.0 kind.0)) zero_n)))
+      subst (NamedBelow (suc depth) calls places f) (sym own.2) (
+        name.0,
+        kind.0,
+        places,
+        name.1,
+        kind.1,
+        at,
+        one_left (variable_cells calls places f 0 (names_at names f) (function_at program f).variables) (called_cells program names depth calls places (calls_of_all (function_at program f).body)) (cell_named calls places f own.0 name.0 kind.0)
+            (one_of_get (variable_cells calls places f 0 (names_at names f) (function_at program f).variables) own.0 (cell_named calls places f own.0 name.0 kind.0) (there ∙ ap (λ z. Some (cell_named calls places f z name.0 kind.0)) zero_n)),
+      )
   named_below valid named_ (suc depth) calls places f v at (inr found) =
       let c = found.0 in
-      let k = named_below valid named_ depth (calls ++ c.site ∷ []) (places ++ place_at program c.site ∷ []) c.function v (places_more c.site (site_within program valid f c found.1) calls places at) found.2 in
-      (k.0, k.1, k.2, k.3, k.4, k.5,
-      one_right (variable_cells calls places f 0 (names_at names f) (function_at program f).variables) (called_cells program names depth calls places (calls_of_all (function_at program f).body)) _
-      (called_join depth calls places (calls_of_all (function_at program f).body) c _ found.1 k.6))
+      let k = named_below valid named_ depth (calls ++ c.site ∷ []) (places ++ place_at program c.site ∷ []) c.function v (places_more c.site (site_within program valid f c found.1) calls places at) found.2 in (
+        k.0,
+        k.1,
+        k.2,
+        k.3,
+        k.4,
+        k.5,
+        one_right (variable_cells calls places f 0 (names_at names f) (function_at program f).variables) (called_cells program names depth calls places (calls_of_all (function_at program f).body)) _
+            (called_join depth calls places (calls_of_all (function_at program f).body) c _ found.1 k.6),
+      )
 
   -- ---- the whole
 

@@ -1,6 +1,5 @@
 -- The point of the program at a barrier line of a lowered kernel, with the iterations begun of the loops around it, is that of no other.
 use Rattle.std.proofs.Common.{◌≡◌, ℕ, zero, suc, ◌+◌, List, [], ◌∷◌, ◌++◌, length, refl, sym, ap, ap₂, ◌∙◌, subst, arith, append-nil, ◌⊎◌, inl, inr, true}
-use Rattle.cl_model.specs.declared.program.Root.{Root}
 use Rattle.cl_model.specs.Tree.{Program}
 use Rattle.cl_model.specs.Calls.{function_at, kernel_of}
 use Rattle.cl_model.specs.Valid.{parameter_kinds}
@@ -10,10 +9,9 @@ use Rattle.kir.specs.Places.{Leg, Behind, IntoChosen, IntoOther, IntoTest, ToAns
 use Rattle.kir.specs.Cuts.{is_barrier}
 use Rattle.kir.specs.Matching.{IsBarrierPoint}
 use Rattle.kir.specs.Lowering.{Named}
-use Rattle.kir_lower.specs.declared.places.Value.{Value}
-use Rattle.kir_lower.specs.Made.{Made, Instance, next_cell}
+use Rattle.kir_lower.specs.Made.{next_cell}
 use Rattle.kir_lower.specs.Whole.{names_at, way_behind, instance_at, with_instance, parameter_lines, call_code, bound_lines, kernel_way, nothing_made, lowered_of}
-use Rattle.lowering_laws.specs.Marks.{Way, further, Marks, NoMark, MarkThen, FormThen, all_marked, marks_behind, marks_one, marks_two, marks_at, first_way, point_marked, Shaped, no_line, set_line, load_line, store_line, clear_line, if_line, loop_line, barrier_line}
+use Rattle.lowering_laws.specs.Marks.{Way, further, Marks, NoMark, all_marked, marks_behind, marks_one, marks_two, marks_at, first_way, point_marked, Shaped, no_line, set_line, load_line, store_line, clear_line, if_line, loop_line, barrier_line}
 use Rattle.lowering_laws.specs.CodeMarks.{call_marks, kernel_marks}
 use Rattle.lowering_laws.specs.Spots.{Spot, at_barrier, past_barrier, past_set, past_load, past_store, past_clear, past_if, in_chosen, in_other, past_loop, in_test, in_body, loops_in, IsFair, AreTold}
 use Rattle.lowering_laws.proofs.Quiet.{true_false}
@@ -237,7 +235,7 @@ points_differ program names p q bp bq same =
     let shaped = kernel_shaped program names in
     let spot = λ (at : Place) (e : is_barrier (lines_at text at) ≡ true). spot_of text marks shaped at [] (first_way (marks_at marks at)) (barrier_spot (lines_at text at) (marks_at marks at) (fits_at text marks shaped at) e) in
     let k = (kernel_told program names).one (from_front p.at []) (from_front q.at []) (first_way (marks_at marks p.at)) (first_way (marks_at marks q.at)) (spot p.at bp.barrier) (spot q.at bq.barrier) p.begun q.begun
-        (bp.each_loop ∙ count p.at) (bq.each_loop ∙ count q.at) same in
+    (bp.each_loop ∙ count p.at) (bq.each_loop ∙ count q.at) same in
     let at : p.at ≡ q.at = sym (front_back p.at) ∙ ap (λ z. from_front z []) k.0 ∙ front_back q.at in
     ap₂ (λ y z. let r : Point = record { at = y; begun = z } in r) at k.1
   where

@@ -1,5 +1,5 @@
 -- The marks of a lowered kernel have the shape of its lines, so walking along the lines walks along the marks.
-use Rattle.std.proofs.Common.{◌≡◌, ℕ, zero, suc, ◌+◌, pos, List, [], ◌∷◌, length, Option, Some, None, refl, sym, ap, ◌∙◌, subst, true, false, if◌then◌else◌}
+use Rattle.std.proofs.Common.{◌≡◌, ℕ, zero, suc, ◌+◌, pos, List, [], ◌∷◌, length, Option, Some, None, sym, ap, subst, true, false, if◌then◌else◌}
 use Rattle.std.proofs.Common.{Bool as Test}
 use Rattle.std.specs.Prelude.{◌&&◌}
 use Rattle.cl_model.specs.declared.program.Root.{Root}
@@ -81,7 +81,7 @@ round_shaped way site first (Some o) exit test answer step body m one two three 
     (shaped_then cs.lines (guarded_before o exit step NoLine) (all_marked way cs.lines) (guarded_marks way step two NoMark) (shaped_all way cs.lines) (guarded_shaped way o exit step NoLine two NoMark s no_line))) no_line
 
 module _ (calls : Calls) (marks : CallMarks)
-  (call : (here : Instance) (way : Way) (site function : ℕ) (roots : List Root) (values : List Value) (m : Made) → Shaped (calls here site function roots values m).lines (marks here way site function roots values m)) (here : Instance) where
+    (call : (here : Instance) (way : Way) (site function : ℕ) (roots : List Root) (values : List Value) (m : Made) → Shaped (calls here site function roots values m).lines (marks here way site function roots values m)) (here : Instance) where
   mutual
     unfolding expression_code expression_marks
 

@@ -9,7 +9,7 @@ use Rattle.cl_model.specs.Lists.{IsOneOf}
 use Rattle.cl_model.specs.Calls.{CallSite, calls_in, calls_among, calls_in_optional, calls_of, calls_of_all, calls_of_arms}
 use Rattle.cl_model.specs.Valid.{StatementFits, AllFit, ArmsFit, declarations, all_declarations, arms_declarations}
 use Rattle.kir.specs.Tree.{Variable}
-use Rattle.kir.specs.Inlined.{Text, NoText, DeclaredThen, BlockThen, cut_if, holds, expression_before, expressions_before, optional_before, Inlining, variable_of, statement_before, statements_before, arms_before, parameters_before, variables_in}
+use Rattle.kir.specs.Inlined.{Text, NoText, DeclaredThen, cut_if, holds, expression_before, expressions_before, optional_before, Inlining, variable_of, statement_before, statements_before, arms_before, parameters_before, variables_in}
 use Rattle.lowering_laws.proofs.Quiet.{true_false}
 use Rattle.lowering_laws.proofs.Members.{once, one_left, one_right, one_split}
 
@@ -37,9 +37,9 @@ once_is x y = by_test (nat_eq y x) refl
     by_test false e h = let z : once x y ≡ 0 = ap (λ b. if b then 1 else 0) e in absurd (omega (arith, h, z))
 
 module _ (here : Inlining) (inner : ℕ → ℕ → Variable → Type 0)
-  (into_call : (site g : ℕ) (rest : Text) (v : Variable) → inner site g v → Mem (here.called site g rest) v)
-  (past_call : (site g : ℕ) (rest : Text) (v : Variable) → Mem rest v → Mem (here.called site g rest) v)
-  (from_call : (site g : ℕ) (rest : Text) (v : Variable) → Mem (here.called site g rest) v → inner site g v ⊎ Mem rest v) where
+    (into_call : (site g : ℕ) (rest : Text) (v : Variable) → inner site g v → Mem (here.called site g rest) v)
+    (past_call : (site g : ℕ) (rest : Text) (v : Variable) → Mem rest v → Mem (here.called site g rest) v)
+    (from_call : (site g : ℕ) (rest : Text) (v : Variable) → Mem (here.called site g rest) v → inner site g v ⊎ Mem rest v) where
   -- one of the calls leads to it
   abbrev pub FoundIn : List CallSite → Variable → Type 0
   FoundIn calls v = (c : CallSite) × IsOneOf calls c × inner c.site c.function v

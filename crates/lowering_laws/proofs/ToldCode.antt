@@ -1,17 +1,14 @@
 -- The points of the barrier lines of a lowered kernel are told apart by their marks.
-use Rattle.std.proofs.Common.{◌≡◌, ℕ, zero, suc, ◌+◌, ◌≤◌, pos, List, [], ◌∷◌, length, Option, Some, None, refl, sym, ap, ◌∙◌, subst, arith, ◌⊎◌, inl, inr, ⊎_elim, true, false, if◌then◌else◌}
+use Rattle.std.proofs.Common.{◌≡◌, ℕ, suc, ◌+◌, ◌≤◌, pos, List, Option, Some, None, refl, sym, ap, ◌∙◌, subst, arith, ◌⊎◌, inl, inr, ⊎_elim, true, false, if◌then◌else◌}
 use Rattle.std.proofs.Common.{Bool as Test}
 use Rattle.std.specs.Prelude.{nat_eq, ◌&&◌}
 use Rattle.std.proofs.lemmas.Bool.{eq-eqb}
 use Rattle.cl_model.specs.declared.program.Root.{Root}
-use Rattle.cl_model.specs.Tree.{Expression, Apply, Update, Choose, Call, Expressions, none, more, Statement, Do, Declare, Fill, Block, If, Loop, Switch, Break, Continue, Return, Barrier, Statements, empty, also, Arms, no_arm, arm, Function, Program}
-use Rattle.cl_model.specs.Calls.{function_at, kernel_of}
-use Rattle.cl_model.specs.Valid.{parameter_kinds}
+use Rattle.cl_model.specs.Tree.{Expression, Apply, Update, Choose, Call, Expressions, none, more, Statement, Do, Declare, Fill, Block, If, Loop, Switch, Break, Continue, Return, Barrier, Statements, empty, also, Arms, no_arm, arm, Function}
 use Rattle.cl_model.specs.Task.{Leg, Operand, Own, Tested, Chosen, Other, Nth, Turn, Body, Step, Arm, Into}
 use Rattle.kir.specs.declared.line.Atom.{Atom}
 use Rattle.kir.specs.declared.line.Atom.TheVariants.{Cell as CellAtom}
 use Rattle.kir.specs.Tree.{Lines, NoLine, SetThen, IfThen, ClearThen, joined_to, OfValue, Copy}
-use Rattle.kir.specs.Lowering.{Named}
 use Rattle.kir_lower.specs.declared.places.Value.{Value}
 use Rattle.kir_lower.specs.Made.{Made, Instance, next_cell, with_cell, int, root_in, argument_roots, element_at}
 use Rattle.kir_lower.specs.Ways.{way_out, way_out_of_all, way_out_of_arms, declares}
@@ -22,8 +19,8 @@ use Rattle.lowering_laws.specs.CodeMarks.{CallMarks, finish_way, expression_mark
 use Rattle.lowering_laws.specs.Spots.{IsFair, AreTold, IsTold}
 use Rattle.lowering_laws.proofs.Joined.{join_assoc}
 use Rattle.lowering_laws.proofs.Quiet.{true_false}
-use Rattle.lowering_laws.proofs.Cutless.{Cutless, cutless_then, action_cutless, initial_cutless, opened_cutless, outward_cutless, selected_cutless, fallen_cutless, result_cutless}
-use Rattle.lowering_laws.proofs.Shapes.{shaped_then, shaped_all, expression_shaped, operands_shaped, optional_shaped, statement_shaped, list_shaped, arms_shaped, in_order_shaped, round_shaped}
+use Rattle.lowering_laws.proofs.Cutless.{action_cutless, initial_cutless, opened_cutless, outward_cutless, selected_cutless, fallen_cutless, result_cutless}
+use Rattle.lowering_laws.proofs.Shapes.{shaped_all, expression_shaped, operands_shaped, optional_shaped, statement_shaped, list_shaped, arms_shaped, in_order_shaped, round_shaped}
 use Rattle.lowering_laws.proofs.Told.{told_cutless, fair_further, as_part, as_whole, told_more, told_then}
 use Rattle.lowering_laws.proofs.ToldParts.{turned, fair_turned, fair_in_turn, as_turn, then_cutless, cutless_then_told, told_if, told_barrier, IsTurn, told_loop}
 
@@ -77,8 +74,8 @@ CallsTold calls marks =
     (here : Instance) (way : Way) (d : ℕ) → IsFair way d → (site function : ℕ) (roots : List Root) (values : List Value) (m : Made) → AreTold way d (λ leg. Into ≡ leg) (calls here site function roots values m).lines (marks here way site function roots values m)
 
 module _ (calls : Calls) (marks : CallMarks)
-  (shaped : (here : Instance) (way : Way) (site function : ℕ) (roots : List Root) (values : List Value) (m : Made) → Shaped (calls here site function roots values m).lines (marks here way site function roots values m))
-  (call : CallsTold calls marks) (here : Instance) where
+    (shaped : (here : Instance) (way : Way) (site function : ℕ) (roots : List Root) (values : List Value) (m : Made) → Shaped (calls here site function roots values m).lines (marks here way site function roots values m))
+    (call : CallsTold calls marks) (here : Instance) where
   mutual
     unfolding expression_code expression_marks
 
@@ -202,25 +199,29 @@ module _ (calls : Calls) (marks : CallMarks)
   before_rest_told : (way : Way) (d : ℕ) → IsFair way d → (k exit : ℕ) (declared : Test) (out : Option ℕ) (lines : Lines) (one : Marks) (c : Guarded) (g : GuardedMarks) → Shaped lines one → Shaped c.inside g.inside
       → IsTold (further way (Nth k)) d lines one → ListTold way d (suc k) c g → ListTold way d k (before_rest exit declared out lines c) (marks_before_rest way declared out one c.inside g)
   before_rest_told way d fair k exit true None lines one c g s t h l = record {
-    bound = None; from = tt;
+    bound = None;
+    from = tt;
     inside = told_more way d (λ leg. (Nth k ≡ leg) ⊎ NthFrom (suc k) leg) (NthFrom k) _ _ (λ leg p. ⊎_elim (λ x. (k, omega arith, x)) (λ y. from_next k leg y) p)
         (told_then way d fair (λ leg. Nth k ≡ leg) (NthFrom (suc k)) lines (in_order c).lines one (marks_in_order g) s (as_part way d (Nth k) lines one h) (in_order_told way d fair (suc k) c g t l) (not_first k));
     rest = told_cutless way d (λ leg. ⊥) NoLine NoMark (record { is = refl });
   }
   before_rest_told way d fair k exit true (Some site) lines one c g s t h l = record {
-    bound = None; from = tt;
+    bound = None;
+    from = tt;
     inside = told_more way d (λ leg. (Nth k ≡ leg) ⊎ NthFrom (suc k) leg) (NthFrom k) _ _ (λ leg p. ⊎_elim (λ x. (k, omega arith, x)) (λ y. from_next k leg y) p)
         (told_then way d fair (λ leg. Nth k ≡ leg) (NthFrom (suc k)) lines (in_order c).lines one (marks_in_order g) s (as_part way d (Nth k) lines one h) (in_order_told way d fair (suc k) c g t l) (not_first k));
     rest = told_cutless way d (λ leg. ⊥) NoLine NoMark (record { is = refl });
   }
   before_rest_told way d fair k exit false None lines one c g s t h l = record {
-    bound = l.bound; from = from_less k l.bound l.from;
+    bound = l.bound;
+    from = from_less k l.bound l.from;
     inside = told_more way d (λ leg. (Nth k ≡ leg) ⊎ OneOf (suc k) l.bound leg) (OneOf k l.bound) _ _ (widen k l.bound l.from)
         (told_then way d fair (λ leg. Nth k ≡ leg) (OneOf (suc k) l.bound) lines c.inside one g.inside s (as_part way d (Nth k) lines one h) l.inside (λ leg p q. not_first k leg p (one_from (suc k) l.bound leg q)));
     rest = l.rest;
   }
   before_rest_told way d fair k exit false (Some site) lines one c g s t h l = record {
-    bound = Some (suc k); from = omega arith;
+    bound = Some (suc k);
+    from = omega arith;
     inside = told_more way d (λ leg. Nth k ≡ leg) (OneOf k (Some (suc k))) lines one (λ leg x. (k, omega arith, omega arith, x)) (as_part way d (Nth k) lines one h);
     rest = told_more way d (λ leg. OneOf (suc k) l.bound leg ⊎ TwoOf l.bound leg) (NthFrom (suc k)) _ _ (λ leg p. ⊎_elim (λ x. one_from (suc k) l.bound leg x) (λ y. two_from (suc k) l.bound l.from leg y) p)
         (guarded_told way d fair (OneOf (suc k) l.bound) (TwoOf l.bound) site exit c.inside c.rest g.inside g.rest t l.inside l.rest (parts_apart (suc k) l.bound));
@@ -342,7 +343,8 @@ module _ (calls : Calls) (marks : CallMarks)
 
     pub list_told : (way : Way) (d : ℕ) → IsFair way d → (k exit : ℕ) (guarded : Test) (list : Statements) (m : Made) → ListTold way d k (list_code calls here exit guarded list m) (list_marks calls marks here way k exit guarded list m)
     list_told way d fair k exit guarded empty m = record {
-      bound = None; from = tt;
+      bound = None;
+      from = tt;
       inside = told_cutless way d (NthFrom k) NoLine NoMark (record { is = refl });
       rest = told_cutless way d (λ leg. ⊥) NoLine NoMark (record { is = refl });
     }
