@@ -1,21 +1,17 @@
 -- Calls name no cell but those of their arguments and those that they make.
-use Rattle.std.proofs.Common.{◌≡◌, ℕ, zero, suc, ◌+◌, ◌<◌, ◌≤◌, List, [], ◌∷◌, ◌++◌, length, Option, Some, None, refl, sym, ap, ◌∙◌, subst, arith, length-append, true, false, ne_eqb}
-use Rattle.std.proofs.Common.{Bool as Test}
-use Rattle.std.specs.Prelude.{nat_eq, ◌||◌}
-use Rattle.std.proofs.lemmas.Option.{none-some}
+use Rattle.std.proofs.Common.{◌≡◌, ℕ, zero, suc, ◌+◌, ◌≤◌, List, [], ◌∷◌, ◌++◌, length, Option, Some, None, refl, ap, ◌∙◌, arith, length-append, true, false}
 use Rattle.wg_num.specs.declared.types.IntType.{IntType}
-use Rattle.cl_model.specs.declared.program.Root.{Root}
-use Rattle.cl_model.specs.Tree.{Function, Program}
+use Rattle.cl_model.specs.Tree.{Program}
 use Rattle.cl_model.specs.Calls.{function_at}
-use Rattle.cl_model.specs.Valid.{IsValid, parameter_kinds}
-use Rattle.kir.specs.Tree.{Lines, NoLine, SetThen, Copy, OfValue}
+use Rattle.cl_model.specs.Valid.{IsValid}
+use Rattle.kir.specs.Tree.{NoLine, Copy, OfValue}
 use Rattle.kir.specs.Live.{reads, some_reads}
 use Rattle.kir.specs.Lowering.{Named}
 use Rattle.kir_lower.specs.declared.places.Value.{Value}
-use Rattle.kir_lower.specs.Made.{Made, Instance, next_cell, variable_cells, with_cell}
+use Rattle.kir_lower.specs.Made.{Made, next_cell, variable_cells}
 use Rattle.kir_lower.specs.Ways.{way_out_of_all}
 use Rattle.kir_lower.specs.Actions.{atoms_of, opened}
-use Rattle.kir_lower.specs.Code.{Calls, list_code, result_code}
+use Rattle.kir_lower.specs.Code.{list_code, result_code}
 use Rattle.kir_lower.specs.Whole.{Way, names_at, way_behind, instance_at, with_instance, parameter_lines, call_code}
 use Rattle.lowering_laws.specs.Names.{AreNamed}
 use Rattle.lowering_laws.proofs.Arguments.{call_goes, length_take}

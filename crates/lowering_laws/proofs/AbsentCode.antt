@@ -1,22 +1,21 @@
 -- The code of expressions and statements names no cell but those of variables in it, those of ways out, and those that it makes.
-use Rattle.std.proofs.Common.{◌≡◌, ℕ, zero, suc, ◌+◌, ◌<◌, ◌≤◌, pos, List, [], ◌∷◌, ◌++◌, length, Option, Some, None, refl, sym, ap, ◌∙◌, subst, arith, true, false, ◌⊎◌, inl, inr, if◌then◌else◌}
+use Rattle.std.proofs.Common.{◌≡◌, ℕ, suc, ◌+◌, ◌<◌, ◌≤◌, pos, List, [], ◌∷◌, ◌++◌, length, Option, Some, None, refl, ap, ◌∙◌, arith, true, false, inl, inr}
 use Rattle.std.proofs.Common.{Bool as Test}
-use Rattle.std.specs.Prelude.{nat_eq, ◌&&◌, ◌||◌}
-use Rattle.std.proofs.lemmas.Option.{none-some, slice_get_within}
+use Rattle.std.specs.Prelude.{nat_eq, ◌&&◌}
+use Rattle.std.proofs.lemmas.Option.{slice_get_within}
 use Rattle.wg_num.specs.declared.types.IntType.{IntType}
-use Rattle.wg_num.specs.declared.types.IntType.TheVariants.{Int}
 use Rattle.cl_model.specs.declared.program.Root.{Root}
 use Rattle.cl_model.specs.Tree.{Expression, Apply, Update, Choose, Call, Expressions, none, more, Statement, Do, Declare, Fill, Block, If, Loop, Switch, Break, Continue, Return, Barrier, Statements, empty, also, Arms, no_arm, arm, Function, Program}
 use Rattle.cl_model.specs.Calls.{CallSite, function_at}
 use Rattle.cl_model.specs.Valid.{HasType, HaveTypes, OptionalFits, IsPlainCall, StatementFits, AllFit, ArmsFit, parameter_kinds, binary_type}
 use Rattle.kir.specs.declared.line.Atom.{Atom}
 use Rattle.kir.specs.declared.line.Atom.TheVariants.{Cell as CellAtom}
-use Rattle.kir.specs.Tree.{Lines, Copy, NoLine, joined_to, OfValue, OfFlag}
+use Rattle.kir.specs.Tree.{Lines, NoLine, OfValue, OfFlag}
 use Rattle.kir.specs.Live.{reads, some_reads}
 use Rattle.kir_lower.specs.declared.places.Value.{Value}
-use Rattle.kir_lower.specs.Made.{Made, Instance, int, with_cell, next_cell, root_in, argument_roots}
+use Rattle.kir_lower.specs.Made.{Made, Instance, int, with_cell, next_cell, argument_roots}
 use Rattle.kir_lower.specs.Ways.{way_out, way_out_of_all, way_out_of_arms, declares}
-use Rattle.kir_lower.specs.Actions.{atoms_of, action_code, opened, round_code, outward, selected, fallen_code, changed}
+use Rattle.kir_lower.specs.Actions.{atoms_of, opened, round_code, outward, selected, fallen_code, changed}
 use Rattle.kir_lower.specs.Code.{Calls, expression_code, operands_code, optional_code, Guarded, is_guarded, before_rest, in_order, entry_code, around_arm, statement_code, list_code, arms_code}
 use Rattle.lowering_laws.proofs.Quiet.{or_false}
 use Rattle.lowering_laws.proofs.Steps.{IsFree, either_quiet}
@@ -24,7 +23,7 @@ use Rattle.lowering_laws.proofs.Scoped.{free_first, free_second, fewer_ways, few
 use Rattle.lowering_laws.proofs.Making as making
 use Rattle.lowering_laws.proofs.Making.{call_of}
 use Rattle.lowering_laws.proofs.Absent.{Absent, absent_none, absent_then, absent_set, absent_load, absent_store, absent_clear, absent_barrier, absent_if, next_more, IsOut, out_within}
-use Rattle.lowering_laws.proofs.AbsentSteps.{action_uses, action_within, opened_exit, three_out, changed_absent, action_absent, initial_absent, outward_absent, round_absent, selected_absent, entry_absent, fallen_absent, before_rest_absent}
+use Rattle.lowering_laws.proofs.AbsentSteps.{action_within, opened_exit, three_out, changed_absent, action_absent, initial_absent, outward_absent, round_absent, selected_absent, entry_absent, fallen_absent, before_rest_absent}
 
 -- a statement before others makes no cell
 pub before_rest_same : (exit : ℕ) (declared : Test) (way : Option ℕ) (lines : Lines) (g : Guarded) → next_cell (before_rest exit declared way lines g).made ≡ next_cell g.made

@@ -1,7 +1,7 @@
 -- The lines of single steps name no cell but those that they are given and those that they make.
-use Rattle.std.proofs.Common.{◌≡◌, ℕ, suc, ◌+◌, ◌<◌, ◌≤◌, ℤ, pos, List, [], ◌∷◌, length, Option, Some, None, refl, sym, ap, ◌∙◌, subst, arith, true, false, if◌then◌else◌}
+use Rattle.std.proofs.Common.{◌≡◌, ℕ, ◌+◌, ◌<◌, ◌≤◌, ℤ, List, [], ◌∷◌, length, Option, Some, None, refl, subst, arith, true, false, if◌then◌else◌}
 use Rattle.std.proofs.Common.{Bool as Test}
-use Rattle.std.specs.Prelude.{nat_eq, ◌&&◌}
+use Rattle.std.specs.Prelude.{nat_eq}
 use Rattle.std.proofs.lemmas.Option.{none-some, same_Some, slice_get_within}
 use Rattle.wg_num.specs.declared.types.IntType.{IntType}
 use Rattle.wg_num.specs.declared.types.IntType.TheVariants.{Int}
@@ -10,13 +10,13 @@ use Rattle.cl_model.specs.Tree as tree
 use Rattle.cl_model.specs.Tree.{Action, Arms, no_arm, arm, Function, Program}
 use Rattle.cl_model.specs.Valid.{ActionFits, binary_type, promoted}
 use Rattle.kir.specs.declared.line.Atom.{Atom}
-use Rattle.kir.specs.declared.line.Atom.TheVariants.{Const, Cell as CellAtom}
-use Rattle.kir.specs.Tree.{Work, Copy, Convert, Binary, Lines, NoLine, SetThen, IfThen, joined_to, OfValue, OfFlag}
+use Rattle.kir.specs.declared.line.Atom.TheVariants.{Cell as CellAtom}
+use Rattle.kir.specs.Tree.{Work, Lines, NoLine, SetThen, IfThen, joined_to, OfValue, OfFlag}
 use Rattle.kir.specs.Live.{reads, some_reads, work_reads}
 use Rattle.kir_lower.specs.declared.places.Value.{Value}
-use Rattle.kir_lower.specs.Made.{Made, Instance, int, with_cell, next_cell}
-use Rattle.kir_lower.specs.Actions.{Code, Steps, first, second, atoms_of, computed, truth, changed, set_to, action_code, initial_lines, opened, is_none, guarded_before, settled, outward, round_code, label_code, labels_code, all_labels_code, selected, fallen_code}
-use Rattle.kir_lower.specs.Code.{before_rest, Guarded, entry_code, around_arm, in_order}
+use Rattle.kir_lower.specs.Made.{Made, Instance, with_cell, next_cell}
+use Rattle.kir_lower.specs.Actions.{first, second, atoms_of, changed, action_code, initial_lines, opened, is_none, guarded_before, outward, round_code, labels_code, all_labels_code, selected, fallen_code}
+use Rattle.kir_lower.specs.Code.{before_rest, Guarded, entry_code}
 use Rattle.lowering_laws.proofs.Quiet.{or_parts, or_false}
 use Rattle.lowering_laws.proofs.Steps.{IsFree, first_quiet, second_quiet, either_quiet}
 use Rattle.lowering_laws.proofs.Absent.{Absent, absent_none, absent_then, absent_set, absent_load, absent_store, absent_if, absent_loop, next_more, IsOut, out_within}

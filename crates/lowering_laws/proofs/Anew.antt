@@ -1,23 +1,22 @@
 -- No cell is live at the start of a lowered kernel.
-use Rattle.std.proofs.Common.{◌≡◌, ℕ, zero, suc, ◌+◌, ◌<◌, ◌≤◌, List, [], ◌∷◌, length, Option, Some, None, refl, sym, ap, ◌∙◌, subst, arith, true, false, ◌⊎◌, inl, inr, if◌then◌else◌}
+use Rattle.std.proofs.Common.{◌≡◌, ℕ, suc, ◌+◌, ◌<◌, List, [], ◌∷◌, length, Option, Some, None, refl, ap, ◌∙◌, true, false, inl, inr}
 use Rattle.std.proofs.Common.{Bool as Test}
-use Rattle.std.specs.Prelude.{nat_eq, ◌&&◌, ◌||◌}
+use Rattle.std.specs.Prelude.{◌&&◌, ◌||◌}
 use Rattle.wg_num.specs.declared.types.IntType.{IntType}
 use Rattle.cl_model.specs.declared.program.Root.{Root}
-use Rattle.cl_model.specs.declared.program.VarKind.{VarKind}
 use Rattle.cl_model.specs.Tree.{Expression, Apply, Update, Choose, Call, Expressions, none, more, Statement, Do, Declare, Fill, Block, If, Loop, Switch, Break, Continue, Return, Barrier, Statements, empty, also, Arms, no_arm, arm, Function, Program}
 use Rattle.cl_model.specs.Calls.{function_at}
 use Rattle.cl_model.specs.Valid.{Scope, HasType, HaveTypes, OptionalFits, IsPlainCall, StatementFits, AllFit, ArmsFit, NamesIn, NamesAmong, NamesInOptional, IsScopedList, AreScopedArms, parameter_kinds, scope_after}
 use Rattle.kir.specs.declared.line.Atom.{Atom}
 use Rattle.kir.specs.declared.line.Atom.TheVariants.{Cell as CellAtom}
-use Rattle.kir.specs.Tree.{Lines, Copy, NoLine, joined_to, OfValue}
+use Rattle.kir.specs.Tree.{Copy, NoLine, OfValue}
 use Rattle.kir.specs.Live.{reads, some_reads}
 use Rattle.kir_lower.specs.declared.places.Value.{Value}
-use Rattle.kir_lower.specs.Made.{Made, Instance, int, with_cell, next_cell, root_in}
+use Rattle.kir_lower.specs.Made.{Made, Instance, int, with_cell, next_cell}
 use Rattle.kir_lower.specs.Ways.{way_out, way_out_of_all, way_out_of_arms, declares}
-use Rattle.kir_lower.specs.Actions.{atoms_of, action_code, opened, round_code, selected}
+use Rattle.kir_lower.specs.Actions.{atoms_of, opened, round_code, selected}
 use Rattle.kir_lower.specs.Code.{Calls, expression_code, operands_code, optional_code, is_guarded, in_order, entry_code, around_arm, statement_code, list_code, arms_code}
-use Rattle.lowering_laws.proofs.Quiet.{Quiet, or_parts, or_false, quiet_none, quiet_less, quiet_after, quiet_then, quiet_set, quiet_load, quiet_store, quiet_clear, quiet_barrier, quiet_if, quiet_if_set}
+use Rattle.lowering_laws.proofs.Quiet.{Quiet, quiet_none, quiet_less, quiet_after, quiet_then, quiet_set, quiet_load, quiet_store, quiet_clear, quiet_barrier, quiet_if, quiet_if_set}
 use Rattle.lowering_laws.proofs.Steps.{IsApart, IsFree, computed_quiet, changed_quiet, either_quiet, action_quiet, initial_quiet, opened_quiet, outward_quiet, round_quiet, selected_quiet, entry_quiet, around_quiet, ListQuiet, list_joined, before_quiet}
 use Rattle.lowering_laws.proofs.Scoped.{FirstScoped, as_first, scoped_parts, as_list, sets, sets_nothing, apart_after, free_first, free_second, fewer_ways, fewer_of_arms, all_have, return_type, argument_count}
 

@@ -1,18 +1,18 @@
 -- A lowered body begins with one line for each parameter.
-use Rattle.std.proofs.Common.{unwrap_or, ◌≡◌, ℕ, zero, suc, ◌+◌, ◌<◌, ◌≤◌, List, [], ◌∷◌, ◌++◌, length, take, Option, Some, None, slice_get, refl, sym, ap, ◌∙◌, subst, arith, append-nil, append_assoc}
+use Rattle.std.proofs.Common.{unwrap_or, ◌≡◌, ℕ, zero, suc, ◌+◌, ◌<◌, ◌≤◌, List, [], ◌∷◌, ◌++◌, length, take, Some, slice_get, refl, sym, ap, ◌∙◌, subst, arith, append-nil, append_assoc}
 use Rattle.std.proofs.lemmas.Option.{none-some, same_Some, slice_get_within}
 use Rattle.cl_model.specs.declared.program.Root.{Root}
 use Rattle.cl_model.specs.declared.program.VarKind.{VarKind}
-use Rattle.cl_model.specs.Tree.{Program, Function}
+use Rattle.cl_model.specs.Tree.{Program}
 use Rattle.cl_model.specs.Calls.{CallSite, function_at, kernel_of, no_function}
 use Rattle.cl_model.specs.Valid.{IsValid, IsValidFunction, parameter_kinds}
-use Rattle.kir.specs.Tree.{Lines, Cell, SetThen, Argument, joined_to}
+use Rattle.kir.specs.Tree.{Cell, SetThen, Argument, joined_to}
 use Rattle.kir.specs.Homes.{IsCellOf}
 use Rattle.kir.specs.Lowering.{Named, BeginsWithArguments, argument_lines}
 use Rattle.kir_lower.specs.declared.places.Value.{Value}
 use Rattle.kir_lower.specs.Made.{Made, variable_cells}
 use Rattle.kir_lower.specs.Made as low
-use Rattle.kir_lower.specs.Whole.{names_at, way_behind, instance_at, with_instance, call_code, bound_lines, kernel_way, nothing_made, kernel_code, lowered_of}
+use Rattle.kir_lower.specs.Whole.{names_at, way_behind, instance_at, with_instance, call_code, bound_lines, kernel_way, nothing_made, lowered_of}
 use Rattle.kir_lower.specs.Code.{body_code}
 use Rattle.lowering_laws.specs.Names.{AreNamed}
 use Rattle.lowering_laws.proofs.Making.{call_of, body_makes}

@@ -6,10 +6,10 @@ use Rattle.std.proofs.lemmas.List.Concat.{flat_map-cons}
 use Rattle.std.proofs.lemmas.List.{map-append}
 use Rattle.cl_model.specs.declared.program.Root.{Root}
 use Rattle.cl_model.specs.Tree.{Array, Program}
-use Rattle.cl_model.specs.Calls.{CallSite, calls_of_all, function_at, kernel_of, Instance, instances_below, instances}
+use Rattle.cl_model.specs.Calls.{CallSite, calls_of_all, function_at, kernel_of, Instance, instances_below}
 use Rattle.cl_model.specs.Lists.{Each}
 use Rattle.cl_model.specs.Valid.{IsValid, CallsEnd}
-use Rattle.cl_model.specs.Objects.{PlacedArray, placed_from, placed_arrays}
+use Rattle.cl_model.specs.Objects.{PlacedArray, placed_from}
 use Rattle.kir.specs.Lowering.{Named, HasArrays}
 use Rattle.kir_lower.specs.declared.places.Value.{Value}
 use Rattle.kir_lower.specs.Made.{Made}

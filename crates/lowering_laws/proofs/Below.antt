@@ -1,5 +1,5 @@
 -- The variables of the inlined program: those of each function as often as it stands there, each declared once.
-use Rattle.std.proofs.Common.{◌≡◌, ℕ, zero, suc, ◌+◌, ◌<◌, ◌≤◌, List, [], ◌∷◌, ◌++◌, length, Option, Some, None, slice_get, unwrap_or, refl, sym, ap, ◌∙◌, subst, arith, true, false, ◌⊎◌, inl, inr, ⊎_elim}
+use Rattle.std.proofs.Common.{◌≡◌, ℕ, zero, suc, ◌<◌, List, [], ◌∷◌, ◌++◌, length, unwrap_or, refl, sym, ap, subst, arith, true, false, ◌⊎◌, inl, inr, ⊎_elim}
 use Rattle.std.proofs.Common.{Bool as Test}
 use Rattle.std.specs.Prelude.{nat_lt}
 use Rattle.std.proofs.lemmas.Option.{none-some, slice_get_past}
@@ -9,7 +9,7 @@ use Rattle.cl_model.specs.Lists.{IsOneOf}
 use Rattle.cl_model.specs.Calls.{CallSite, calls_of_all, function_at, no_function}
 use Rattle.cl_model.specs.Valid.{IsValid, IsValidFunction}
 use Rattle.kir.specs.Tree.{Variable}
-use Rattle.kir.specs.Inlined.{NoText, DeclaredThen, BlockThen, Inlining, body_holds, function_text, variables_in, variables_of, variable_of, statements_before, parameters_before}
+use Rattle.kir.specs.Inlined.{NoText, BlockThen, Inlining, body_holds, function_text, variables_in, variable_of, statements_before}
 use Rattle.lowering_laws.proofs.Arguments.{valid_function}
 use Rattle.lowering_laws.proofs.Members.{one_left, one_right, one_split}
 use Rattle.lowering_laws.proofs.TextVariables.{Mem, list_calls, list_declares, list_from, parameters_keep, parameters_declare, parameters_from}

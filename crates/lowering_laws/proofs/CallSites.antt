@@ -1,14 +1,12 @@
 -- The sites of the calls of a valid function differ, and have places.
-use Rattle.std.proofs.Common.{◌≡◌, ℕ, zero, suc, ◌+◌, ◌<◌, ◌≤◌, List, [], ◌∷◌, ◌++◌, length, Option, Some, None, slice_get, unwrap_or, refl, sym, ap, ◌∙◌, subst, arith, ◌⊎◌, inl, inr, ⊎_elim, true, false}
-use Rattle.std.proofs.Common.{Bool as Test}
+use Rattle.std.proofs.Common.{◌≡◌, ℕ, zero, suc, ◌+◌, ◌<◌, ◌≤◌, List, [], ◌∷◌, ◌++◌, length, Option, Some, None, slice_get, unwrap_or, refl, ap, ◌∙◌, subst, arith, inl, inr}
 use Rattle.std.specs.Prelude.{flat_map}
-use Rattle.std.proofs.lemmas.Option.{none-some, same_Some}
 use Rattle.std.proofs.lemmas.List.Concat.{flat_map-cons}
-use Rattle.cl_model.specs.Tree.{Action, Expression, Apply, Update, Choose, Call, Expressions, none, more, Statement, Do, Declare, Fill, Block, If, Loop, Switch, Break, Continue, Return, Barrier, Statements, empty, also, Arms, no_arm, arm, Function, Program}
-use Rattle.cl_model.specs.Lists.{IsOneOf, Each, AllDiffer}
+use Rattle.cl_model.specs.Tree.{Expression, Apply, Update, Choose, Call, Expressions, none, more, Statement, Do, Declare, Fill, Block, If, Loop, Switch, Break, Continue, Return, Barrier, Statements, empty, also, Arms, no_arm, arm, Function, Program}
+use Rattle.cl_model.specs.Lists.{IsOneOf, Each}
 use Rattle.cl_model.specs.Calls.{CallSite, calls_in, calls_among, calls_in_optional, calls_of, calls_of_all, calls_of_arms, function_at, no_function}
 use Rattle.cl_model.specs.Valid.{IsValid, action_sites, sites_in, sites_among, sites_in_optional, sites_of, sites_of_all, sites_of_arms}
-use Rattle.lowering_laws.proofs.Members.{once, times, times_append, times_of, of_times, at_most_once}
+use Rattle.lowering_laws.proofs.Members.{times, times_append, times_of, of_times, at_most_once}
 
 -- the sites of calls
 abbrev pub call_sites : List CallSite → List ℕ

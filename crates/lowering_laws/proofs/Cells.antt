@@ -1,8 +1,6 @@
 -- Each variable of the inlined program has one cell of a lowered kernel, and there is no other cell of a variable.
-use Rattle.std.proofs.Common.{◌≡◌, ℕ, zero, suc, ◌+◌, ◌<◌, ◌≤◌, List, [], ◌∷◌, ◌++◌, length, map, Option, Some, None, slice_get, unwrap_or, refl, sym, ap, ap₂, ◌∙◌, subst, arith, append-nil, append_assoc, length-append, ◌⊎◌, inl, inr, ⊎_elim}
-use Rattle.std.specs.Prelude.{flat_map}
+use Rattle.std.proofs.Common.{◌≡◌, ℕ, zero, suc, ◌+◌, ◌<◌, ◌≤◌, List, [], ◌∷◌, ◌++◌, length, Some, unwrap_or, refl, sym, ap, ◌∙◌, subst, arith, append-nil, append_assoc, length-append, inl, inr, ⊎_elim}
 use Rattle.std.proofs.lemmas.List.Concat.{flat_map-cons}
-use Rattle.std.proofs.lemmas.Option.{none-some, same_Some}
 use Rattle.wg_num.specs.declared.types.Place.{Place}
 use Rattle.cl_model.specs.declared.program.VarKind.{VarKind}
 use Rattle.cl_model.specs.Tree.{Program}
@@ -20,7 +18,7 @@ use Rattle.lowering_laws.proofs.Members.{one_left, one_right, one_split, once_sa
 use Rattle.lowering_laws.proofs.Variables.{cell_named, get_there, variable_at}
 use Rattle.lowering_laws.proofs.Below.{IsBelow, text_below, below_text}
 use Rattle.lowering_laws.proofs.CallSites.{calls_at, sites_differ, one_call_at, site_within}
-use Rattle.lowering_laws.proofs.Kept.{kept, kept_in, kept_out, ApartCells, apart_append, apart_all, one_of_get, get_of_one, apart_one, cells_below, called_cells, kernel_cells}
+use Rattle.lowering_laws.proofs.Kept.{kept_in, kept_out, ApartCells, apart_append, apart_all, one_of_get, get_of_one, apart_one, cells_below, called_cells, kernel_cells}
 
 -- ---- one depth more
 

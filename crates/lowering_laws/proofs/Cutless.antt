@@ -1,10 +1,9 @@
 -- The code of a text that holds no barrier holds none.
-use Rattle.std.proofs.Common.{◌≡◌, ℕ, zero, suc, ◌+◌, ◌<◌, ◌≤◌, ℤ, pos, List, [], ◌∷◌, length, Option, Some, None, refl, sym, ap, ◌∙◌, subst, arith, true, false, if◌then◌else◌}
+use Rattle.std.proofs.Common.{◌≡◌, ℕ, zero, suc, ◌+◌, ℤ, pos, List, [], ◌∷◌, Option, Some, None, refl, ap, ◌∙◌, true, false, if◌then◌else◌}
 use Rattle.std.proofs.Common.{Bool as Test}
 use Rattle.std.specs.Prelude.{◌&&◌, ◌||◌}
 use Rattle.wg_num.specs.declared.types.IntType.{IntType}
 use Rattle.cl_model.specs.declared.program.Root.{Root}
-use Rattle.cl_model.specs.declared.program.VarKind.{VarKind}
 use Rattle.cl_model.specs.Tree as tree
 use Rattle.cl_model.specs.Tree.{Action, Expression, Apply, Update, Choose, Call, Expressions, none, more, Statement, Do, Declare, Fill, Block, If, Loop, Switch, Break, Continue, Return, Barrier, Statements, empty, also, Arms, no_arm, arm, Function, Program}
 use Rattle.cl_model.specs.Calls.{function_at}
@@ -15,10 +14,10 @@ use Rattle.kir.specs.Cuts.{holds_barrier}
 use Rattle.kir.specs.Inlined.{holds_in, holds_among, holds_in_optional, holds, some_holds, arms_hold, body_holds}
 use Rattle.kir.specs.Lowering.{Named}
 use Rattle.kir_lower.specs.declared.places.Value.{Value}
-use Rattle.kir_lower.specs.Made.{Made, Instance, int, with_cell, next_cell, root_in, argument_roots, element_at}
+use Rattle.kir_lower.specs.Made.{Made, Instance, int, with_cell, next_cell, element_at}
 use Rattle.kir_lower.specs.Ways.{way_out, way_out_of_all, way_out_of_arms, declares}
-use Rattle.kir_lower.specs.Actions.{Code, Steps, action_code, initial_lines, opened, is_none, guarded_before, settled, outward, round_code, label_code, labels_code, all_labels_code, selected, fallen_code, set_to}
-use Rattle.kir_lower.specs.Code.{Calls, expression_code, operands_code, optional_code, Guarded, is_guarded, before_rest, in_order, entry_code, around_arm, statement_code, list_code, arms_code, result_code, body_code, set_exit}
+use Rattle.kir_lower.specs.Actions.{action_code, initial_lines, opened, is_none, guarded_before, settled, outward, round_code, label_code, labels_code, all_labels_code, selected, fallen_code, set_to}
+use Rattle.kir_lower.specs.Code.{Calls, expression_code, operands_code, optional_code, Guarded, is_guarded, before_rest, in_order, entry_code, around_arm, statement_code, list_code, arms_code, result_code}
 use Rattle.kir_lower.specs.Whole.{names_at, way_behind, instance_at, with_instance, parameter_lines, call_code}
 use Rattle.lowering_laws.proofs.Quiet.{or_parts, or_false}
 

@@ -1,5 +1,5 @@
 -- Where barriers stand in plain places, a lowered kernel has at most as many keeps as `if` statements that hold a barrier.
-use Rattle.std.proofs.Common.{◌≡◌, ℕ, zero, suc, ◌+◌, ◌<◌, ◌≤◌, List, [], ◌∷◌, ◌++◌, length, Option, Some, None, refl, sym, ap, ◌∙◌, subst, arith, true, false, if◌then◌else◌, ne_eqb, ◌⊎◌, inl, inr}
+use Rattle.std.proofs.Common.{◌≡◌, ℕ, ◌+◌, ◌<◌, ◌≤◌, List, length, Option, Some, None, refl, sym, ap, ◌∙◌, subst, arith, true, false, if◌then◌else◌, ne_eqb}
 use Rattle.std.proofs.Common.{Bool as Test}
 use Rattle.std.specs.Prelude.{nat_eq, ◌&&◌, ◌||◌}
 use Rattle.std.proofs.lemmas.Option.{none-some}
@@ -10,13 +10,13 @@ use Rattle.cl_model.specs.Tree.{Expression, Statement, Do, Declare, Fill, Block,
 use Rattle.cl_model.specs.Valid.{IsValid, HasType, OptionalFits, StatementFits, AllFit}
 use Rattle.kir.specs.Tree.{Lines, NoLine, BarrierThen, joined_to}
 use Rattle.kir.specs.Live.{reads}
-use Rattle.kir.specs.Inlined.{holds_in, holds_in_optional, holds, some_holds, body_holds}
+use Rattle.kir.specs.Inlined.{holds_in, holds_in_optional, holds, body_holds}
 use Rattle.kir.specs.Choices.{expression_holds, some_expression_holds, switch_holds, some_switch_holds, belongs, loop_is_left, some_loop_is_left, choices, all_choices}
 use Rattle.kir.specs.Lowering.{Named}
 use Rattle.kir_lower.specs.Made.{Made, Instance, next_cell}
-use Rattle.kir_lower.specs.Ways.{way_out, way_out_of_all, declares}
+use Rattle.kir_lower.specs.Ways.{way_out, way_out_of_all}
 use Rattle.kir_lower.specs.Actions.{opened, round_code, outward}
-use Rattle.kir_lower.specs.Code.{Calls, expression_code, optional_code, Guarded, is_guarded, before_rest, in_order, statement_code, list_code}
+use Rattle.kir_lower.specs.Code.{Calls, expression_code, optional_code, is_guarded, before_rest, in_order, statement_code, list_code}
 use Rattle.kir_lower.specs.Whole.{call_code}
 use Rattle.lowering_laws.specs.Names.{AreNamed}
 use Rattle.lowering_laws.proofs.Quiet.{or_parts}
@@ -28,7 +28,7 @@ use Rattle.lowering_laws.proofs.Absent.{Absent, absent_then, IsOut}
 use Rattle.lowering_laws.proofs.AbsentCode.{expression_up, optional_up, statement_up, list_up, expression_absent, optional_absent, statement_absent, list_absent}
 use Rattle.lowering_laws.proofs.AbsentCalls.{calls_up, calls_absent}
 use Rattle.lowering_laws.proofs.Cutless.{Cutless, calls_cutless, expression_cutless, optional_cutless, statement_cutless}
-use Rattle.lowering_laws.proofs.Across.{Few, few_same, few_more, few_none, few_less, across, across_cutless, seq_across, if_across, loop_across, out_below, out_above}
+use Rattle.lowering_laws.proofs.Across.{Few, few_same, few_more, few_none, across, across_cutless, seq_across, if_across, loop_across, out_below, out_above}
 
 -- by a test
 pub by_test : (b : Test) {P : Type 0} → (b ≡ true → P) → (b ≡ false → P) → P
@@ -72,7 +72,7 @@ module _ (program : Program) (names : List (List Named)) (valid : IsValid progra
       → Absent c (in_order (list_code calls here exit false list m)).lines
   some_absent c exit list h w m b out =
       let p = list_absent program c calls (calls_up program names depth) (calls_absent program names valid named c depth) f here (behind_variables c b) exit false list h (no_way c exit _ w)
-          (fewer_of_all c here.answer false true false true (λ e. refl) (λ e. refl) list (no_way c here.answer _ w)) m out in
+      (fewer_of_all c here.answer false true false true (λ e. refl) (λ e. refl) list (no_way c here.answer _ w)) m out in
       absent_then c _ _ p.0 p.1
 
   abbrev call_cutless : (here : Instance) (site function : ℕ) (roots : List Root) (values : List Value) (m : Made) → inside function ≡ false → Cutless (calls here site function roots values m).lines

@@ -1,5 +1,5 @@
 -- A lowered kernel has as many loads, stores and barriers as the inlined text.
-use Rattle.std.proofs.Common.{◌≡◌, ℕ, zero, suc, ◌+◌, ◌*◌, ◌<◌, ◌≤◌, List, [], ◌∷◌, ◌++◌, length, sum_by, refl, sym, ap, ap₂, ◌∙◌, subst, arith, true, false, if◌then◌else◌}
+use Rattle.std.proofs.Common.{◌≡◌, ℕ, zero, suc, ◌+◌, ◌*◌, ◌≤◌, List, [], ◌∷◌, ◌++◌, length, sum_by, refl, sym, ap, ap₂, ◌∙◌, arith, true, false, if◌then◌else◌}
 use Rattle.std.proofs.Common.{Bool as Test}
 use Rattle.std.specs.Prelude.{nat_eq, flat_map}
 use Rattle.std.proofs.lemmas.List.Concat.{flat_map-cons}
@@ -9,7 +9,7 @@ use Rattle.cl_model.specs.declared.program.VarKind.{VarKind}
 use Rattle.cl_model.specs.Tree as tree
 use Rattle.cl_model.specs.Tree.{Action, Program}
 use Rattle.cl_model.specs.Lists.{Each}
-use Rattle.cl_model.specs.Calls.{CallSite, calls_of_all, function_at, kernel_of, Instance, instances_below, instances}
+use Rattle.cl_model.specs.Calls.{CallSite, calls_of_all, function_at, kernel_of, Instance, instances_below}
 use Rattle.cl_model.specs.Valid.{IsValid, CallsEnd, parameter_kinds}
 use Rattle.kir.specs.Tree.{Lines, NoLine, SetThen, LoadThen, StoreThen, ClearThen, IfThen, LoopThen, BarrierThen}
 use Rattle.kir.specs.Counts.{Counting, count_of_all, count_inlined, once_if, load_lines, store_lines, barrier_lines, load_action, store_action, loads_with, stores_with, barriers_with, HasFewLines}

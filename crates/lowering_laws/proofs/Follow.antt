@@ -1,8 +1,8 @@
 -- A simulation of one item by another, step by step: for so many moves of the first the second follows, and both stand alike before each.
-use Rattle.std.proofs.Common.{◌≡◌, ℕ, zero, suc, ℤ, List, refl, sym, ap, ◌∙◌, subst, arith}
+use Rattle.std.proofs.Common.{◌≡◌, ℕ, zero, suc, ℤ, List, refl, sym, subst, arith}
 use Rattle.work_items.specs.Memory.{Access}
 use Rattle.work_items.specs.Items.{Next, Ends, Waits, Goes, Begins, Loads, Stores, Machine, IsWaiting}
-use Rattle.work_items.specs.Simulation.{GoesIn, SameLabel, both_end, both_wait, both_go, both_begin, both_load, both_store, MatchesAt, SimulatesFor}
+use Rattle.work_items.specs.Simulation.{GoesIn, SameLabel, both_end, both_wait, both_begin, both_load, both_store, MatchesAt, SimulatesFor}
 
 module _ {S P T Q : Type 0} (machine : Machine S P) (other : Machine T Q) (point_of : P → Q) (Alike : S → T → Type 0) where
   -- for n moves of the first item the second follows

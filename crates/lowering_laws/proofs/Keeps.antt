@@ -1,18 +1,18 @@
 -- The bound on keeps, for a whole kernel.
-use Rattle.std.proofs.Common.{◌≡◌, ℕ, zero, suc, ◌+◌, ◌<◌, ◌≤◌, List, [], ◌∷◌, ◌++◌, length, sum_by, Option, Some, None, slice_get, refl, sym, ap, ◌∙◌, subst, arith, true, false, ◌⊎◌, inl, inr, ne_eqb}
+use Rattle.std.proofs.Common.{◌≡◌, ℕ, zero, suc, ◌+◌, ◌<◌, ◌≤◌, List, [], ◌∷◌, ◌++◌, length, sum_by, Option, Some, None, refl, sym, ap, ◌∙◌, arith, true, false, inl, ne_eqb}
 use Rattle.std.proofs.Common.{Bool as Test}
-use Rattle.std.specs.Prelude.{nat_eq, ◌&&◌, flat_map}
+use Rattle.std.specs.Prelude.{◌&&◌, flat_map}
 use Rattle.std.proofs.lemmas.Option.{none-some}
 use Rattle.std.proofs.lemmas.List.Sums.{sum_by-cons}
 use Rattle.cl_model.specs.declared.program.VarKind.{VarKind}
 use Rattle.cl_model.specs.Tree.{Function, Program}
 use Rattle.cl_model.specs.Lists.{IsOneOf}
 use Rattle.cl_model.specs.Calls.{CallSite, Instance as Placed, instances, instances_below, function_at, kernel_of, calls_of_all}
-use Rattle.cl_model.specs.Valid.{IsValid, CallsEnd, parameter_kinds}
-use Rattle.kir.specs.Tree.{Variable, CellKind, OfVariable, OfFlag, OfValue, Lines, NoLine, Argument, joined_to}
+use Rattle.cl_model.specs.Valid.{IsValid, parameter_kinds}
+use Rattle.kir.specs.Tree.{Variable, CellKind, OfVariable, OfFlag, OfValue, Lines, Argument, joined_to}
 use Rattle.kir.specs.Homes.{IsOf}
 use Rattle.kir.specs.Keeps.{is_made, is_made_kind, is_keep, keep_count, count_below}
-use Rattle.kir.specs.Inlined.{some_holds, body_holds, function_holds}
+use Rattle.kir.specs.Inlined.{some_holds, function_holds}
 use Rattle.kir.specs.Choices.{IsPlain, HasFewKeeps, choice_count, all_choices}
 use Rattle.kir.specs.Lowering.{Named}
 use Rattle.kir_lower.specs.Made.{Made, next_cell}
@@ -23,13 +23,13 @@ use Rattle.kir_lower.specs.Whole.{names_at, instance_at, with_instance, call_cod
 use Rattle.lowering_laws.specs.Names.{AreNamed}
 use Rattle.lowering_laws.proofs.Arguments.{own_cell, length_take, valid_function}
 use Rattle.lowering_laws.proofs.NoWays.{some_exits_none}
-use Rattle.lowering_laws.proofs.Absent.{Absent, absent_none, absent_then, absent_set}
+use Rattle.lowering_laws.proofs.Absent.{Absent, absent_none, absent_set}
 use Rattle.lowering_laws.proofs.AbsentCode.{list_up}
 use Rattle.lowering_laws.proofs.AbsentCalls.{calls_up, instance_cells, result_absent, result_up}
 use Rattle.lowering_laws.proofs.Cutless.{Cutless, cutless_then, calls_cutless, opened_cutless, result_cutless, list_cutless, list_joined_cutless}
-use Rattle.lowering_laws.proofs.Across.{Few, few_more, few_then, few_none, few_less, across, across_cutless, across_left, across_right, out_below, out_above}
+use Rattle.lowering_laws.proofs.Across.{Few, few_none, few_less, across, across_cutless, across_left, across_right, out_below, out_above}
 use Rattle.lowering_laws.proofs.FewKeeps.{by_test, some_absent, list_few}
-use Rattle.lowering_laws.proofs.Depths.{list_same, Same, each_all, holds_deep}
+use Rattle.lowering_laws.proofs.Depths.{holds_deep}
 
 -- a variable's cell is no flag and no value
 variable_not_made : (v : Variable) (kind : CellKind) → IsOf v kind → is_made_kind kind ≡ false
@@ -41,7 +41,7 @@ bound_absent : (c cell n : ℕ) (kinds : List VarKind) → cell + length kinds �
 bound_absent c cell n [] h = absent_none c
 bound_absent c cell n (kind ∷ kinds) h = absent_set c cell (Argument n) _ refl (ne_eqb c cell (λ e. omega (arith, h, e))) (bound_absent c (cell + 1) (n + 1) kinds (omega (arith, h)))
 
-bound_cutless : (cell n : ℕ) (kinds : List VarKind) → Cutless (bound_lines cell n kinds)
+pub bound_cutless : (cell n : ℕ) (kinds : List VarKind) → Cutless (bound_lines cell n kinds)
 bound_cutless cell n [] = record { is = refl }
 bound_cutless cell n (kind ∷ kinds) = record { is = (bound_cutless (cell + 1) (n + 1) kinds).is }
 
@@ -99,11 +99,11 @@ module _ (program : Program) (names : List (List Named)) (valid : IsValid progra
       let absent_bound : (c : ℕ) → length f.variables ≤ c → Absent c bound = λ c low. bound_absent c 0 0 (parameter_kinds f) (omega (arith, low, count, lim)) in
       let one = few_none test 0 (length f.variables) (omega arith) (λ c low high. own c high) in
       let two = few_none test (length f.variables) (next_cell cr.made) (omega (arith, s, a))
-          (λ c low high. some c (across_right c bound _ (absent_bound c low) (across_left c cr.lines _ (across_cutless c cr.lines (result_cutless f.result start))
-          (some_absent program names valid named depth f here c 0 f.body fits.types w cr.made (omega (arith, low)) (out_below c _ _ high))))) in
+      (λ c low high. some c (across_right c bound _ (absent_bound c low) (across_left c cr.lines _ (across_cutless c cr.lines (result_cutless f.result start))
+      (some_absent program names valid named depth f here c 0 f.body fits.types w cr.made (omega (arith, low)) (out_below c _ _ high))))) in
       let three = few_less test (across (in_order cl).lines) (next_cell cr.made) (next_cell cl.made) (all_choices (function_holds program) f.body) b
-          (λ c low high e. some c (across_right c bound _ (absent_bound c (omega (arith, low, s, a))) (across_right c cr.lines _ (result_absent c f.result start (out_above c _ _ low)).0 e)))
-          (list_few program names valid named depth f here 0 f.body fits.types (plain.no_expression _ i) (plain.no_switch _ i) (plain.no_exit _ i) w cr.made (omega (arith, s, a))) in
+      (λ c low high e. some c (across_right c bound _ (absent_bound c (omega (arith, low, s, a))) (across_right c cr.lines _ (result_absent c f.result start (out_above c _ _ low)).0 e)))
+      (list_few program names valid named depth f here 0 f.body fits.types (plain.no_expression _ i) (plain.no_switch _ i) (plain.no_exit _ i) w cr.made (omega (arith, s, a))) in
       sum_up test (length f.variables) (next_cell cr.made) (next_cell cl.made) (all_choices (function_holds program) f.body) one two three
     where
       sum_up : (test : ℕ → Test) (a b c n : ℕ) → Few test 0 a 0 → Few test a b 0 → Few test b c n → count_below test c ≤ n

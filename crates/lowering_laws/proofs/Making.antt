@@ -1,19 +1,18 @@
 -- What is made by the code of expressions and statements: a relation that holds of each step holds of the whole, along the calls of the text.
-use Rattle.std.proofs.Common.{◌≡◌, ℕ, ◌+◌, ℤ, pos, List, [], ◌∷◌, ◌++◌, Option, Some, None, true, false, subst, append-nil}
+use Rattle.std.proofs.Common.{ℕ, ◌+◌, ℤ, pos, List, [], ◌∷◌, ◌++◌, Option, Some, None, true, false, subst, append-nil}
 use Rattle.std.proofs.Common.{Bool as Test}
 use Rattle.std.specs.Prelude.{◌&&◌}
 use Rattle.wg_num.specs.declared.types.IntType.{IntType}
-use Rattle.wg_num.specs.declared.types.Bin.{Bin}
 use Rattle.cl_model.specs.declared.program.Root.{Root}
 use Rattle.cl_model.specs.Tree as tree
 use Rattle.cl_model.specs.Tree.{Action, Expression, Apply, Update, Choose, Call, Expressions, none, more, Statement, Do, Declare, Fill, Block, If, Loop, Switch, Break, Continue, Return, Barrier, Statements, empty, also, Arms, no_arm, arm, Function}
 use Rattle.cl_model.specs.Calls.{CallSite, calls_in, calls_among, calls_in_optional, calls_of, calls_of_all, calls_of_arms}
 use Rattle.kir.specs.declared.line.Atom.{Atom}
-use Rattle.kir.specs.Tree.{Lines, CellKind, OfFlag, OfValue}
+use Rattle.kir.specs.Tree.{Lines, OfFlag, OfValue}
 use Rattle.kir_lower.specs.declared.places.Value.{Value}
 use Rattle.kir_lower.specs.Made.{Made, with_cell, Instance, int}
 use Rattle.kir_lower.specs.Ways.{way_out, way_out_of_all, way_out_of_arms, declares}
-use Rattle.kir_lower.specs.Actions.{Code, Steps, action_code, opened, settled, outward, round_code, label_code, labels_code, all_labels_code, selected, fallen_code}
+use Rattle.kir_lower.specs.Actions.{action_code, opened, outward, round_code, label_code, labels_code, all_labels_code, selected, fallen_code}
 use Rattle.kir_lower.specs.Code.{Calls, expression_code, operands_code, optional_code, Guarded, is_guarded, before_rest, in_order, entry_code, around_arm, statement_code, list_code, arms_code, result_code, body_code}
 
 -- a call at a site

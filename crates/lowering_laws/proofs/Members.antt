@@ -1,9 +1,8 @@
 -- What is one of the elements of a list, and how often a number is one.
-use Rattle.std.proofs.Common.{◌≡◌, ℕ, zero, suc, ◌+◌, ◌<◌, ◌≤◌, List, [], ◌∷◌, ◌++◌, refl, sym, ap, ◌∙◌, subst, arith, true, false, ◌⊎◌, inl, inr, ⊎_elim, eq-eqb, if◌then◌else◌}
+use Rattle.std.proofs.Common.{◌≡◌, ℕ, zero, suc, ◌+◌, ◌<◌, ◌≤◌, List, [], ◌∷◌, ◌++◌, refl, sym, ap, subst, arith, true, false, ◌⊎◌, inl, inr, ⊎_elim, eq-eqb, if◌then◌else◌}
 use Rattle.std.proofs.Common.{Bool as Test}
-use Rattle.std.specs.Prelude.{nat_eq, flat_map}
+use Rattle.std.specs.Prelude.{nat_eq}
 use Rattle.std.proofs.lemmas.Bool.{eqb-true}
-use Rattle.std.proofs.lemmas.List.Concat.{flat_map-cons}
 use Rattle.cl_model.specs.Lists.{IsOneOf, AllDiffer}
 
 pub one_left : {A : Type 0} (xs ys : List A) (x : A) → IsOneOf xs x → IsOneOf (xs ++ ys) x

@@ -3,7 +3,6 @@ use Rattle.std.proofs.Common.{◌≡◌, ℕ, zero, suc, List, [], ◌∷◌, le
 use Rattle.cl_model.specs.declared.program.Var.{Var}
 use Rattle.cl_model.specs.declared.program.Function.{Function}
 use Rattle.cl_model.specs.declared.program.Program.{Program as Declared}
-use Rattle.cl_model.specs.Tree as tree
 use Rattle.cl_model.specs.Calls.{no_function}
 use Rattle.cl_model.specs.View.{function_of, program_of}
 use Rattle.kir.specs.Lowering.{Named, names_of}

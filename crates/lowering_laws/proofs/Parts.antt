@@ -1,5 +1,5 @@
 -- A lowered kernel has the parameters, tables and sites of its program.
-use Rattle.std.proofs.Common.{◌≡◌, List, refl}
+use Rattle.std.proofs.Common.{List, refl}
 use Rattle.cl_model.specs.Tree.{Program}
 use Rattle.kir.specs.Lowering.{Named, HasParts}
 use Rattle.kir_lower.specs.Whole.{lowered_of}

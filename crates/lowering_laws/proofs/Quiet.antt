@@ -1,14 +1,12 @@
 -- When a cell is not live before lines: each way sets it before it reads it.
-use Rattle.std.proofs.Common.{◌≡◌, ℕ, suc, ◌+◌, ◌<◌, List, [], ◌∷◌, length, Option, Some, None, refl, sym, ap, ◌∙◌, subst, arith, true, false, if◌then◌else◌}
+use Rattle.std.proofs.Common.{◌≡◌, ℕ, refl, sym, ap, ◌∙◌, subst, true, false}
 use Rattle.std.proofs.Common.{Bool as Test}
 use Rattle.std.specs.Prelude.{nat_eq, not, ◌&&◌, ◌||◌}
-use Rattle.std.proofs.lemmas.Option.{none-some}
 use Rattle.wg_num.specs.declared.types.IntType.{IntType}
 use Rattle.cl_model.specs.declared.program.Root.{Root}
 use Rattle.kir.specs.declared.line.Atom.{Atom}
-use Rattle.kir.specs.declared.line.Atom.TheVariants.{Const, Cell as CellAtom}
-use Rattle.kir.specs.Tree.{Work, Copy, Lines, NoLine, SetThen, LoadThen, StoreThen, ClearThen, IfThen, LoopThen, BarrierThen, joined_to}
-use Rattle.kir.specs.Live.{reads, some_reads, work_reads, live_in}
+use Rattle.kir.specs.Tree.{Work, Lines, NoLine, SetThen, LoadThen, StoreThen, ClearThen, IfThen, LoopThen, BarrierThen, joined_to}
+use Rattle.kir.specs.Live.{reads, work_reads, live_in}
 
 -- before lines that are put one after another
 pub live_joined : (c : ℕ) (a b : Lines) (after : Test) → live_in c (joined_to a b) after ≡ live_in c a (live_in c b after)

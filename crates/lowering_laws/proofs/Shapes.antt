@@ -1,5 +1,5 @@
 -- The marks of a lowered kernel have the shape of its lines, so walking along the lines walks along the marks.
-use Rattle.std.proofs.Common.{◌≡◌, ℕ, zero, suc, ◌+◌, pos, List, [], ◌∷◌, length, Option, Some, None, refl, sym, ap, ◌∙◌, subst, true, false, if◌then◌else◌}
+use Rattle.std.proofs.Common.{◌≡◌, ℕ, zero, suc, ◌+◌, pos, List, [], ◌∷◌, length, Option, Some, None, sym, ap, subst, true, false, if◌then◌else◌}
 use Rattle.std.proofs.Common.{Bool as Test}
 use Rattle.std.specs.Prelude.{◌&&◌}
 use Rattle.cl_model.specs.declared.program.Root.{Root}
@@ -57,21 +57,21 @@ marks_past whole _ _ k at (barrier_line h) e = marks_past whole _ _ k (Behind �
 one_set : (way : Way) (cell : ℕ) (atom : Atom) → Shaped (set_to cell atom) (MarkThen way NoMark)
 one_set way cell atom = set_line no_line
 
-guarded_shaped : (way : Way) (site exit : ℕ) (inside rest : Lines) (one two : Marks) → Shaped inside one → Shaped rest two → Shaped (guarded_before site exit inside rest) (guarded_marks way inside one two)
+pub guarded_shaped : (way : Way) (site exit : ℕ) (inside rest : Lines) (one two : Marks) → Shaped inside one → Shaped rest two → Shaped (guarded_before site exit inside rest) (guarded_marks way inside one two)
 guarded_shaped way site exit inside rest one two h k = by_test (is_none inside)
   where
     by_test : (b : Test) → Shaped (if b then rest else IfThen site (CellAtom exit) NoLine inside rest) (if b then two else FormThen way NoMark one two)
     by_test true = k
     by_test false = if_line no_line h k
 
-before_rest_shaped : (way : Way) (exit : ℕ) (declared : Test) (out : Option ℕ) (lines : Lines) (c : Guarded) (one : Marks) (g : GuardedMarks) → Shaped lines one → Shaped c.inside g.inside × Shaped c.rest g.rest
+pub before_rest_shaped : (way : Way) (exit : ℕ) (declared : Test) (out : Option ℕ) (lines : Lines) (c : Guarded) (one : Marks) (g : GuardedMarks) → Shaped lines one → Shaped c.inside g.inside × Shaped c.rest g.rest
     → Shaped (before_rest exit declared out lines c).inside (marks_before_rest way declared out one c.inside g).inside × Shaped (before_rest exit declared out lines c).rest (marks_before_rest way declared out one c.inside g).rest
 before_rest_shaped way exit true None lines c one g h k = (shaped_then lines _ one _ h (shaped_then c.inside c.rest g.inside g.rest k.0 k.1), no_line)
 before_rest_shaped way exit true (Some site) lines c one g h k = (shaped_then lines _ one _ h (shaped_then c.inside c.rest g.inside g.rest k.0 k.1), no_line)
 before_rest_shaped way exit false None lines c one g h k = (shaped_then lines c.inside one g.inside h k.0, k.1)
 before_rest_shaped way exit false (Some site) lines c one g h k = (h, guarded_shaped way site exit c.inside c.rest g.inside g.rest k.0 k.1)
 
-round_shaped : (way : Way) (site : ℕ) (first : Test) (out : Option ℕ) (exit : ℕ) (test : Lines) (answer : Value) (step body : Lines) (m : Made) (one two three : Marks) → Shaped test one → Shaped step two → Shaped body three
+pub round_shaped : (way : Way) (site : ℕ) (first : Test) (out : Option ℕ) (exit : ℕ) (test : Lines) (answer : Value) (step body : Lines) (m : Made) (one two three : Marks) → Shaped test one → Shaped step two → Shaped body three
     → Shaped (round_code site first out exit test answer step body m).lines (round_marks way out exit test answer step m one two three)
 round_shaped way site first None exit test answer step body m one two three t s b = loop_line t (shaped_then body step three two b s) no_line
 round_shaped way site first (Some o) exit test answer step body m one two three t s b =
@@ -81,7 +81,7 @@ round_shaped way site first (Some o) exit test answer step body m one two three 
     (shaped_then cs.lines (guarded_before o exit step NoLine) (all_marked way cs.lines) (guarded_marks way step two NoMark) (shaped_all way cs.lines) (guarded_shaped way o exit step NoLine two NoMark s no_line))) no_line
 
 module _ (calls : Calls) (marks : CallMarks)
-  (call : (here : Instance) (way : Way) (site function : ℕ) (roots : List Root) (values : List Value) (m : Made) → Shaped (calls here site function roots values m).lines (marks here way site function roots values m)) (here : Instance) where
+    (call : (here : Instance) (way : Way) (site function : ℕ) (roots : List Root) (values : List Value) (m : Made) → Shaped (calls here site function roots values m).lines (marks here way site function roots values m)) (here : Instance) where
   mutual
     unfolding expression_code expression_marks
 
@@ -120,7 +120,7 @@ module _ (calls : Calls) (marks : CallMarks)
   optional_shaped way (Some e) m = expression_shaped way e m
 
   -- all in order
-  in_order_shaped : (c : Guarded) (g : GuardedMarks) → Shaped c.inside g.inside × Shaped c.rest g.rest → Shaped (in_order c).lines (marks_in_order g)
+  pub in_order_shaped : (c : Guarded) (g : GuardedMarks) → Shaped c.inside g.inside × Shaped c.rest g.rest → Shaped (in_order c).lines (marks_in_order g)
   in_order_shaped c g h = shaped_then c.inside c.rest g.inside g.rest h.0 h.1
 
   mutual

@@ -1,14 +1,13 @@
 -- No cell is live at the start of a lowered kernel: calls, and the whole.
-use Rattle.std.proofs.Common.{◌≡◌, ℕ, zero, suc, ◌+◌, ◌<◌, ◌≤◌, List, [], ◌∷◌, length, take, Option, Some, None, refl, sym, ap, ◌∙◌, subst, arith, true, false}
+use Rattle.std.proofs.Common.{◌≡◌, ℕ, zero, suc, ◌+◌, ◌<◌, List, [], ◌∷◌, length, Option, Some, None, refl, ◌∙◌, subst, arith, true, false}
 use Rattle.std.proofs.Common.{Bool as Test}
-use Rattle.std.specs.Prelude.{nat_eq, ◌||◌}
+use Rattle.std.specs.Prelude.{nat_eq}
 use Rattle.wg_num.specs.declared.types.IntType.{IntType}
-use Rattle.cl_model.specs.declared.program.Root.{Root}
 use Rattle.cl_model.specs.declared.program.VarKind.{VarKind}
-use Rattle.cl_model.specs.Tree.{Function, Program}
+use Rattle.cl_model.specs.Tree.{Program}
 use Rattle.cl_model.specs.Calls.{function_at, kernel_of}
-use Rattle.cl_model.specs.Valid.{IsValid, IsValidFunction, parameter_kinds, numbers_below}
-use Rattle.kir.specs.Tree.{Lines, Copy, Argument, SetThen, joined_to}
+use Rattle.cl_model.specs.Valid.{IsValid, parameter_kinds, numbers_below}
+use Rattle.kir.specs.Tree.{Lines, Copy, Argument, joined_to}
 use Rattle.kir.specs.Live.{reads, some_reads}
 use Rattle.kir.specs.Lowering.{Named, StartsAnew}
 use Rattle.kir_lower.specs.declared.places.Value.{Value}
@@ -18,8 +17,8 @@ use Rattle.kir_lower.specs.Actions.{atoms_of, opened}
 use Rattle.kir_lower.specs.Code.{Calls, list_code, result_code, body_code}
 use Rattle.kir_lower.specs.Whole.{names_at, way_behind, instance_at, with_instance, parameter_lines, call_code, bound_lines, kernel_way, nothing_made, lowered_of}
 use Rattle.lowering_laws.proofs.Arguments.{length_take, valid_function}
-use Rattle.lowering_laws.proofs.Quiet.{Quiet, or_parts, quiet_none, quiet_less, quiet_after, quiet_then, quiet_set}
-use Rattle.lowering_laws.proofs.Steps.{IsApart, IsFree, opened_quiet, ListQuiet, list_joined}
+use Rattle.lowering_laws.proofs.Quiet.{Quiet, or_parts, quiet_none, quiet_less, quiet_after, quiet_set}
+use Rattle.lowering_laws.proofs.Steps.{IsApart, opened_quiet, list_joined}
 use Rattle.lowering_laws.proofs.Scoped.{has_below}
 use Rattle.lowering_laws.proofs.Anew.{CallsQuiet, list_quiet}
 

@@ -1,5 +1,5 @@
 -- Where the program's item follows the kernel's from the start for any number of moves, histories and runs match.
-use Rattle.std.proofs.Common.{◌≡◌, ℕ, List, option_map, refl}
+use Rattle.std.proofs.Common.{ℕ, List, option_map, refl}
 use Rattle.cl_model.specs.Tree.{Program}
 use Rattle.cl_model.specs.Sizes.{Launch}
 use Rattle.cl_model.specs.Task.{Item as ProgramItem, Point as ProgramPoint}
@@ -10,7 +10,7 @@ use Rattle.kir.specs.Steps.{Item}
 use Rattle.kir.specs.Meaning.{machine_of, start_item}
 use Rattle.kir.specs.Matching.{AreAlike}
 use Rattle.kir.proofs.FromSteps.{HasSteps}
-use Rattle.lowering_laws.proofs.Follow.{Follows, Reaches, reaches, simulates}
+use Rattle.lowering_laws.proofs.Follow.{Follows, reaches, simulates}
 
 module _ (program : Program) (kernel : Kernel) (point_in_program : Point → ProgramPoint) (launch : Launch) (buffers : List (List ℕ)) where
   -- for so many moves the program's item follows the kernel's, and both stand alike before each

@@ -1,7 +1,7 @@
 -- The lines of single steps set a cell before they read it.
-use Rattle.std.proofs.Common.{◌≡◌, ℕ, suc, ◌+◌, ◌<◌, ℤ, pos, List, [], ◌∷◌, length, Option, Some, None, refl, sym, ap, ◌∙◌, subst, arith, true, false, if◌then◌else◌}
+use Rattle.std.proofs.Common.{◌≡◌, ℕ, ◌+◌, ℤ, List, [], ◌∷◌, Option, Some, None, refl, true, false, if◌then◌else◌}
 use Rattle.std.proofs.Common.{Bool as Test}
-use Rattle.std.specs.Prelude.{nat_eq, not, ◌&&◌, ◌||◌, map}
+use Rattle.std.specs.Prelude.{nat_eq, ◌&&◌}
 use Rattle.std.proofs.lemmas.Option.{none-some}
 use Rattle.wg_num.specs.declared.types.IntType.{IntType}
 use Rattle.wg_num.specs.declared.types.Bin.{Bin}
@@ -9,15 +9,15 @@ use Rattle.cl_model.specs.Tree as tree
 use Rattle.cl_model.specs.Tree.{Action, Arms, no_arm, arm}
 use Rattle.cl_model.specs.Valid.{Scope, Has, ActionNames}
 use Rattle.kir.specs.declared.line.Atom.{Atom}
-use Rattle.kir.specs.declared.line.Atom.TheVariants.{Const, Cell as CellAtom}
-use Rattle.kir.specs.Tree.{Work, Copy, Convert, Binary, Lines, NoLine, SetThen, IfThen, joined_to, OfValue}
-use Rattle.kir.specs.Live.{reads, some_reads, work_reads, live_in}
+use Rattle.kir.specs.declared.line.Atom.TheVariants.{Cell as CellAtom}
+use Rattle.kir.specs.Tree.{Work, Lines, NoLine, SetThen, IfThen, joined_to, OfValue}
+use Rattle.kir.specs.Live.{reads, some_reads, work_reads}
 use Rattle.kir_lower.specs.declared.places.Value.{Value}
-use Rattle.kir_lower.specs.Made.{Made, Instance, int, with_cell, next_cell}
-use Rattle.kir_lower.specs.Actions.{Code, Steps, first, second, atoms_of, computed, truth, changed, set_to, action_code, initial_lines, opened, is_none, guarded_before, settled, outward, round_code, label_code, labels_code, all_labels_code, selected, fallen_code}
-use Rattle.kir_lower.specs.Code.{before_rest, Guarded, is_guarded, entry_code, around_arm, in_order}
+use Rattle.kir_lower.specs.Made.{Made, Instance, with_cell, next_cell}
+use Rattle.kir_lower.specs.Actions.{Code, Steps, first, second, atoms_of, changed, action_code, initial_lines, opened, is_none, guarded_before, settled, outward, round_code, label_code, labels_code, all_labels_code, selected, fallen_code}
+use Rattle.kir_lower.specs.Code.{before_rest, Guarded, is_guarded, entry_code, around_arm}
 use Rattle.lowering_laws.proofs.Joined.{join_assoc}
-use Rattle.lowering_laws.proofs.Quiet.{Quiet, or_parts, or_false, quiet_none, quiet_any, quiet_less, quiet_after, quiet_same, quiet_then, quiet_set, quiet_load, quiet_store, quiet_if, quiet_if_set, quiet_loop, true_false}
+use Rattle.lowering_laws.proofs.Quiet.{Quiet, or_parts, or_false, quiet_none, quiet_less, quiet_after, quiet_same, quiet_then, quiet_set, quiet_load, quiet_store, quiet_if, quiet_if_set, quiet_loop}
 
 -- the cell is none of the variables that can be named
 abbrev pub IsApart : ℕ → Instance → Scope → Type 0

@@ -1,9 +1,8 @@
 -- How many loads, stores and barriers the code of a text has: as many as the text.
-use Rattle.std.proofs.Common.{◌≡◌, ℕ, zero, suc, ◌+◌, ◌*◌, pos, List, [], ◌∷◌, ◌++◌, length, Option, Some, None, refl, sym, ap, ◌∙◌, subst, arith, true, false, ◌⊎◌, inl, inr, if◌then◌else◌}
+use Rattle.std.proofs.Common.{◌≡◌, ℕ, suc, ◌+◌, ◌*◌, pos, List, [], ◌∷◌, ◌++◌, length, Option, Some, None, refl, sym, ap, ◌∙◌, arith, true, false}
 use Rattle.std.proofs.Common.{Bool as Test}
 use Rattle.std.specs.Prelude.{◌&&◌}
 use Rattle.wg_num.specs.declared.types.IntType.{IntType}
-use Rattle.wg_num.specs.declared.types.Bin.{Bin}
 use Rattle.cl_model.specs.declared.program.Root.{Root}
 use Rattle.cl_model.specs.Tree as tree
 use Rattle.cl_model.specs.Tree.{Action, Expression, Apply, Update, Choose, Call, Expressions, none, more, Statement, Do, Declare, Fill, Block, If, Loop, Switch, Break, Continue, Return, Barrier, Statements, empty, also, Arms, no_arm, arm, Function}
@@ -15,7 +14,7 @@ use Rattle.kir.specs.Counts.{Counting, count_in, count_among, count_in_optional,
 use Rattle.kir_lower.specs.declared.places.Value.{Value}
 use Rattle.kir_lower.specs.Made.{Made, next_cell, with_cell, Instance, int, element_at, root_in, argument_roots}
 use Rattle.kir_lower.specs.Ways.{way_out, way_out_of_all, way_out_of_arms, declares}
-use Rattle.kir_lower.specs.Actions.{Code, Steps, loaded, stored, changed, choice_code, set_to, action_code, initial_lines, opened, is_none, guarded_before, settled, outward, round_code, label_code, labels_code, all_labels_code, selected, fallen_code}
+use Rattle.kir_lower.specs.Actions.{loaded, stored, changed, choice_code, set_to, action_code, initial_lines, opened, guarded_before, settled, outward, round_code, label_code, labels_code, all_labels_code, selected, fallen_code}
 use Rattle.kir_lower.specs.Code.{Calls, expression_code, operands_code, optional_code, Guarded, is_guarded, before_rest, in_order, entry_code, around_arm, statement_code, list_code, arms_code, result_code, body_code, set_exit}
 
 -- what is counted of a load, a store and a barrier with a site

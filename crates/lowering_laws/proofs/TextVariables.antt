@@ -9,7 +9,7 @@ use Rattle.cl_model.specs.Lists.{IsOneOf}
 use Rattle.cl_model.specs.Calls.{CallSite, calls_in, calls_among, calls_in_optional, calls_of, calls_of_all, calls_of_arms}
 use Rattle.cl_model.specs.Valid.{StatementFits, AllFit, ArmsFit, declarations, all_declarations, arms_declarations}
 use Rattle.kir.specs.Tree.{Variable}
-use Rattle.kir.specs.Inlined.{Text, NoText, DeclaredThen, BlockThen, cut_if, holds, expression_before, expressions_before, optional_before, Inlining, variable_of, statement_before, statements_before, arms_before, parameters_before, variables_in}
+use Rattle.kir.specs.Inlined.{Text, NoText, DeclaredThen, cut_if, holds, expression_before, expressions_before, optional_before, Inlining, variable_of, statement_before, statements_before, arms_before, parameters_before, variables_in}
 use Rattle.lowering_laws.proofs.Quiet.{true_false}
 use Rattle.lowering_laws.proofs.Members.{once, one_left, one_right, one_split}
 

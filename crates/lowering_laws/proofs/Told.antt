@@ -1,13 +1,11 @@
 -- The points of barrier lines are told apart part by part.
-use Rattle.std.proofs.Common.{◌≡◌, ℕ, zero, suc, ◌+◌, List, [], ◌∷◌, ◌++◌, length, refl, sym, ap, ◌∙◌, subst, arith, append_assoc, append-nil, ◌⊎◌, inl, inr, ⊎_elim, false}
-use Rattle.std.proofs.Common.{Bool as Test}
+use Rattle.std.proofs.Common.{◌≡◌, ℕ, zero, suc, ◌+◌, List, [], ◌∷◌, ◌++◌, length, refl, sym, ap, ◌∙◌, subst, arith, append_assoc, ◌⊎◌, inl, inr, ⊎_elim, false}
 use Rattle.std.specs.Prelude.{◌||◌}
-use Rattle.cl_model.specs.Task.{Leg as ProgramLeg, Turn, Point as ProgramPoint}
-use Rattle.kir.specs.declared.line.Atom.{Atom}
+use Rattle.cl_model.specs.Task.{Leg as ProgramLeg, Point as ProgramPoint}
 use Rattle.kir.specs.Tree.{Lines, NoLine, SetThen, LoadThen, StoreThen, ClearThen, IfThen, LoopThen, BarrierThen, joined_to}
-use Rattle.kir.specs.Places.{Leg, Behind, IntoChosen, IntoOther, IntoTest, ToAnswer, IntoBody, first_of, others_of}
+use Rattle.kir.specs.Places.{Leg, Behind, IntoChosen, IntoOther, IntoTest, IntoBody}
 use Rattle.kir.specs.Cuts.{holds_barrier}
-use Rattle.lowering_laws.specs.Marks.{Way, further, in_turn, Marks, NoMark, MarkThen, FormThen, marks_then, marks_behind, marks_one, marks_two, first_way, Shaped, no_line, set_line, load_line, store_line, clear_line, if_line, loop_line, barrier_line}
+use Rattle.lowering_laws.specs.Marks.{Way, further, Marks, MarkThen, FormThen, marks_then, marks_behind, marks_one, marks_two, first_way, Shaped, no_line, set_line, load_line, store_line, clear_line, if_line, loop_line, barrier_line}
 use Rattle.lowering_laws.specs.Spots.{Spot, at_barrier, past_barrier, past_set, past_load, past_store, past_clear, past_if, in_chosen, in_other, past_loop, in_test, in_body, loops_in, behind_first, IsFair, AreTold, IsTold}
 use Rattle.lowering_laws.proofs.Quiet.{or_parts, true_false}
 use Rattle.lowering_laws.proofs.Cutless.{Cutless}

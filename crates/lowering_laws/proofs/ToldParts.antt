@@ -1,14 +1,14 @@
 -- The points of barrier lines are told apart: ifs, loops, barriers, and lines with none.
-use Rattle.std.proofs.Common.{◌≡◌, ℕ, zero, suc, ◌+◌, List, [], ◌∷◌, ◌++◌, length, refl, sym, ap, ap₂, ◌∙◌, subst, arith, append_assoc, append-nil, ◌⊎◌, inl, inr, ⊎_elim}
+use Rattle.std.proofs.Common.{◌≡◌, ℕ, zero, suc, ◌+◌, List, [], ◌∷◌, ◌++◌, length, refl, sym, ap, ap₂, ◌∙◌, arith, append_assoc, append-nil, ◌⊎◌, inl, inr, ⊎_elim}
 use Rattle.std.proofs.Common.{Bool as Test}
 use Rattle.cl_model.specs.Task.{Leg as ProgramLeg, Turn, Point as ProgramPoint}
 use Rattle.kir.specs.declared.line.Atom.{Atom}
 use Rattle.kir.specs.Tree.{Lines, NoLine, IfThen, LoopThen, BarrierThen, joined_to}
-use Rattle.kir.specs.Places.{Leg, Behind, IntoChosen, IntoOther, IntoTest, IntoBody, first_of, others_of}
-use Rattle.lowering_laws.specs.Marks.{Way, further, in_turn, Marks, NoMark, MarkThen, FormThen, marks_then, Shaped, no_line}
+use Rattle.kir.specs.Places.{Leg, IntoChosen, IntoOther, IntoTest, IntoBody, first_of, others_of}
+use Rattle.lowering_laws.specs.Marks.{Way, in_turn, Marks, NoMark, MarkThen, FormThen, marks_then, Shaped}
 use Rattle.lowering_laws.specs.Spots.{Spot, loops_in, behind_first, IsFair, AreTold, IsTold}
 use Rattle.lowering_laws.proofs.Cutless.{Cutless}
-use Rattle.lowering_laws.proofs.Told.{no_spot, told_cutless, legs_of, length_behind, as_part, as_whole, told_more, invert, apart, told_then}
+use Rattle.lowering_laws.proofs.Told.{told_cutless, told_more, invert, apart, told_then}
 
 -- ---- the turn of a loop
 
@@ -107,7 +107,7 @@ module _ (way : Way) (d : ℕ) (fair : IsFair way d) where
     one = λ legs legs' w w' s s' begun begun' e e' same. ⊎_elim
         (λ i. ⊎_elim
         (λ j. let p = fair begun begun' [] [] (e ∙ ap (λ l. loops_in l + d) i.0 ∙ plain d) (e' ∙ ap (λ l. loops_in l + d) j.0 ∙ plain d)
-            (append-nil (way begun) ∙ ap (λ (v : Way). v begun) i.1 ∙ same ∙ sym (ap (λ (v : Way). v begun') j.1) ∙ sym (append-nil (way begun'))) in
+        (append-nil (way begun) ∙ ap (λ (v : Way). v begun) i.1 ∙ same ∙ sym (ap (λ (v : Way). v begun') j.1) ∙ sym (append-nil (way begun'))) in
         (i.0 ∙ sym j.0, p.0))
         (λ j. absurd (invert NoLine NoMark j.0 w' j.2)) (invert (BarrierThen site NoLine) (MarkThen way NoMark) legs' w' s'))
         (λ i. absurd (invert NoLine NoMark i.0 w i.2)) (invert (BarrierThen site NoLine) (MarkThen way NoMark) legs w s);

@@ -1,10 +1,10 @@
 -- The cells of the variables of one function: its block of cells, and the cell of each variable.
-use Rattle.std.proofs.Common.{◌≡◌, ℕ, zero, suc, ◌+◌, ◌<◌, List, [], ◌∷◌, ◌++◌, length, Option, Some, None, slice_get, refl, sym, ap, ◌∙◌, subst, arith}
+use Rattle.std.proofs.Common.{◌≡◌, ℕ, zero, suc, ◌+◌, ◌<◌, List, [], ◌∷◌, ◌++◌, length, Some, slice_get, refl, ap, ◌∙◌, arith}
 use Rattle.std.proofs.lemmas.Option.{none-some, same_Some}
 use Rattle.wg_num.specs.declared.types.Place.{Place}
 use Rattle.cl_model.specs.declared.program.VarKind.{VarKind}
 use Rattle.cl_model.specs.Valid.{kind_type}
-use Rattle.kir.specs.Tree.{OfVariable, OfFlag, OfValue, CellKind, Cell}
+use Rattle.kir.specs.Tree.{OfVariable, Cell}
 use Rattle.kir.specs.Lowering.{Named}
 use Rattle.kir_lower.specs.Made.{variable_cells}
 

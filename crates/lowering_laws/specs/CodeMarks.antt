@@ -1,5 +1,5 @@
 -- The marks of the code of expressions, statements and whole programs.
-use Rattle.std.specs.Prelude.{ℕ, zero, suc, ◌+◌, pos, List, [], ◌∷◌, length, Option, Some, None, ◌&&◌, if◌then◌else◌}
+use Rattle.std.specs.Prelude.{ℕ, zero, suc, ◌+◌, pos, List, [], length, Option, Some, None, ◌&&◌, if◌then◌else◌}
 use Rattle.std.specs.Prelude.{Bool as Test, true, false}
 use Rattle.cl_model.specs.declared.program.Root.{Root}
 use Rattle.cl_model.specs.Tree.{Expression, Apply, Update, Choose, Call, Expressions, none, more, Statement, Do, Declare, Fill, Block, If, Loop, Switch, Break, Continue, Return, Barrier, Statements, empty, also, Arms, no_arm, arm, Function, Program}
@@ -8,7 +8,7 @@ use Rattle.cl_model.specs.Calls as called
 use Rattle.cl_model.specs.Valid.{parameter_kinds}
 use Rattle.cl_model.specs.Task.{Operand, Own, Tested, Chosen, Other, Nth, Body, Step, Arm, Into}
 use Rattle.kir.specs.declared.line.Atom.{Atom}
-use Rattle.kir.specs.Tree.{Lines, NoLine, ClearThen, joined_to, OfValue}
+use Rattle.kir.specs.Tree.{Lines, ClearThen, joined_to, OfValue}
 use Rattle.kir.specs.Lowering.{Named}
 use Rattle.kir_lower.specs.declared.places.Value.{Value}
 use Rattle.kir_lower.specs.Made.{Made, Instance, next_cell, with_cell, int, root_in, argument_roots, element_at}

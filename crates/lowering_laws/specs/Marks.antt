@@ -1,7 +1,7 @@
 -- Where the program's item stands at each line of a lowered kernel: marks, one for each line, in the shape of the lines.
-use Rattle.std.specs.Prelude.{ℕ, suc, ◌+◌, pos, List, [], ◌∷◌, ◌++◌, Option, Some, None, ◌&&◌, if◌then◌else◌}
-use Rattle.std.specs.Prelude.{Bool as Test, true, false}
-use Rattle.cl_model.specs.Task.{Leg, Operand, Own, Tested, Chosen, Other, Nth, Turn, Body, Step, Arm, Into, Point as ProgramPoint}
+use Rattle.std.specs.Prelude.{ℕ, List, [], ◌∷◌, ◌++◌}
+use Rattle.std.specs.Prelude.{Bool as Test}
+use Rattle.cl_model.specs.Task.{Leg, Turn, Point as ProgramPoint}
 use Rattle.wg_num.specs.declared.types.IntType.{IntType}
 use Rattle.cl_model.specs.declared.program.Root.{Root}
 use Rattle.kir.specs.declared.line.Atom.{Atom}

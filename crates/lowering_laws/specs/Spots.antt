@@ -5,7 +5,7 @@ use Rattle.wg_num.specs.declared.types.IntType.{IntType}
 use Rattle.cl_model.specs.declared.program.Root.{Root}
 use Rattle.cl_model.specs.Task.{Leg as ProgramLeg, Point as ProgramPoint}
 use Rattle.kir.specs.declared.line.Atom.{Atom}
-use Rattle.kir.specs.Tree.{Work, Lines, NoLine, SetThen, LoadThen, StoreThen, ClearThen, IfThen, LoopThen, BarrierThen}
+use Rattle.kir.specs.Tree.{Work, Lines, SetThen, LoadThen, StoreThen, ClearThen, IfThen, LoopThen, BarrierThen}
 use Rattle.kir.specs.Places.{Leg, Behind, IntoChosen, IntoOther, IntoTest, ToAnswer, IntoBody, others_of}
 use Rattle.lowering_laws.specs.Marks.{Way, Marks, MarkThen, FormThen}
 
