@@ -5,7 +5,11 @@ use Rattle.std.specs.Prelude.{Bool as Test}
 use Rattle.wg_num.specs.declared.types.Width.{Width}
 use Rattle.wg_num.specs.Operators.{lanes_of}
 use Rattle.cl_model.specs.Calls.{no_function, function_at}
+use Rattle.cl_model.specs.Tree.{Program}
 use Rattle.cl_model.specs.Valid.{IsValid}
+use Rattle.cl_model.specs.Agreement.{Owned}
+use Rattle.cl_agreement.proofs.Carried.{carries}
+use Rattle.cl_agreement.proofs.Once as agrees
 use Rattle.cl_meaning.specs.Environment.{Variable}
 use Rattle.cl_meaning.specs.Typed.{Unit', Function}
 use Rattle.cl_valid.specs.Erased.{program_of, function_of}
@@ -18,6 +22,7 @@ use Rattle.lowering_laws.proofs.Cells.{has_cells}
 use Rattle.lowering_laws.proofs.FewLines.{has_few_lines}
 use Rattle.lowering_laws.proofs.Parts.{has_parts}
 use Rattle.diverge.specs.Rounds.{varying_of}
+use Rattle.ctx_plan.specs.declared.plan.Home.TheVariants as home
 use Rattle.ctx_plan.specs.Planned.{Planned, AreVarying, IsCounted, IsPlan}
 use Rattle.ctx_plan.specs.Made.{plan_of}
 use Rattle.plan_laws.proofs.Plan.{is_plan}
@@ -28,13 +33,10 @@ use Rattle.regions.specs.Split.{split_of}
 use Rattle.mask_lower.specs.Lowered.{region_code}
 use Rattle.item_loops.specs.Program.{HasPartsOf, IsBuilt, IsOneCode}
 use Rattle.wg_top.specs.Compiled.{IsPlanned, IsShaped}
+use Rattle.wg_top.specs.Described.{KeepsOnceWhatIsEqual}
+use Rattle.wg_top.proofs.Passes.{once_is_steady}
 use Rattle.wg_top.specs.Middle.{names_in, kernel_in, plan_in, works_of, group_with, group_in, IsLike}
 use Rattle.wg_top.proofs.Shape.{codes_have_few, holds_none}
-
--- what follows where there is a value
-pub if_more : {T E : Type 0} (r : Result T E) (P Q : T → Type 0) → IfOk r P → ((x : T) → P x → Q x) → IfOk r Q
-if_more (Ok x) P Q p f = f x p
-if_more (Err e) P Q p f = tt
 
 -- each function has as many names as variables
 names_given : List Variable → List Named
@@ -96,3 +98,16 @@ pub planned_from : (u : Unit') (width : Width) (kernel : Kernel) (plan : Planned
     → IsPlanned (program_of u) (varying_of (program_of u)) (kernel_in u) (plan_in u) width p
 planned_from u width kernel plan p valid varies kernel_is plan_is counted parts =
     planned_as u width p valid varies (subst (λ (x : Planned). IsCounted (kernel_in u) x) plan_is (subst (λ (k : Kernel). IsCounted k plan) kernel_is counted)) (parts_in u width kernel plan p kernel_is plan_is parts)
+
+-- what is kept once for a group is a variable that does not vary, which has equal values
+pub kept_once : (program : Program) (kernel : Kernel) (plan : Planned) → IsValid program → IsPlan program kernel plan → KeepsOnceWhatIsEqual program kernel plan
+kept_once program kernel plan valid is c s at =
+    let steady = once_is_steady program kernel plan is c (record { slot = s; home = at }) in
+    let owned : Owned = record { function = steady.variable.function; variable = steady.variable.number } in
+    (
+      steady.variable,
+      steady.cell,
+      λ launch fits buffers.
+      let alike = agrees.once program launch buffers valid fits owned steady.steady in
+      (alike, carries program launch buffers valid fits owned alike),
+    )

@@ -73,7 +73,7 @@ steady_home program kernel c _ (kept keep) e = absurd (cc)
 steady_home program kernel c _ (inner cell not) e = absurd (cc)
 steady_home program kernel c _ (passing made not) e = absurd (cc)
 
-once_is_steady : (program : Program) (kernel : Kernel) (plan : Planned) → IsPlan program kernel plan → (c : ℕ) → IsOnce plan.homes c → IsSteady program kernel c
+pub once_is_steady : (program : Program) (kernel : Kernel) (plan : Planned) → IsPlan program kernel plan → (c : ℕ) → IsOnce plan.homes c → IsSteady program kernel c
 once_is_steady program kernel plan planned c o = steady_home program kernel c (sort_of (home.Once o.slot)) (planned.homes c (home.Once o.slot) o.home) refl
 
 -- the kernel is even in the cells that the plan keeps once

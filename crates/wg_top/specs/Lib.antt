@@ -1,6 +1,7 @@
 pub mod Compiled
 pub mod Middle
 pub mod Outcome
+pub mod Described
 pub mod Units
 pub mod Given
 pub mod Launches

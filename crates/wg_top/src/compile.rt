@@ -11,7 +11,7 @@ ghost use Rattle.ctx_plan.specs.View.{planned_of};
 ghost use Rattle.lane_code.specs.View.{plain_of};
 ghost use Rattle.item_loops.specs.Program.{HasPartsOf, IsOneCode};
 ghost use Rattle.wg_top.specs.Middle.{IsLike, group_with, IsCompiledAt};
-ghost use Rattle.wg_top.specs.Compiled.{IsShaped};
+ghost use Rattle.wg_top.specs.Described.{IsShapedAs, IsPlannedAt, KeepsOnce};
 
 use cl_model::Program;
 use ctx_plan::Plan;
@@ -55,8 +55,10 @@ fn group_of(
 
 /// The kernel of a typed program, whose name is given, at a lane width. Of a valid program the
 /// program of a group has the kernel's name and parameters, is one code where no barrier stands, and
-/// has in no code more loads and stores of a site than are written. `Memory` also where a number of
-/// a pass has no room.
+/// has in no code more loads and stores of a site than are written; it is known which variables
+/// vary, and each cell has its home, columns shared by variables of disjoint scopes alone; and what
+/// is kept once for a group has equal values in all its work-items at the same point. `Memory` also
+/// where a number of a pass has no room.
 pub fn compile_program(
     alloc: Global,
     program: Program,
@@ -66,7 +68,9 @@ pub fn compile_program(
     ensures program { IfOk result (λ c. unit_of c.program ≡ unit_of program) }
     ensures passes { IfOk result (λ c. IsCompiledAt (lanes_of width) c) }
     ensures name { IfOk result (λ c. c.group.kernel ≡ name.now) }
-    ensures shaped { IfOk result (λ c. IsValid (program_of (unit_of c.program)) → IsShaped (program_of (unit_of c.program)) name.now c.group.kernel (plain_of c.group)) }
+    ensures shaped { IfOk result (λ c. IsValid (program_of (unit_of c.program)) → IsShapedAs name.now c) }
+    ensures planned { IfOk result (λ c. IsValid (program_of (unit_of c.program)) → IsPlannedAt width c) }
+    ensures once { IfOk result (λ c. IsValid (program_of (unit_of c.program)) → KeepsOnce c) }
 {
     let kernel = lower(alloc, &program)?;
     let varying = analyse(alloc, &program)?;

@@ -6,7 +6,10 @@ use Rattle.diverge.specs.Marks.{marks}
 use Rattle.lane_code.specs.View.{plain_of}
 use Rattle.wg_num.specs.Operators.{lanes_of}
 use Rattle.wg_top.proofs.PassLemmas.{kernel_is, plan_is, group_is}
-use Rattle.wg_top.proofs.DescribedLemmas.{shaped_from}
+use Rattle.cl_valid.specs.Erased.{program_of}
+use Rattle.varying_laws.proofs.Answers.{varying_exact}
+use Rattle.wg_top.specs.Middle.{kernel_in, plan_in}
+use Rattle.wg_top.proofs.DescribedLemmas.{shaped_from, planned_from, kept_once}
 use Rattle.wg_top.proofs.compile.compile_program.Goals as goal
 
 pub returns-clause-passes : goal.returns-clause-passes
@@ -21,3 +24,18 @@ returns-clause-shaped c =
     let plan = plan_is c.args.program (kernel_of c.in_ok-kernel.kernel) (marks c.in_ok-varying.varying) (planned_of c.in_ok-plan.plan) kernel c.in_ok-varying.ensures.exact c.in_ok-plan.ensures.made in
     let like = group_is (lanes_of c.args.width) c.args.program (kernel_of c.in_ok-kernel.kernel) (planned_of c.in_ok-plan.plan) (plain_of c.in_ok-group.group) kernel plan c.in_ok-group.ensures.like in
     λ valid. shaped_from (unit_of c.args.program) c.args.width c.args.name.now c.in_ok-group.group.kernel (kernel_of c.in_ok-kernel.kernel) (planned_of c.in_ok-plan.plan) (plain_of c.in_ok-group.group) valid kernel plan c.in_ok-group.ensures.parts like c.in_ok-group.ensures.one c.in_ok-group.ensures.name
+
+-- the plan, for a valid program
+planned_at : goal.returns-clause-planned
+planned_at c =
+    let kernel = kernel_is c.args.program (kernel_of c.in_ok-kernel.kernel) c.in_ok-kernel.ensures in
+    let plan = plan_is c.args.program (kernel_of c.in_ok-kernel.kernel) (marks c.in_ok-varying.varying) (planned_of c.in_ok-plan.plan) kernel c.in_ok-varying.ensures.exact c.in_ok-plan.ensures.made in
+    λ valid.
+    planned_from (unit_of c.args.program) c.args.width (kernel_of c.in_ok-kernel.kernel) (planned_of c.in_ok-plan.plan) (plain_of c.in_ok-group.group) valid (λ v. varying_exact (program_of (unit_of c.args.program)) valid v.function v.number) kernel plan
+    c.in_ok-plan.ensures.counted c.in_ok-group.ensures.parts
+
+pub returns-clause-planned : goal.returns-clause-planned
+returns-clause-planned c = planned_at c
+
+pub returns-clause-once : goal.returns-clause-once
+returns-clause-once c = λ valid. kept_once (program_of (unit_of c.args.program)) (kernel_in (unit_of c.args.program)) (plan_in (unit_of c.args.program)) valid (planned_at c valid).homes

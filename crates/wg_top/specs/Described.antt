@@ -1,0 +1,41 @@
+-- What a compiled kernel is, but for its ends: its plan, its shape, and what is kept once for a group.
+use Rattle.std.specs.Prelude.{◌≡◌, ℕ, List, Some, slice_get}
+use Rattle.wg_num.specs.declared.types.Width.{Width}
+use Rattle.cl_model.specs.Tree.{Program}
+use Rattle.cl_model.specs.Sizes.{Launch}
+use Rattle.cl_model.specs.Fitting.{FitsProgram}
+use Rattle.cl_model.specs.Agreement.{Agrees, AgreesInRuns}
+use Rattle.cl_piece.specs.View.{unit_of}
+use Rattle.cl_valid.specs.Erased.{program_of}
+use Rattle.kir.specs.Tree.{Variable, Kernel}
+use Rattle.kir.specs.Homes.{IsCellOf}
+use Rattle.diverge.specs.Rounds.{varying_of}
+use Rattle.ctx_plan.specs.declared.plan.Home.TheVariants as home
+use Rattle.ctx_plan.specs.Planned.{Planned}
+use Rattle.lane_code.specs.View.{plain_of}
+use Rattle.wg_top.specs.declared.compile.Compiled.{Compiled}
+use Rattle.wg_top.specs.Middle.{kernel_in, plan_in}
+use Rattle.wg_top.specs.Compiled.{IsPlanned, IsShaped}
+
+-- it is said which variables vary, each cell has its home, and the program of a group has the plan's columns and slots
+abbrev pub IsPlannedAt : Width → Compiled → Type 0
+IsPlannedAt width c = IsPlanned (program_of (unit_of c.program)) (varying_of (program_of (unit_of c.program))) (kernel_in (unit_of c.program)) (plan_in (unit_of c.program)) width (plain_of c.group)
+
+-- the program of a group has this name and the kinds of the kernel's parameters, and accesses no more than is written
+abbrev pub IsShapedAs : List ℕ → Compiled → Type 0
+IsShapedAs name c = IsShaped (program_of (unit_of c.program)) name c.group.kernel (plain_of c.group)
+
+-- two work-items of one group that stand at one point, in two histories or at two moments of a run, hold equal values of the variable, in each launch that fits
+abbrev pub HoldsEqual : Program → Variable → Type 0
+HoldsEqual program v =
+    (launch : Launch) → FitsProgram program launch → (buffers : List (List ℕ))
+    → Agrees program launch buffers (record { function = v.function; variable = v.number }) × AgreesInRuns program launch buffers (record { function = v.function; variable = v.number })
+
+-- each cell that is kept once for a group is that of a variable with equal values in all work-items of the group
+abbrev pub KeepsOnceWhatIsEqual : Program → Kernel → Planned → Type 0
+KeepsOnceWhatIsEqual program kernel plan =
+    (c s : ℕ) → slice_get plan.homes c ≡ Some (home.Once s) → (v : Variable) × IsCellOf kernel v c × HoldsEqual program v
+
+-- the same of a compiled kernel
+abbrev pub KeepsOnce : Compiled → Type 0
+KeepsOnce c = KeepsOnceWhatIsEqual (program_of (unit_of c.program)) (kernel_in (unit_of c.program)) (plan_in (unit_of c.program))
