@@ -38,6 +38,11 @@ use Rattle.wg_top.proofs.Passes.{once_is_steady}
 use Rattle.wg_top.specs.Middle.{names_in, kernel_in, plan_in, works_of, group_with, group_in, IsLike}
 use Rattle.wg_top.proofs.Shape.{codes_have_few, holds_none}
 
+-- what follows where there is a value
+pub if_more : {T E : Type 0} (r : Result T E) (P Q : T → Type 0) → IfOk r P → ((x : T) → P x → Q x) → IfOk r Q
+if_more (Ok x) P Q p f = f x p
+if_more (Err e) P Q p f = tt
+
 -- each function has as many names as variables
 names_given : List Variable → List Named
 names_given vs = map (λ v. record { name = v.name; place = v.place }) vs
