@@ -44,7 +44,7 @@ if_more (Ok x) P Q p f = f x p
 if_more (Err e) P Q p f = tt
 
 -- each function has as many names as variables
-names_given : List Variable → List Named
+abbrev names_given : List Variable → List Named
 names_given vs = map (λ v. record { name = v.name; place = v.place }) vs
 
 as_many : (vs : List Variable) → length (names_given vs) ≡ length (map (λ (v : Variable). v.kind) vs)
