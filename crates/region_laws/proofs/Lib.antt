@@ -26,3 +26,4 @@ pub mod Regions
 pub mod Among
 pub mod Following
 pub mod Votes
+pub mod Findings
