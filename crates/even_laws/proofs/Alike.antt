@@ -1,5 +1,5 @@
 -- Two items of one group that do the same steady lines from cells alike on what is live before them have cells alike on what is live behind them.
-use Rattle.std.proofs.Common.{◌≡◌, ◌≢◌, ℕ, zero, suc, ◌+◌, ◌<◌, ◌≤◌, ℤ, List, [], ◌∷◌, map, refl, sym, ap, ap₂, ◌∙◌, subst, arith, ◌⊎◌, inl, inr, ⊎_elim}
+use Rattle.std.proofs.Common.{◌≡◌, ℕ, zero, suc, ◌<◌, ℤ, List, [], ◌∷◌, map, refl, sym, ap, ap₂, ◌∙◌, subst, arith, ◌⊎◌, inl, inr, ⊎_elim}
 use Rattle.std.specs.Prelude.{◌&&◌, ◌||◌, not, nat_eq, if◌then◌else◌}
 use Rattle.std.specs.Prelude.{Bool as Test, true, false}
 use Rattle.std.proofs.lemmas.Bool.{true≢false, or_left, or_right, and_parts}
@@ -20,7 +20,7 @@ use Rattle.kir.specs.Live.{reads, some_reads, work_reads, live_in}
 use Rattle.kir.specs.Steps.{atom_value}
 use Rattle.even_laws.specs.Steady.{atom_even, atoms_even, work_even, is_constant_root, sets_in, tested, IsSteady}
 use Rattle.even_laws.specs.Does.{Cells, Who, put, computed, Answers, Enters, AtAnswer, Does}
-use Rattle.even_laws.proofs.Living.{or_either, neither, true_or_false, turned, live_more, into_body, unset_live}
+use Rattle.even_laws.proofs.Living.{neither, true_or_false, turned, into_body, unset_live}
 
 -- ---- cells
 

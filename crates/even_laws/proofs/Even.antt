@@ -1,13 +1,11 @@
 -- A steady kernel is even.
-use Rattle.std.proofs.Common.{◌≡◌, ◌⊎◌, ℕ, zero, suc, ◌<◌, ℤ, pos, negsuc, List, [], ◌∷◌, Option, Some, None, cond, refl, sym, ap, ◌∙◌, subst, inl, inr, take}
-use Rattle.std.specs.Prelude.{◌||◌, ◌/◌, ◌%◌, nat_lt, nat_eq, slice_get, length}
+use Rattle.std.proofs.Common.{◌≡◌, ◌⊎◌, ℕ, zero, suc, ℤ, pos, negsuc, List, [], ◌∷◌, Option, Some, cond, refl, sym, ap, ◌∙◌, subst, inl, inr, take}
+use Rattle.std.specs.Prelude.{◌||◌, ◌/◌, ◌%◌, nat_lt, slice_get, length}
 use Rattle.std.specs.Prelude.{Bool as Test, true, false}
 use Rattle.std.proofs.lemmas.Bool.{true≢false, or_left, or_right, eq-eqb}
 use Rattle.std.proofs.lemmas.Option.{none-some, same_Some}
-use Rattle.wg_num.specs.declared.types.IntType.{IntType}
 use Rattle.wg_num.specs.Bytes.{size_of, value_of_bytes}
 use Rattle.work_items.specs.Memory.{Access, loaded}
-use Rattle.work_items.specs.Histories.{Deed}
 use Rattle.cl_model.specs.declared.program.Query.{Query}
 use Rattle.cl_model.specs.declared.program.Query.TheVariants.{WorkDim, GlobalId, LocalId, GroupId, GlobalSize, LocalSize, NumGroups, GlobalOffset}
 use Rattle.cl_model.specs.declared.program.Root.{Root}
@@ -17,22 +15,20 @@ use Rattle.cl_model.specs.declared.program.VarKind.{VarKind}
 use Rattle.cl_model.specs.declared.program.VarKind.TheVariants.{Scalar, Pointer}
 use Rattle.cl_model.specs.declared.launch.Bound.{Bound}
 use Rattle.cl_model.specs.declared.launch.Bound.TheVariants as bound
-use Rattle.cl_model.specs.Sizes.{Launch, item_count, group_of, groups_at, groups_of, product, answer_within, answer_outside, answer_of as asked_of}
+use Rattle.cl_model.specs.Sizes.{Launch, group_of, groups_at, groups_of, product, answer_within, answer_outside, answer_of as asked_of}
 use Rattle.cl_model.specs.Calls.{kernel_of}
 use Rattle.cl_model.specs.Objects.{IsConstant, a_table, a_buffer, is_buffer, is_constant_pointer, argument_object, object_of, kernel_objects, start_memory}
 use Rattle.cl_model.specs.Valid.{parameter_kinds}
-use Rattle.cl_model.specs.Fitting.{FitsProgram, FitBuffers, ArgumentFits, ArgumentsFit}
+use Rattle.cl_model.specs.Fitting.{FitsProgram, ArgumentFits, ArgumentsFit}
 use Rattle.cl_model.specs.Varying.{is_own}
 use Rattle.kir.specs.declared.line.Atom.{Atom}
-use Rattle.kir.specs.Tree.{Lines, NoLine, SetThen, LoadThen, StoreThen, ClearThen, IfThen, LoopThen, BarrierThen, Kernel}
+use Rattle.kir.specs.Tree.{Lines, Kernel}
 use Rattle.kir.specs.Places.{Behind, IntoChosen, IntoOther, IntoTest, ToAnswer, IntoBody, Place, Point, Tasks, NoTask, LinesAt, AnswerAt, begun_in, point_of, lines_at, behind, chosen_of, other_of, test_of, body_of, answer_of, first_of, others_of, past, in_chosen, in_other, at_answer, in_test, in_body, tasks_at}
 use Rattle.kir.specs.Live.{reads, live_in, live_now, live_behind, live_at}
-use Rattle.kir.specs.Steps.{shell_of, Item}
-use Rattle.kir.specs.Meaning.{ItemHistory}
-use Rattle.kir.specs.Cuts.{is_stop}
+use Rattle.kir.specs.Steps.{shell_of}
 use Rattle.kir.specs.Evenness.{IsEven}
 use Rattle.even_laws.specs.Steady.{is_constant_root, tested, IsSteady}
-use Rattle.even_laws.specs.Does.{Cells, Who, AtAnswer, Does}
+use Rattle.even_laws.specs.Does.{Cells}
 use Rattle.even_laws.specs.Path.{InAnswer, Comes, after_at}
 use Rattle.even_laws.proofs.Living.{or_either, into_body}
 use Rattle.even_laws.proofs.Alike.{AreFellows}

@@ -2,7 +2,7 @@
 use Rattle.std.proofs.Common.{◌≡◌, ℕ, refl, sym, ap, ◌∙◌, subst, ◌⊎◌, inl, inr, ⊎_elim}
 use Rattle.std.specs.Prelude.{◌&&◌, ◌||◌, not, nat_eq}
 use Rattle.std.specs.Prelude.{Bool as Test, true, false}
-use Rattle.std.proofs.lemmas.Bool.{true≢false, or_cases, or_left, or_right, and_parts}
+use Rattle.std.proofs.lemmas.Bool.{true≢false, or_left, or_right}
 use Rattle.std.proofs.Common.{arith}
 use Rattle.std.proofs.lemmas.Bool.Decides.{nat_tests}
 use Rattle.kir.specs.declared.line.Atom.{Atom}

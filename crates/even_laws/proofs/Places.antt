@@ -1,5 +1,5 @@
 -- At one place, with equal numbers of iterations begun, two items of one group are alike on what is live there.
-use Rattle.std.proofs.Common.{◌≡◌, ℕ, zero, suc, ℤ, pos, List, [], ◌∷◌, refl, sym, ap, ◌∙◌, subst, ◌⊎◌, inl, inr}
+use Rattle.std.proofs.Common.{ℕ, zero, suc, List, [], ◌∷◌, sym, ap, ◌∙◌, subst}
 use Rattle.std.specs.Prelude.{◌||◌, ◌&&◌, not, nat_eq}
 use Rattle.std.specs.Prelude.{Bool as Test, true, false}
 use Rattle.std.proofs.lemmas.Bool.{or_left, or_right}
@@ -9,8 +9,8 @@ use Rattle.kir.specs.Places.{Behind, IntoChosen, IntoOther, IntoTest, ToAnswer, 
 use Rattle.kir.specs.Live.{reads, work_reads, live_in}
 use Rattle.kir.specs.Steps.{atom_value}
 use Rattle.even_laws.specs.Steady.{tested, IsSteady}
-use Rattle.even_laws.specs.Does.{Cells, Who, put, computed, Answers, Enters, AtAnswer, Does}
-use Rattle.even_laws.specs.Path.{Branches, Loops, FirstDoes, TestIs, InBody, InTest, InAnswer, Comes, after_at}
+use Rattle.even_laws.specs.Does.{Cells, Who, computed}
+use Rattle.even_laws.specs.Path.{FirstDoes, TestIs, InBody, InTest, InAnswer, Comes, after_at}
 use Rattle.even_laws.proofs.Alike.{AreFellows, Alike, does_alike, set_alike, value_alike, computed_alike, branches_alike, loop_alike, before_loop, at_alike, enters_alike}
 
 module _ (kernel : Kernel) (even : ℕ → Test) where

@@ -1,24 +1,22 @@
 -- Where an item of a kernel stands after a history of its own, it has come there by doing lines as a whole.
-use Rattle.std.proofs.Common.{◌≡◌, ℕ, zero, suc, ℤ, pos, List, [], ◌∷◌, Option, Some, None, refl, sym, ap, ◌∙◌, subst, inl, inr}
+use Rattle.std.proofs.Common.{◌≡◌, ℕ, zero, suc, pos, List, [], ◌∷◌, refl, sym, ap, ◌∙◌, subst, inl, inr}
 use Rattle.std.specs.Prelude.{slice_get, if◌then◌else◌}
 use Rattle.std.specs.Prelude.{Bool as Test, true, false}
-use Rattle.wg_num.specs.declared.types.IntType.{IntType}
 use Rattle.wg_num.specs.Bytes.{size_of, value_of_bytes}
 use Rattle.work_items.specs.Memory.{Access}
 use Rattle.work_items.specs.Items.{Next, Ends, Waits, Goes, Begins, Loads, Stores}
 use Rattle.work_items.specs.Histories.{Deed, History, nothing, going, doing, DoesOnce, Passed, Turned, Read, Wrote}
-use Rattle.cl_model.specs.declared.program.Root.{Root}
 use Rattle.cl_model.specs.Values.{is_zero}
 use Rattle.cl_model.specs.Sizes.{Launch, answer_of}
 use Rattle.cl_model.specs.Objects.{object_of, kernel_objects}
-use Rattle.cl_model.specs.Meaning.{argument_value, lengths_of, MayBeTold}
+use Rattle.cl_model.specs.Meaning.{argument_value, MayBeTold}
 use Rattle.kir.specs.declared.line.Atom.{Atom}
 use Rattle.kir.specs.Tree.{Work, Unary, Binary, Builtin, Convert, Ask, Argument, Copy, Lines, NoLine, SetThen, LoadThen, StoreThen, ClearThen, IfThen, LoopThen, BarrierThen, Kernel}
-use Rattle.kir.specs.Places.{Behind, IntoChosen, IntoOther, IntoTest, ToAnswer, IntoBody, Place, Tasks, NoTask, LinesAt, AnswerAt, iteration, begun_in, lines_at, behind, chosen_of, other_of, test_of, body_of}
-use Rattle.kir.specs.Steps.{shell_of, Item, with_tasks, with_cell, atom_value, work_value, access_at, line_next, answer_next, tasks_next, item_next}
-use Rattle.kir.specs.Meaning.{start_item, ItemHistory}
+use Rattle.kir.specs.Places.{Behind, IntoChosen, IntoOther, Place, Tasks, NoTask, LinesAt, AnswerAt, iteration, begun_in, lines_at, behind, chosen_of, other_of, test_of, body_of}
+use Rattle.kir.specs.Steps.{shell_of, Item, with_tasks, atom_value, work_value, line_next, tasks_next, item_next}
+use Rattle.kir.specs.Meaning.{ItemHistory}
 use Rattle.even_laws.specs.Does.{Cells, Who, put, computed, Answers, Enters, AtAnswer, Does}
-use Rattle.even_laws.specs.Path.{Branches, Loops, FirstDoes, TestIs, InBody, InTest, InAnswer, Comes}
+use Rattle.even_laws.specs.Path.{Loops, FirstDoes, TestIs, InBody, InTest, Comes}
 
 -- the item with this number, as far as its cells can see it
 abbrev pub who_of : Kernel → Launch → List (List ℕ) → ℕ → Who

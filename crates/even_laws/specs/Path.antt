@@ -1,5 +1,5 @@
 -- How an item comes from the start of a kernel to a place of its text, and what is live there.
-use Rattle.std.specs.Prelude.{◌≡◌, ◌⊎◌, ℕ, zero, suc, ℤ, pos, List, [], ◌∷◌}
+use Rattle.std.specs.Prelude.{◌≡◌, ◌⊎◌, ℕ, zero, suc, ℤ, List, [], ◌∷◌}
 use Rattle.std.specs.Prelude.{Bool as Test, true, false}
 use Rattle.kir.specs.declared.line.Atom.{Atom}
 use Rattle.kir.specs.Tree.{Lines, NoLine, SetThen, LoadThen, StoreThen, ClearThen, IfThen, LoopThen, BarrierThen}

@@ -1,18 +1,18 @@
 -- A variable of the inlined kernel crosses exactly where the plan marks it in its function.
-use Rattle.std.proofs.Common.{◌≡◌, ℕ, zero, suc, ◌+◌, ◌<◌, ◌≤◌, List, [], ◌∷◌, ◌++◌, Option, Some, None, length, refl, sym, ap, ◌∙◌, subst, arith, ◌⊎◌, inl, inr, ⊎_elim}
+use Rattle.std.proofs.Common.{◌≡◌, ℕ, zero, suc, ◌≤◌, List, [], ◌∷◌, ◌++◌, length, refl, sym, ◌∙◌, subst, arith, ◌⊎◌, inl, inr, ⊎_elim}
 use Rattle.std.specs.Prelude.{Bool as Test, true, false}
 use Rattle.std.specs.Prelude.{if◌then◌else◌}
 use Rattle.std.proofs.lemmas.Bool.{true≢false}
-use Rattle.cl_model.specs.Tree.{Function, Program}
-use Rattle.cl_model.specs.Calls.{CallSite, calls_of_all, function_at}
-use Rattle.cl_model.specs.Lists.{Each, IsOneOf}
+use Rattle.cl_model.specs.Tree.{Program}
+use Rattle.cl_model.specs.Calls.{function_at}
+use Rattle.cl_model.specs.Lists.{IsOneOf}
 use Rattle.cl_model.specs.Valid.{CallsEnd}
 use Rattle.kir.specs.Tree.{Variable}
 use Rattle.kir.specs.Inlined as kir
 use Rattle.kir.specs.Inlined.{Text, NoText, DeclaredThen, CutThen as CutText, BlockThen as BlockText, variable_of, function_text, variables_in, crossing_in}
 use Rattle.ctx_plan.specs.Outline.{Outline, NoPiece, DeclaresThen, CutThen, CallsThen, BlockThen, function_outline}
 use Rattle.ctx_plan.specs.Points.{entry}
-use Rattle.ctx_plan.specs.Sharing.{has_cut, holding_of}
+use Rattle.ctx_plan.specs.Sharing.{holding_of}
 use Rattle.plan_laws.specs.Crossing.{CrossesIn, DeclaredIn, EachCall}
 use Rattle.plan_laws.proofs.Outlined.{text_of, inlining}
 use Rattle.plan_laws.proofs.Holding.{function_found}

@@ -1,21 +1,17 @@
 -- The variables that the plan marks are those that cross.
-use Rattle.std.proofs.Common.{◌≡◌, ℕ, zero, suc, ◌+◌, ◌<◌, ◌≤◌, List, [], ◌∷◌, ◌++◌, Option, Some, None, length, refl, sym, ap, ap₂, ◌∙◌, subst, arith, replicate, ◌⊎◌, inl, inr, ⊎_elim}
+use Rattle.std.proofs.Common.{◌≡◌, ℕ, zero, suc, ◌<◌, List, [], ◌∷◌, ◌++◌, length, refl, sym, ap, ◌∙◌, subst, arith, replicate, ◌⊎◌, inl, inr, ⊎_elim}
 use Rattle.std.specs.Prelude.{Bool as Test, true, false}
-use Rattle.std.specs.Prelude.{◌||◌, slice_get, slice_index_or, slice_set, if◌then◌else◌}
-use Rattle.std.proofs.lemmas.Bool.{true≢false, or_cases, or_left, or_right}
-use Rattle.cl_model.specs.Tree.{Expression, Statement, Do, Declare, Fill, Block, If, Loop, Switch, Break, Continue, Return, Barrier, Statements, empty, also, Arms, no_arm, arm, Function, Program}
-use Rattle.cl_model.specs.Calls.{CallSite, calls_in, calls_among, calls_in_optional, calls_of, calls_of_all, calls_of_arms, function_at}
-use Rattle.cl_model.specs.Lists.{Each, IsOneOf}
-use Rattle.cl_model.specs.Valid.{CallsEnd}
-use Rattle.kir.specs.Tree.{Variable}
-use Rattle.kir.specs.Inlined as kir
-use Rattle.kir.specs.Inlined.{holds_in, holds_among, holds_in_optional, holds, some_holds, arms_hold, body_holds, Text, NoText, DeclaredThen, CutThen as CutText, BlockThen as BlockText, variable_of, function_text, variables_in, crossing_in}
+use Rattle.std.specs.Prelude.{slice_set, if◌then◌else◌}
+use Rattle.std.proofs.lemmas.Bool.{true≢false}
+use Rattle.cl_model.specs.Tree.{Statement, Do, Declare, Fill, Block, If, Loop, Switch, Break, Continue, Return, Barrier, Statements, empty, also, Arms, no_arm, arm, Function}
+use Rattle.cl_model.specs.Calls.{CallSite, calls_in, calls_among, calls_in_optional, calls_of, calls_of_all, calls_of_arms}
+use Rattle.cl_model.specs.Lists.{Each}
+use Rattle.kir.specs.Inlined.{holds}
 use Rattle.ctx_plan.specs.Outline.{Outline, NoPiece, DeclaresThen, CutThen, CallsThen, BlockThen, cut_then, calls_then, outline_then, outlines_then, outlines_of_arms, parameters_then, function_outline}
 use Rattle.ctx_plan.specs.Points.{entry}
-use Rattle.ctx_plan.specs.Sharing.{has_cut, mark_crossing, holding_of, crossing_of}
-use Rattle.plan_laws.specs.Crossing.{CrossesIn, DeclaredIn, EachCall}
-use Rattle.plan_laws.proofs.Outlined.{text_of, inlining}
-use Rattle.plan_laws.proofs.Holding.{each_parts, each_map, holds_at, holding_found, function_found}
+use Rattle.ctx_plan.specs.Sharing.{has_cut, mark_crossing, crossing_of}
+use Rattle.plan_laws.specs.Crossing.{CrossesIn, EachCall}
+use Rattle.plan_laws.proofs.Holding.{each_parts}
 
 -- ---- lists of marks
 

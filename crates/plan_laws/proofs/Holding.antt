@@ -1,15 +1,15 @@
 -- Which functions hold a barrier: what the plan finds is what the inlined text has, wherever calls end.
 use Rattle.std.proofs.Common.{◌≡◌, ℕ, zero, suc, ◌+◌, ◌≤◌, List, [], ◌∷◌, ◌++◌, Option, Some, None, length, refl, sym, ap, ap₂, ◌∙◌, subst, arith, map, replicate, unwrap_or}
 use Rattle.std.specs.Prelude.{Bool as Test, true, false}
-use Rattle.std.specs.Prelude.{◌||◌, slice_get, slice_index_or}
+use Rattle.std.specs.Prelude.{◌||◌, slice_get}
 use Rattle.cl_model.specs.Tree.{Expression, Apply, Update, Choose, Call, Expressions, none, more, Statement, Do, Declare, Fill, Block, If, Loop, Switch, Break, Continue, Return, Barrier, Statements, empty, also, Arms, no_arm, arm, Function, Program}
 use Rattle.cl_model.specs.Calls.{CallSite, calls_in, calls_among, calls_in_optional, calls_of, calls_of_all, calls_of_arms, no_function, function_at}
 use Rattle.cl_model.specs.Lists.{Each}
 use Rattle.cl_model.specs.Valid.{CallsEnd}
-use Rattle.kir.specs.Inlined.{holds_in, holds_among, holds_in_optional, holds, some_holds, arms_hold, body_holds, Text, function_text}
+use Rattle.kir.specs.Inlined.{holds_in, holds_among, holds_in_optional, holds, some_holds, arms_hold, body_holds, function_text}
 use Rattle.ctx_plan.specs.Outline.{Outline, NoPiece, BlockThen, cut_then, calls_then, outline_then, outlines_then, outlines_of_arms, parameters_then, function_outline}
 use Rattle.ctx_plan.specs.Points.{entry}
-use Rattle.ctx_plan.specs.Sharing.{bodies_after, holding_after, holding_of}
+use Rattle.ctx_plan.specs.Sharing.{holding_after, holding_of}
 use Rattle.plan_laws.proofs.Outlined.{text_of, inlining, function_outlined}
 
 -- ---- lists

@@ -1,10 +1,9 @@
 -- The home that a plan gives each cell, and how many columns it takes.
-use Rattle.std.proofs.Common.{◌≡◌, ℕ, zero, suc, ◌+◌, ◌<◌, ◌≤◌, List, [], ◌∷◌, ◌++◌, Option, Some, None, length, max, refl, sym, ap, ◌∙◌, subst, arith, ◌⊎◌, inl, inr, ⊎_elim, length-append}
+use Rattle.std.proofs.Common.{◌≡◌, ℕ, zero, suc, ◌+◌, ◌<◌, ◌≤◌, List, [], ◌∷◌, ◌++◌, Some, None, length, max, refl, sym, ap, ◌∙◌, arith, ◌⊎◌, inl, inr, ⊎_elim, length-append}
 use Rattle.std.specs.Prelude.{Bool as Test, true, false}
 use Rattle.std.specs.Prelude.{◌&&◌, slice_get, if◌then◌else◌}
-use Rattle.std.proofs.lemmas.Bool.{true≢false}
 use Rattle.kir.specs.Tree.{CellKind, OfVariable, OfFlag, OfValue, Cell}
-use Rattle.kir.specs.Keeps.{Piece, names_across, is_made_kind, is_made, count_below}
+use Rattle.kir.specs.Keeps.{Piece, names_across, is_made_kind, count_below}
 use Rattle.ctx_plan.specs.declared.plan.Home.{Home}
 use Rattle.ctx_plan.specs.declared.plan.Home.TheVariants as home
 use Rattle.ctx_plan.specs.declared.cells.Kept.{Kept}

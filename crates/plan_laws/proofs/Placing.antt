@@ -1,10 +1,10 @@
 -- The columns of a function: each marked variable has its number, and each site says how many columns are taken.
-use Rattle.std.proofs.Common.{◌≡◌, ℕ, zero, suc, ◌+◌, ◌<◌, ◌≤◌, List, [], ◌∷◌, length, refl, sym, ap, ◌∙◌, subst, arith, ◌⊎◌, inl, inr, ⊎_elim}
+use Rattle.std.proofs.Common.{◌≡◌, ℕ, zero, suc, ◌+◌, ◌<◌, List, [], ◌∷◌, length, refl, sym, ap, ◌∙◌, subst, arith, inl, inr}
 use Rattle.std.specs.Prelude.{Bool as Test, true, false}
-use Rattle.std.specs.Prelude.{slice_index_or, slice_set, if◌then◌else◌}
+use Rattle.std.specs.Prelude.{slice_set, if◌then◌else◌}
 use Rattle.std.proofs.lemmas.Bool.{true≢false}
 use Rattle.ctx_plan.specs.Outline.{Outline, NoPiece, DeclaresThen, CutThen, CallsThen, BlockThen}
-use Rattle.ctx_plan.specs.Sharing.{own_columns, Columns, share_columns, share_block}
+use Rattle.ctx_plan.specs.Sharing.{own_columns, Columns, share_columns}
 use Rattle.ctx_plan.specs.Made.{number_at}
 use Rattle.plan_laws.specs.Crossing.{DeclaredIn}
 use Rattle.plan_laws.specs.Placing.{CalledIn, IsOnceIn, after, IsPlaced}

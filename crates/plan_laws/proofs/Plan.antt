@@ -1,34 +1,33 @@
 -- The plan of a kernel that comes from a valid program is what the definitions say.
-use Rattle.std.proofs.Common.{◌≡◌, ℕ, zero, suc, ◌+◌, ◌<◌, ◌≤◌, List, [], ◌∷◌, ◌++◌, Option, Some, None, length, refl, sym, ap, ◌∙◌, subst, arith, ◌⊎◌, inl, inr, ⊎_elim, unwrap_or}
+use Rattle.std.proofs.Common.{◌≡◌, ℕ, zero, suc, ◌+◌, ◌<◌, ◌≤◌, List, [], ◌∷◌, ◌++◌, Option, Some, length, refl, sym, ap, ◌∙◌, subst, arith, ◌⊎◌, inl, inr, ⊎_elim, unwrap_or}
 use Rattle.std.specs.Prelude.{Bool as Test, true, false}
-use Rattle.std.specs.Prelude.{◌&&◌, ◌≢◌, slice_get, slice_index_or, if◌then◌else◌}
+use Rattle.std.specs.Prelude.{◌&&◌, ◌≢◌, slice_get, if◌then◌else◌}
 use Rattle.std.proofs.lemmas.Bool.{true≢false, and_parts}
-use Rattle.cl_model.specs.Tree.{Function, Program}
+use Rattle.cl_model.specs.Tree.{Program}
 use Rattle.cl_model.specs.Calls.{function_at}
 use Rattle.cl_model.specs.Lists.{IsOneOf}
 use Rattle.cl_model.specs.Valid.{IsValid}
 use Rattle.kir.specs.Tree.{Variable, CellKind, OfVariable, OfFlag, OfValue, Cell, Kernel}
 use Rattle.kir.specs.Keeps.{pieces_of, names_across, is_made_kind, is_made, is_keep, keep_count}
-use Rattle.kir.specs.Inlined.{Text, NoText, DeclaredThen, CutThen as CutText, BlockThen as BlockText, inlined, variables_in, variables_of, crossing_in, declared_in, scopes_in, scopes_of, Crosses, AreDisjoint}
+use Rattle.kir.specs.Inlined.{Text, NoText, DeclaredThen, CutThen as CutText, BlockThen as BlockText, inlined, variables_in, variables_of, declared_in, scopes_in, scopes_of, Crosses, AreDisjoint}
 use Rattle.kir.specs.Homes as kir
 use Rattle.kir.specs.Homes.{VariableVaries, IsCellOf, HasHome, once, column, kept, inner, passing}
 use Rattle.kir.specs.Lowering.{Named, HasCells}
 use Rattle.ctx_plan.specs.declared.plan.Home.{Home}
 use Rattle.ctx_plan.specs.declared.plan.Home.TheVariants as home
-use Rattle.ctx_plan.specs.declared.cells.Kept.{Kept}
 use Rattle.ctx_plan.specs.declared.cells.Kept.TheVariants as keeping
 use Rattle.ctx_plan.specs.Homes.{sort_of}
 use Rattle.ctx_plan.specs.Points.{entry}
-use Rattle.ctx_plan.specs.Sharing.{holding_of, Shares, row, both, crossing_of, shares_of}
+use Rattle.ctx_plan.specs.Sharing.{holding_of, Shares, row, crossing_of, shares_of}
 use Rattle.ctx_plan.specs.Naming.{named_from}
-use Rattle.ctx_plan.specs.Made.{number_at, taken_behind, kept_of, columns_for, columns_of_kind, columns_onto, Placed, homes_onto, plan_of}
+use Rattle.ctx_plan.specs.Made.{number_at, taken_behind, columns_for, columns_of_kind, columns_onto, Placed, plan_of}
 use Rattle.ctx_plan.specs.Planned.{AreVarying, StandTogether, IsCounted, IsPlan}
 use Rattle.plan_laws.specs.Scopes.{marked, column_of, IsFull}
 use Rattle.plan_laws.proofs.Crossing.{entry_crosses, crosses_entry}
 use Rattle.plan_laws.proofs.Crosses.{left_one, right_one, either_one, crosses_own, own_crosses}
 use Rattle.plan_laws.proofs.Shared.{crossing_row, entry_both}
 use Rattle.plan_laws.proofs.Scopes.{scopes_full, has_scope}
-use Rattle.plan_laws.proofs.Homes.{kept_home, made_home, home_for, stage, at_cell, keeps_apart, least_columns, columns_counted, onto_least, onto_each, onto_some, entry_named}
+use Rattle.plan_laws.proofs.Homes.{kept_home, made_home, home_for, stage, at_cell, keeps_apart, least_columns, columns_counted, onto_each, onto_some, entry_named}
 
 -- ---- lists
 

@@ -1,17 +1,17 @@
 -- What is said of all functions of a valid program: which of their variables are marked, with which numbers, and what each site of a call takes.
-use Rattle.std.proofs.Common.{◌≡◌, ℕ, zero, suc, ◌+◌, ◌<◌, ◌≤◌, List, [], ◌∷◌, ◌++◌, Option, Some, None, length, map, replicate, refl, sym, ap, ap₂, ◌∙◌, subst, arith, ◌⊎◌, inl, inr, ⊎_elim, unwrap_or, append_assoc, length-append}
-use Rattle.std.specs.Prelude.{Bool as Test, true, false}
-use Rattle.std.specs.Prelude.{◌&&◌, slice_get, slice_index_or, flat_map}
+use Rattle.std.proofs.Common.{◌≡◌, ℕ, zero, suc, ◌+◌, ◌<◌, ◌≤◌, List, [], ◌∷◌, ◌++◌, Some, length, map, replicate, refl, sym, ap, ◌∙◌, subst, arith, ⊎_elim, unwrap_or, append_assoc, length-append}
+use Rattle.std.specs.Prelude.{Bool as Test, true}
+use Rattle.std.specs.Prelude.{◌&&◌, slice_get, flat_map}
 use Rattle.std.proofs.lemmas.Bool.{true≢false, and_parts}
 use Rattle.cl_model.specs.Tree.{Function, Program}
 use Rattle.cl_model.specs.Calls.{no_function, function_at}
 use Rattle.cl_model.specs.Lists.{Each, IsOneOf, AllDiffer}
 use Rattle.cl_model.specs.Valid.{sites_of_all, IsValidFunction, IsValid}
-use Rattle.ctx_plan.specs.Outline.{Outline, NoPiece, function_outline}
+use Rattle.ctx_plan.specs.Outline.{function_outline}
 use Rattle.ctx_plan.specs.Points.{entry}
-use Rattle.ctx_plan.specs.Sharing.{holding_of, own_columns, Columns, share_columns, both, Shares, row, crossing_of, columns_of, with_function, shares_onto, shares_of}
+use Rattle.ctx_plan.specs.Sharing.{holding_of, own_columns, both, Shares, row, crossing_of, columns_of, with_function, shares_onto, shares_of}
 use Rattle.ctx_plan.specs.Made.{number_at}
-use Rattle.plan_laws.specs.Placing.{CalledIn, IsPlaced}
+use Rattle.plan_laws.specs.Placing.{IsPlaced}
 use Rattle.plan_laws.proofs.Crossing.{crossing_length}
 use Rattle.plan_laws.proofs.Placing.{placed, placed_as, taken_kept, taken_stay}
 use Rattle.plan_laws.proofs.Once.{occurs, occurs_append, occurs_one, differ_once, called_some, function_call, function_once}

@@ -1,5 +1,5 @@
 -- Launches that are accepted are ready, and fit their kernels.
-use Rattle.std.proofs.Common.{◌≡◌, ℕ, zero, suc, ◌+◌, ◌<◌, ◌≤◌, List, [], ◌∷◌, ◌++◌, length, map, take, drop, get_or, Some, None, refl, sym, ◌∙◌, ap, ap₂, subst, arith}
+use Rattle.std.proofs.Common.{◌≡◌, ℕ, zero, suc, ◌+◌, ◌<◌, List, [], ◌∷◌, ◌++◌, length, map, take, drop, get_or, Some, None, sym, ◌∙◌, ap, ap₂, subst, arith}
 use Rattle.std.proofs.Math.Seq.{take-suc, drop-cons}
 use Rattle.std.specs.Prelude.{All}
 use Rattle.std.proofs.lemmas.List.{map-append, get_or-map}
@@ -18,7 +18,7 @@ use Rattle.launch_file.specs.Values.{HasOneLength}
 use Rattle.launch_file.proofs.Accepted.{accepts}
 use Rattle.wg_top.specs.declared.compile.Compiled.{Compiled}
 use Rattle.wg_top.specs.Units.{needs_in, first_refusal, or_later}
-use Rattle.wg_top.specs.Launches.{HasLimits, IsReady, AllFit}
+use Rattle.wg_top.specs.Launches.{IsReady, AllFit}
 use Rattle.wg_top.proofs.FitLemmas.{AreSmall, fits_kernel}
 
 -- the offsets of a bound launch

@@ -5,7 +5,6 @@ use Rattle.wg_outside.specs.Files.{FileMap, HasFileStart, LacksFile}
 use Rattle.wg_outside.specs.Counts.{Rose, last_count}
 use Rattle.buffer_io.specs.Loads.{LacksOneFile}
 use Rattle.buffer_io.specs.Saves.{AllSavedAs, KeepsAllBut, StopsAt}
-use Rattle.cl_prep.specs.declared.prep.Define.{Define}
 use Rattle.command_words.specs.Command.{Files}
 use Rattle.launch_file.specs.Binding.{loads_of, saves_of}
 use Rattle.launch_file.specs.Texts.{Text}
@@ -14,7 +13,7 @@ use Rattle.wg_top.specs.declared.RunError.TheVariants.{Failed, Absent, Source, L
 use Rattle.wg_top.specs.declared.Summary.{Summary}
 use Rattle.cl_meaning.specs.Typed.{Unit'}
 use Rattle.wg_front.specs.Front.{HasUnit}
-use Rattle.wg_top.specs.Causes.{Standing, Stands, SourceLoaded, RunRead, RunBound, BuffersLoaded, IsStopped, RunStopped, HasRun, Cause, ReadingCause, LeavesFiles, IsDone}
+use Rattle.wg_top.specs.Causes.{Standing, Stands, SourceLoaded, RunRead, IsStopped, RunStopped, HasRun, Cause, ReadingCause, LeavesFiles, IsDone}
 use Rattle.wg_top.specs.Units.{AreCompiled}
 use Rattle.wg_top.specs.Stages.{TextRead, LaunchCause, ProgramCause, BackCause, LeavesOthers, IsRun}
 

@@ -1,7 +1,6 @@
 -- The whole record of a compiled program behind the kernel, from what the passes answer.
-use Rattle.std.proofs.Common.{◌≡◌, ℕ, List, refl, sym, ap, subst, ◌∙◌, true, false}
+use Rattle.std.proofs.Common.{◌≡◌, ℕ, List, ◌∙◌, true, false}
 use Rattle.std.specs.Prelude.{Bool as Test}
-use Rattle.std.proofs.lemmas.Bool.{and_parts}
 use Rattle.wg_num.specs.declared.types.Width.{Width}
 use Rattle.cl_model.specs.Tree.{Program}
 use Rattle.kir.specs.Tree.{Kernel}

@@ -1,6 +1,6 @@
 -- A run whose files are there and accepted, where no fault rises, is done, or wants memory.
-use Rattle.std.proofs.Common.{◌≡◌, ℕ, Bool, List, take, Option, Some, None, inl, inr, sym, ◌∙◌, ap, ap₂, subst, arith}
-use Rattle.std.specs.Prelude.{◌⊎◌, Contains}
+use Rattle.std.proofs.Common.{◌≡◌, ℕ, Bool, List, take, Option, Some, None, inl, inr, sym, ◌∙◌, ap₂, subst}
+use Rattle.std.specs.Prelude.{◌⊎◌}
 use Rattle.wg_outside.specs.Counts.{Rose}
 use Rattle.wg_outside.specs.Files.{FileMap, HasFileStart, LacksFile, told_file}
 use Rattle.buffer_io.specs.Loads.{LacksOneFile}
@@ -14,7 +14,6 @@ use Rattle.wg_top.specs.declared.RunError.{RunError}
 use Rattle.wg_top.specs.declared.RunError.TheVariants.{Failed, Absent, Source, Launch, Range, Parted, Turns, Memory}
 use Rattle.cl_meaning.specs.Typed.{Unit'}
 use Rattle.wg_front.specs.Front.{HasUnit}
-use Rattle.lane_code.specs.declared.end.RunEnd.{RunEnd}
 use Rattle.lane_code.specs.declared.end.RunEnd.TheVariants as run
 use Rattle.lane_code.specs.Program.{Plain}
 use Rattle.wg_top.specs.Middle.{programs_in}

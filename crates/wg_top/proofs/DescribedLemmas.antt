@@ -1,10 +1,9 @@
 -- The plan and the shape of a compiled kernel, from what the passes answer.
 use Rattle.std.proofs.Common.{◌≡◌, ℕ, zero, suc, List, [], ◌∷◌, length, map, unwrap_or, refl, sym, ap, subst, ◌∙◌, false}
 use Rattle.std.specs.Prelude.{Result, Ok, Err, IfOk, slice_get}
-use Rattle.std.specs.Prelude.{Bool as Test}
 use Rattle.wg_num.specs.declared.types.Width.{Width}
 use Rattle.wg_num.specs.Operators.{lanes_of}
-use Rattle.cl_model.specs.Calls.{no_function, function_at}
+use Rattle.cl_model.specs.Calls.{no_function}
 use Rattle.cl_model.specs.Tree.{Program}
 use Rattle.cl_model.specs.Valid.{IsValid}
 use Rattle.cl_model.specs.Agreement.{Owned}
@@ -16,18 +15,14 @@ use Rattle.cl_valid.specs.Erased.{program_of, function_of}
 use Rattle.kir.specs.Tree.{Kernel}
 use Rattle.kir.specs.Cuts.{holds_barrier}
 use Rattle.kir.specs.Lowering.{Named}
-use Rattle.kir_lower.specs.Whole.{lowered_of, names_at}
-use Rattle.lowering_laws.specs.Names.{AreNamed}
 use Rattle.lowering_laws.proofs.Cells.{has_cells}
 use Rattle.lowering_laws.proofs.FewLines.{has_few_lines}
 use Rattle.lowering_laws.proofs.Parts.{has_parts}
 use Rattle.diverge.specs.Rounds.{varying_of}
-use Rattle.ctx_plan.specs.declared.plan.Home.TheVariants as home
 use Rattle.ctx_plan.specs.Planned.{Planned, AreVarying, IsCounted, IsPlan}
-use Rattle.ctx_plan.specs.Made.{plan_of}
 use Rattle.plan_laws.proofs.Plan.{is_plan}
-use Rattle.lane_code.specs.Program.{PlainCode, Items, Seq, Vote, Loop, Works, idle, then_work, Plain}
-use Rattle.lane_laws.specs.Chain.{Chain, NoWork, work_before, works_before}
+use Rattle.lane_code.specs.Program.{PlainCode, Plain}
+use Rattle.lane_laws.specs.Chain.{Chain, NoWork, works_before}
 use Rattle.regions.specs.Tree.{RegionOf, Tree, NoRegion, RegionThen, VoteThen, LoopThen}
 use Rattle.regions.specs.Split.{split_of}
 use Rattle.mask_lower.specs.Lowered.{region_code}
@@ -35,7 +30,7 @@ use Rattle.item_loops.specs.Program.{HasPartsOf, IsBuilt, IsOneCode}
 use Rattle.wg_top.specs.Compiled.{IsPlanned, IsShaped}
 use Rattle.wg_top.specs.Described.{KeepsOnceWhatIsEqual}
 use Rattle.wg_top.proofs.Passes.{once_is_steady}
-use Rattle.wg_top.specs.Middle.{names_in, kernel_in, plan_in, works_of, group_with, group_in, IsLike}
+use Rattle.wg_top.specs.Middle.{names_in, kernel_in, plan_in, works_of, group_in, IsLike}
 use Rattle.wg_top.proofs.Shape.{codes_have_few, holds_none}
 
 -- what follows where there is a value
@@ -108,11 +103,10 @@ planned_from u width kernel plan p valid varies kernel_is plan_is counted parts 
 pub kept_once : (program : Program) (kernel : Kernel) (plan : Planned) → IsValid program → IsPlan program kernel plan → KeepsOnceWhatIsEqual program kernel plan
 kept_once program kernel plan valid is c s at =
     let steady = once_is_steady program kernel plan is c (record { slot = s; home = at }) in
-    let owned : Owned = record { function = steady.variable.function; variable = steady.variable.number } in
-    (
+    let owned : Owned = record { function = steady.variable.function; variable = steady.variable.number } in (
       steady.variable,
       steady.cell,
       λ launch fits buffers.
-      let alike = agrees.once program launch buffers valid fits owned steady.steady in
-      (alike, carries program launch buffers valid fits owned alike),
+          let alike = agrees.once program launch buffers valid fits owned steady.steady in
+          (alike, carries program launch buffers valid fits owned alike),
     )

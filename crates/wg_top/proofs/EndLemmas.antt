@@ -1,10 +1,10 @@
 -- The words of a run, and how it ends.
-use Rattle.std.proofs.Common.{◌≡◌, ℕ, List, [], codes, inl, inr, refl, ap, arith}
+use Rattle.std.proofs.Common.{◌≡◌, ℕ, [], codes, inl, inr, refl, ap, arith}
 use Rattle.std.specs.Prelude.{◌⊎◌}
 use Rattle.wg_top.specs.declared.RunError.{RunError}
 use Rattle.wg_outside.specs.Counts.{Rose}
 use Rattle.wg_top.specs.declared.RunError.TheVariants.{Failed, Absent, Source, Launch, Range, Parted, Turns, Memory}
-use Rattle.wg_top.specs.Causes.{Standing, Cause, ReadingCause, LeavesFiles}
+use Rattle.wg_top.specs.Causes.{Standing, Cause, LeavesFiles}
 use Rattle.wg_top.specs.Lines.{error_line, done_line, sample_line, status_of}
 use Rattle.command_words.specs.Command.{Files, Request, run, plan, code, sample}
 use Rattle.wg_top.specs.Shown.{Showing, plan_shown, code_shown}

@@ -1,5 +1,5 @@
 -- The typed program of the model is the typed unit without names.
-use Rattle.std.proofs.Common.{◌≡◌, ℕ, ◌*◌, List, [], ◌∷◌, map, refl, sym, ◌∙◌, ap, ap₂}
+use Rattle.std.proofs.Common.{◌≡◌, ℕ, ◌*◌, List, [], ◌∷◌, map, refl, ap, ap₂}
 use Rattle.cl_model.specs.declared.program.Program as rust_program
 use Rattle.cl_model.specs.declared.program.Function as rust_function
 use Rattle.cl_model.specs.declared.program.Table as rust_table

@@ -1,6 +1,6 @@
 -- Launches that are accepted fit their kernels.
-use Rattle.std.proofs.Common.{◌≡◌, ℕ, zero, suc, ℤ, pos, ◌+◌, ◌<◌, ◌≤◌, ◌==◌, ◌||◌, ◌&&◌, Bool, true, false, not, List, [], ◌∷◌, length, map, get_or, Option, Some, None, inl, inr, refl, sym, zero-add, ◌∙◌, ap, subst, arith}
-use Rattle.std.specs.Prelude.{slice_get, slice_index, slice_index_or, nat_lt, nat_le, bytes_eq, sum}
+use Rattle.std.proofs.Common.{◌≡◌, ℕ, zero, suc, ℤ, pos, ◌+◌, ◌<◌, ◌≤◌, ◌==◌, ◌&&◌, Bool, true, false, List, [], ◌∷◌, length, map, Some, inl, inr, refl, sym, zero-add, ◌∙◌, ap, subst, arith}
+use Rattle.std.specs.Prelude.{slice_get, slice_index_or, nat_le, bytes_eq, sum}
 use Rattle.std.specs.List.{list_any}
 use Rattle.std.specs.Ordering.{int_eq}
 use Rattle.std.proofs.lemmas.Bool.{or_parts, cases_Bool, eqb-true, ltb-false, leb-true}
@@ -13,9 +13,8 @@ use Rattle.cl_model.specs.declared.program.Root.{Root}
 use Rattle.cl_model.specs.declared.program.Space.TheVariants as spaces
 use Rattle.cl_model.specs.declared.program.VarKind.{VarKind}
 use Rattle.cl_model.specs.declared.program.VarKind.TheVariants.{Scalar, Pointer}
-use Rattle.cl_model.specs.declared.launch.Bound.{Bound}
 use Rattle.cl_model.specs.declared.launch.Bound.TheVariants as bound
-use Rattle.cl_model.specs.Sizes.{Launch, size_at, offset_at}
+use Rattle.cl_model.specs.Sizes.{Launch, offset_at}
 use Rattle.cl_model.specs.Objects.{local_arguments}
 use Rattle.cl_model.specs.Fitting.{ArgumentFits, ArgumentsFit, DimensionFits}
 use Rattle.cl_prep.proofs.Tables.{same_bytes, bytes_same}
@@ -29,7 +28,7 @@ use Rattle.launch_file.specs.Refusals.{is_named}
 use Rattle.launch_file.specs.Texts.{Part}
 use Rattle.launch_file.specs.Values.{HasOneLength}
 use Rattle.wg_top.proofs.SumLemmas.{sum-cons}
-use Rattle.launch_file.proofs.Accepted.{Accepts, sizes_fit, number_in, not_not, size_in}
+use Rattle.launch_file.proofs.Accepted.{Accepts, sizes_fit, number_in, not_not}
 
 -- ---- the arguments
 

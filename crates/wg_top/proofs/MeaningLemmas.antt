@@ -1,10 +1,10 @@
 -- Programs that do the same in the same order end alike.
-use Rattle.std.proofs.Common.{◌≡◌, ℕ, zero, suc, Bool, List, [], ◌∷◌, ◌++◌, map, Option, Some, None, refl, sym, ◌∙◌, ap, subst}
+use Rattle.std.proofs.Common.{◌≡◌, ℕ, zero, suc, Bool, List, [], ◌∷◌, refl, sym, ◌∙◌, ap}
 use Rattle.std.specs.Prelude.{slice_get, slice_index_or}
 use Rattle.cl_model.specs.Sizes.{Launch, group_count}
 use Rattle.lane_code.specs.declared.end.RunEnd.{RunEnd}
 use Rattle.lane_code.specs.Groups.{Group}
-use Rattle.lane_code.specs.Program.{PlainCode, Work, Works, Plain}
+use Rattle.lane_code.specs.Program.{PlainCode, Work, Plain}
 use Rattle.lane_code.specs.Run.{RunEnded, chunk_at, chunk_count, chunk_ended, then_next, chunks_end, begun, finish, items_end, verdict, by_verdict, Doing, loop_end, work_end, start_group, run_ended, run_after, groups_end, program_end}
 use Rattle.lane_code.specs.Meaning.{region_end}
 use Rattle.lane_laws.specs.Chain.{Chain, NoWork, CodeThen, VoteThen, LoopThen, work_before, works_before, chain_end}
@@ -15,7 +15,7 @@ use Rattle.item_loops.specs.Program.{IsBuilt}
 use Rattle.wg_top.specs.declared.RunError.{RunError}
 use Rattle.wg_top.specs.declared.RunError.TheVariants as error
 use Rattle.wg_top.specs.Middle.{works_of, IsLike}
-use Rattle.wg_top.specs.Launches.{launch_end, LaunchRan, LaunchesRan, EndsBehind, EndsSo, site_place, start_place}
+use Rattle.wg_top.specs.Launches.{launch_end, LaunchesRan, EndsBehind, EndsSo, site_place, start_place}
 
 -- equal things to do
 same_doing : (f h : Doing) → ((t : ℕ) (g : Group) (b : List (List ℕ)) → f t g b ≡ h t g b) → f ≡ h

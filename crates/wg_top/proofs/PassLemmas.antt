@@ -1,5 +1,5 @@
 -- The passes, one after the other, leave what their functions say.
-use Rattle.std.proofs.Common.{◌≡◌, ℕ, List, refl, sym, ◌∙◌, ap, ap₂, subst}
+use Rattle.std.proofs.Common.{◌≡◌, ℕ, List, sym, ◌∙◌, ap, ap₂, subst}
 use Rattle.std.specs.Prelude.{Result, Ok, Err, IfOk}
 use Rattle.std.specs.Prelude.{Bool as Test}
 use Rattle.wg_num.specs.declared.types.Width.{Width}

@@ -1,20 +1,17 @@
 -- What the passes answer, put together: a kernel that comes from a program, with its plan and the code of each region, ends in outcomes of the program.
-use Rattle.std.proofs.Common.{◌≡◌, ℕ, true, List, Some, refl, ap, subst, ◌∙◌, sym}
-use Rattle.std.specs.Prelude.{slice_get}
-use Rattle.std.proofs.lemmas.Bool.{and_parts}
+use Rattle.std.proofs.Common.{◌≡◌, ℕ, true, List, refl, subst, sym}
 use Rattle.wg_num.specs.declared.types.Width.{Width}
 use Rattle.cl_model.specs.Tree.{Program}
 use Rattle.cl_model.specs.Sizes.{Launch}
 use Rattle.cl_model.specs.Fitting.{FitsProgram}
 use Rattle.kir.specs.Tree.{Kernel}
-use Rattle.kir.specs.Fits.{lines_fit, is_kernel}
+use Rattle.kir.specs.Fits.{lines_fit}
 use Rattle.kir.specs.Homes as kir
 use Rattle.kir.specs.Homes.{HasHome, once, column, kept, inner, passing}
 use Rattle.kir.specs.Evenness.{IsEven}
 use Rattle.kir.specs.Lowering.{Named, IsSteady, IsLoweringOf}
 use Rattle.kir.proofs.Outcomes.{shares_outcomes}
 use Rattle.kir.proofs.Shells.{shares_launches}
-use Rattle.ctx_plan.specs.declared.plan.Home.{Home}
 use Rattle.ctx_plan.specs.declared.plan.Home.TheVariants as home
 use Rattle.ctx_plan.specs.Homes.{IsOnce, sort_of}
 use Rattle.ctx_plan.specs.Planned.{Planned, IsPlan}

@@ -1,5 +1,5 @@
 -- Where no barrier stands in the inlined kernel, none is counted in it.
-use Rattle.std.proofs.Common.{◌≡◌, ℕ, zero, suc, ◌+◌, List, [], ◌∷◌, ◌++◌, Option, Some, None, length, refl, ap, ap₂, sym, ◌∙◌, true, false, arith}
+use Rattle.std.proofs.Common.{◌≡◌, ℕ, zero, suc, ◌+◌, List, [], ◌∷◌, ◌++◌, Option, Some, None, length, refl, ◌∙◌, true, false, arith}
 use Rattle.std.specs.Prelude.{◌||◌, sum_by, flat_map}
 use Rattle.std.specs.Prelude.{Bool as Test}
 use Rattle.std.proofs.lemmas.Bool.{true≢false}

@@ -1,5 +1,5 @@
 -- The launches of a launch file over its buffers.
-use Rattle.std.proofs.Common.{◌≡◌, ℕ, zero, suc, ◌+◌, ◌-◌, ◌<◌, ◌≤◌, Bool, true, false, List, [], ◌∷◌, length, map, take, replicate, get_or, Option, Some, None, refl, sym, ◌∙◌, ap, ap₂, subst, arith}
+use Rattle.std.proofs.Common.{◌≡◌, ℕ, zero, suc, ◌-◌, ◌<◌, ◌≤◌, Bool, true, false, List, [], ◌∷◌, length, map, take, replicate, get_or, Option, Some, None, refl, sym, ◌∙◌, ap, ap₂, subst, arith}
 use Rattle.std.specs.Prelude.{All, IfSome, IsUtf8}
 use Rattle.std.specs.List.{list_any}
 use Rattle.std.proofs.lemmas.Bool.{or_parts}
@@ -22,14 +22,14 @@ use Rattle.launch_file.specs.Values.{HasTexts}
 use Rattle.lane_code.specs.Program.{Plain}
 use Rattle.lane_code.specs.View.{plain_of}
 use Rattle.wg_top.specs.declared.RunError.{RunError}
-use Rattle.wg_top.specs.declared.RunError.TheVariants.{Failed, Absent, Source, Launch as Refused, Range, Parted, Turns, Memory}
+use Rattle.wg_top.specs.declared.RunError.TheVariants.{Range, Parted, Turns}
 use Rattle.wg_top.specs.declared.Summary.{Summary}
 use Rattle.wg_top.specs.declared.compile.Compiled.{Compiled}
 use Rattle.cl_meaning.specs.Typed.{Unit'}
 use Rattle.cl_piece.specs.View.{unit_of}
 use Rattle.wg_top.specs.Middle.{IsCompiledAt, group_in, programs_in}
 use Rattle.wg_top.specs.Units.{bind_refusal}
-use Rattle.wg_top.specs.Causes.{Standing, BuffersLoaded, IsStopped, HasRun}
+use Rattle.wg_top.specs.Causes.{Standing, BuffersLoaded, HasRun}
 use Rattle.wg_top.specs.Stages.{BackCause, LeavesOthers, SaveStopped, IsRun}
 use Rattle.wg_top.proofs.MeaningLemmas.{AreLike, ran_like, so_like}
 use Rattle.wg_top.specs.Launches.{IsReady, HasLimits, launches_in, LaunchesRan, EndsSo, all_groups, all_items}

@@ -1,5 +1,5 @@
 -- What the codes of a kernel's regions have of its text: no more loads and stores than are written, and one code where no barrier is.
-use Rattle.std.proofs.Common.{◌≡◌, ℕ, zero, suc, ◌+◌, ◌<◌, ◌≤◌, List, [], ◌∷◌, refl, sym, ap, subst, ◌∙◌, true, false, ◌⊎◌, inl, inr, arith}
+use Rattle.std.proofs.Common.{◌≡◌, ℕ, ◌<◌, ◌≤◌, List, [], ◌∷◌, refl, sym, ap, subst, true, false, inl, inr, arith}
 use Rattle.std.specs.Prelude.{◌||◌, nat_eq, if◌then◌else◌}
 use Rattle.std.specs.Prelude.{Bool as Test}
 use Rattle.std.proofs.lemmas.Bool.{true≢false, or_cases}
@@ -8,17 +8,17 @@ use Rattle.cl_model.specs.Tree.{Program}
 use Rattle.kir.specs.Tree.{Lines, NoLine, SetThen, LoadThen, StoreThen, ClearThen, IfThen, LoopThen, BarrierThen, joined_to, Kernel}
 use Rattle.kir.specs.Places.{Behind, IntoChosen, IntoOther, IntoTest, ToAnswer, IntoBody, Place, behind, chosen_of, other_of, test_of, body_of, lines_at}
 use Rattle.kir.specs.Cuts.{holds_barrier}
-use Rattle.kir.specs.Counts.{once_if, load_lines, store_lines, barrier_lines, loads_with, stores_with, barriers_with, count_inlined, HasFewLines}
+use Rattle.kir.specs.Counts.{once_if, load_lines, store_lines, barrier_lines, HasFewLines}
 use Rattle.kir.specs.Inlined.{function_holds}
 use Rattle.ctx_plan.specs.declared.plan.Home.{Home}
-use Rattle.lane_code.specs.Program.{PlainCode, Work, Items, Seq, Vote, Loop, Works, idle, then_work, Plain}
+use Rattle.lane_code.specs.Program.{PlainCode, Work, Items, Seq, Vote, Loop, Works, idle, then_work}
 use Rattle.lane_laws.specs.Chain.{Chain, NoWork, CodeThen, VoteThen as VoteWork, LoopThen as LoopWork, work_before, works_before}
 use Rattle.regions.specs.Tree as tree
 use Rattle.regions.specs.Tree.{RegionOf}
 use Rattle.regions.specs.Pieces.{EachRegion, IsPiece}
 use Rattle.regions.specs.Split.{split_of}
 use Rattle.regions.proofs.Pieces.{split_pieces}
-use Rattle.mask_lower.specs.Counts.{load_steps, store_steps, SameAccesses}
+use Rattle.mask_lower.specs.Counts.{load_steps, store_steps}
 use Rattle.mask_lower.specs.Lowered.{region_code, region_steps}
 use Rattle.mask_lower.proofs.Tallies.{same_accesses}
 use Rattle.item_loops.specs.Program.{IsBuilt, EachCode, EachCodeOf}

@@ -1,6 +1,6 @@
 -- Each site at which the program of a group may end is one of its kernel's, so it has a place.
 use Rattle.std.proofs.Common.{◌≡◌, ℕ, zero, suc, ◌+◌, ◌-◌, ◌<◌, List, [], ◌∷◌, length, Option, Some, None, true, false, refl, subst, arith, ltb-true}
-use Rattle.std.specs.Prelude.{nat_lt, nat_eq, not, ◌&&◌, slice_get, if◌then◌else◌}
+use Rattle.std.specs.Prelude.{nat_lt, nat_eq, ◌&&◌, slice_get, if◌then◌else◌}
 use Rattle.std.specs.Prelude.{Bool as Test}
 use Rattle.std.proofs.lemmas.Bool.{and_parts}
 use Rattle.wg_num.specs.declared.types.Place.{Place}

@@ -4,7 +4,6 @@ use Rattle.launch_file.specs.Texts.{text_of, part_of}
 use Rattle.launch_file.specs.Values.{HasTexts, HasOneLength}
 use Rattle.launch_file.specs.Refusals.{saved_twice}
 use Rattle.launch_file.specs.declared.text.LaunchText.{LaunchText}
-use Rattle.wg_top.specs.declared.compile.Compiled.{Compiled}
 use Rattle.wg_top.specs.declared.reading.Given.{Given}
 use Rattle.wg_top.specs.Middle.{IsCompiledAt}
 

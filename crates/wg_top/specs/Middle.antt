@@ -1,5 +1,5 @@
 -- A typed unit through the passes: the kernel without calls, which variables vary, where its cells are kept, its regions, and the program of a group.
-use Rattle.std.specs.Prelude.{◌≡◌, ℕ, true, false, List, [], map}
+use Rattle.std.specs.Prelude.{◌≡◌, ℕ, true, false, List, map}
 use Rattle.cl_model.specs.Tree.{Table}
 use Rattle.cl_valid.specs.Erased.{program_of}
 use Rattle.cl_meaning.specs.Typed.{Unit'}

@@ -1,4 +1,3 @@
-use Rattle.std.proofs.Common.{◌≡◌, ◌∙◌, sym, ap, subst}
 use Rattle.cl_piece.specs.View.{unit_of}
 use Rattle.kir.specs.View.{kernel_of}
 use Rattle.ctx_plan.specs.View.{planned_of}

@@ -1,4 +1,4 @@
-use Rattle.std.proofs.Common.{◌≡◌, ◌∙◌, ◌<◌, ◌++◌, [], ◌∷◌, List, length, map, get_or, sym, ap, subst, arith, rules}
+use Rattle.std.proofs.Common.{◌≡◌, ◌∙◌, ◌<◌, ◌++◌, [], ◌∷◌, List, length, map, get_or, ap, subst, arith, rules}
 use Rattle.std.specs.Prelude.{Err}
 use Rattle.std.proofs.lemmas.List.{length-map, get_or_default}
 use Rattle.cl_model.specs.View.{launch_of}
@@ -9,7 +9,6 @@ use Rattle.lane_code.specs.View.{plain_of}
 use Rattle.launch_file.specs.Binding.{part_at}
 use Rattle.launch_file.specs.Texts.{Part, part_of, text_of}
 use Rattle.launch_file.specs.Values.{HasOneLength}
-use Rattle.launch_file.specs.declared.text.LaunchPart.{LaunchPart}
 use Rattle.cl_meaning.specs.Typed.{Unit'}
 use Rattle.wg_top.specs.declared.compile.Compiled.{Compiled}
 use Rattle.wg_top.specs.Middle.{IsCompiledAt}

@@ -1,4 +1,4 @@
-use Rattle.std.proofs.Common.{◌≡◌, ◌<◌, length, ◌∙◌, ap₂, ◌+◌, ℕ, sym, arith}
+use Rattle.std.proofs.Common.{◌<◌, length, ◌∙◌, ap₂, ◌+◌, ℕ, sym, arith}
 use Rattle.cl_model.specs.View.{launch_of}
 use Rattle.wg_top.specs.Launches.{HasLimits}
 use Rattle.wg_top.proofs.LaunchLemmas.{holds_at, more_groups, more_items}

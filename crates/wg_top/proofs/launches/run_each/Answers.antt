@@ -1,7 +1,6 @@
-use Rattle.std.proofs.Common.{◌≡◌, ◌<◌, ◌+◌, ◌∙◌, List, ℕ, Vec, Global, length, map, take, get_or, set, sym, ap, subst, arith}
+use Rattle.std.proofs.Common.{◌≡◌, ◌<◌, ◌+◌, ◌∙◌, List, ℕ, Vec, Global, length, get_or, set, sym, ap, subst, arith}
 use Rattle.std.specs.Prelude.{Some, None}
 use Rattle.std.proofs.lemmas.List.{set-get_or}
-use Rattle.wg_num.specs.declared.types.Place.{Place}
 use Rattle.cl_model.specs.View.{launch_of, buffers_of}
 use Rattle.cl_model.specs.Fitting.{FitBuffers}
 use Rattle.cl_model.specs.Sizes.{Launch}

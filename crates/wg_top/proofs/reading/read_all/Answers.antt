@@ -1,10 +1,7 @@
-use Rattle.std.proofs.Common.{map, sym, subst, ◌∙◌, List, ℕ, Option}
-use Rattle.std.proofs.lemmas.Result.{IfOk-weaker, IfErr-weaker}
 use Rattle.command_words.specs.Command.{Files}
-use Rattle.launch_file.specs.Texts.{text_of}
 use Rattle.wg_top.specs.Causes.{Standing, standing}
 use Rattle.wg_top.specs.Ends.{asked}
-use Rattle.wg_top.proofs.CauseLemmas.{launch_cause, program_cause, text_before, run_read, stands_over}
+use Rattle.wg_top.proofs.CauseLemmas.{launch_cause, program_cause, text_before, run_read}
 use Rattle.wg_top.proofs.reading.read_all.Goals as goal
 
 pub returns-in-Err-clause-err : goal.returns-in-Err-clause-err

@@ -1,4 +1,4 @@
-use Rattle.std.proofs.Common.{◌≡◌, ◌<◌, ◌≤◌, ◌∙◌, Option, List, ℕ, Vec, Global, map, length, get_or, inl, inr, refl, sym, ap, subst, arith}
+use Rattle.std.proofs.Common.{◌≡◌, ◌≤◌, ◌∙◌, Option, List, ℕ, Vec, Global, map, length, get_or, inr, sym, ap, subst, arith}
 use Rattle.std.specs.Prelude.{All, IfSome, IsUtf8}
 use Rattle.buffer_io.specs.Saves.{AreApart}
 use Rattle.cl_model.specs.declared.launch.Launch.{Launch as Bindings}

@@ -1,4 +1,3 @@
-use Rattle.std.proofs.Common.{map, ◌∙◌}
 use Rattle.std.proofs.lemmas.Result.{IfOk-weaker, IfErr-weaker}
 use Rattle.command_words.specs.Command.{Files}
 use Rattle.wg_top.specs.Causes.{Standing, standing}

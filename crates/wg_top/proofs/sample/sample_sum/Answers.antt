@@ -1,4 +1,4 @@
-use Rattle.std.proofs.Common.{Some, inl, inr, ap}
+use Rattle.std.proofs.Common.{Some, inl, ap}
 use Rattle.std.proofs.lemmas.Result.{IfOk-weaker, IfErr-weaker}
 use Rattle.wg_outside.specs.MemoryStore.{StoreView}
 use Rattle.wg_top.specs.Causes.{Standing}

@@ -1,4 +1,4 @@
-use Rattle.std.proofs.Common.{◌≡◌, ℕ, ◌+◌, ◌<◌, ◌≤◌, ◌++◌, List, [], length, map, get_or, sym, ap, ap₂, ◌∙◌, subst, append-nil, arith}
+use Rattle.std.proofs.Common.{◌≡◌, ℕ, ◌+◌, ◌<◌, ◌≤◌, ◌++◌, List, [], length, map, sym, ap, ap₂, ◌∙◌, subst, append-nil, arith}
 use Rattle.std.proofs.lemmas.List.{length-map, get_or_default}
 use Rattle.cl_meaning.specs.Typed.{Unit'}
 use Rattle.cl_piece.specs.View.{unit_of}
@@ -6,7 +6,7 @@ use Rattle.launch_file.specs.Binding.{part_at}
 use Rattle.launch_file.specs.Texts.{Part, text_of}
 use Rattle.wg_top.specs.declared.compile.Compiled.{Compiled}
 use Rattle.wg_top.specs.Middle.{IsCompiledAt}
-use Rattle.wg_top.specs.Shown.{Showing, showing, head_of, AreTexts}
+use Rattle.wg_top.specs.Shown.{showing, head_of, AreTexts}
 use Rattle.wg_top.proofs.BoundLemmas.{at_place}
 use Rattle.wg_top.proofs.LaunchLemmas.{holds_at}
 use Rattle.wg_top.proofs.ShownLemmas.{one_text, same_at, no_text}

@@ -1,4 +1,4 @@
-use Rattle.std.proofs.Common.{◌≡◌, ℕ, suc, ◌++◌, List, map, drop}
+use Rattle.std.proofs.Common.{ℕ, suc, ◌++◌, List, map, drop}
 use Rattle.cl_piece.specs.View.{unit_of}
 use Rattle.launch_file.specs.Texts.{text_of}
 use Rattle.wg_top.specs.Shown.{showing, AreTexts}
