@@ -1,7 +1,10 @@
 mod Arguments
+pub mod Ends
 mod Joining
 mod Lowering
 mod Past
 mod Patch
 pub mod Roots
+pub mod Start
 pub mod Tallies
+pub mod Votes

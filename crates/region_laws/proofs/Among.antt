@@ -13,7 +13,7 @@ use Rattle.kir.specs.Fits.{atom_type, has_some_type, is_site, lines_fit, roots_a
 use Rattle.regions.specs.Tree.{RegionOf, Tree, RegionThen, VoteThen, LoopThen}
 use Rattle.regions.specs.Split.{until_cut, live_from, region_to, cut_into, split_of}
 use Rattle.regions.specs.Pieces.{EachRegion, IsAmong, here, behind_region, is_test, is_mixed, in_agreed, in_refused, behind_vote, is_rest, in_test, in_body, behind_loop}
-use Rattle.region_laws.specs.Follows.{RegionFits}
+use Rattle.region_laws.specs.Fits.{RegionFits}
 
 pub each_among : (P : RegionOf → Type 0) (region : RegionOf) (tree : Tree) → EachRegion P tree → IsAmong region tree → P region
 each_among P region _ each here = each.0

@@ -45,7 +45,8 @@ use Rattle.kir_moves.specs.Stand.{start_stage, ItemsLead}
 use Rattle.kir_moves.proofs.Own.{any_goes_on}
 use Rattle.kir_moves.proofs.Told.{TasksFit}
 use Rattle.mask_lower.specs.Standing.{type_of}
-use Rattle.region_laws.specs.Values.{HasGlobalSizes, HoldTypes}
+use Rattle.region_laws.specs.Values.{HoldTypes}
+use Rattle.mask_lower.specs.Layout.{HasSizes}
 
 -- ---- types
 
@@ -180,9 +181,9 @@ within_groups global local q n lt lt' some =
     let one : (suc q) * local ≡ q * local + local = suc-mul q local in
     omega (arith, split, more, one, lt')
 
-module _ (program : Program) (launch : Launch) (fits : FitsProgram program launch) (sizes : HasGlobalSizes launch) where
+module _ (program : Program) (launch : Launch) (fits : FitsProgram program launch) (sizes : HasSizes launch) where
   global_small : (d : ℕ) → size_at launch.global d ≤ 2 ^ 24
-  global_small d = let a = size_below launch.global d sizes in let b = fits.item_limit in omega arith
+  global_small d = let a = size_below launch.global d sizes.global in let b = fits.item_limit in omega arith
 
   local_small : (d : ℕ) → d < 3 → size_at launch.local d ≤ size_at launch.global d
   local_small d lt =
@@ -282,7 +283,7 @@ set_typed kernel i tasks to t v holds takes is c of e = go (nat_eq to c) refl
         subst (λ u. IsValue u v) is_of is
     go false ne = holds c of e
 
-module _ (kernel : Kernel) (launch : Launch) (fits : FitsProgram (shell_of kernel) launch) (sizes : HasGlobalSizes launch) where
+module _ (kernel : Kernel) (launch : Launch) (fits : FitsProgram (shell_of kernel) launch) (sizes : HasSizes launch) where
   pub work_typed : (i : Item) (work : Work) (t : IntType) → HoldTypes kernel i.cells → work_fits kernel work ≡ true → work_type kernel work ≡ Some t → IsValue t (work_value launch i work)
   work_typed i (Unary op of a) t holds f e = subst (λ u. IsValue u (unary_of op of (atom_value i.cells a))) (same_Some _ _ e) (unary_value op of (atom_value i.cells a))
   work_typed i (Binary op of a b) t holds f e = subst (λ u. IsValue u (binary_of op of (atom_value i.cells a) (atom_value i.cells b))) (same_Some _ _ e) (binary_value op of (atom_value i.cells a) (atom_value i.cells b))

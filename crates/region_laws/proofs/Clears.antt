@@ -46,7 +46,7 @@ use Rattle.region_laws.proofs.View.{code_well, mask_length}
 use Rattle.region_laws.proofs.Standing.{good_there}
 use Rattle.region_laws.proofs.Bytes.{memory_below, below_other, below_own}
 use Rattle.region_laws.proofs.Numbers.{privates_differ}
-use Rattle.region_laws.proofs.StartObjects.{at_private}
+use Rattle.mask_lower.proofs.Start.{at_private}
 use Rattle.region_laws.proofs.Objects.{place_within}
 use Rattle.region_laws.proofs.Mirroring.{own_mirrored}
 use Rattle.region_laws.proofs.Soundness.{Accesses}

@@ -43,25 +43,26 @@ use Rattle.mask_lower.specs.Banks.{mask_reg}
 use Rattle.mask_lower.specs.Atoms.{atoms_voted}
 use Rattle.mask_lower.specs.Layout.{kernel_chunk, HasShape, Mirrors}
 use Rattle.mask_lower.specs.Standing.{type_of, HasLive, HasVoted}
-use Rattle.mask_lower.specs.Following.{ChunkOf}
+use Rattle.mask_lower.specs.Following.{ChunkOf, ChunkDone, ReadsVote}
 use Rattle.mask_lower.specs.Registers.{Frame, cell_at, operand}
 use Rattle.mask_lower.specs.Homes.{exit_code}
 use Rattle.mask_lower.specs.Lowered.{vote_code}
 use Rattle.region_laws.specs.View.{value_at, Shaped}
 use Rattle.region_laws.specs.Framed.{IsFramed, Held}
 use Rattle.region_laws.specs.Sim.{Ground, Sim, Closed}
-use Rattle.region_laws.specs.Follows.{Done, RegionFits, ReadsVote}
+use Rattle.region_laws.specs.Fits.{RegionFits}
 use Rattle.region_laws.proofs.View.{code_well, mask_length, zip3_read, zip3_length}
 use Rattle.region_laws.proofs.Standing.{good_there}
 use Rattle.region_laws.proofs.Atoms.{operand_is, entry_at}
-use Rattle.region_laws.proofs.Ends.{ends_kept, ends_apart, ends_even}
+use Rattle.mask_lower.proofs.Ends.{ends_even}
+use Rattle.region_laws.proofs.Ends.{ends_kept, ends_apart}
 use Rattle.region_laws.proofs.Exiting.{Left, exit_runs}
 use Rattle.region_laws.proofs.Soundness.{yes_at, test_runs, yes_is}
 
 module _ (kernel : Kernel) (launch : Launch) (width : ℕ) (chunk : ChunkOf kernel launch width) (turns : ℕ) (w0 : Stage Item) (g0 : Group) (f : Frame) (counts : Counts) (r0 : Registers) (ground : Ground kernel launch w0)
     (atoms : List Atom) (framed : IsFramed kernel f atoms) (code : List Step) (valid : is_code counts code ≡ true) (Good : Ended → Type 0) (Sites : ℕ → Type 0) (Goal : Tasks) (closed : Closed kernel launch width chunk turns w0 Sites Goal Good)
     (plan : Planned) (suits : Suits kernel plan) (shaped : HasShape plan.columns plan.slots (group_size launch) g0) (region : RegionOf) (e : Tasks) (is_end : IsEnd kernel e) (live : HasLive kernel region.live e) (reads_vote : ReadsVote region.answer e) (fits : RegionFits kernel region)
-    (done : (t : ℕ) (st : State) (after : Stage Item) → Done kernel plan.homes launch width chunk region.answer e w0 turns g0 t st after → Good (record { end = end.Done; turns = t; state = st })) where
+    (done : (t : ℕ) (st : State) (after : Stage Item) → ChunkDone kernel plan.homes launch width chunk region.answer e w0 turns g0 t st after → Good (record { end = end.Done; turns = t; state = st })) where
   abbrev EndFrom : ℕ → ℕ → State → Ended
   EndFrom t p st = Rattle.lane_code.specs.Meaning.code_end (kernel_chunk kernel launch width chunk.group chunk.first) code t p st
 
@@ -176,7 +177,7 @@ module _ (kernel : Kernel) (launch : Launch) (width : ℕ) (chunk : ChunkOf kern
             );
         slots = λ c s q. let below = suits.slots_below c s q in let n = ap (λ (x : List ℕ). length x) (voted.exits ∙ sim.group.exits) in let m = shaped.exit_count in omega arith;
       })
-      (λ c d h mc md ne qc qd not_register. ends_apart kernel plan suits ground.valid launch ground.fits ground.buffers ground.fit e is_end c d h (live.kept c mc).1 (live.kept d md).1 ne qc qd)
+      (λ c d h mc md ne qc qd not_register. ends_apart kernel plan suits e is_end c d h (live.kept c mc).1 (live.kept d md).1 ne qc qd)
       (λ c s m q l j item item'. even w sim c s m q l j (lane_of l item) (lane_of j item'))
       (λ st5 left.
       let total : length code ≤ p + length vc + length ec = omega (arith, length-append vc ec, whole) in
@@ -193,7 +194,7 @@ module _ (kernel : Kernel) (launch : Launch) (width : ℕ) (chunk : ChunkOf kern
               let en = entry c m in
               let op_type : (cell_at f.cells c).of ≡ of = same_Some _ _ (sym (framed.entries c (cell_at f.cells c) en).typed ∙ typed) in
               subst (λ ty. Rattle.mask_lower.specs.Standing.Holds h ty st5.group.columns st5.group.exits (chunk.first + l) ((item_at w l).cells c)) op_type
-              (left.holds c (cell_at f.cells c) h m en q (λ is_register. ends_kept kernel plan suits ground.valid launch ground.fits ground.buffers ground.fit e is_end c is_live (q ∙ ap Some is_register)) l (item_of l lane)),
+              (left.holds c (cell_at f.cells c) h m en q (λ is_register. ends_kept kernel plan suits e is_end c is_live (q ∙ ap Some is_register)) l (item_of l lane)),
         );
         voted = λ l lane. subst (λ (votes : List Test). HasVoted region.answer (slice_index_or votes (chunk.first + l) false) (item_at w l).cells) (sym left.kept.votes) (voted.voted l lane);
         shape = λ columns slots sh. record {
@@ -240,7 +241,7 @@ module _ (kernel : Kernel) (launch : Launch) (width : ℕ) (chunk : ChunkOf kern
       even : (w : Stage Item) → AtStage t (λ l. e) st w → (c s : ℕ) → IsOneOf region.live c → slice_get plan.homes c ≡ Some (home.Once s) → (l j : ℕ) → IsLane chunk.lanes l → IsLane chunk.lanes j → (item_at w l).cells c ≡ (item_at w j).cells c
       even w sim c s m q l j lane lane' =
           let leads = leads_then (machine_of kernel launch) (item_count launch) (start_stage kernel launch ground.buffers) w0 w ground.leads sim.reached.by in
-          ends_even kernel plan suits ground.valid launch ground.fits ground.buffers ground.fit e is_end w leads (chunk.lanes.first + l) (chunk.lanes.first + j) (chunk.lanes.inside l lane.0 lane.1) (chunk.lanes.inside j lane'.0 lane'.1)
+          ends_even kernel plan ground.valid suits.even launch ground.fits ground.buffers ground.fit e is_end w leads (chunk.lanes.first + l) (chunk.lanes.first + j) (chunk.lanes.inside l lane.0 lane.1) (chunk.lanes.inside j lane'.0 lane'.1)
           (group_is l lane ∙ sym (group_is j lane')) (sim.stand l lane).0 (sim.stand j lane').0 c s q (live.kept c m).1
         where
           group_is : (l : ℕ) → IsLane chunk.lanes l → group_of launch (chunk.lanes.first + l) ≡ chunk.group

@@ -16,7 +16,6 @@ pub mod Bytes
 pub mod Numbers
 pub mod Mirroring
 pub mod Stores
-pub mod StartObjects
 pub mod Clears
 pub mod Entering
 pub mod Exiting
@@ -25,5 +24,3 @@ pub mod Finishing
 pub mod Regions
 pub mod Among
 pub mod Following
-pub mod Votes
-pub mod Findings

@@ -11,8 +11,8 @@ use Rattle.kir.specs.Steps.{shell_of}
 use Rattle.lane_code.specs.Groups.{Buffer, LocalObject, with_window}
 use Rattle.lane_code.specs.Acts.{State, with_shared, with_group, objects_stored}
 use Rattle.lane_laws.proofs.Reading.{with_window_length, before_window, in_window, behind_window}
-use Rattle.mask_lower.specs.Layout.{Mirrors}
-use Rattle.region_laws.specs.Sim.{SameGroup, OthersObjectsStay}
+use Rattle.mask_lower.specs.Layout.{Mirrors, OtherGroupsStay}
+use Rattle.region_laws.specs.Sim.{SameGroup}
 use Rattle.region_laws.proofs.Numbers.{local_private, locals_differ, privates_differ}
 use Rattle.region_laws.proofs.Objects.{group_there}
 
@@ -20,7 +20,7 @@ use Rattle.region_laws.proofs.Objects.{group_there}
 pub record Mirrored (kernel : Kernel) (launch : Launch) (group : ℕ) (memory after : Memory) (st st' : State) : Type 0 where
   pub registers : st'.registers ≡ st.registers
   pub mirrors : Mirrors kernel launch group after st'.group st'.buffers
-  pub others : OthersObjectsStay kernel launch group memory after
+  pub others : OtherGroupsStay kernel launch group memory after
   pub kept : SameGroup st.group st'.group
   pub rows : (n : ℕ) → n < length st'.group.privates → length (slice_index_or st'.group.privates n []) ≡ group_size launch
 

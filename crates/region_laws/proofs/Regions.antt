@@ -46,19 +46,18 @@ use Rattle.regions.specs.Tree.{RegionOf}
 use Rattle.regions.specs.Spans.{IsEnd, past_lines}
 use Rattle.mask_lower.specs.declared.registers.Free.{Free}
 use Rattle.mask_lower.specs.declared.registers.Operand.{Operand}
-use Rattle.mask_lower.specs.Banks.{register_at, advanced}
+use Rattle.mask_lower.specs.Banks.{register_at, advanced, mask_reg}
 use Rattle.mask_lower.specs.Atoms.{atoms_in, atoms_voted, cell_atom, region_atoms}
-use Rattle.mask_lower.specs.Layout.{kernel_chunk, HasShape, Mirrors}
+use Rattle.mask_lower.specs.Layout.{kernel_chunk, HasShape, Mirrors, OtherGroupsStay}
 use Rattle.mask_lower.specs.Standing.{type_of, HasLive, AtHome, LanesStand, LanesVoted}
-use Rattle.mask_lower.specs.Following.{ChunkOf}
+use Rattle.mask_lower.specs.Following.{ChunkOf, ChunkSays, ReadsVote}
 use Rattle.mask_lower.specs.Homes.{entry_code, exit_code}
 use Rattle.mask_lower.specs.Registers.{Frame, frame_for, first_constants, constants, past}
-use Rattle.mask_lower.specs.Banks.{mask_reg}
 use Rattle.mask_lower.specs.Lowered.{lines_code, begun_code, turn_code, vote_code, region_steps}
 use Rattle.region_laws.specs.View.{value_at, is_lane, Shaped}
 use Rattle.region_laws.specs.Framed.{number_in, Held}
-use Rattle.region_laws.specs.Sim.{Ground, Agrees, Above, Sim, Closed, OthersObjectsStay}
-use Rattle.region_laws.specs.Follows.{Says, RegionFits, ReadsVote}
+use Rattle.region_laws.specs.Sim.{Ground, Agrees, Above, Sim, Closed}
+use Rattle.region_laws.specs.Fits.{RegionFits}
 use Rattle.region_laws.proofs.LaneValues.{lane_in}
 use Rattle.region_laws.proofs.Frames.{register_bank, type_lane, framed, some_left, some_right, held_left, held_right}
 use Rattle.region_laws.proofs.Standing.{sim_names, cond_set}
@@ -256,7 +255,7 @@ module _ (kernel : Kernel) (plan : Planned) (suits : Suits kernel plan) (launch 
 
   module _ (e : Tasks) (is_end : IsEnd kernel e) (live : HasLive kernel region.live e) (reads_vote : ReadsVote region.answer e) where
     abbrev Good : Ended → Type 0
-    Good x = Says kernel plan.homes launch width chunk region e w0 turns g0 x.end x.turns x.state
+    Good x = ChunkSays kernel plan.homes launch width chunk region e w0 turns g0 x.end x.turns x.state
 
     abbrev Site : ℕ → Type 0
     Site site = 0 < barrier_lines site region.lines
@@ -281,7 +280,7 @@ module _ (kernel : Kernel) (plan : Planned) (suits : Suits kernel plan) (launch 
       reached = reached;
       mirrors = subst (λ m. Mirrors kernel launch chunk.group m st.group st.buffers) (sym memory)
           (subst (λ bs. Mirrors kernel launch chunk.group w0.memory st.group bs) (sym b.buffers_are) (subst (λ g. Mirrors kernel launch chunk.group w0.memory g buffers) (sym b.group) mirrors));
-      others = subst (λ m. OthersObjectsStay kernel launch chunk.group w0.memory m) (sym memory) (record { locals = λ other n lt ne below. refl; privates = λ item n ne below. refl });
+      others = subst (λ m. OtherGroupsStay kernel launch chunk.group w0.memory m) (sym memory) (record { locals = λ other n lt ne below. refl; privates = λ item n ne below. refl });
       group = record { columns = ap (λ (g : Group). g.columns) b.group; entries = ap (λ (g : Group). g.entries) b.group; exits = ap (λ (g : Group). g.exits) b.group; votes = ap (λ (g : Group). g.votes) b.group };
       rows = subst (λ (g : Group). (n : ℕ) → n < length g.privates → length (slice_index_or g.privates n []) ≡ group_size launch) (sym b.group) shaped.each_private;
       shape = b.shape;

@@ -21,11 +21,11 @@ use Rattle.group_moves.proofs.Runs.{leads_then}
 use Rattle.kir_moves.specs.Stand.{start_stage}
 use Rattle.kir_moves.proofs.Own.{items_stand}
 use Rattle.mask_lower.specs.declared.registers.Operand.{Operand}
-use Rattle.mask_lower.specs.Layout.{Mirrors}
+use Rattle.mask_lower.specs.Layout.{Mirrors, OtherGroupsStay}
 use Rattle.mask_lower.specs.Following.{ChunkOf}
 use Rattle.mask_lower.specs.Registers.{Frame}
 use Rattle.region_laws.specs.View.{value_at, Shaped}
-use Rattle.region_laws.specs.Sim.{Ground, IsGood, Agrees, Above, SameGroup, OthersObjectsStay, Sim}
+use Rattle.region_laws.specs.Sim.{Ground, IsGood, Agrees, Above, SameGroup, Sim}
 use Rattle.region_laws.proofs.CellValues.{cells_hold}
 
 -- tasks that differ where the mask is set alone
@@ -101,7 +101,7 @@ module _ (kernel : Kernel) (launch : Launch) (width : ℕ) (chunk : ChunkOf kern
           reached = m.reached;
           mirrors = subst (λ x. Mirrors kernel launch chunk.group x st'.group st'.buffers) (sym m.memory)
               (subst (λ b. Mirrors kernel launch chunk.group w.memory st'.group b) (sym outer.buffers) (subst (λ g. Mirrors kernel launch chunk.group w.memory g st.buffers) (sym outer.group) sim.mirrors));
-          others = subst (λ x. OthersObjectsStay kernel launch chunk.group w0.memory x) (sym m.memory) sim.others;
+          others = subst (λ x. OtherGroupsStay kernel launch chunk.group w0.memory x) (sym m.memory) sim.others;
           group = subst (λ g. SameGroup g0 g) (sym outer.group) sim.group;
           rows = subst (λ (g : Group). (n : ℕ) → n < Rattle.std.proofs.Common.length g.privates → Rattle.std.proofs.Common.length (slice_index_or g.privates n Rattle.std.proofs.Common.[]) ≡ Rattle.cl_model.specs.Sizes.group_size launch) (sym outer.group) sim.rows;
           shape = shape;

@@ -1,26 +1,26 @@
 -- The code of a store does what the items of its active lanes do, lane 0 first, or the lowest that is out of range is shown.
-use Rattle.std.proofs.Common.{◌≡◌, ℕ, suc, ◌+◌, ◌*◌, ◌<◌, ℤ, List, [], ◌∷◌, length, Option, Some, None, refl, sym, ap, ◌∙◌, subst, arith, cond}
+use Rattle.std.proofs.Common.{◌≡◌, ℕ, suc, ◌+◌, ◌*◌, ◌<◌, ℤ, List, [], ◌∷◌, length, Option, Some, None, refl, sym, ap, ◌∙◌, subst, arith, cond, ◌≢◌}
 use Rattle.std.specs.Prelude.{slice_get, slice_index_or, ◌&&◌, ◌||◌, not}
 use Rattle.std.specs.Prelude.{Bool as Test, true, false}
 use Rattle.std.specs.Simd.Lanes.{zip2, chunk as element_at, number_l}
-use Rattle.std.proofs.lemmas.Bool.{cases_Bool, true≢false, and_parts, or_left, or_right, eqb-true, eqb-false, eq-eqb, ne_eqb, lt-ltb, le-ltb, ltb-true, not_from_false}
+use Rattle.std.proofs.lemmas.Bool.{cases_Bool, true≢false, and_parts, or_left, or_right, eqb-true, eqb-false, eq-eqb, ne_eqb, lt-ltb, le-ltb, ltb-true, not_from_false, cases_eq, cases_lt}
 use Rattle.std.proofs.lemmas.Simd.{get_or-zip2, length-zip2}
-use Rattle.work_items.specs.Memory.{bytes_of, first_byte, has_element, is_in_range, loaded as loaded_bytes}
-use Rattle.work_items.specs.Items.{fault_of}
+use Rattle.work_items.specs.Memory.{bytes_of, first_byte, has_element, is_in_range, loaded as loaded_bytes, Memory, overwritten}
+use Rattle.work_items.specs.Items.{fault_of, Stores}
 use Rattle.wg_num.specs.declared.types.IntType.{IntType}
 use Rattle.wg_num.specs.declared.types.IntType.TheVariants as types
-use Rattle.wg_num.specs.Bytes.{size_of}
+use Rattle.wg_num.specs.Bytes.{size_of, bytes_of as bytes_of_value}
 use Rattle.lane_values.specs.Lanes.{lane as lane_bits}
-use Rattle.lane_values.specs.Access.{is_within, is_fault, faults}
+use Rattle.lane_values.specs.Access.{is_within, is_fault, faults, put_element, scattered}
 use Rattle.cl_model.specs.declared.program.Root.{Root}
-use Rattle.cl_model.specs.Objects.{local_arrays, first_private}
+use Rattle.cl_model.specs.Objects.{local_arrays, first_private, local_sizes, private_sizes, first_local}
 use Rattle.cl_model.specs.Sizes.{Launch, group_size}
 use Rattle.kir.specs.declared.line.Atom.{Atom}
-use Rattle.kir.specs.Tree.{Lines, NoLine, Kernel}
+use Rattle.kir.specs.Tree.{Lines, NoLine, Kernel, StoreThen}
 use Rattle.kir.specs.Places.{Behind, Place, Tasks, LinesAt}
 use Rattle.kir.specs.Live.{reads, live_now}
-use Rattle.kir.specs.Fits.{is_site, has_type, atom_type}
-use Rattle.kir.specs.Steps.{shell_of, Item, atom_value, object_at, tasks_next}
+use Rattle.kir.specs.Fits.{is_site, has_type, atom_type, can_store}
+use Rattle.kir.specs.Steps.{shell_of, Item, atom_value, object_at, tasks_next, with_tasks}
 use Rattle.kir.specs.Meaning.{machine_of}
 use Rattle.lane_code.specs.declared.step.Step.{Step}
 use Rattle.lane_code.specs.declared.step.Step.TheVariants as step
@@ -29,20 +29,20 @@ use Rattle.lane_code.specs.declared.code.Counts.{Counts}
 use Rattle.lane_code.specs.declared.end.RegionEnd.TheVariants as end
 use Rattle.lane_code.specs.Registers.{Registers, lanes_of, mask_of, lowest}
 use Rattle.lane_code.specs.Fits.{is_below, is_code}
-use Rattle.lane_code.specs.Groups.{Group, window, Reached, Own, reached, own_faults}
-use Rattle.lane_code.specs.Acts.{State, act, loads, writes, load_at, shared_bytes, own_objects, with_registers}
+use Rattle.lane_code.specs.Groups.{Group, window, Reached, Own, reached, own_faults, own_stored}
+use Rattle.lane_code.specs.Acts.{State, act, loads, writes, load_at, shared_bytes, own_objects, with_registers, On, stores, store_at, with_shared, with_own, objects_stored}
 use Rattle.lane_code.specs.Meaning.{Ended}
 use Rattle.lane_laws.specs.Reading.{mask_at}
 use Rattle.lane_laws.proofs.Reading.{window_read, window_length, lowest_is, none_lowest}
-use Rattle.lane_laws.proofs.Steps.{halt_step}
+use Rattle.lane_laws.proofs.Steps.{halt_step, on_step}
 use Rattle.group_moves.specs.Stages.{Stage}
-use Rattle.group_moves.specs.Lanes.{IsLane, Does, stays}
+use Rattle.group_moves.specs.Lanes.{IsLane, Does, stays, stores as does_store}
 use Rattle.kir_moves.proofs.Live.{live_leads, reads_live}
 use Rattle.mask_lower.specs.declared.registers.Free.{Free}
 use Rattle.mask_lower.specs.Banks.{mask_reg}
-use Rattle.mask_lower.specs.Layout.{kernel_chunk, Mirrors}
+use Rattle.mask_lower.specs.Layout.{kernel_chunk, Mirrors, OtherGroupsStay}
 use Rattle.mask_lower.specs.Following.{ChunkOf}
-use Rattle.mask_lower.specs.Registers.{Frame, places_from, operand, root_at}
+use Rattle.mask_lower.specs.Registers.{Frame, places_from, operand, root_at, past_atom}
 use Rattle.region_laws.specs.View.{value_at, is_lane, Shaped}
 use Rattle.region_laws.specs.Framed.{IsFramed}
 use Rattle.region_laws.specs.Sim.{Ground, IsGood, Agrees, Above, Sim, Closed}
@@ -50,33 +50,15 @@ use Rattle.region_laws.proofs.CellValues.{has_type_is, atom_typed}
 use Rattle.region_laws.proofs.LaneValues.{lane_in}
 use Rattle.region_laws.proofs.View.{code_well, lanes_length, mask_length}
 use Rattle.region_laws.proofs.Frames.{type_lane}
-use Rattle.region_laws.proofs.Standing.{cond_set, cond_unset}
+use Rattle.region_laws.proofs.Standing.{cond_set, cond_unset, good_there}
 use Rattle.region_laws.proofs.Atoms.{operand_is}
-use Rattle.region_laws.proofs.Objects.{IsObject, a_buffer, a_table, a_local, an_own, load_reaches}
+use Rattle.region_laws.proofs.Objects.{IsObject, a_buffer, a_table, a_local, an_own, load_reaches, store_loads, store_no_table}
 use Rattle.region_laws.proofs.Soundness.{Lanes, Fit, Accesses}
-use Rattle.std.proofs.Common.{◌≢◌}
-use Rattle.std.proofs.lemmas.Bool.{cases_eq, cases_lt}
-use Rattle.work_items.specs.Memory.{Memory, overwritten}
-use Rattle.work_items.specs.Items.{Stores}
-use Rattle.wg_num.specs.Bytes.{bytes_of as bytes_of_value}
 use Rattle.wg_num.proofs.ByteLaws.{length-bytes}
-use Rattle.lane_values.specs.Access.{put_element, scattered}
-use Rattle.cl_model.specs.Objects.{local_sizes, private_sizes, first_local}
-use Rattle.kir.specs.Tree.{StoreThen}
-use Rattle.kir.specs.Fits.{can_store}
-use Rattle.kir.specs.Steps.{with_tasks}
-use Rattle.lane_code.specs.Groups.{own_stored}
-use Rattle.lane_code.specs.Acts.{On, stores, store_at, with_shared, with_own, objects_stored}
-use Rattle.lane_laws.proofs.Steps.{on_step}
-use Rattle.group_moves.specs.Lanes.{stores as does_store}
 use Rattle.group_moves.proofs.Moves.{lanes_do}
 use Rattle.kir_moves.specs.Leads.{past_store}
-use Rattle.mask_lower.specs.Registers.{past_atom}
-use Rattle.region_laws.specs.Sim.{OthersObjectsStay}
-use Rattle.region_laws.proofs.Standing.{good_there}
 use Rattle.region_laws.proofs.Bytes.{overwritten_is, bytes_low, stored_below, scattered_is, below_same, memory_below, below_length, below_other, below_shared, below_own, own_stored_read, own_stored_length}
 use Rattle.region_laws.proofs.Numbers.{privates_differ}
-use Rattle.region_laws.proofs.Objects.{store_loads, store_no_table}
 use Rattle.region_laws.proofs.Mirroring.{Mirrored, buffer_mirrored, local_mirrored, own_mirrored}
 use Rattle.region_laws.proofs.Loads.{within_is, first_is, own_faults_read, own_faults_length, lane_item, number_is, in_group}
 
@@ -118,7 +100,7 @@ module _ (kernel : Kernel) (launch : Launch) (width : ℕ) (chunk : ChunkOf kern
         record {
           reached = moved.reached;
           mirrors = subst (λ x. Mirrors kernel launch chunk.group x st'.group st'.buffers) (sym there) mirrored.mirrors;
-          others = subst (λ x. OthersObjectsStay kernel launch chunk.group w0.memory x) (sym there) (record {
+          others = subst (λ x. OtherGroupsStay kernel launch chunk.group w0.memory x) (sym there) (record {
             locals = λ other n lt ne in_row. mirrored.others.locals other n lt ne in_row ∙ lanes.sim.others.locals other n lt ne in_row;
             privates = λ item n ne in_row. mirrored.others.privates item n ne in_row ∙ lanes.sim.others.privates item n ne in_row;
           });

@@ -2,4 +2,4 @@ pub mod Values
 pub mod View
 pub mod Framed
 pub mod Sim
-pub mod Follows
+pub mod Fits

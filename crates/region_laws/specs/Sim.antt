@@ -1,10 +1,8 @@
 -- The items of a chunk stand where its code does.
-use Rattle.std.specs.Prelude.{◌≡◌, ◌≢◌, ℕ, ◌+◌, ◌<◌, ◌≤◌, ℤ, List, [], length, None, Some, slice_index_or, true}
-use Rattle.work_items.specs.Memory.{Memory, bytes_of}
+use Rattle.std.specs.Prelude.{◌≡◌, ℕ, ◌+◌, ◌<◌, ◌≤◌, ℤ, List, [], length, None, Some, slice_index_or, true}
 use Rattle.work_items.specs.Items.{fault_of}
 use Rattle.work_items.specs.Clean.{WaitsAt}
-use Rattle.cl_model.specs.Sizes.{Launch, group_size, group_count, group_of}
-use Rattle.cl_model.specs.Objects.{local_sizes, private_sizes, first_local, first_private}
+use Rattle.cl_model.specs.Sizes.{Launch, group_size}
 use Rattle.cl_model.specs.Fitting.{FitsProgram, FitBuffers}
 use Rattle.kir.specs.Tree.{Kernel}
 use Rattle.kir.specs.Places.{Tasks}
@@ -26,17 +24,17 @@ use Rattle.group_moves.specs.Lanes.{IsLane, Reached}
 use Rattle.kir_moves.specs.Leads.{StillComes}
 use Rattle.kir_moves.specs.Stand.{start_stage, ItemsLead}
 use Rattle.mask_lower.specs.declared.registers.Operand.{Operand}
-use Rattle.mask_lower.specs.Layout.{Mirrors}
+use Rattle.mask_lower.specs.Layout.{HasSizes, Mirrors, OtherGroupsStay}
 use Rattle.mask_lower.specs.Following.{ChunkOf}
 use Rattle.mask_lower.specs.Registers.{Frame}
-use Rattle.region_laws.specs.Values.{HasGlobalSizes, HoldTypes}
+use Rattle.region_laws.specs.Values.{HoldTypes}
 use Rattle.region_laws.specs.View.{value_at, is_lane, Shaped}
 use Rattle.region_laws.specs.Framed.{number_in}
 
 -- the stage is one that a launch of a valid kernel reaches
 pub record Ground (kernel : Kernel) (launch : Launch) (w : Stage Item) : Type 0 where
   pub fits : FitsProgram (shell_of kernel) launch
-  pub sizes : HasGlobalSizes launch
+  pub sizes : HasSizes launch
   pub valid : lines_fit kernel kernel.body ≡ true
   pub buffers : List (List ℕ)
   pub fit : FitBuffers launch buffers
@@ -64,16 +62,11 @@ pub record SameGroup (before after : Group) : Type 0 where
   pub exits : after.exits ≡ before.exits
   pub votes : after.votes ≡ before.votes
 
--- the local and private objects of all other groups of the launch are as they were
-pub record OthersObjectsStay (kernel : Kernel) (launch : Launch) (group : ℕ) (before after : Memory) : Type 0 where
-  pub locals : (other n : ℕ) → other < group_count launch → other ≢ group → n < length (local_sizes (shell_of kernel) launch) → bytes_of after (first_local (shell_of kernel) launch other + n) ≡ bytes_of before (first_local (shell_of kernel) launch other + n)
-  pub privates : (item n : ℕ) → group_of launch item ≢ group → n < length (private_sizes (shell_of kernel)) → bytes_of after (first_private (shell_of kernel) launch item + n) ≡ bytes_of before (first_private (shell_of kernel) launch item + n)
-
 -- the chunk's items have come from one stage to where the code is: what each of them has left to do is this, with so many turns left to the code
 pub record Sim (kernel : Kernel) (launch : Launch) (width : ℕ) (chunk : ChunkOf kernel launch width) (turns : ℕ) (w0 : Stage Item) (g0 : Group) (f : Frame) (counts : Counts) (r0 : Registers) (t : ℕ) (T : ℕ → Tasks) (st : State) (w : Stage Item) : Type 0 where
   pub reached : Reached (machine_of kernel launch) chunk.lanes w0 w
   pub mirrors : Mirrors kernel launch chunk.group w.memory st.group st.buffers
-  pub others : OthersObjectsStay kernel launch chunk.group w0.memory w.memory
+  pub others : OtherGroupsStay kernel launch chunk.group w0.memory w.memory
   pub group : SameGroup g0 st.group
   pub rows : (n : ℕ) → n < length st.group.privates → length (slice_index_or st.group.privates n []) ≡ group_size launch
   pub shape : Shaped counts width st.registers

@@ -1,14 +1,9 @@
 -- Each cell holds a value of its type.
-use Rattle.std.specs.Prelude.{◌≡◌, ℕ, ◌<◌, ℤ, Some}
+use Rattle.std.specs.Prelude.{◌≡◌, ℕ, ℤ, Some}
 use Rattle.wg_num.specs.declared.types.IntType.{IntType}
 use Rattle.wg_num.specs.Wrap.{IsValue}
-use Rattle.cl_model.specs.Sizes.{Launch, product}
 use Rattle.kir.specs.Tree.{Kernel}
 use Rattle.mask_lower.specs.Standing.{type_of}
-
--- no global size of the launch is 0, in a dimension above the third either
-abbrev pub HasGlobalSizes : Launch → Type 0
-HasGlobalSizes launch = 0 < product launch.global
 
 -- what each cell of the kernel holds is a value of the cell's type
 abbrev pub HoldTypes : Kernel → (ℕ → ℤ) → Type 0

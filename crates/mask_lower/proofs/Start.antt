@@ -1,14 +1,16 @@
--- The private objects of items as a launch starts.
+-- What the memory in which a launch starts has at each object.
 use Rattle.std.proofs.Common.{◌≡◌, ℕ, zero, suc, ◌+◌, ◌*◌, ◌<◌, List, [], ◌∷◌, ◌++◌, length, map, Some, slice_get, refl, sym, ap, ◌∙◌, arith, length-append, suc-mul}
-use Rattle.std.specs.Prelude.{slice_index_or, unwrap_or}
+use Rattle.std.specs.Prelude.{slice_index_or, unwrap_or, replicate}
 use Rattle.std.proofs.lemmas.List.{length-map}
 use Rattle.work_items.specs.Memory.{Memory, bytes_of}
 use Rattle.cl_model.specs.Tree.{Table, Program}
 use Rattle.cl_model.specs.Sizes.{Launch, group_count, item_count}
-use Rattle.cl_model.specs.Objects.{local_sizes, private_sizes, zeros, copies, start_memory, first_table, first_private}
+use Rattle.cl_model.specs.Objects.{local_sizes, private_sizes, zeros, copies, start_memory, first_table, first_local, first_private}
 use Rattle.cl_model.specs.Fitting.{FitBuffers}
 use Rattle.kir.specs.Tree.{Kernel}
 use Rattle.kir.specs.Steps.{shell_of}
+
+-- ---- lists
 
 pub get_front : {A : Type 0} (a b : List A) (o : ℕ) → o < length a → slice_get (a ++ b) o ≡ slice_get a o
 get_front [] b o lt = absurd (omega arith)
@@ -42,6 +44,13 @@ get_map f [] i d lt = absurd (omega arith)
 get_map f (x ∷ xs) zero d lt = refl
 get_map f (x ∷ xs) (suc i) d lt = get_map f xs i d (omega arith)
 
+pub get_replicate : {A : Type 0} (n : ℕ) (x : A) (i : ℕ) (d : A) → i < n → slice_index_or (replicate n x) i d ≡ x
+get_replicate zero x i d lt = absurd (omega arith)
+get_replicate (suc n) x zero d lt = refl
+get_replicate (suc n) x (suc i) d lt = get_replicate n x i d (omega arith)
+
+-- ---- the start
+
 module _ (kernel : Kernel) (launch : Launch) (buffers : Memory) (fit : FitBuffers launch buffers) where
   abbrev Shell : Program
   Shell = shell_of kernel
@@ -58,14 +67,33 @@ module _ (kernel : Kernel) (launch : Launch) (buffers : Memory) (fit : FitBuffer
   pub start_buffers : length buffers ≡ length launch.lengths
   start_buffers = sym (length-map buffers (λ (b : List ℕ). length b)) ∙ ap length fit
 
+  pub at_buffer : (b : ℕ) → b < length launch.lengths → bytes_of (start_memory Shell launch buffers) b ≡ slice_index_or buffers b []
+  at_buffer b lt = ap (λ o. unwrap_or o []) (get_front buffers (Tables ++ (Locals ++ Privates)) b (let e = start_buffers in omega arith)) ∙ sym (index_get buffers b [])
+
   behind_buffers : (o : ℕ) → slice_get (start_memory Shell launch buffers) (first_table launch + o) ≡ slice_get (Tables ++ (Locals ++ Privates)) o
   behind_buffers o = ap (λ k. slice_get (start_memory Shell launch buffers) (k + o)) (sym start_buffers) ∙ get_back buffers (Tables ++ (Locals ++ Privates)) o
+
+  pub at_table : (n : ℕ) → n < length kernel.tables → bytes_of (start_memory Shell launch buffers) (first_table launch + n) ≡ slice_index_or Tables n []
+  at_table n lt = ap (λ o. unwrap_or o []) (behind_buffers n ∙ get_front Tables (Locals ++ Privates) n (let e = length-map kernel.tables (λ (t : Table). t.bytes) in omega arith)) ∙ sym (index_get Tables n [])
 
   behind_tables : (o : ℕ) → slice_get (start_memory Shell launch buffers) (first_table launch + length kernel.tables + o) ≡ slice_get (Locals ++ Privates) o
   behind_tables o =
       let e : first_table launch + length kernel.tables + o ≡ first_table launch + (length kernel.tables + o) = omega arith in
       ap (λ k. slice_get (start_memory Shell launch buffers) k) e ∙ behind_buffers (length kernel.tables + o)
       ∙ ap (λ k. slice_get (Tables ++ (Locals ++ Privates)) (k + o)) (sym (length-map kernel.tables (λ (t : Table). t.bytes))) ∙ get_back Tables (Locals ++ Privates) o
+
+  -- a local object of a group
+  pub at_local : (group n : ℕ) → group < group_count launch → n < length (local_sizes Shell launch) → bytes_of (start_memory Shell launch buffers) (first_local Shell launch group + n) ≡ zeros (slice_index_or (local_sizes Shell launch) n 0)
+  at_local group n lt lt' =
+      let sizes = local_sizes Shell launch in
+      let many : length (map zeros sizes) ≡ length sizes = length-map sizes zeros in
+      let e : first_local Shell launch group + n ≡ first_table launch + length kernel.tables + (group * length sizes + n) = omega arith in
+      let place : group * length sizes + n ≡ group * length (map zeros sizes) + n = ap (λ k. group * k + n) (sym many) in
+      let row = Rattle.std.proofs.lemmas.Nat.mul-add-lt group (length (map zeros sizes)) n (group_count launch) lt (omega arith) in
+      let whole = length-copies (group_count launch) (map zeros sizes) in
+      ap (λ o. unwrap_or o [])
+      (ap (λ k. slice_get (start_memory Shell launch buffers) k) e ∙ behind_tables (group * length sizes + n) ∙ ap (λ k. slice_get (Locals ++ Privates) k) place
+      ∙ get_front Locals Privates (group * length (map zeros sizes) + n) (omega arith) ∙ get_copy (group_count launch) (map zeros sizes) group n lt (omega arith) ∙ get_map zeros sizes n 0 lt')
 
   -- a private object of an item
   pub at_private : (item n : ℕ) → item < item_count launch → n < length (private_sizes Shell) → bytes_of (start_memory Shell launch buffers) (first_private Shell launch item + n) ≡ zeros (slice_index_or (private_sizes Shell) n 0)
