@@ -6,3 +6,4 @@ pub mod Grouped
 pub mod Whole
 pub mod Ends
 pub mod BuiltLaws
+pub mod Codes

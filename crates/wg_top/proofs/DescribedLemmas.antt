@@ -22,7 +22,7 @@ use Rattle.diverge.specs.Rounds.{varying_of}
 use Rattle.ctx_plan.specs.Planned.{Planned, AreVarying, IsCounted, IsPlan}
 use Rattle.plan_laws.proofs.Plan.{is_plan}
 use Rattle.lane_code.specs.Program.{PlainCode, Plain}
-use Rattle.lane_laws.specs.Chain.{Chain, NoWork, works_before}
+use Rattle.lane_laws.specs.Chain.{Chain, NoWork, work_before, works_before}
 use Rattle.regions.specs.Tree.{RegionOf, Tree, NoRegion, RegionThen, VoteThen, LoopThen}
 use Rattle.regions.specs.Split.{split_of}
 use Rattle.mask_lower.specs.Lowered.{region_code}
@@ -59,6 +59,13 @@ works_built code (RegionThen region rest) = (refl, works_built code rest)
 works_built code (VoteThen test agreed refused mixed rest) = (refl, works_built code agreed, works_built code refused, refl, works_built code rest)
 works_built code (LoopThen first test body others rest) = (refl, works_built code test, works_built code body, refl, works_built code rest)
 
+-- the codes of a program that is like that of the unit are those of the unit's regions
+pub built_in : (u : Unit') (width : Width) (p : Plain) → IsLike (group_in (lanes_of width) u) p → IsBuilt (λ region code. code ≡ region_code (kernel_in u) (plan_in u).homes region) (split_of (kernel_in u)) (work_before p.top NoWork)
+unfolding group_in
+built_in u width p like =
+    let code = region_code (kernel_in u) (plan_in u).homes in
+    subst (λ (c : Chain). IsBuilt (λ region c'. c' ≡ code region) (split_of (kernel_in u)) c) (sym like.chain) (works_built code (split_of (kernel_in u)))
+
 -- the kernel, its plan and what its codes are
 pub planned_as : (u : Unit') (width : Width) (p : Plain) → IsValid (program_of u) → AreVarying (program_of u) (varying_of (program_of u)) → IsCounted (kernel_in u) (plan_in u) → HasPartsOf (kernel_in u) (plan_in u) width p
     → IsPlanned (program_of u) (varying_of (program_of u)) (kernel_in u) (plan_in u) width p
@@ -74,13 +81,11 @@ pub shaped_as : (u : Unit') (width : Width) (name name_in_code : List ℕ) (p : 
 unfolding kernel_in plan_in group_in
 shaped_as u width name name_in_code p valid parts like one named =
     let few = has_few_lines (program_of u) (names_in u) valid in
-    let code = region_code (kernel_in u) (plan_in u).homes in
-    let built = subst (λ (c : Chain). IsBuilt (λ region c'. c' ≡ code region) (split_of (kernel_in u)) c) (sym like.chain) (works_built code (split_of (kernel_in u))) in
     record {
       kernel = named;
       params = parts.params ∙ (has_parts (program_of u) (names_in u)).parameters;
       one = λ quiet. one (holds_none (program_of u) (kernel_in u) few quiet);
-      few = codes_have_few (program_of u) (kernel_in u) (plan_in u).homes p.top few built;
+      few = codes_have_few (program_of u) (kernel_in u) (plan_in u).homes p.top few (built_in u width p like);
     }
 
 -- the parts of a group program are those of the unit's kernel and plan

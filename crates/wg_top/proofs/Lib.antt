@@ -22,5 +22,6 @@ pub mod Sites
 pub mod Quiet
 pub mod Passes
 pub mod Shape
-pub mod CompiledLemmas
+pub mod Follow
 pub mod DescribedLemmas
+pub mod CompiledLemmas

@@ -1,5 +1,6 @@
 -- What the passes answer, put together: a kernel that comes from a program, with its plan and the code of each region, ends in outcomes of the program.
-use Rattle.std.proofs.Common.{◌≡◌, ℕ, true, List, refl, subst, sym}
+use Rattle.std.proofs.Common.{◌≡◌, ◌≢◌, ℕ, true, List, Some, slice_get, refl, subst, sym, ◌∙◌}
+use Rattle.std.proofs.lemmas.Bool.{true≢false}
 use Rattle.wg_num.specs.declared.types.Width.{Width}
 use Rattle.cl_model.specs.Tree.{Program}
 use Rattle.cl_model.specs.Sizes.{Launch}
@@ -8,13 +9,19 @@ use Rattle.kir.specs.Tree.{Kernel}
 use Rattle.kir.specs.Fits.{lines_fit}
 use Rattle.kir.specs.Homes as kir
 use Rattle.kir.specs.Homes.{HasHome, once, column, kept, inner, passing}
+use Rattle.kir.specs.Places.{Place}
+use Rattle.kir.specs.Live.{live_at}
+use Rattle.kir.specs.Cuts.{is_cut}
 use Rattle.kir.specs.Evenness.{IsEven}
 use Rattle.kir.specs.Lowering.{Named, IsSteady, IsLoweringOf}
+use Rattle.kir.proofs.Kept.{live_are_kept}
 use Rattle.kir.proofs.Outcomes.{shares_outcomes}
 use Rattle.kir.proofs.Shells.{shares_launches}
+use Rattle.ctx_plan.specs.declared.plan.Home.{Home}
 use Rattle.ctx_plan.specs.declared.plan.Home.TheVariants as home
 use Rattle.ctx_plan.specs.Homes.{IsOnce, sort_of}
 use Rattle.ctx_plan.specs.Planned.{Planned, IsPlan}
+use Rattle.ctx_plan.specs.Asks.{Suits}
 use Rattle.lane_code.specs.Program.{PlainCode, Plain}
 use Rattle.lane_code.specs.Run.{program_end}
 use Rattle.lane_laws.specs.Chain.{Chain, NoWork, CodeThen, VoteThen as VoteWork, LoopThen as LoopWork, work_before}
@@ -77,6 +84,35 @@ once_is_steady program kernel plan planned c o = steady_home program kernel c (s
 pub even_once : (program : Program) (names : List (List Named)) (kernel : Kernel) (plan : Planned) → IsLoweringOf program names kernel → IsPlan program kernel plan → IsEven kernel (IsOnce plan.homes)
 even_once program names kernel plan lowered planned launch fits buffers fit one other lt lt' group deeds deeds' i j hi hj point at_i at_j stop c o live =
     lowered.evenness launch fits buffers fit one other lt lt' group deeds deeds' i j hi hj point at_i at_j stop c (once_is_steady program kernel plan planned c o) live
+
+-- ---- homes
+
+-- no cell that is live at a cut is in registers alone: a variable that is live there crosses, and a flag or value is a keep
+no_register : (program : Program) (names : List (List Named)) (kernel : Kernel) → IsLoweringOf program names kernel → (at : Place) (c : ℕ) (h : kir.Home) → is_cut kernel.body at ≡ true → live_at kernel.body at c ≡ true → HasHome program kernel c h → h ≡ kir.Register → ⊥
+no_register program names kernel lowered at c _ cut live (once cell crosses steady) e = absurd (cc)
+no_register program names kernel lowered at c _ cut live (column cell crosses varies) e = absurd (cc)
+no_register program names kernel lowered at c _ cut live (kept keep) e = absurd (cc)
+no_register program names kernel lowered at c _ cut live (inner {v = v} cell not) e = not (lowered.cuts.crosses at v c cut cell live)
+no_register program names kernel lowered at c _ cut live (passing made not) e = true≢false (sym (live_are_kept kernel lowered.start at c cut live made) ∙ not)
+
+-- the homes suit the kernel
+pub suits : (program : Program) (names : List (List Named)) (kernel : Kernel) (plan : Planned) → IsLoweringOf program names kernel → IsPlan program kernel plan → Suits kernel plan
+suits program names kernel plan lowered planned = record {
+  even = even_once program names kernel plan lowered planned;
+  one_each = planned.one_each;
+  columns_below = planned.columns_below;
+  slots_below = planned.slots_below;
+  kept = in_register;
+  apart = two;
+}
+  where
+    in_register : (at : Place) (c : ℕ) → is_cut kernel.body at ≡ true → live_at kernel.body at c ≡ true → slice_get plan.homes c ≡ Some home.Register → ⊥
+    in_register at c cut live is = no_register program names kernel lowered at c kir.Register cut live (planned.homes c home.Register is) refl
+
+    two : (at : Place) (c d : ℕ) (h : Home) → is_cut kernel.body at ≡ true → live_at kernel.body at c ≡ true → live_at kernel.body at d ≡ true → c ≢ d → slice_get plan.homes c ≡ Some h → slice_get plan.homes d ≡ Some h → ⊥
+    two at c d home.Register cut live live' ne is is' = in_register at c cut live is
+    two at c d (home.Column k) cut live live' ne is is' = let s = planned.shared c d k ne is is' in lowered.cuts.meet at s.0 s.1 c d cut s.2 s.3 ne live live' s.4
+    two at c d (home.Once k) cut live live' ne is is' = ne (planned.own_slot c d k is is')
 
 -- ---- the whole
 

@@ -114,7 +114,7 @@ each_region P Q f (tree.VoteThen test agreed refused mixed rest) e = (f test e.0
 each_region P Q f (tree.LoopThen first test body others rest) e = (f others e.0, each_region P Q f test e.1, each_region P Q f body e.2, each_region P Q f rest e.3)
 
 -- something holds of each code of a chain
-abbrev EachLink : (PlainCode → Type 0) → Chain → Type 0
+abbrev pub EachLink : (PlainCode → Type 0) → Chain → Type 0
 EachLink P NoWork = Unit {0}
 EachLink P (CodeThen code rest) = P code × EachLink P rest
 EachLink P (VoteWork test agreed refused mixed rest) = P test × EachLink P agreed × EachLink P refused × P mixed × EachLink P rest

@@ -1,4 +1,4 @@
--- What a compiled kernel is, but for its ends: its plan, its shape, and what is kept once for a group.
+-- What a compiled kernel is: its plan, its shape, what is kept once for a group, and its ends where its kernel comes from the program.
 use Rattle.std.specs.Prelude.{◌≡◌, ℕ, List, Some, slice_get}
 use Rattle.wg_num.specs.declared.types.Width.{Width}
 use Rattle.cl_model.specs.Tree.{Program}
@@ -9,13 +9,14 @@ use Rattle.cl_piece.specs.View.{unit_of}
 use Rattle.cl_valid.specs.Erased.{program_of}
 use Rattle.kir.specs.Tree.{Variable, Kernel}
 use Rattle.kir.specs.Homes.{IsCellOf}
+use Rattle.kir.specs.Lowering.{IsLoweringOf}
 use Rattle.diverge.specs.Rounds.{varying_of}
 use Rattle.ctx_plan.specs.declared.plan.Home.TheVariants as home
 use Rattle.ctx_plan.specs.Planned.{Planned}
 use Rattle.lane_code.specs.View.{plain_of}
 use Rattle.wg_top.specs.declared.compile.Compiled.{Compiled}
-use Rattle.wg_top.specs.Middle.{kernel_in, plan_in}
-use Rattle.wg_top.specs.Compiled.{IsPlanned, IsShaped}
+use Rattle.wg_top.specs.Middle.{names_in, kernel_in, plan_in}
+use Rattle.wg_top.specs.Compiled.{IsPlanned, IsShaped, IsCompiledFrom}
 
 -- it is said which variables vary, each cell has its home, and the program of a group has the plan's columns and slots
 abbrev pub IsPlannedAt : Width → Compiled → Type 0
@@ -39,3 +40,12 @@ KeepsOnceWhatIsEqual program kernel plan =
 -- the same of a compiled kernel
 abbrev pub KeepsOnce : Compiled → Type 0
 KeepsOnce c = KeepsOnceWhatIsEqual (program_of (unit_of c.program)) (kernel_in (unit_of c.program)) (plan_in (unit_of c.program))
+
+-- the kernel without calls comes from the program
+abbrev pub IsLowered : Compiled → Type 0
+IsLowered c = IsLoweringOf (program_of (unit_of c.program)) (names_in (unit_of c.program)) (kernel_in (unit_of c.program))
+
+-- the plan, the ends and the shape of the program of a group, at a lane width and with this name
+abbrev pub IsCompiledAs : Width → List ℕ → Compiled → Type 0
+IsCompiledAs width name c =
+    IsCompiledFrom (program_of (unit_of c.program)) name (varying_of (program_of (unit_of c.program))) (kernel_in (unit_of c.program)) (plan_in (unit_of c.program)) width c.group.kernel (plain_of c.group)

@@ -11,7 +11,7 @@ ghost use Rattle.ctx_plan.specs.View.{planned_of};
 ghost use Rattle.lane_code.specs.View.{plain_of};
 ghost use Rattle.item_loops.specs.Program.{HasPartsOf, IsOneCode};
 ghost use Rattle.wg_top.specs.Middle.{IsLike, group_with, IsCompiledAt};
-ghost use Rattle.wg_top.specs.Described.{IsShapedAs, IsPlannedAt, KeepsOnce};
+ghost use Rattle.wg_top.specs.Described.{IsShapedAs, IsPlannedAt, KeepsOnce, IsLowered, IsCompiledAs};
 
 use cl_model::Program;
 use ctx_plan::Plan;
@@ -57,8 +57,9 @@ fn group_of(
 /// program of a group has the kernel's name and parameters, is one code where no barrier stands, and
 /// has in no code more loads and stores of a site than are written; it is known which variables
 /// vary, and each cell has its home, columns shared by variables of disjoint scopes alone; and what
-/// is kept once for a group has equal values in all its work-items at the same point. `Memory` also
-/// where a number of a pass has no room.
+/// is kept once for a group has equal values in all its work-items at the same point. Where its kernel
+/// without calls comes from the program, the group program ends in outcomes of the program, in each
+/// launch that fits. `Memory` also where a number of a pass has no room.
 pub fn compile_program(
     alloc: Global,
     program: Program,
@@ -71,6 +72,7 @@ pub fn compile_program(
     ensures shaped { IfOk result (λ c. IsValid (program_of (unit_of c.program)) → IsShapedAs name.now c) }
     ensures planned { IfOk result (λ c. IsValid (program_of (unit_of c.program)) → IsPlannedAt width c) }
     ensures once { IfOk result (λ c. IsValid (program_of (unit_of c.program)) → KeepsOnce c) }
+    ensures compiled { IfOk result (λ c. IsValid (program_of (unit_of c.program)) → IsLowered c → IsCompiledAs width name.now c) }
 {
     let kernel = lower(alloc, &program)?;
     let varying = analyse(alloc, &program)?;
