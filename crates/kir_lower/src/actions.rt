@@ -45,6 +45,7 @@ pub struct Part {
 }
 
 /// A copy of a variable.
+#[inline(never)]
 pub fn put_variable(
     here: &Instance<'_>,
     made: &mut Made,
@@ -61,6 +62,7 @@ pub fn put_variable(
 }
 
 /// A variable is set.
+#[inline(never)]
 pub fn put_assigned(
     here: &Instance<'_>,
     lines: &mut Vec<Line>,
@@ -73,6 +75,7 @@ pub fn put_assigned(
     put_copy(lines, cell, value.atom)
 }
 
+#[inline(never)]
 pub fn put_unary(
     made: &mut Made,
     lines: &mut Vec<Line>,
@@ -92,6 +95,7 @@ pub fn put_unary(
     )
 }
 
+#[inline(never)]
 pub fn put_binary(
     made: &mut Made,
     lines: &mut Vec<Line>,
@@ -122,6 +126,7 @@ fn atoms_of(alloc: Global, values: &[Value]) -> Result<Vec<Atom>, Memory>
     Ok(atoms)
 }
 
+#[inline(never)]
 pub fn put_builtin(
     alloc: Global,
     made: &mut Made,
@@ -143,6 +148,7 @@ pub fn put_builtin(
     )
 }
 
+#[inline(never)]
 pub fn put_converted(
     made: &mut Made,
     lines: &mut Vec<Line>,
@@ -156,6 +162,7 @@ pub fn put_converted(
     put_computed(made, lines, Work::Convert { to, a }, to)
 }
 
+#[inline(never)]
 pub fn put_answer(
     made: &mut Made,
     lines: &mut Vec<Line>,
@@ -178,6 +185,7 @@ pub fn put_answer(
 }
 
 /// Whether a value is not 0.
+#[inline(never)]
 pub fn put_truth(made: &mut Made, lines: &mut Vec<Line>, a: Value) -> Result<Value, Memory>
     ensures lines { OnOk result (lines_of lines.new.items ≡ joined_to (lines_of lines.old.items) (spec.truth a (made_of made.old)).lines) }
     ensures value { IfOk result (λ v. v ≡ (spec.truth a (made_of made.old)).value) }
@@ -186,6 +194,7 @@ pub fn put_truth(made: &mut Made, lines: &mut Vec<Line>, a: Value) -> Result<Val
     put_binary(made, lines, Bin::Ne, a.of, a.atom, constant(0, a.of).atom)
 }
 
+#[inline(never)]
 pub fn put_loaded(made: &mut Made, lines: &mut Vec<Line>, element: Element) -> Result<Value, Memory>
     ensures lines { OnOk result (lines_of lines.new.items ≡ joined_to (lines_of lines.old.items) (spec.loaded element.site element.of element.root element.index (made_of made.old)).lines) }
     ensures value { IfOk result (λ v. v ≡ (spec.loaded element.site element.of element.root element.index (made_of made.old)).value) }
@@ -208,6 +217,7 @@ pub fn put_loaded(made: &mut Made, lines: &mut Vec<Line>, element: Element) -> R
     })
 }
 
+#[inline(never)]
 pub fn put_stored(lines: &mut Vec<Line>, element: Element, from: Atom) -> Result<(), Memory>
     ensures { OnOk result (lines_of lines.new.items ≡ joined_to (lines_of lines.old.items) (spec.stored element.site element.of element.root element.index from)) }
 {
@@ -225,6 +235,7 @@ pub fn put_stored(lines: &mut Vec<Line>, element: Element, from: Atom) -> Result
 
 /// The new value of a compound assignment.
 #[tactic(auto, using(crate::proofs::Lists::join_assoc))]
+#[inline(never)]
 pub fn put_changed(
     made: &mut Made,
     lines: &mut Vec<Line>,
@@ -242,6 +253,7 @@ pub fn put_changed(
 }
 
 /// The value of one of two branches, whose last lines set one new cell.
+#[inline(never)]
 pub fn put_choice(
     made: &mut Made,
     lines: &mut Vec<Line>,
@@ -302,6 +314,7 @@ fn put_initial(
 
 /// The values for the first elements of a private array that is zeros.
 #[tactic(auto, using(crate::proofs::Lists::join_assoc))]
+#[inline(never)]
 pub fn put_filled(
     lines: &mut Vec<Line>,
     site: u32,
@@ -316,6 +329,7 @@ pub fn put_filled(
 }
 
 /// Sets an exit's cell.
+#[inline(never)]
 pub fn put_exit(lines: &mut Vec<Line>, exit: u32, way: i128) -> Result<(), Memory>
     ensures { OnOk result (lines_of lines.new.items ≡ joined_to (lines_of lines.old.items) (spec.set_to exit (made_spec.int way))) }
 {

@@ -101,6 +101,7 @@ fn put_all_labels(
 
 /// The number of the arm that is chosen, in a cell.
 #[tactic(auto, using(crate::proofs::Lists::join_assoc, crate::proofs::Lists::join_none))]
+#[inline(never)]
 pub fn put_chosen(
     alloc: Global,
     made: &mut Made,

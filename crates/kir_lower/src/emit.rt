@@ -2,7 +2,7 @@
 
 ghost use Rattle.std.specs.Prelude.{◌≡◌, IfOk, OnOk};
 ghost use Rattle.kir.specs.Listed.{lines_of, line_before, work_of};
-ghost use Rattle.kir.specs.Tree.{NoLine, SetThen, IfThen, joined_to};
+ghost use Rattle.kir.specs.Tree.{NoLine, SetThen, IfThen, BarrierThen, joined_to};
 ghost use Rattle.kir_lower.specs.Actions as spec;
 ghost use Rattle.kir_lower.specs.View.{made_of};
 
@@ -13,6 +13,7 @@ use wg_num::{IntType, Memory};
 
 /// One more line.
 #[tactic(auto, using(crate::proofs::Lists::lines_put))]
+#[inline(never)]
 pub fn put(lines: &mut Vec<Line>, line: Line) -> Result<(), Memory>
     ensures { OnOk result (lines_of lines.new.items ≡ joined_to (lines_of lines.old.items) (line_before line NoLine)) }
 {
@@ -20,6 +21,7 @@ pub fn put(lines: &mut Vec<Line>, line: Line) -> Result<(), Memory>
 }
 
 /// One more line, which sets a cell.
+#[inline(never)]
 pub fn put_set(lines: &mut Vec<Line>, to: u32, work: Work) -> Result<(), Memory>
     ensures { OnOk result (lines_of lines.new.items ≡ joined_to (lines_of lines.old.items) (SetThen to (work_of work) NoLine)) }
 {
@@ -27,6 +29,7 @@ pub fn put_set(lines: &mut Vec<Line>, to: u32, work: Work) -> Result<(), Memory>
 }
 
 /// One more line, which copies an atom to a cell.
+#[inline(never)]
 pub fn put_copy(lines: &mut Vec<Line>, to: u32, atom: Atom) -> Result<(), Memory>
     ensures { OnOk result (lines_of lines.new.items ≡ joined_to (lines_of lines.old.items) (spec.set_to to atom)) }
 {
@@ -39,8 +42,17 @@ pub fn put_copy(lines: &mut Vec<Line>, to: u32, atom: Atom) -> Result<(), Memory
     )
 }
 
+/// One more line, a barrier.
+#[inline(never)]
+pub fn put_barrier(lines: &mut Vec<Line>, site: u32) -> Result<(), Memory>
+    ensures { OnOk result (lines_of lines.new.items ≡ joined_to (lines_of lines.old.items) (BarrierThen site NoLine)) }
+{
+    put(lines, Line::Barrier { site })
+}
+
 /// One more line, a choice.
 #[tactic(auto, using(kir::proofs::Rows::if_listed))]
+#[inline(never)]
 pub fn put_if(
     lines: &mut Vec<Line>,
     site: u32,
@@ -62,6 +74,7 @@ pub fn put_if(
 }
 
 /// A line that computes the value of a new cell.
+#[inline(never)]
 pub fn put_computed(
     made: &mut Made,
     lines: &mut Vec<Line>,
@@ -89,6 +102,7 @@ pub fn put_computed(
 
 /// Lines behind other lines.
 #[tactic(auto, using(crate::proofs::Lists::lines_both))]
+#[inline(never)]
 pub fn put_all(lines: &mut Vec<Line>, mut rest: Vec<Line>) -> Result<(), Memory>
     ensures { OnOk result (lines_of lines.new.items ≡ joined_to (lines_of lines.old.items) (lines_of rest.items)) }
 {
@@ -100,6 +114,7 @@ pub fn put_all(lines: &mut Vec<Line>, mut rest: Vec<Line>) -> Result<(), Memory>
 
 /// Lines that are skipped where a way out is pending, if there are any.
 #[tactic(auto, using(crate::proofs::Lists::join_none))]
+#[inline(never)]
 pub fn put_guarded(
     alloc: Global,
     lines: &mut Vec<Line>,

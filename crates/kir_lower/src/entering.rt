@@ -35,6 +35,7 @@ fn argument_root(here: &Instance<'_>, argument: &Arg) -> Result<Root, Memory>
 }
 
 /// The kernel's root that each argument names; that of a number does not matter.
+#[inline(never)]
 pub fn roots_in(alloc: Global, here: &Instance<'_>, args: &[Arg]) -> Result<Vec<Root>, Memory>
     ensures { IfOk result (λ v. v.items ≡ spec.argument_roots (instance_of here.now) (listed_roots args.now)) }
 {
@@ -157,6 +158,7 @@ fn make_cells(alloc: Global, made: &mut Made, way: &Way, function: &Function) ->
 }
 
 /// A function behind calls, with new cells for its variables and new arrays.
+#[inline(never)]
 pub fn placed<'a>(
     alloc: Global,
     program: &'a Program,
@@ -185,17 +187,28 @@ pub fn placed<'a>(
     })
 }
 
+/// An instance behind a box, so that a call takes little of the stack.
+fn boxed<'a>(alloc: Global, here: Instance<'a>) -> Result<Box<Instance<'a>>, Memory>
+    ensures { IfOk result (λ b. b.value ≡ here.entry) }
+{
+    match Box::new(alloc, here) {
+        Ok(b) => Ok(b),
+        Err(_) => Err(Memory),
+    }
+}
+
 /// The function that is called.
+#[inline(never)]
 pub fn enter<'a>(
     alloc: Global,
     here: &Instance<'a>,
     made: &mut Made,
     callee: Callee,
     function: &Function,
-) -> Result<Instance<'a>, Memory>
-    ensures here { IfOk result (λ i. instance_of i ≡ whole.instance_at (whole.way_behind (program_of here.now.program.now) (instance_of here.now) callee.site callee.function callee.roots.items) (function_of function.now) (made_of made.old)) }
-    ensures depth { IfOk result (λ i. i.depth + 1 ≡ here.now.depth) }
-    ensures program { IfOk result (λ i. i.program.now ≡ here.now.program.now) }
+) -> Result<Box<Instance<'a>>, Memory>
+    ensures here { IfOk result (λ i. instance_of i.value ≡ whole.instance_at (whole.way_behind (program_of here.now.program.now) (instance_of here.now) callee.site callee.function callee.roots.items) (function_of function.now) (made_of made.old)) }
+    ensures depth { IfOk result (λ i. i.value.depth + 1 ≡ here.now.depth) }
+    ensures program { IfOk result (λ i. i.value.program.now ≡ here.now.program.now) }
     ensures made { OnOk result (made_of made.new ≡ whole.with_instance (whole.way_behind (program_of here.now.program.now) (instance_of here.now) callee.site callee.function callee.roots.items) (names_in function.now) (function_of function.now) (made_of made.old)) }
 {
     if here.depth == 0 {
@@ -211,11 +224,13 @@ pub fn enter<'a>(
         roots: callee.roots,
         function: callee.function,
     };
-    placed(alloc, here.program, made, way, function)
+    let there = placed(alloc, here.program, made, way, function)?;
+    boxed(alloc, there)
 }
 
 /// The parameters are set to the arguments.
 #[tactic(auto, using(crate::proofs::Lists::join_assoc, crate::proofs::Lists::join_none))]
+#[inline(never)]
 pub fn put_parameters(lines: &mut Vec<Line>, base: u32, values: &[Value]) -> Result<(), Memory>
     ensures { OnOk result (lines_of lines.new.items ≡ joined_to (lines_of lines.old.items) (whole.parameter_lines base values.now)) }
 {
@@ -248,6 +263,7 @@ pub fn put_bound(lines: &mut Vec<Line>, base: u32, kinds: &[VarKind]) -> Result<
 
 /// The result of a function, if it has one: a new cell, 0 at first.
 #[tactic(auto, using(crate::proofs::Lists::join_none))]
+#[inline(never)]
 pub fn put_result(
     made: &mut Made,
     lines: &mut Vec<Line>,

@@ -7,8 +7,10 @@ mod arms;
 mod emit;
 mod entering;
 mod exits;
-mod lowering;
+mod expressions;
 mod places;
+mod statements;
+mod steps;
 mod ways;
 mod whole;
 

@@ -33,6 +33,7 @@ pub struct Round {
 
 /// The cell of a construct that has a way out, in which nothing is pending; else that around it.
 #[tactic(auto, using(crate::proofs::Lists::join_assoc, crate::proofs::Lists::join_none))]
+#[inline(never)]
 pub fn put_opened(
     made: &mut Made,
     lines: &mut Vec<Line>,
@@ -80,6 +81,7 @@ pub fn put_settled(
 
 /// What is pending behind a construct is pending in that around it, but for a `break`, which ends.
 #[tactic(auto, using(crate::proofs::Lists::join_assoc, crate::proofs::Lists::join_none))]
+#[inline(never)]
 pub fn put_outward(
     alloc: Global,
     made: &mut Made,
@@ -111,6 +113,7 @@ pub fn put_outward(
 
 /// A loop, from the lines of its parts.
 #[tactic(auto, using(crate::proofs::Lists::join_assoc, crate::proofs::Lists::join_none))]
+#[inline(never)]
 pub fn put_round(
     alloc: Global,
     made: &mut Made,
@@ -177,6 +180,7 @@ fn put_loop(
 /// Whether the next arm of a switch is fallen into: this one was entered and, where it has a way
 /// out, nothing is pending.
 #[tactic(auto, using(crate::proofs::Lists::join_assoc, crate::proofs::Lists::join_none))]
+#[inline(never)]
 pub fn put_fallen(
     made: &mut Made,
     lines: &mut Vec<Line>,
@@ -212,6 +216,7 @@ pub fn put_fallen(
 
 /// Lines in order, or guarded ones.
 #[tactic(auto, using(crate::proofs::Lists::join_none))]
+#[inline(never)]
 pub fn put_closed(
     alloc: Global,
     lines: &mut Vec<Line>,

@@ -11,12 +11,12 @@ ghost use Rattle.kir_lower.specs.Whole as whole;
 ghost use Rattle.kir_lower.specs.View.{made_of};
 
 use crate::entering::{Way, placed, put_bound};
-use crate::lowering::put_body;
-use crate::places::{Made, add, behind, copy_array, function_at};
+use crate::places::{Made, add, behind, constant, copy_array, function_at};
+use crate::statements::put_body;
 use cl_model::{Function, Program, Root, Table, VarKind};
 use kir::{Kernel, KernelParts, Line};
 use std::alloc::Global;
-use wg_num::{Memory, Place};
+use wg_num::{IntType, Memory, Place};
 
 /// The kinds of a function's parameters.
 fn kinds_of(alloc: Global, function: &Function) -> Result<Vec<VarKind>, Memory>
@@ -110,7 +110,8 @@ fn lower_parts(alloc: Global, program: &Program) -> Result<Lowered, Memory>
     let here = placed(alloc, program, &mut made, way, function)?;
     let mut body = Vec::new(alloc);
     put_bound(&mut body, here.base, &kinds)?;
-    put_body(alloc, &here, &mut made, &mut body, function)?;
+    let mut value = constant(0, IntType::Int);
+    put_body(alloc, &here, &mut made, &mut body, function, &mut value)?;
     Ok(Lowered { kinds, made, body })
 }
 
