@@ -1,2 +1,4 @@
 pub mod Places
 pub mod Rules
+pub mod UnsetSteps
+pub mod UnsetCode
