@@ -2,3 +2,4 @@ pub mod Places
 pub mod Rules
 pub mod UnsetSteps
 pub mod UnsetCode
+pub mod Ground

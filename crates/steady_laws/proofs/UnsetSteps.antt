@@ -23,7 +23,7 @@ use Rattle.even_laws.proofs.Alike.{same_self, same_number}
 use Rattle.lowering_laws.proofs.Quiet.{or_false, or_parts}
 use Rattle.lowering_laws.proofs.Steps.{IsFree}
 use Rattle.lowering_laws.proofs.Absent.{next_more, IsOut, out_within}
-use Rattle.lowering_laws.proofs.AbsentSteps.{fresh, three_out, two_out, labels_up, all_labels_up}
+use Rattle.lowering_laws.proofs.AbsentSteps.{action_uses, fresh, three_out, two_out, labels_up, all_labels_up}
 
 module _ (c : ℕ) where
   -- the lines do not set the cell
@@ -93,7 +93,7 @@ module _ (c : ℕ) where
   off_variable base x h = elim (true_or_false (nat_eq c (base + x))) [ inl e ↦ absurd (let a = same_self x in let b = h e in cc) | inr e ↦ e ]
 
   -- the step of an action
-  pub action_unset : (here : Instance) (action : Action) (values : List Value) (m : Made) → ((x : ℕ) → nat_eq c (here.base + x) ≡ true → sets action x ≡ false)
+  pub action_unset : (here : Instance) (action : Action) (values : List Value) (m : Made) → ((x : ℕ) → action_uses action ≡ Some x → nat_eq c (here.base + x) ≡ true → sets action x ≡ false)
       → IsOut c (next_cell m) (next_cell (action_code here action values m).made) → Unset (action_code here action values m).lines
   action_unset here (tree.Literal v of) values m off out = unset_none
   action_unset here (tree.Variable x) values m off out = one_set _ _ (one_out m _ out)
@@ -105,9 +105,9 @@ module _ (c : ℕ) where
   action_unset here tree.Second values m off out = unset_none
   action_unset here tree.Truth values m off out = one_set _ _ (one_out m _ out)
   action_unset here (tree.Decided answer) values m off out = unset_none
-  action_unset here (tree.Set x) values m off out = one_set _ _ (off_variable here.base x (off x))
+  action_unset here (tree.Set x) values m off out = one_set _ _ (off_variable here.base x (off x refl))
   action_unset here (tree.Change x op of back old) values m off out =
-      unset_then (changed op of back (first values).atom (second values).atom m).lines _ (changed_unset op of back (first values).atom (second values).atom m out) (one_set _ _ (off_variable here.base x (off x)))
+      unset_then (changed op of back (first values).atom (second values).atom m).lines _ (changed_unset op of back (first values).atom (second values).atom m out) (one_set _ _ (off_variable here.base x (off x refl)))
   action_unset here (tree.Load site element root) values m off out = unset_load site _ element _ _ NoLine (one_out m element out) unset_none
   action_unset here (tree.Store site element root) values m off out = record { is = refl }
 
