@@ -3,3 +3,4 @@ pub mod Rules
 pub mod UnsetSteps
 pub mod UnsetCode
 pub mod Ground
+pub mod Fresh
