@@ -4,3 +4,5 @@ pub mod UnsetSteps
 pub mod UnsetCode
 pub mod Ground
 pub mod Fresh
+pub mod Setting
+pub mod Acts

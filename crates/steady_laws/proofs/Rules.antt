@@ -145,6 +145,14 @@ module _ (Even : ℕ → Type 0) (one other : Who) where
         in_test' n f a h = in_some other first n f a h
     together_joined (BarrierThen site rest) f g t = (equal_joined (BarrierThen site rest) f g t.0, together_joined rest f g t.1)
 
+  -- lines before others: what holds behind the first is given to the second
+  pub together_seq : (out : ℕ → Test) (lines tail : Lines) (P Q : Cells → Cells → Type 0) (f g : Cells) → Equal Even (λ c. live_in c (joined_to lines tail) (out c)) f g
+      → (Equal Even (λ c. live_in c lines (live_in c tail (out c))) f g → Go (λ c. live_in c tail (out c)) lines P f g)
+      → ((m n : Cells) → Does one lines f m → Does other lines g n → Equal Even (λ c. live_in c tail (out c)) m n → P m n → Go out tail Q m n) → Go out (joined_to lines tail) Q f g
+  together_seq out lines tail P Q f g al h k =
+      together_joined out tail Q lines f g
+      (together_then Even one other (λ c. live_in c tail (out c)) lines P (λ m n. Go out tail Q m n) f g (h (λ c e l. al c e (live_joined c lines tail (out c) ∙ l))) k)
+
   -- ---- a cell that is set
 
   pub put_equal : (to : ℕ) (out read : ℕ → Test) (f g : Cells) (v w : ℤ) → (Even to → out to ≡ true → v ≡ w) → Equal Even (λ c. read c || (not (nat_eq c to) && out c)) f g → Equal Even out (put f to v) (put g to w)
