@@ -6,3 +6,4 @@ pub mod Ground
 pub mod Fresh
 pub mod Setting
 pub mod Acts
+pub mod Evaluated
