@@ -8,7 +8,7 @@ use Rattle.wg_num.specs.declared.types.IntType.{IntType}
 use Rattle.cl_model.specs.declared.program.Root.{Root}
 use Rattle.cl_model.specs.Tree.{Action, Expression, Apply, Update, Choose, Call, Expressions, none, more, Statement, Do, Declare, Fill, Block, If, Loop, Switch, Break, Continue, Return, Barrier, Statements, empty, also, Arms, no_arm, arm, Function, Program}
 use Rattle.cl_model.specs.Calls.{CallSite, function_at}
-use Rattle.cl_model.specs.Valid.{HasType, HaveTypes, OptionalFits, IsPlainCall, StatementFits, AllFit, ArmsFit, parameter_kinds, binary_type, declarations, all_declarations, arms_declarations}
+use Rattle.cl_model.specs.Valid.{HasType, HaveTypes, OptionalFits, IsPlainCall, ReturnFits, StatementFits, AllFit, ArmsFit, parameter_kinds, binary_type, declarations, all_declarations, arms_declarations}
 use Rattle.cl_model.specs.Varying.{sets, assigns_in, assigns_among, assigns_in_optional, assigns, some_assigns, arms_assign, returns, some_returns, arms_return}
 use Rattle.kir.specs.declared.line.Atom.{Atom}
 use Rattle.kir.specs.declared.line.Atom.TheVariants.{Cell as CellAtom}
@@ -79,26 +79,27 @@ module _ (c : ℕ) (here : Instance) (size : ℕ) where
   abbrev pub Off : (ℕ → Test) → Type 0
   Off a = (x : ℕ) → x < size → nat_eq c (here.base + x) ≡ true → a x ≡ false
 
-  -- the cell is that of no variable that is assigned or declared, and not that of the result where there is a return
-  pub record Clear (a : ℕ → Test) (d : ℕ → ℕ) (r : Test) : Type 0 where
-    pub assigned : Off a
-    pub declared : (x : ℕ) → x < size → nat_eq c (here.base + x) ≡ true → d x ≡ 0
-    pub answer : r ≡ true → nat_eq c here.answer ≡ false
-
   pub off_left : (a b : ℕ → Test) → Off (λ x. a x || b x) → Off a
   off_left a b h x i e = (or_parts (a x) (b x) (h x i e)).0
 
   pub off_right : (a b : ℕ → Test) → Off (λ x. a x || b x) → Off b
   off_right a b h x i e = (or_parts (a x) (b x) (h x i e)).1
 
-  clear_left : (a b : ℕ → Test) (d e : ℕ → ℕ) (r s : Test) → Clear (λ x. a x || b x) (λ x. d x + e x) (r || s) → Clear a d r
-  clear_left a b d e r s h = record { assigned = off_left a b h.assigned; declared = λ x i z. (zero_parts (d x) (e x) (h.declared x i z)).0; answer = λ z. h.answer (or_left r s z) }
+  module _ (result : Option IntType) where
+    -- the cell is that of no variable that is assigned or declared, and not that of the result where there is a return
+    pub record Clear (a : ℕ → Test) (d : ℕ → ℕ) (r : Test) : Type 0 where
+      pub assigned : Off a
+      pub declared : (x : ℕ) → x < size → nat_eq c (here.base + x) ≡ true → d x ≡ 0
+      pub answer : r ≡ true → (t : IntType) → result ≡ Some t → nat_eq c here.answer ≡ false
 
-  clear_right : (a b : ℕ → Test) (d e : ℕ → ℕ) (r s : Test) → Clear (λ x. a x || b x) (λ x. d x + e x) (r || s) → Clear b e s
-  clear_right a b d e r s h = record { assigned = off_right a b h.assigned; declared = λ x i z. (zero_parts (d x) (e x) (h.declared x i z)).1; answer = λ z. h.answer (or_right r s z) }
+    pub clear_left : (a b : ℕ → Test) (d e : ℕ → ℕ) (r s : Test) → Clear (λ x. a x || b x) (λ x. d x + e x) (r || s) → Clear a d r
+    clear_left a b d e r s h = record { assigned = off_left a b h.assigned; declared = λ x i z. (zero_parts (d x) (e x) (h.declared x i z)).0; answer = λ z. h.answer (or_left r s z) }
 
-  clear_behind : (a b : ℕ → Test) (d : ℕ → ℕ) (r : Test) → Clear (λ x. a x || b x) d r → Clear b d r
-  clear_behind a b d r h = record { assigned = off_right a b h.assigned; declared = h.declared; answer = h.answer }
+    pub clear_right : (a b : ℕ → Test) (d e : ℕ → ℕ) (r s : Test) → Clear (λ x. a x || b x) (λ x. d x + e x) (r || s) → Clear b e s
+    clear_right a b d e r s h = record { assigned = off_right a b h.assigned; declared = λ x i z. (zero_parts (d x) (e x) (h.declared x i z)).1; answer = λ z. h.answer (or_right r s z) }
+
+    pub clear_behind : (a b : ℕ → Test) (d : ℕ → ℕ) (r : Test) → Clear (λ x. a x || b x) d r → Clear b d r
+    clear_behind a b d r h = record { assigned = off_right a b h.assigned; declared = h.declared; answer = h.answer }
 
 module _ (program : Program) (c : ℕ) (calls : Calls) (calls_up : CallsUp calls) (call : CallsUnset program c calls) (f : Function) (here : Instance) where
   mutual
@@ -194,13 +195,17 @@ module _ (program : Program) (c : ℕ) (calls : Calls) (calls_up : CallsUp calls
   declared_off : (x : ℕ) (value : Option Expression) → (nat_eq c (here.base + x) ≡ true → declarations (Declare x value) x ≡ 0) → nat_eq c (here.base + x) ≡ false
   declared_off x value h = elim (true_or_false (nat_eq c (here.base + x))) [ inl e ↦ absurd (once_declared (nat_eq x x) (same_self x) (h e)) | inr e ↦ e ]
 
+  return_result : (result : Option IntType) (e : Expression) → ReturnFits program f result (Some e) → (t : IntType) × (result ≡ Some t)
+  return_result None e h = absurd h
+  return_result (Some t) e h = (t, refl)
+
   list_joined_unset : (g : Guarded) → Unset c g.inside × Unset c g.rest → Unset c (in_order g).lines
   list_joined_unset g h = unset_then c g.inside g.rest h.0 h.1
 
   mutual
     unfolding statement_code
 
-    pub statement_unset : (exit : ℕ) (s : Statement) → StatementFits program f s → IsFree c exit (way_out true true s) → Clear c here (length f.variables) (assigns s) (declarations s) (returns s) → (m : Made)
+    pub statement_unset : (exit : ℕ) (s : Statement) → StatementFits program f s → IsFree c exit (way_out true true s) → Clear c here (length f.variables) f.result (assigns s) (declarations s) (returns s) → (m : Made)
         → IsOut c (next_cell m) (next_cell (statement_code calls here exit s m).made) → Unset c (statement_code calls here exit s m).lines
     statement_unset exit (Do e) h w v m out = do_unset e h v.assigned m out
     statement_unset exit (Declare x None) h w v m out = unset_set c _ _ NoLine (declared_off x None (v.declared x (slice_get_within f.variables x h.1.0 h.1.1))) (unset_none c)
@@ -219,9 +224,9 @@ module _ (program : Program) (c : ℕ) (calls : Calls) (calls_up : CallsUp calls
         let a = expression_up calls calls_up here test m in
         let b = list_up calls calls_up here exit false chosen ct.made in
         let d = list_up calls calls_up here exit false other cy.made in
-        let v' = clear_behind c here (length f.variables) (assigns_in test) (λ x. some_assigns chosen x || some_assigns other x) _ _ v in
-        let vy = clear_left c here (length f.variables) (some_assigns chosen) (some_assigns other) (all_declarations chosen) (all_declarations other) (some_returns chosen) (some_returns other) v' in
-        let vn = clear_right c here (length f.variables) (some_assigns chosen) (some_assigns other) (all_declarations chosen) (all_declarations other) (some_returns chosen) (some_returns other) v' in
+        let v' = clear_behind c here (length f.variables) f.result (assigns_in test) (λ x. some_assigns chosen x || some_assigns other x) _ _ v in
+        let vy = clear_left c here (length f.variables) f.result (some_assigns chosen) (some_assigns other) (all_declarations chosen) (all_declarations other) (some_returns chosen) (some_returns other) v' in
+        let vn = clear_right c here (length f.variables) f.result (some_assigns chosen) (some_assigns other) (all_declarations chosen) (all_declarations other) (some_returns chosen) (some_returns other) v' in
         unset_then c ct.lines _ (expression_unset test h.0.0 h.0.1 (off_left c here (length f.variables) (assigns_in test) (λ x. some_assigns chosen x || some_assigns other x) v.assigned) m (out_within c _ _ _ _ out (omega arith) (omega (arith, b, d))))
         (unset_if c site ct.value.atom _ _ NoLine
         (list_joined_unset cy (list_unset exit false chosen h.1 (free_first c exit _ _ w) vy ct.made (out_within c _ _ _ _ out (omega (arith, a)) (omega (arith, d)))))
@@ -242,8 +247,8 @@ module _ (program : Program) (c : ℕ) (calls : Calls) (calls_up : CallsUp calls
         let g = round_up site first way co.exit ct.lines ct.value cs.lines cb.lines cb.made in
         let k = outward_up (way_out false false body) co.exit exit cr.made in
         let o = opened_exit c way exit m (out_within c _ _ _ _ out (omega arith) (omega (arith, b, d, e, g, k))) in
-        let v1 = clear_behind c here (length f.variables) (assigns_in_optional test) (λ x. assigns_in_optional step x || assigns body x) _ _ v in
-        let v2 = clear_behind c here (length f.variables) (assigns_in_optional step) (assigns body) _ _ v1 in
+        let v1 = clear_behind c here (length f.variables) f.result (assigns_in_optional test) (λ x. assigns_in_optional step x || assigns body x) _ _ v in
+        let v2 = clear_behind c here (length f.variables) f.result (assigns_in_optional step) (assigns body) _ _ v1 in
         let p = optional_unset test h.0 (off_left c here (length f.variables) (assigns_in_optional test) (λ x. assigns_in_optional step x || assigns body x) v.assigned) co.made (out_within c _ _ _ _ out (omega (arith, a)) (omega (arith, d, e, g, k))) in
         let q = optional_unset step h.1 (off_left c here (length f.variables) (assigns_in_optional step) (assigns body) v1.assigned) ct.made (out_within c _ _ _ _ out (omega (arith, a, b)) (omega (arith, e, g, k))) in
         let r = statement_unset co.exit body h.2 o.1 v2 cs.made (out_within c _ _ _ _ out (omega (arith, a, b, d)) (omega (arith, g, k))) in
@@ -263,7 +268,7 @@ module _ (program : Program) (c : ℕ) (calls : Calls) (calls_up : CallsUp calls
         let e = arms_up calls calls_up here co.exit site cs.value.atom (int (pos 0)) 0 arms cs.made in
         let g = outward_up (way_out_of_arms false true arms) co.exit exit ca.made in
         let o = opened_exit c way exit cv.made (out_within c _ _ _ _ out (omega (arith, a)) (omega (arith, d, e, g))) in
-        let va = clear_behind c here (length f.variables) (assigns_in value) (arms_assign arms) _ _ v in
+        let va = clear_behind c here (length f.variables) f.result (assigns_in value) (arms_assign arms) _ _ v in
         let p = expression_unset value h.0.0 h.0.1 (off_left c here (length f.variables) (assigns_in value) (arms_assign arms) v.assigned) m (out_within c _ _ _ _ out (omega arith) (omega (arith, b, d, e, g))) in
         let q = selected_unset c site cv.value arms co.made (out_within c _ _ _ _ out (omega (arith, a, b)) (omega (arith, e, g))) in
         let r = arms_unset co.exit site cs.value.atom (int (pos 0)) 0 arms h.3 o.1 va cs.made (out_within c _ _ _ _ out (omega (arith, a, b, d)) (omega (arith, g))) in
@@ -275,10 +280,10 @@ module _ (program : Program) (c : ℕ) (calls : Calls) (calls_up : CallsUp calls
     statement_unset exit (Return site (Some e)) h w v m out =
         let ce = expression_code calls here e m in
         let k = return_type program f f.result e h in
-        unset_then c ce.lines _ (expression_unset e k.0 k.1 v.assigned m out) (unset_set c _ _ _ (v.answer refl) (unset_set c _ _ NoLine (w site refl) (unset_none c)))
+        unset_then c ce.lines _ (expression_unset e k.0 k.1 v.assigned m out) (unset_set c _ _ _ (let r = return_result f.result e h in v.answer refl r.0 r.1) (unset_set c _ _ NoLine (w site refl) (unset_none c)))
     statement_unset exit (Barrier site) h w v m out = record { is = refl }
 
-    pub list_unset : (exit : ℕ) (guarded : Test) (list : Statements) → AllFit program f list → IsFree c exit (way_out_of_all true true list) → Clear c here (length f.variables) (some_assigns list) (all_declarations list) (some_returns list) → (m : Made)
+    pub list_unset : (exit : ℕ) (guarded : Test) (list : Statements) → AllFit program f list → IsFree c exit (way_out_of_all true true list) → Clear c here (length f.variables) f.result (some_assigns list) (all_declarations list) (some_returns list) → (m : Made)
         → IsOut c (next_cell m) (next_cell (list_code calls here exit guarded list m).made) → Unset c (list_code calls here exit guarded list m).inside × Unset c (list_code calls here exit guarded list m).rest
     list_unset exit guarded empty h w v m out = (unset_none c, unset_none c)
     list_unset exit guarded (also s rest) h w v m out =
@@ -291,10 +296,10 @@ module _ (program : Program) (c : ℕ) (calls : Calls) (calls_up : CallsUp calls
         let b = list_up calls calls_up here exit inner rest cs.made in
         let same = before_rest_same exit declared way cs.lines cr in
         before_rest_unset c exit declared way cs.lines cr
-        (statement_unset exit s h.0 (free_first c exit way _ w) (clear_left c here (length f.variables) (assigns s) (some_assigns rest) (declarations s) (all_declarations rest) (returns s) (some_returns rest) v) m (out_within c _ _ _ _ out (omega arith) (omega (arith, b, same))))
-        (list_unset exit inner rest h.1 (free_second c exit way _ w) (clear_right c here (length f.variables) (assigns s) (some_assigns rest) (declarations s) (all_declarations rest) (returns s) (some_returns rest) v) cs.made (out_within c _ _ _ _ out (omega (arith, a)) (omega (arith, same))))
+        (statement_unset exit s h.0 (free_first c exit way _ w) (clear_left c here (length f.variables) f.result (assigns s) (some_assigns rest) (declarations s) (all_declarations rest) (returns s) (some_returns rest) v) m (out_within c _ _ _ _ out (omega arith) (omega (arith, b, same))))
+        (list_unset exit inner rest h.1 (free_second c exit way _ w) (clear_right c here (length f.variables) f.result (assigns s) (some_assigns rest) (declarations s) (all_declarations rest) (returns s) (some_returns rest) v) cs.made (out_within c _ _ _ _ out (omega (arith, a)) (omega (arith, same))))
 
-    pub arms_unset : (exit site : ℕ) (chosen fallen : Atom) (k : ℕ) (arms : Arms) → ArmsFit program f arms → IsFree c exit (way_out_of_arms true true arms) → Clear c here (length f.variables) (arms_assign arms) (arms_declarations arms) (arms_return arms) → (m : Made)
+    pub arms_unset : (exit site : ℕ) (chosen fallen : Atom) (k : ℕ) (arms : Arms) → ArmsFit program f arms → IsFree c exit (way_out_of_arms true true arms) → Clear c here (length f.variables) f.result (arms_assign arms) (arms_declarations arms) (arms_return arms) → (m : Made)
         → IsOut c (next_cell m) (next_cell (arms_code calls here exit site chosen fallen k arms m).made) → Unset c (arms_code calls here exit site chosen fallen k arms m).lines
     arms_unset exit site chosen fallen k no_arm h w v m out = unset_none c
     arms_unset exit site chosen fallen k (arm labels other body rest) h w v m out =
@@ -307,8 +312,8 @@ module _ (program : Program) (c : ℕ) (calls : Calls) (calls_up : CallsUp calls
         let b = list_up calls calls_up here exit false body ce.made in
         let d = fallen_up way exit ce.value cl.made in
         let e = arms_up calls calls_up here exit site chosen cf.value.atom (k + 1) rest cf.made in
-        let q = list_joined_unset cl (list_unset exit false body h.0 (free_first c exit way _ w) (clear_left c here (length f.variables) (some_assigns body) (arms_assign rest) (all_declarations body) (arms_declarations rest) (some_returns body) (arms_return rest) v) ce.made (out_within c _ _ _ _ out (omega (arith, a)) (omega (arith, d, e)))) in
+        let q = list_joined_unset cl (list_unset exit false body h.0 (free_first c exit way _ w) (clear_left c here (length f.variables) f.result (some_assigns body) (arms_assign rest) (all_declarations body) (arms_declarations rest) (some_returns body) (arms_return rest) v) ce.made (out_within c _ _ _ _ out (omega (arith, a)) (omega (arith, d, e)))) in
         unset_then c ca.lines _
         (unset_then c ce.lines _ (entry_unset c chosen fallen k m (out_within c _ _ _ _ out (omega arith) (omega (arith, b, d, e)))) (unset_if c site ce.value.atom _ NoLine cf.lines q (unset_none c) (fallen_unset c way exit ce.value cl.made (out_within c _ _ _ _ out (omega (arith, a, b)) (omega (arith, e))))))
-        (arms_unset exit site chosen cf.value.atom (k + 1) rest h.1 (free_second c exit way _ w) (clear_right c here (length f.variables) (some_assigns body) (arms_assign rest) (all_declarations body) (arms_declarations rest) (some_returns body) (arms_return rest) v) cf.made
+        (arms_unset exit site chosen cf.value.atom (k + 1) rest h.1 (free_second c exit way _ w) (clear_right c here (length f.variables) f.result (some_assigns body) (arms_assign rest) (all_declarations body) (arms_declarations rest) (some_returns body) (arms_return rest) v) cf.made
         (out_within c _ _ _ _ out (omega (arith, a, b, d)) (omega arith)))
