@@ -7,3 +7,5 @@ pub mod Fresh
 pub mod Setting
 pub mod Acts
 pub mod Evaluated
+pub mod Scopes
+pub mod Words
