@@ -9,3 +9,4 @@ pub mod Acts
 pub mod Evaluated
 pub mod Scopes
 pub mod Words
+pub mod Guards

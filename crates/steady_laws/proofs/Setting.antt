@@ -55,6 +55,7 @@ module _ (program : Program) (kernel : Kernel) (one other : Who) where
     pub marked : (x : ℕ) → x < length (function_at program fn).variables → Even program kernel (here.base + x) → Varies program (AVariable fn x) → ⊥
     pub even : (x : ℕ) → x < length (function_at program fn).variables → (Varies program (AVariable fn x) → ⊥) → Even program kernel (here.base + x)
     pub constants : (element : IntType) (root : Root) → CanLoad program (function_at program fn) root element → varying.is_constant_root (function_at program fn) root ≡ true → is_constant_root kernel (root_in here root) ≡ true
+    pub answer_is : here.answer ≡ here.base + length (function_at program fn).variables
     pub not_kernel : (site g : ℕ) (roots : List (Option Root)) (arguments : Expressions) → IsOneOf (expressions_of_list (function_at program fn).body) (Call site g roots arguments) → g ≢ program.kernel
     pub call : CallsTogether fn calls here
 
