@@ -10,3 +10,4 @@ pub mod Evaluated
 pub mod Scopes
 pub mod Words
 pub mod Guards
+pub mod Exits
