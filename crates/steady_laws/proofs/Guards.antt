@@ -137,7 +137,7 @@ module _ (program : Program) (kernel : Kernel) (one other : Who) (fn : ℕ) (cal
     -- lines that are skipped where a way out is pending, before others
     module _ (scope : Scope) (site : ℕ) (inside rest : Lines) (a : ℕ → Test) (r : Test) (C A : Type 0) (out : ℕ → Test) (Q : Cells → Cells → Type 0) (w : W) (bound : Bound program kernel here scope (λ c. live_in c rest (out c)))
         (within : ScopeWithin program kernel here Size scope) (assigned : (x : ℕ) → a x ≡ true → some_assigns (function_at program fn).body x ≡ true) (returned : r ≡ true → some_returns (function_at program fn).body ≡ true) (cover : Covers C scope)
-        (unset : (c : ℕ) → Known program kernel here scope c → ((x : ℕ) → Has scope x → c ≡ here.base + x → a x ≡ true → ⊥) → sets_in c inside ≡ false)
+        (unset : (c : ℕ) → E c → Known program kernel here scope c → ((x : ℕ) → Has scope x → c ≡ here.base + x → a x ≡ true → ⊥) → sets_in c inside ≡ false)
         (unset_answer : (t : IntType) → (function_at program fn).result ≡ Some t → r ≡ false → sets_in here.answer inside ≡ false)
         (go_inside : (p q : Cells) → Equal E (λ c. live_in c inside (live_in c rest (out c))) p q → ExitEqual p q → AnswerEqual p q → Go (λ c. live_in c rest (out c)) inside (λ m n. (A → ExitEqual m n) × AnswerEqual m n) p q)
         (go_rest : (m n : Cells) → Equal E (λ c. live_in c rest (out c)) m n → (C → A → ExitEqual m n) → AnswerEqual m n → Go out rest Q m n) where
@@ -148,7 +148,7 @@ module _ (program : Program) (kernel : Kernel) (one other : Who) (fn : ℕ) (cal
       guard p q al pre ans =
           together_if E one other (λ c. live_in c rest (out c)) site (CellAtom exit) NoLine inside Behind p q al (λ x y al'. (al', ((λ c a. pre c), ans)))
           (λ x y al'. together_then E one other (λ c. live_in c rest (out c)) inside (λ m n. (A → ExitEqual m n) × AnswerEqual m n) Behind p q (go_inside p q al' (λ w'. zero_is (p exit) x ∙ sym (zero_is (q exit) y)) ans) (λ m n d e z k. ((λ c. k.0), k.1)))
-          (λ df c e o. unset c (bound c e o) (λ x has ec ax. df (pre (cover.variables x has (assigned x ax) (λ v. set.marked x (within x has) (subst E ec e) v)) w)))
+          (λ df c e o. unset c e (bound c e o) (λ x has ec ax. df (pre (cover.variables x has (assigned x ax) (λ v. set.marked x (within x has) (subst E ec e) v)) w)))
           (λ df m n x y. ((λ c a' w'. absurd (df (pre c w))), (λ t s nv. elim (true_or_false r) [
             | inl er ↦ absurd (df (pre (cover.result (returned er) nv) w))
             | inr er ↦ branch_kept one (CellAtom exit) NoLine inside p m here.answer x (unset_answer t s er) ∙ (ans t s nv ∙ sym (branch_kept other (CellAtom exit) NoLine inside q n here.answer y (unset_answer t s er)))
@@ -171,7 +171,7 @@ module _ (program : Program) (kernel : Kernel) (one other : Who) (fn : ℕ) (cal
         (bound_both : Bound program kernel here scope (λ c. live_in c (joined_to g.inside g.rest) (out c)))
         (bound_rest : is_guarded declared way guarded ≡ true → Bound program kernel here scope (λ c. live_in c g.rest (out c)))
         (bound_guard : (site : ℕ) → way ≡ Some site → Bound program kernel here scope (λ c. live_in c (guarded_before site exit g.inside g.rest) (out c)))
-        (unset : (c : ℕ) → Known program kernel here scope c → ((x : ℕ) → Has scope x → c ≡ here.base + x → a x ≡ true → ⊥) → sets_in c g.inside ≡ false)
+        (unset : (c : ℕ) → E c → Known program kernel here scope c → ((x : ℕ) → Has scope x → c ≡ here.base + x → a x ≡ true → ⊥) → sets_in c g.inside ≡ false)
         (unset_answer : (t : IntType) → (function_at program fn).result ≡ Some t → r ≡ false → sets_in here.answer g.inside ≡ false)
         (go_first : (out' : ℕ → Test) (p q : Cells) → Bound program kernel here scope out' → Equal E (λ c. live_in c lines (out' c)) p q → ExitEqual p q → AnswerEqual p q → Go out' lines (λ m n. (S → ExitEqual m n) × AnswerEqual m n) p q)
         (go_inside : (p q : Cells) → Equal E (λ c. live_in c g.inside (live_in c g.rest (out c))) p q → ExitEqual p q → AnswerEqual p q → Go (λ c. live_in c g.rest (out c)) g.inside (λ m n. (A → ExitEqual m n) × AnswerEqual m n) p q)

@@ -11,3 +11,4 @@ pub mod Scopes
 pub mod Words
 pub mod Guards
 pub mod Exits
+pub mod Rounds
