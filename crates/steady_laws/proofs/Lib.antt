@@ -12,3 +12,4 @@ pub mod Words
 pub mod Guards
 pub mod Exits
 pub mod Rounds
+pub mod Loops

@@ -260,3 +260,9 @@ module _ (program : Program) (kernel : Kernel) (one other : Who) (fn : ℕ) (cal
           ],
         )))
         first p q al (λ e. ((λ s w. y0), k)) (λ e. ((λ w. y0), k))
+
+    -- either
+    pub round_together : (site : ℕ) (first : Test) (way : Option ℕ) → ((s : ℕ) → way ≡ Some s → W') → (way ≡ None → W' → ⊥) → Grown program kernel (round_code site first way Y lt answer ls lb mb).made → (p q : Cells)
+        → Equal E (λ c. live_in c (round_code site first way Y lt answer ls lb mb).lines (out c)) p q → (W' → p Y ≡ q Y) → K p q → Go out (round_code site first way Y lt answer ls lb mb).lines RoundEnds p q
+    round_together site first None some_ none_ g p q al y0 k = round_none site first (none_ refl) p q al k
+    round_together site first (Some way) some_ none_ g p q al y0 k = let w = some_ way refl in round_some site way first w g p q al (y0 w) k
