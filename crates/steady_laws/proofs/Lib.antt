@@ -13,3 +13,4 @@ pub mod Guards
 pub mod Exits
 pub mod Rounds
 pub mod Loops
+pub mod Arms
