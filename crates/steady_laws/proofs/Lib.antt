@@ -14,3 +14,4 @@ pub mod Exits
 pub mod Rounds
 pub mod Loops
 pub mod Arms
+pub mod Entries
