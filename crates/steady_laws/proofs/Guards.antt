@@ -88,6 +88,9 @@ module _ (program : Program) (kernel : Kernel) (one other : Who) (fn : ℕ) (cal
   pub covers_both : (C D : Type 0) (scope : Scope) → Covers C scope → Covers D scope → Covers (C × D) scope
   covers_both C D scope h k = record { variables = λ x has a nv. (h.variables x has a nv, k.variables x has a nv); result = λ r nv. (h.result r nv, k.result r nv) }
 
+  pub covers_before : (C : Type 0) (scope : Scope) (s : Statement) → Covers C (scope_after scope s) → Covers C scope
+  covers_before C scope s h = record { variables = λ x has. h.variables x (has_after scope s x has); result = h.result }
+
   pub covers_same : (C : Type 0) (scope other_scope : Scope) → other_scope ≡ scope → Covers C scope → Covers C other_scope
   covers_same C scope other_scope e h = subst (Covers C) (sym e) h
 
@@ -202,20 +205,20 @@ module _ (program : Program) (kernel : Kernel) (one other : Who) (fn : ℕ) (cal
               together_then E one other (λ c. live_in c (guarded_before site exit g.inside g.rest) (out c)) lines (λ m n. (S → ExitEqual m n) × AnswerEqual m n) Ends p q
               (go_first (λ c. live_in c (guarded_before site exit g.inside g.rest) (out c)) p q (bg site refl) al' x0 ans) (λ m n x2 y2 al3 z. ((λ sa. z.0 sa.0), z.1))
 
-      pub before_behind : (C : Type 0) → (guarded ≡ false → C) → Covers C scope → (p q : Cells) → Equal E (λ c. live_in c (before_rest exit declared way lines g).rest (out c)) p q → (C → (S × A) → ExitEqual p q) → AnswerEqual p q
+      pub before_behind : (C : Type 0) → (guarded ≡ false → C) → (declared ≡ false → Covers C scope) → (p q : Cells) → Equal E (λ c. live_in c (before_rest exit declared way lines g).rest (out c)) p q → (C → (S × A) → ExitEqual p q) → AnswerEqual p q
           → Go out (before_rest exit declared way lines g).rest (λ m n. (C → (S × A) → ExitEqual m n) × AnswerEqual m n) p q
-      before_behind C free cover p q al pre ans = by declared way (λ e. settled (inl e)) w bound_rest go_rest al
+      before_behind C free cover p q al pre ans = by declared way (λ e. settled (inl e)) w bound_rest go_rest cover al
         where
           by : (d : Test) (u : Option ℕ) → (u ≡ None → S) → ((site : ℕ) → u ≡ Some site → W) → (is_guarded d u guarded ≡ true → Bound program kernel here scope (λ c. live_in c g.rest (out c)))
               → ((C : Type 0) → (is_guarded d u guarded ≡ false → C) → Covers C scope → (p q : Cells) → Equal E (λ c. live_in c g.rest (out c)) p q → (C → A → ExitEqual p q) → AnswerEqual p q → Go out g.rest (λ m n. (C → A → ExitEqual m n) × AnswerEqual m n) p q)
-              → Equal E (λ c. live_in c (before_rest exit d u lines g).rest (out c)) p q → Go out (before_rest exit d u lines g).rest (λ m n. (C → (S × A) → ExitEqual m n) × AnswerEqual m n) p q
-          by true u sn ww br gr al' = (al', (pre, ans))
-          by false None sn ww br gr al' =
-              together_then E one other out g.rest (λ m n. (C → A → ExitEqual m n) × AnswerEqual m n) (λ m n. (C → (S × A) → ExitEqual m n) × AnswerEqual m n) p q (gr C free cover p q al' (λ c a'. pre c (sn refl, a')) ans)
+              → (d ≡ false → Covers C scope) → Equal E (λ c. live_in c (before_rest exit d u lines g).rest (out c)) p q → Go out (before_rest exit d u lines g).rest (λ m n. (C → (S × A) → ExitEqual m n) × AnswerEqual m n) p q
+          by true u sn ww br gr cv al' = (al', (pre, ans))
+          by false None sn ww br gr cv al' =
+              together_then E one other out g.rest (λ m n. (C → A → ExitEqual m n) × AnswerEqual m n) (λ m n. (C → (S × A) → ExitEqual m n) × AnswerEqual m n) p q (gr C free (cv refl) p q al' (λ c a'. pre c (sn refl, a')) ans)
               (λ m n x2 y2 al3 z. ((λ c sa. z.0 c sa.1), z.1))
-          by false (Some site) sn ww br gr al' =
+          by false (Some site) sn ww br gr cv al' =
               guarded_together scope site g.inside g.rest a r (C × (S × A)) A out (λ m n. (C → (S × A) → ExitEqual m n) × AnswerEqual m n) (ww site refl) (br refl) within assigned returned
-              (covers_both C (S × A) scope cover (covers_both S A scope cover_s cover_a)) unset unset_answer go_inside
+              (covers_both C (S × A) scope (cv refl) (covers_both S A scope cover_s cover_a)) unset unset_answer go_inside
               (λ m n al1 k z. together_then E one other out g.rest (λ m n. ((C × S) → A → ExitEqual m n) × AnswerEqual m n) (λ m n. (C → (S × A) → ExitEqual m n) × AnswerEqual m n) m n
-              (gr (C × S) (λ e. absurd (cc e)) (covers_both C S scope cover cover_s) m n al1 (λ cs a'. k (cs.0, (cs.1, a')) a') z) (λ m' n' x2 y2 al3 z'. ((λ c sa. z'.0 (c, sa.0) sa.1), z'.1)))
+              (gr (C × S) (λ e. absurd (cc e)) (covers_both C S scope (cv refl) cover_s) m n al1 (λ cs a'. k (cs.0, (cs.1, a')) a') z) (λ m' n' x2 y2 al3 z'. ((λ c sa. z'.0 (c, sa.0) sa.1), z'.1)))
               p q al' (λ csa. pre csa.0 csa.1) ans

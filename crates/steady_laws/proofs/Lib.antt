@@ -15,3 +15,5 @@ pub mod Rounds
 pub mod Loops
 pub mod Arms
 pub mod Entries
+pub mod Parts
+pub mod Switches

@@ -190,7 +190,7 @@ mutual
       first_some (way_out_of_all b k body) (way_out_of_arms b k rest) site _ h (λ e. or_left (some_exits body) (arms_exit rest) (way_exits_all b k body site e)) (λ e. or_right (some_exits body) (arms_exit rest) (way_exits_arms b k rest site e))
 
 -- with fewer ways out there are no more
-some_or_none : (a : Option ℕ) → ((site : ℕ) × (a ≡ Some site)) ⊎ (a ≡ None)
+pub some_or_none : (a : Option ℕ) → ((site : ℕ) × (a ≡ Some site)) ⊎ (a ≡ None)
 some_or_none None = inr refl
 some_or_none (Some s) = inl (s, refl)
 
