@@ -75,7 +75,7 @@ module _ (program : Program) (kernel : Kernel) (one other : Who) (fn : ℕ) (cal
   labels_back site value to k [] m g = g
   labels_back site value to k (label ∷ labels) m g = back_value program kernel m Int (labels_back site value to k labels (with_cell m OfValue Int) g)
 
-  all_back : (site : ℕ) (value : Value) (to k : ℕ) (arms : Arms) (m : Made) → Grown program kernel (all_labels_code site value to k arms m).made → Grown program kernel m
+  pub all_back : (site : ℕ) (value : Value) (to k : ℕ) (arms : Arms) (m : Made) → Grown program kernel (all_labels_code site value to k arms m).made → Grown program kernel m
   all_back site value to k no_arm m g = g
   all_back site value to k (arm labels default body rest) m g = labels_back site value to k labels m (all_back site value to (k + 1) rest (labels_code site value to k labels m).made g)
 

@@ -17,3 +17,4 @@ pub mod Arms
 pub mod Entries
 pub mod Parts
 pub mod Switches
+pub mod Statements
