@@ -18,3 +18,5 @@ pub mod Entries
 pub mod Parts
 pub mod Switches
 pub mod Statements
+pub mod Bodies
+pub mod Wholes
