@@ -1,8 +1,8 @@
 -- Both go together through the step of an action, and its value is equal where it does not vary.
-use Rattle.std.proofs.Common.{◌≡◌, ℕ, suc, ◌+◌, ◌<◌, ◌≤◌, ℤ, pos, List, [], ◌∷◌, map, length, Option, Some, None, refl, sym, ap, ap₂, ◌∙◌, subst, arith, inl, inr, if◌then◌else◌}
+use Rattle.std.proofs.Common.{◌≡◌, ℕ, ◌+◌, ◌<◌, ◌≤◌, ℤ, pos, List, [], ◌∷◌, map, length, refl, sym, ap, ap₂, ◌∙◌, subst, arith, inl, inr, if◌then◌else◌}
 use Rattle.std.proofs.Common.{Bool as Test, true, false}
-use Rattle.std.specs.Prelude.{nat_eq, ◌||◌, ◌&&◌, not}
-use Rattle.std.proofs.lemmas.Bool.{or_left, or_right}
+use Rattle.std.specs.Prelude.{nat_eq}
+use Rattle.std.proofs.lemmas.Bool.{or_left}
 use Rattle.std.proofs.lemmas.Option.{slice_get_within}
 use Rattle.wg_num.specs.declared.types.IntType.{IntType}
 use Rattle.wg_num.specs.declared.types.IntType.TheVariants.{Int}
@@ -11,8 +11,6 @@ use Rattle.wg_num.specs.declared.types.Bin.TheVariants.{Ne}
 use Rattle.wg_num.specs.Wrap.{wrap_of}
 use Rattle.wg_num.specs.Operators.{unary_of, binary_of}
 use Rattle.wg_num.specs.Builtins.{builtin_of, result_type}
-use Rattle.cl_model.specs.declared.program.Root.{Root}
-use Rattle.cl_model.specs.declared.program.Query.{Query}
 use Rattle.cl_model.specs.Tree as tree
 use Rattle.cl_model.specs.Tree.{Action, Expression, Apply, Expressions, none, more, Program}
 use Rattle.cl_model.specs.Lists.{IsOneOf}
@@ -23,8 +21,8 @@ use Rattle.cl_model.specs.Varying.{expressions_of_list, IsAmong, IsNth, is_own, 
 use Rattle.cl_model.specs.Varying as varying
 use Rattle.kir.specs.declared.line.Atom.{Atom}
 use Rattle.kir.specs.declared.line.Atom.TheVariants.{Const, Cell as CellAtom}
-use Rattle.kir.specs.Tree.{Work, Unary, Binary, Builtin, Convert, Ask, Copy, Lines, NoLine, SetThen, LoadThen, OfValue, Kernel}
-use Rattle.kir.specs.Live.{reads, work_reads, live_in}
+use Rattle.kir.specs.Tree.{Work, Unary, Binary, Builtin, Convert, Ask, Copy, Lines, NoLine, SetThen, OfValue, Kernel}
+use Rattle.kir.specs.Live.{work_reads, live_in}
 use Rattle.kir.specs.Steps.{atom_value}
 use Rattle.kir_lower.specs.declared.places.Value.{Value}
 use Rattle.kir_lower.specs.Made.{Made, Instance, next_cell, with_cell, type_at, root_in}
@@ -33,11 +31,10 @@ use Rattle.kir_lower.specs.Code.{Calls}
 use Rattle.even_laws.specs.Does.{Cells, Who, put, computed}
 use Rattle.even_laws.proofs.Living.{true_or_false}
 use Rattle.even_laws.proofs.Alike.{same_self, same_number, put_here, put_other}
-use Rattle.lowering_laws.proofs.Absent.{next_more}
 use Rattle.steady_laws.specs.Together.{Equal, Together}
 use Rattle.steady_laws.proofs.Rules.{put_equal, together_seq, together_set, together_load, together_store}
 use Rattle.steady_laws.proofs.Ground.{Even, Grown, value_not_even, back_value}
-use Rattle.steady_laws.proofs.Fresh.{AtomIn, AllIn, atom_within, atom_kept, first_in, second_in, changed_in}
+use Rattle.steady_laws.proofs.Fresh.{AtomIn, AllIn, atom_kept, first_in, second_in, changed_in}
 use Rattle.steady_laws.proofs.UnsetSteps.{changed_unset}
 use Rattle.lowering_laws.proofs.Across.{out_below}
 use Rattle.even_laws.specs.Steady.{sets_in}
@@ -213,10 +210,10 @@ module _ (program : Program) (kernel : Kernel) (one other : Who) (fn : ℕ) wher
         let n = next_cell m in
         together_load (Even program kernel) one other out site n element (root_in here root) (first values).atom (Q (tree.Load site element root) es values m) p q al (value_not_even program kernel m element g)
         (λ v w x y nv.
-            let constant : varying.is_constant_root (function_at program fn) root ≡ true = elim (true_or_false (varying.is_constant_root (function_at program fn) root)) [ inl e ↦ e | inr e ↦ absurd (nv (loaded e)) ] in
-            let index = first_same es values p q same (among (tree.Load site element root) es refl nv) in
-            let vw = set.fellows.constants element (root_in here root) (atom_value q (first values).atom) v w (set.constants element root fits.1 constant) (subst (λ z. one.gives element (root_in here root) z v) index x) y in
-            put_here p n n v (same_self n) ∙ (vw ∙ sym (put_here q n n w (same_self n))))
+        let constant : varying.is_constant_root (function_at program fn) root ≡ true = elim (true_or_false (varying.is_constant_root (function_at program fn) root)) [ inl e ↦ e | inr e ↦ absurd (nv (loaded e)) ] in
+        let index = first_same es values p q same (among (tree.Load site element root) es refl nv) in
+        let vw = set.fellows.constants element (root_in here root) (atom_value q (first values).atom) v w (set.constants element root fits.1 constant) (subst (λ z. one.gives element (root_in here root) z v) index x) y in
+        put_here p n n v (same_self n) ∙ (vw ∙ sym (put_here q n n w (same_self n))))
     action_together (tree.Load site element root) es (s ∷ r ∷ ts) t values a m out p q i fits low le within g al same = absurd fits
     action_together (tree.Store site element root) es ts t values a m out p q i fits low le within g al same =
         together_store (Even program kernel) one other out site element (root_in here root) (first values).atom (second values).atom (Q (tree.Store site element root) es values m) p q al

@@ -1,50 +1,36 @@
 -- Both go together through the choice of an arm of a switch, and through an arm. Which arm an item came to first, and whether it left one, says that nothing is pending where an arm is entered.
-use Rattle.std.proofs.Common.{◌≡◌, ℕ, suc, ◌+◌, ◌<◌, ◌≤◌, ℤ, pos, length, List, [], ◌∷◌, Option, Some, None, refl, sym, ap, ap₂, ◌∙◌, subst, arith, ◌⊎◌, inl, inr, if◌then◌else◌}
-use Rattle.std.proofs.Common.{Bool as Test, true, false}
+use Rattle.std.proofs.Common.{◌≡◌, ℕ, suc, ◌+◌, ◌<◌, ℤ, pos, length, List, [], ◌∷◌, refl, sym, ap, ◌∙◌, subst, arith, inl, inr}
+use Rattle.std.proofs.Common.{Bool as Test, false}
 use Rattle.std.specs.Prelude.{nat_eq, ◌||◌}
-use Rattle.std.proofs.lemmas.Bool.{or_left, or_right}
-use Rattle.std.proofs.lemmas.Option.{none-some}
 use Rattle.wg_num.specs.declared.types.IntType.{IntType}
 use Rattle.wg_num.specs.declared.types.IntType.TheVariants.{Int}
-use Rattle.wg_num.specs.declared.types.Un.TheVariants.{Not}
-use Rattle.wg_num.specs.declared.types.Bin.TheVariants.{And, Or, Eq}
+use Rattle.wg_num.specs.declared.types.Bin.TheVariants.{Eq}
 use Rattle.wg_num.specs.Wrap.{wrap_of}
-use Rattle.wg_num.specs.Operators.{unary_of, binary_of}
+use Rattle.wg_num.specs.Operators.{binary_of}
 use Rattle.cl_model.specs.Tree.{Program, Arms, no_arm, arm}
 use Rattle.cl_model.specs.Calls.{function_at}
-use Rattle.cl_model.specs.Values.{is_zero}
-use Rattle.cl_model.specs.Valid.{Scope, Has, promoted}
-use Rattle.cl_model.specs.Varying.{AVariable, AResult, Varies}
-use Rattle.kir.specs.declared.line.Atom.{Atom}
+use Rattle.cl_model.specs.Valid.{promoted}
 use Rattle.kir.specs.declared.line.Atom.TheVariants.{Const, Cell as CellAtom}
-use Rattle.kir.specs.Tree.{Unary, Binary, Convert, Copy, Lines, NoLine, SetThen, IfThen, joined_to, OfValue, Kernel}
-use Rattle.kir.specs.Live.{reads, live_in}
+use Rattle.kir.specs.Tree.{Binary, Convert, Copy, Lines, NoLine, SetThen, IfThen, OfValue, Kernel}
+use Rattle.kir.specs.Live.{live_in}
 use Rattle.kir.specs.Steps.{atom_value}
 use Rattle.kir_lower.specs.declared.places.Value.{Value}
 use Rattle.kir_lower.specs.Made.{Made, Instance, next_cell, with_cell, int}
-use Rattle.kir_lower.specs.Actions.{set_to, default_number, label_code, labels_code, all_labels_code, selected, fallen_code}
-use Rattle.kir_lower.specs.Code.{Calls, entry_code}
-use Rattle.even_laws.specs.Steady.{sets_in}
-use Rattle.even_laws.specs.Does.{Cells, Who, put, Does}
-use Rattle.even_laws.specs.Path.{Branches}
+use Rattle.kir_lower.specs.Actions.{set_to, default_number, label_code, labels_code, all_labels_code, selected}
+use Rattle.kir_lower.specs.Code.{Calls}
+use Rattle.even_laws.specs.Does.{Cells, Who, put}
 use Rattle.even_laws.proofs.Living.{true_or_false}
-use Rattle.even_laws.proofs.Alike.{same_self, same_number, put_here, put_other, kept}
-use Rattle.lowering_laws.proofs.Quiet.{Quiet, or_false, quiet_less}
-use Rattle.lowering_laws.proofs.Steps.{IsApart, IsFree, fallen_quiet}
-use Rattle.lowering_laws.proofs.Absent.{next_more, IsOut}
-use Rattle.lowering_laws.proofs.AbsentSteps.{labels_up, all_labels_up}
-use Rattle.lowering_laws.proofs.Across.{out_below}
-use Rattle.steady_laws.specs.Together.{Equal, Anything, Together}
+use Rattle.even_laws.proofs.Alike.{same_self, same_number, put_here, put_other}
+use Rattle.lowering_laws.proofs.Quiet.{or_false}
+use Rattle.lowering_laws.proofs.Absent.{next_more}
+use Rattle.lowering_laws.proofs.AbsentSteps.{labels_up}
+use Rattle.steady_laws.specs.Together.{Equal, Together}
 use Rattle.steady_laws.proofs.Places.{together_then}
-use Rattle.steady_laws.proofs.Rules.{Differ, branch_kept, together_seq, together_set, together_if}
+use Rattle.steady_laws.proofs.Rules.{together_seq, together_set, together_if}
 use Rattle.steady_laws.proofs.Ground.{Even, Grown, value_not_even, back_value}
-use Rattle.steady_laws.proofs.Fresh.{AtomIn}
-use Rattle.steady_laws.proofs.Setting.{Setting, Known, Bound, bound_before, ScopeWithin, known_below}
-use Rattle.steady_laws.proofs.Acts.{apart_above, apart_below, set_then, computed_together, atom_put}
-use Rattle.steady_laws.proofs.UnsetSteps.{entry_unset, fallen_unset}
-use Rattle.steady_laws.proofs.Guards.{AnswerEqual, Covers}
-use Rattle.steady_laws.proofs.Exits.{Pending, free_even, apart_is}
-use Rattle.steady_laws.proofs.Words.{zero_is, no_bits, and_none, none_and, eq_is, not_some}
+use Rattle.steady_laws.proofs.Setting.{Setting}
+use Rattle.steady_laws.proofs.Acts.{apart_below, set_then}
+use Rattle.steady_laws.proofs.Guards.{AnswerEqual}
 
 -- the number is one before this
 abbrev pub Past : ℕ → ℤ → Type 0

@@ -1,30 +1,27 @@
 -- Both go together through the body of a function.
-use Rattle.std.proofs.Common.{◌≡◌, ℕ, zero, suc, ◌+◌, ◌<◌, ◌≤◌, ℤ, pos, List, [], ◌∷◌, ◌++◌, length, Option, Some, None, slice_get, refl, sym, ap, ◌∙◌, subst, arith, ◌⊎◌, inl, inr}
+use Rattle.std.proofs.Common.{◌≡◌, ℕ, zero, suc, ◌+◌, ◌<◌, ◌≤◌, ℤ, pos, List, [], ◌∷◌, length, Option, Some, None, slice_get, refl, sym, ap, ◌∙◌, subst, arith, inr}
 use Rattle.std.proofs.Common.{Bool as Test, true, false}
 use Rattle.std.specs.Prelude.{nat_eq}
 use Rattle.std.proofs.lemmas.Option.{none-some, same_Some}
 use Rattle.wg_num.specs.declared.types.IntType.{IntType}
-use Rattle.cl_model.specs.declared.program.Root.{Root}
 use Rattle.cl_model.specs.declared.program.VarKind.{VarKind}
 use Rattle.cl_model.specs.Tree.{Program, Function}
 use Rattle.cl_model.specs.Calls.{function_at}
-use Rattle.cl_model.specs.Valid.{Scope, Has, IsValid, numbers_below, parameter_kinds}
-use Rattle.cl_model.specs.Varying.{some_assigns, some_returns, AVariable, AResult, Varies}
-use Rattle.kir.specs.declared.line.Atom.{Atom}
-use Rattle.kir.specs.declared.line.Atom.TheVariants.{Cell as CellAtom}
-use Rattle.kir.specs.Tree.{Work, Argument, Copy, Lines, NoLine, SetThen, joined_to, OfValue, Kernel}
+use Rattle.cl_model.specs.Valid.{IsValid, numbers_below}
+use Rattle.cl_model.specs.Varying.{AResult, Varies}
+use Rattle.kir.specs.Tree.{Argument, Copy, Lines, NoLine, joined_to, OfValue, Kernel}
 use Rattle.kir.specs.Live.{work_reads, live_in}
 use Rattle.kir.specs.Steps.{atom_value}
 use Rattle.kir.specs.Lowering.{Named}
 use Rattle.kir_lower.specs.declared.places.Value.{Value}
-use Rattle.kir_lower.specs.Made.{Made, Instance, next_cell, with_cell, constant}
+use Rattle.kir_lower.specs.Made.{Made, Instance, next_cell, constant}
 use Rattle.kir_lower.specs.Ways.{way_out_of_all}
 use Rattle.kir_lower.specs.Actions.{opened}
 use Rattle.kir_lower.specs.Code.{Calls, list_code, result_code, body_code}
 use Rattle.kir_lower.specs.Whole.{names_at, way_behind, instance_at, with_instance, parameter_lines, call_code, bound_lines}
 use Rattle.even_laws.specs.Steady.{sets_in}
-use Rattle.even_laws.specs.Does.{Cells, Who, put, computed, Does}
-use Rattle.even_laws.proofs.Alike.{same_self, same_number, put_here, kept, AreFellows}
+use Rattle.even_laws.specs.Does.{Cells, Who, put}
+use Rattle.even_laws.proofs.Alike.{same_self, put_here, kept, AreFellows}
 use Rattle.lowering_laws.specs.Names.{AreNamed}
 use Rattle.lowering_laws.proofs.Absent.{next_more, IsOut, out_within}
 use Rattle.lowering_laws.proofs.AbsentSteps.{opened_more}
@@ -39,7 +36,7 @@ use Rattle.steady_laws.proofs.Places.{together_then}
 use Rattle.steady_laws.proofs.Rules.{put_equal, together_seq, together_set}
 use Rattle.steady_laws.proofs.UnsetSteps.{Unset, unset_none, unset_then, unset_set, opened_unset}
 use Rattle.steady_laws.proofs.UnsetCode.{CallsUnset, list_unset}
-use Rattle.steady_laws.proofs.Ground.{Even, Grown, value_not_even, back_value, list_back, opened_back}
+use Rattle.steady_laws.proofs.Ground.{Even, Grown, value_not_even, list_back, opened_back}
 use Rattle.steady_laws.proofs.Fresh.{AtomIn, AllIn}
 use Rattle.steady_laws.proofs.Setting.{Setting, Bound, ScopeWithin}
 use Rattle.steady_laws.proofs.Acts.{apart_below, atom_put}
@@ -118,9 +115,9 @@ module _ (program : Program) (kernel : Kernel) (one other : Who) where
       let eq : E cell → x ≡ y = λ e. same 0 v refl (subst E zero_more e) in (
         al,
         parameters_together (cell + 1) n a values out (put p cell x) (put q cell y) (omega (arith, low)) within.1
-        (put_equal E one other cell (λ c. live_in c (parameter_lines (cell + 1) values) (out c)) (λ c. work_reads c (Copy v.atom)) p q x y (λ e l. eq e) al)
-        (λ k w at e. let more : (cell + 1) + k ≡ cell + suc k = omega arith in
-        value_put values within.1 k w at p x ∙ (same (suc k) w at (subst E more e) ∙ sym (value_put values within.1 k w at q y))),
+            (put_equal E one other cell (λ c. live_in c (parameter_lines (cell + 1) values) (out c)) (λ c. work_reads c (Copy v.atom)) p q x y (λ e l. eq e) al)
+            (λ k w at e. let more : (cell + 1) + k ≡ cell + suc k = omega arith in
+            value_put values within.1 k w at p x ∙ (same (suc k) w at (subst E more e) ∙ sym (value_put values within.1 k w at q y))),
       )
     where
       value_put : (list : List Value) → AllIn program kernel a n list → (k : ℕ) (w : Value) → slice_get list k ≡ Some w → (f : Cells) (z : ℤ) → atom_value (put f cell z) w.atom ≡ atom_value f w.atom
@@ -135,7 +132,7 @@ module _ (program : Program) (kernel : Kernel) (one other : Who) where
   bound_together cell n (kind ∷ kinds) out p q fellows al = (
     al,
     bound_together (cell + 1) (n + 1) kinds out (put p cell (one.arguments n)) (put q cell (other.arguments n)) fellows
-    (put_equal E one other cell (λ c. live_in c (bound_lines (cell + 1) (n + 1) kinds) (out c)) (λ c. work_reads c (Argument n)) p q (one.arguments n) (other.arguments n) (λ e l. fellows.arguments n) al),
+        (put_equal E one other cell (λ c. live_in c (bound_lines (cell + 1) (n + 1) kinds) (out c)) (λ c. work_reads c (Argument n)) p q (one.arguments n) (other.arguments n) (λ e l. fellows.arguments n) al),
   )
 
   module _ (valid : IsValid program) (fn : ℕ) (calls : Calls) (here : Instance) (set : Setting program kernel one other fn calls here) where
@@ -197,11 +194,11 @@ module _ (program : Program) (kernel : Kernel) (one other : Who) where
         (λ a1 b1 d1 e1 al1 an1. together_seq E one other out co.lines lines (λ x y. IsSome way → x co.exit ≡ y co.exit) Q a1 b1 al1
         (λ al'. opened_together program kernel one other fn calls here set way 0 cr.made (λ c. live_in c lines (out c)) a1 b1 go_ al')
         (λ a2 b2 d2 e2 al2 ex.
-            let un : (t : IntType) → F.result ≡ Some t → sets_in here.answer co.lines ≡ false = λ t s. (opened_unset here.answer way 0 cr.made (out_below here.answer _ _ (pend_r.result_below t s))).is in
-            let an2 : Ans a2 b2 = λ t s nv. kept one co.lines here.answer (un t s) a1 a2 d2 ∙ (an1 t s nv ∙ sym (kept other co.lines here.answer (un t s) b1 b2 e2)) in
-            together_then E one other out lines ends Q a2 b2
-            (list_from program kernel one other fn calls here set (IsSome way) co.exit F.body scope co.made out a2 b2 al2
-            (λ al_. inside_together program kernel one other fn calls here set (IsSome way) co.exit false F.body scope co.made fits.types good (record { assigned = λ x z. z; returned = λ z. z }) within (omega (arith, size, a, b)) pend (λ s w. (s, w)) g out a2 b2 bound' al_ ex an2)
-            (λ a_ b_ al_ pre_ an_. behind_together program kernel one other fn calls here set (IsSome way) co.exit false F.body scope co.made fits.types good (record { assigned = λ x z. z; returned = λ z. z }) within (omega (arith, size, a, b)) pend (λ s w. (s, w)) g out
-            (Unit {0}) (λ z. tt) (covers_given program kernel one other fn calls here set (Unit {0}) scope tt) a_ b_ bound' al_ pre_ an_))
-            (λ x y d3 e3 z t nv. result_value F.result refl inside here_is x y t.1 nv)))
+        let un : (t : IntType) → F.result ≡ Some t → sets_in here.answer co.lines ≡ false = λ t s. (opened_unset here.answer way 0 cr.made (out_below here.answer _ _ (pend_r.result_below t s))).is in
+        let an2 : Ans a2 b2 = λ t s nv. kept one co.lines here.answer (un t s) a1 a2 d2 ∙ (an1 t s nv ∙ sym (kept other co.lines here.answer (un t s) b1 b2 e2)) in
+        together_then E one other out lines ends Q a2 b2
+        (list_from program kernel one other fn calls here set (IsSome way) co.exit F.body scope co.made out a2 b2 al2
+        (λ al_. inside_together program kernel one other fn calls here set (IsSome way) co.exit false F.body scope co.made fits.types good (record { assigned = λ x z. z; returned = λ z. z }) within (omega (arith, size, a, b)) pend (λ s w. (s, w)) g out a2 b2 bound' al_ ex an2)
+        (λ a_ b_ al_ pre_ an_. behind_together program kernel one other fn calls here set (IsSome way) co.exit false F.body scope co.made fits.types good (record { assigned = λ x z. z; returned = λ z. z }) within (omega (arith, size, a, b)) pend (λ s w. (s, w)) g out
+        (Unit {0}) (λ z. tt) (covers_given program kernel one other fn calls here set (Unit {0}) scope tt) a_ b_ bound' al_ pre_ an_))
+        (λ x y d3 e3 z t nv. result_value F.result refl inside here_is x y t.1 nv)))

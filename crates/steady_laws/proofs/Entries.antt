@@ -1,8 +1,7 @@
 -- Both go together through an arm of a switch: nothing is pending where it is entered.
 use Rattle.std.proofs.Common.{◌≡◌, ℕ, suc, ◌+◌, ◌<◌, ◌≤◌, ℤ, pos, length, Option, Some, None, refl, sym, ap, ap₂, ◌∙◌, subst, arith, ◌⊎◌, inl, inr}
 use Rattle.std.proofs.Common.{Bool as Test, true, false}
-use Rattle.std.specs.Prelude.{nat_eq, ◌||◌}
-use Rattle.std.proofs.lemmas.Option.{none-some}
+use Rattle.std.specs.Prelude.{◌||◌}
 use Rattle.wg_num.specs.declared.types.IntType.{IntType}
 use Rattle.wg_num.specs.declared.types.IntType.TheVariants.{Int}
 use Rattle.wg_num.specs.declared.types.Un.TheVariants.{Not}
@@ -16,24 +15,23 @@ use Rattle.cl_model.specs.Varying.{AVariable, AResult, Varies}
 use Rattle.kir.specs.declared.line.Atom.{Atom}
 use Rattle.kir.specs.declared.line.Atom.TheVariants.{Cell as CellAtom}
 use Rattle.kir.specs.Tree.{Unary, Binary, Lines, NoLine, SetThen, IfThen, joined_to, OfValue, Kernel}
-use Rattle.kir.specs.Live.{reads, live_in}
+use Rattle.kir.specs.Live.{live_in}
 use Rattle.kir.specs.Steps.{atom_value}
-use Rattle.kir_lower.specs.declared.places.Value.{Value}
 use Rattle.kir_lower.specs.Made.{Made, Instance, next_cell, with_cell, int}
 use Rattle.kir_lower.specs.Actions.{fallen_code}
 use Rattle.kir_lower.specs.Code.{Calls, entry_code}
 use Rattle.even_laws.specs.Steady.{sets_in}
-use Rattle.even_laws.specs.Does.{Cells, Who, put, Does}
+use Rattle.even_laws.specs.Does.{Cells, Who, put}
 use Rattle.even_laws.specs.Path.{Branches}
 use Rattle.even_laws.proofs.Living.{true_or_false}
 use Rattle.even_laws.proofs.Alike.{same_self, put_here, put_other, kept}
-use Rattle.lowering_laws.proofs.Quiet.{Quiet, or_false, quiet_none, quiet_less, quiet_if}
-use Rattle.lowering_laws.proofs.Steps.{IsApart, IsFree, fallen_quiet}
+use Rattle.lowering_laws.proofs.Quiet.{Quiet, or_false, quiet_less}
+use Rattle.lowering_laws.proofs.Steps.{IsApart, fallen_quiet}
 use Rattle.lowering_laws.proofs.Absent.{next_more}
 use Rattle.steady_laws.specs.Together.{Equal, Together}
 use Rattle.steady_laws.proofs.Places.{together_then}
 use Rattle.steady_laws.proofs.Rules.{Differ, branch_kept, together_seq, together_set, together_if}
-use Rattle.steady_laws.proofs.Ground.{Even, Grown, value_not_even, back_value, fallen_back}
+use Rattle.steady_laws.proofs.Ground.{Even, Grown, value_not_even, back_value}
 use Rattle.steady_laws.proofs.Fresh.{AtomIn}
 use Rattle.steady_laws.proofs.Setting.{Setting, Known, Bound, bound_before, ScopeWithin}
 use Rattle.steady_laws.proofs.Acts.{apart_below, set_then, atom_put}
@@ -120,7 +118,7 @@ module _ (program : Program) (kernel : Kernel) (one other : Who) (fn : ℕ) (cal
         (r_body : (t : IntType) → (function_at program fn).result ≡ Some t → rb ≡ false → sets_in here.answer lb ≡ false) (ch_body : sets_in ch lb ≡ false) (n_body : sets_in (next_cell (with_cell m OfValue Int)) lb ≡ false)
         (y_body : way ≡ None → W' → sets_in Y lb ≡ false)
         (go_body : (out' : ℕ → Test) (p q : Cells) → Bound program kernel here scope out' → Equal E (λ c. live_in c lb (out' c)) p q → (W' → p Y ≡ q Y) → AnswerEqual program kernel one other fn calls here set p q
-            → Go out' lb (λ a b. (A → W' → a Y ≡ b Y) × AnswerEqual program kernel one other fn calls here set a b) p q)
+        → Go out' lb (λ a b. (A → W' → a Y ≡ b Y) × AnswerEqual program kernel one other fn calls here set a b) p q)
         (clash : (y : ℕ) → Has scope y → (Varies program (AVariable fn y) → ⊥) → ab y ≡ true → C × R) (clash_result : rb ≡ true → (Varies program (AResult fn) → ⊥) → C × R) where
       abbrev N0 : ℕ
       N0 = next_cell m
@@ -219,10 +217,13 @@ module _ (program : Program) (kernel : Kernel) (one other : Who) (fn : ℕ) (cal
           (go_body out' p q bound' al' (λ w'. zero_is (p Y) ((h.first w').0 nx).0 ∙ sym (zero_is (q Y) ((h.second w').0 ny).0)) h.answer) (λ a b d e z t. ((λ ca r. t.0 ca.1), t.1)))
           (λ nx ny al'. (al', ((λ ca r. h.exit ca.0 r), h.answer)))
           (λ df c e o. none_set c (unset_body c e (bound' c e o) (λ y has ec z. no_clash df (clash y has (λ v. set.marked y (within y has) (subst E ec e) v) z))))
-          (λ df a b d e. ((λ ca r. absurd (no_clash df (ca.0, r))), (λ t s nv. elim (true_or_false rb) [
-            | inl r ↦ absurd (no_clash df (clash_result r nv))
-            | inr r ↦ let u = none_set here.answer (r_body t s r) in branch_kept one (CellAtom N1) lb NoLine p a here.answer d u ∙ (h.answer t s nv ∙ sym (branch_kept other (CellAtom N1) lb NoLine q b here.answer e u))
-          ]))))
+          (λ df a b d e. (
+            (λ ca r. absurd (no_clash df (ca.0, r))),
+            (λ t s nv. elim (true_or_false rb) [
+              | inl r ↦ absurd (no_clash df (clash_result r nv))
+              | inr r ↦ let u = none_set here.answer (r_body t s r) in branch_kept one (CellAtom N1) lb NoLine p a here.answer d u ∙ (h.answer t s nv ∙ sym (branch_kept other (CellAtom N1) lb NoLine q b here.answer e u))
+            ]),
+          )))
           (λ a b d e z t. let keep : (c : ℕ) → sets_in c lb ≡ false → p c ≡ q c → a c ≡ b c =
           λ c u s. kept one (IfThen site (CellAtom N1) lb NoLine NoLine) c (or_false (sets_in c lb || false) false (none_set c u) refl) p a d ∙ (s ∙ sym (kept other (IfThen site (CellAtom N1) lb NoLine NoLine) c (or_false (sets_in c lb || false) false (none_set c u) refl) q b e)) in
           record {
@@ -286,7 +287,7 @@ module _ (program : Program) (kernel : Kernel) (one other : Who) (fn : ℕ) (cal
 
       pub arm_together : (p q : Cells) → Equal E (λ c. live_in c (joined_to (entry_code (CellAtom ch) x k m).lines (IfThen site (CellAtom N1) lb NoLine (fallen_code way Y (entry_code (CellAtom ch) x k m).value mb).lines)) (out c)) p q → ArmEqual C k x p q
           → Go out (joined_to (entry_code (CellAtom ch) x k m).lines (IfThen site (CellAtom N1) lb NoLine (fallen_code way Y (entry_code (CellAtom ch) x k m).value mb).lines))
-              (λ a b. ArmEqual (C × A) (k + 1) (fallen_code way Y (entry_code (CellAtom ch) x k m).value mb).value.atom a b) p q
+          (λ a b. ArmEqual (C × A) (k + 1) (fallen_code way Y (entry_code (CellAtom ch) x k m).value mb).value.atom a b) p q
       arm_together p q al h =
           let cf = fallen_code way Y (entry_code (CellAtom ch) x k m).value mb in
           let n_not = value_not_even program kernel (with_cell m OfValue Int) Int grown_m in

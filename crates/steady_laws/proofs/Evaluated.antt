@@ -1,5 +1,5 @@
 -- Both go together through an expression, and its value is equal where it does not vary.
-use Rattle.std.proofs.Common.{◌≡◌, ℕ, zero, suc, ◌+◌, ◌<◌, ◌≤◌, List, [], ◌∷◌, length, Option, Some, None, slice_get, refl, sym, ap, ◌∙◌, subst, arith, ◌⊎◌, inl, inr, if◌then◌else◌}
+use Rattle.std.proofs.Common.{◌≡◌, ℕ, zero, suc, ◌+◌, ◌<◌, ◌≤◌, List, [], ◌∷◌, length, Option, Some, None, slice_get, refl, sym, ◌∙◌, subst, arith, inl, inr, if◌then◌else◌}
 use Rattle.std.proofs.Common.{Bool as Test, true, false}
 use Rattle.std.specs.Prelude.{nat_eq, ◌||◌}
 use Rattle.std.proofs.lemmas.Bool.{or_left, or_right}
@@ -7,39 +7,38 @@ use Rattle.std.proofs.lemmas.Option.{none-some, same_Some}
 use Rattle.wg_num.specs.declared.types.IntType.{IntType}
 use Rattle.cl_model.specs.declared.program.Root.{Root}
 use Rattle.cl_model.specs.Tree.{Expression, Apply, Update, Choose, Call, Expressions, none, more, Program, Function}
-use Rattle.cl_model.specs.Lists.{IsOneOf}
 use Rattle.cl_model.specs.Calls.{function_at}
-use Rattle.cl_model.specs.Valid.{Scope, Has, HasType, HaveTypes, OptionalFits, IsPlainCall, parameter_kinds, binary_type, NamesAmong}
-use Rattle.cl_model.specs.Varying.{assigns_in, assigns_among, assigns_in_optional, expressions_of_list, IsNth, AResult, AVariable, AnExpression, Varies, updated, tested, chosen, otherwise, called, passed, assigned_under}
+use Rattle.cl_model.specs.Valid.{Scope, Has, HasType, HaveTypes, OptionalFits, IsPlainCall, parameter_kinds, binary_type}
+use Rattle.cl_model.specs.Varying.{assigns_in, assigns_among, IsNth, AResult, Varies, updated, tested, chosen, otherwise, called, passed, assigned_under}
 use Rattle.kir.specs.declared.line.Atom.{Atom}
 use Rattle.kir.specs.declared.line.Atom.TheVariants.{Cell as CellAtom}
-use Rattle.kir.specs.Tree.{Copy, Lines, NoLine, SetThen, LoadThen, IfThen, joined_to, OfValue, Kernel}
-use Rattle.kir.specs.Live.{reads, some_reads, live_in}
+use Rattle.kir.specs.Tree.{Copy, Lines, NoLine, LoadThen, IfThen, joined_to, OfValue, Kernel}
+use Rattle.kir.specs.Live.{reads, live_in}
 use Rattle.kir.specs.Steps.{atom_value}
 use Rattle.kir_lower.specs.declared.places.Value.{Value}
 use Rattle.kir_lower.specs.Made.{Made, Instance, next_cell, with_cell, root_in, argument_roots}
-use Rattle.kir_lower.specs.Actions.{atoms_of, changed, set_to, stored, action_code}
+use Rattle.kir_lower.specs.Actions.{changed, set_to, stored, action_code}
 use Rattle.kir_lower.specs.Code.{Calls, expression_code, operands_code, optional_code}
 use Rattle.even_laws.specs.Steady.{sets_in}
-use Rattle.even_laws.specs.Does.{Cells, Who, put}
+use Rattle.even_laws.specs.Does.{Cells, Who}
 use Rattle.even_laws.proofs.Living.{true_or_false}
 use Rattle.even_laws.proofs.Alike.{same_self, same_number, put_here}
 use Rattle.cl_agreement.proofs.Parts.{Good, GoodAll, GoodOptional, good_apply, good_more, good_update, good_choose, good_call}
 use Rattle.cl_agreement.proofs.Values.{InBody, UnderBody, BackBody}
 use Rattle.lowering_laws.proofs.Quiet.{Quiet, or_false, quiet_none, quiet_less, quiet_then, quiet_load, quiet_store, quiet_if_set}
-use Rattle.lowering_laws.proofs.Steps.{IsApart, computed_quiet, changed_quiet, either_quiet, action_quiet}
+use Rattle.lowering_laws.proofs.Steps.{IsApart, computed_quiet, changed_quiet, action_quiet}
 use Rattle.lowering_laws.proofs.Scoped.{argument_count}
-use Rattle.lowering_laws.proofs.Absent.{next_more, IsOut}
+use Rattle.lowering_laws.proofs.Absent.{next_more}
 use Rattle.lowering_laws.proofs.AbsentCode.{expression_up, operands_up}
 use Rattle.lowering_laws.proofs.Across.{out_below}
 use Rattle.lowering_laws.proofs.Anew.{expression_quiet, operands_quiet}
 use Rattle.steady_laws.specs.Together.{Equal, Anything, Together}
 use Rattle.steady_laws.proofs.Places.{together_then}
-use Rattle.steady_laws.proofs.Rules.{Differ, together_seq, together_set, together_load, together_store, together_if}
-use Rattle.steady_laws.proofs.UnsetSteps.{Unset, unset_none, unset_then, unset_set}
-use Rattle.steady_laws.proofs.UnsetCode.{Off, operand_count, action_up, expression_unset, operands_unset}
+use Rattle.steady_laws.proofs.Rules.{together_seq, together_set, together_load, together_store, together_if}
+use Rattle.steady_laws.proofs.UnsetSteps.{unset_none, unset_then, unset_set}
+use Rattle.steady_laws.proofs.UnsetCode.{Off, operand_count, expression_unset, operands_unset}
 use Rattle.steady_laws.proofs.Ground.{Even, Grown, value_not_even, back_value, action_back, expression_back, operands_back}
-use Rattle.steady_laws.proofs.Fresh.{AtomIn, AllIn, atom_not_read, values_not_read, atom_kept, expression_in, operands_in}
+use Rattle.steady_laws.proofs.Fresh.{AtomIn, atom_not_read, values_not_read, atom_kept, expression_in, operands_in}
 use Rattle.steady_laws.proofs.Setting.{ArgumentsEqual, Setting, Known, Bound, bound_before, ScopeWithin, known_below}
 use Rattle.steady_laws.proofs.Acts.{V, Same, changed_together, action_together}
 

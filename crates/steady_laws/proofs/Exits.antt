@@ -1,6 +1,6 @@
 -- The cells of ways out: where no way out stands under a test that varies, what is pending is equal.
-use Rattle.std.proofs.Common.{◌≡◌, ℕ, suc, ◌+◌, ◌<◌, ◌≤◌, ℤ, pos, length, Option, Some, None, refl, sym, ap, ap₂, ◌∙◌, subst, arith, ◌⊎◌, inl, inr, if◌then◌else◌}
-use Rattle.std.proofs.Common.{Bool as Test, true, false}
+use Rattle.std.proofs.Common.{◌≡◌, ℕ, ◌+◌, ◌<◌, ◌≤◌, pos, length, Option, Some, None, refl, sym, ap, ◌∙◌, subst, arith, inl, inr}
+use Rattle.std.proofs.Common.{Bool as Test, false}
 use Rattle.std.specs.Prelude.{nat_eq, ◌||◌}
 use Rattle.std.proofs.lemmas.Option.{none-some}
 use Rattle.wg_num.specs.declared.types.IntType.{IntType}
@@ -9,11 +9,10 @@ use Rattle.wg_num.specs.declared.types.Bin.TheVariants.{Eq}
 use Rattle.wg_num.specs.Operators.{binary_of}
 use Rattle.cl_model.specs.Tree.{Program}
 use Rattle.cl_model.specs.Calls.{function_at}
-use Rattle.cl_model.specs.Valid.{Scope}
 use Rattle.kir.specs.declared.line.Atom.TheVariants.{Cell as CellAtom}
-use Rattle.kir.specs.Tree.{Binary, Copy, Lines, NoLine, SetThen, IfThen, joined_to, OfFlag, OfValue, Kernel}
+use Rattle.kir.specs.Tree.{Binary, Copy, Lines, NoLine, IfThen, joined_to, OfFlag, Kernel}
 use Rattle.kir.specs.Live.{live_in}
-use Rattle.kir_lower.specs.Made.{Made, Instance, next_cell, with_cell, int}
+use Rattle.kir_lower.specs.Made.{Made, Instance, next_cell, int}
 use Rattle.kir_lower.specs.Actions.{set_to, opened, settled, outward}
 use Rattle.kir_lower.specs.Code.{Calls}
 use Rattle.even_laws.specs.Steady.{sets_in}
@@ -23,11 +22,11 @@ use Rattle.even_laws.proofs.Alike.{same_self, same_number, put_here, put_other, 
 use Rattle.lowering_laws.proofs.Quiet.{Quiet, or_false, quiet_none, quiet_set, quiet_if}
 use Rattle.lowering_laws.proofs.Absent.{next_more}
 use Rattle.steady_laws.specs.Together.{Equal, Together}
-use Rattle.steady_laws.proofs.Rules.{Differ, branch_kept, together_set, together_if}
+use Rattle.steady_laws.proofs.Rules.{branch_kept, together_set, together_if}
 use Rattle.steady_laws.proofs.Ground.{Even, Grown, value_not_even, flag_not_even}
 use Rattle.steady_laws.proofs.Setting.{Setting}
-use Rattle.steady_laws.proofs.Acts.{apart_above, apart_below, set_then}
-use Rattle.steady_laws.proofs.Guards.{AnswerEqual, ExitEqual}
+use Rattle.steady_laws.proofs.Acts.{apart_below, set_then}
+use Rattle.steady_laws.proofs.Guards.{AnswerEqual}
 
 -- there is one
 abbrev pub IsSome : Option ℕ → Type 0
@@ -157,9 +156,12 @@ module _ (program : Program) (kernel : Kernel) (one other : Who) (fn : ℕ) (cal
       set_then program kernel one other fn out n (Binary Eq Int (CellAtom exit) (int (pos 2))) (IfThen site (CellAtom n) NoLine (set_to outer (CellAtom exit)) NoLine) Q p q (value_not_even program kernel m Int g) al
       (λ al1. together_if E one other out site (CellAtom n) NoLine (set_to outer (CellAtom exit)) Q p1 q1 al1
       (λ x y al2. (al2, ((λ s. outer1), ans1)))
-      (λ x y al2. together_set E one other out outer (Copy (CellAtom exit)) Q p1 q1 al2 (λ e l. absurd (pend.plain w0 e))
-      ((λ s w'. put_here p1 outer outer (p1 exit) (same_self outer) ∙ (exit1 s ∙ sym (put_here q1 outer outer (q1 exit) (same_self outer)))),
-      λ t s nv. put_other p1 outer here.answer (p1 exit) (other_cell t s) ∙ (ans1 t s nv ∙ sym (put_other q1 outer here.answer (q1 exit) (other_cell t s)))))
+      (λ x y al2. together_set E one other out outer (Copy (CellAtom exit)) Q p1 q1 al2 (λ e l. absurd (pend.plain w0 e)) (
+        (λ s w'. put_here p1 outer outer (p1 exit) (same_self outer) ∙ (exit1 s ∙ sym (put_here q1 outer outer (q1 exit) (same_self outer)))),
+        λ t s nv. put_other p1 outer here.answer (p1 exit) (other_cell t s) ∙ (ans1 t s nv ∙ sym (put_other q1 outer here.answer (q1 exit) (other_cell t s))),
+      ))
       (λ df c e o. or_false (nat_eq outer c) false (apart_even outer c (pend.plain w0) e) refl)
-      (λ df a b x y. ((λ s w'. absurd (df (same_test s))),
-      λ t s nv. let u = or_false (nat_eq outer here.answer) false (other_cell t s) refl in branch_kept one (CellAtom n) NoLine (set_to outer (CellAtom exit)) p1 a here.answer x u ∙ (ans1 t s nv ∙ sym (branch_kept other (CellAtom n) NoLine (set_to outer (CellAtom exit)) q1 b here.answer y u)))))
+      (λ df a b x y. (
+        (λ s w'. absurd (df (same_test s))),
+        λ t s nv. let u = or_false (nat_eq outer here.answer) false (other_cell t s) refl in branch_kept one (CellAtom n) NoLine (set_to outer (CellAtom exit)) p1 a here.answer x u ∙ (ans1 t s nv ∙ sym (branch_kept other (CellAtom n) NoLine (set_to outer (CellAtom exit)) q1 b here.answer y u)),
+      )))

@@ -1,5 +1,5 @@
 -- The value of an expression is a constant or a cell that its code makes, which is none of a variable.
-use Rattle.std.proofs.Common.{◌≡◌, ℕ, suc, ◌+◌, ◌<◌, ◌≤◌, List, [], ◌∷◌, Option, Some, None, refl, sym, ap, ◌∙◌, subst, arith, inl, inr, if◌then◌else◌}
+use Rattle.std.proofs.Common.{◌≡◌, ℕ, ◌<◌, ◌≤◌, List, [], ◌∷◌, Option, Some, None, refl, subst, arith, inl, inr, if◌then◌else◌}
 use Rattle.std.proofs.Common.{Bool as Test, true, false}
 use Rattle.std.specs.Prelude.{nat_eq}
 use Rattle.wg_num.specs.declared.types.IntType.{IntType}

@@ -1,5 +1,5 @@
 -- Cells of a lowered kernel: what is made stays, so the cells of values and flags are none of variables.
-use Rattle.std.proofs.Common.{◌≡◌, ℕ, suc, ◌+◌, ◌<◌, ◌≤◌, List, [], ◌∷◌, ◌++◌, length, Option, Some, None, slice_get, refl, sym, ap, ◌∙◌, subst, arith, length-append}
+use Rattle.std.proofs.Common.{◌≡◌, ℕ, List, [], ◌∷◌, ◌++◌, length, Option, Some, slice_get, refl, sym, ap, ◌∙◌, subst, arith}
 use Rattle.std.proofs.Common.{Bool as Test}
 use Rattle.std.proofs.lemmas.Option.{same_Some}
 use Rattle.wg_num.specs.declared.types.IntType.{IntType}
@@ -7,15 +7,15 @@ use Rattle.cl_model.specs.declared.program.Root.{Root}
 use Rattle.cl_model.specs.Tree.{Action, Expression, Expressions, Statement, Statements, Arms, Program}
 use Rattle.cl_model.specs.Calls.{CallSite}
 use Rattle.kir.specs.declared.line.Atom.{Atom}
-use Rattle.kir.specs.Tree.{Lines, CellKind, OfVariable, OfFlag, OfValue, Cell, Kernel}
-use Rattle.kir.specs.Homes.{IsOf, IsCellOf}
+use Rattle.kir.specs.Tree.{Lines, CellKind, OfFlag, OfValue, Cell, Kernel}
+use Rattle.kir.specs.Homes.{IsOf}
 use Rattle.kir.specs.Lowering.{IsSteady}
 use Rattle.kir_lower.specs.declared.places.Value.{Value}
 use Rattle.kir_lower.specs.Made.{Made, Instance, next_cell, with_cell}
 use Rattle.kir_lower.specs.Actions.{action_code, opened, outward, round_code, selected, fallen_code}
 use Rattle.kir_lower.specs.Code.{Calls, expression_code, operands_code, optional_code, entry_code, statement_code, list_code, arms_code}
 use Rattle.lowering_laws.proofs.Making as making
-use Rattle.lowering_laws.proofs.Variables.{get_before, get_behind, get_there}
+use Rattle.lowering_laws.proofs.Variables.{get_before, get_behind}
 
 -- the cell that is put behind others is there
 pub last_there : (xs : List Cell) (c : Cell) → slice_get (xs ++ c ∷ []) (length xs) ≡ Some c

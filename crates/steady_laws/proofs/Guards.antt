@@ -1,13 +1,13 @@
 -- Statements under guards: where what is pending differs, nothing is set under the guard that does not vary.
-use Rattle.std.proofs.Common.{◌≡◌, ℕ, suc, ◌+◌, ◌<◌, ◌≤◌, ℤ, pos, length, Option, Some, None, refl, sym, ap, ◌∙◌, subst, arith, ◌⊎◌, inl, inr, if◌then◌else◌}
+use Rattle.std.proofs.Common.{◌≡◌, ℕ, ◌+◌, ◌<◌, ◌≤◌, length, Option, Some, None, refl, sym, ◌∙◌, subst, arith, ◌⊎◌, inl, inr, if◌then◌else◌}
 use Rattle.std.proofs.Common.{Bool as Test, true, false}
-use Rattle.std.specs.Prelude.{nat_eq, ◌||◌}
+use Rattle.std.specs.Prelude.{nat_eq}
 use Rattle.wg_num.specs.declared.types.IntType.{IntType}
 use Rattle.cl_model.specs.Tree.{Statement, Statements, empty, also, Arms, no_arm, arm, Program, Function}
 use Rattle.cl_model.specs.Lists.{IsOneOf}
 use Rattle.cl_model.specs.Calls.{function_at}
 use Rattle.cl_model.specs.Valid.{Scope, Has, scope_after}
-use Rattle.cl_model.specs.Varying.{Condition, conditions, conditions_of, some_assigns, some_returns, AVariable, AResult, AnExpression, Varies, exit_under, return_beside}
+use Rattle.cl_model.specs.Varying.{Condition, conditions_of, some_assigns, some_returns, AVariable, AResult, AnExpression, Varies, exit_under, return_beside}
 use Rattle.kir.specs.declared.line.Atom.TheVariants.{Cell as CellAtom}
 use Rattle.kir.specs.Tree.{Lines, NoLine, SetThen, LoadThen, StoreThen, ClearThen, IfThen, LoopThen, BarrierThen, joined_to, Kernel}
 use Rattle.kir.specs.Live.{live_in}
@@ -16,18 +16,18 @@ use Rattle.kir_lower.specs.Ways.{way_out}
 use Rattle.kir_lower.specs.Actions.{is_none, guarded_before}
 use Rattle.kir_lower.specs.Code.{Calls, Guarded, is_guarded, before_rest}
 use Rattle.even_laws.specs.Steady.{sets_in}
-use Rattle.even_laws.specs.Does.{Cells, Who, Does}
+use Rattle.even_laws.specs.Does.{Cells, Who}
 use Rattle.even_laws.proofs.Living.{true_or_false}
 use Rattle.even_laws.proofs.Alike.{same_number}
 use Rattle.cl_agreement.proofs.Values.{UnderBody}
 use Rattle.lowering_laws.proofs.Quiet.{live_joined}
 use Rattle.steady_laws.specs.Together.{Equal, Together}
 use Rattle.steady_laws.proofs.Places.{together_then}
-use Rattle.steady_laws.proofs.Rules.{Differ, branch_kept, together_seq, together_if}
-use Rattle.steady_laws.proofs.UnsetCode.{Off, Clear}
+use Rattle.steady_laws.proofs.Rules.{branch_kept, together_seq, together_if}
+use Rattle.steady_laws.proofs.UnsetCode.{Clear}
 use Rattle.steady_laws.proofs.Ground.{Even}
 use Rattle.steady_laws.proofs.Setting.{Setting, Known, Bound, ScopeWithin, known_below}
-use Rattle.steady_laws.proofs.Acts.{V, apart_above}
+use Rattle.steady_laws.proofs.Acts.{apart_above}
 use Rattle.steady_laws.proofs.Evaluated.{off_above, off_known}
 use Rattle.steady_laws.proofs.Scopes.{has_after, scope_of}
 use Rattle.steady_laws.proofs.Words.{zero_is}
@@ -152,10 +152,13 @@ module _ (program : Program) (kernel : Kernel) (one other : Who) (fn : ℕ) (cal
           together_if E one other (λ c. live_in c rest (out c)) site (CellAtom exit) NoLine inside Behind p q al (λ x y al'. (al', ((λ c a. pre c), ans)))
           (λ x y al'. together_then E one other (λ c. live_in c rest (out c)) inside (λ m n. (A → ExitEqual m n) × AnswerEqual m n) Behind p q (go_inside p q al' (λ w'. zero_is (p exit) x ∙ sym (zero_is (q exit) y)) ans) (λ m n d e z k. ((λ c. k.0), k.1)))
           (λ df c e o. unset c e (bound c e o) (λ x has ec ax. df (pre (cover.variables x has (assigned x ax) (λ v. set.marked x (within x has) (subst E ec e) v)) w)))
-          (λ df m n x y. ((λ c a' w'. absurd (df (pre c w))), (λ t s nv. elim (true_or_false r) [
-            | inl er ↦ absurd (df (pre (cover.result (returned er) nv) w))
-            | inr er ↦ branch_kept one (CellAtom exit) NoLine inside p m here.answer x (unset_answer t s er) ∙ (ans t s nv ∙ sym (branch_kept other (CellAtom exit) NoLine inside q n here.answer y (unset_answer t s er)))
-          ])))
+          (λ df m n x y. (
+            (λ c a' w'. absurd (df (pre c w))),
+            (λ t s nv. elim (true_or_false r) [
+              | inl er ↦ absurd (df (pre (cover.result (returned er) nv) w))
+              | inr er ↦ branch_kept one (CellAtom exit) NoLine inside p m here.answer x (unset_answer t s er) ∙ (ans t s nv ∙ sym (branch_kept other (CellAtom exit) NoLine inside q n here.answer y (unset_answer t s er)))
+            ]),
+          ))
 
       pub guarded_together : (p q : Cells) → Equal E (λ c. live_in c (guarded_before site exit inside rest) (out c)) p q → (C → ExitEqual p q) → AnswerEqual p q → Go out (guarded_before site exit inside rest) Q p q
       guarded_together p q al pre ans = by_test (is_none inside) al

@@ -1,5 +1,5 @@
 -- Both go together through a loop of a function.
-use Rattle.std.proofs.Common.{◌≡◌, ℕ, suc, ◌+◌, ◌<◌, ◌≤◌, pos, length, Option, Some, None, refl, sym, ap, ◌∙◌, subst, arith, ◌⊎◌, inl, inr}
+use Rattle.std.proofs.Common.{◌≡◌, ℕ, ◌+◌, ◌<◌, ◌≤◌, length, Option, Some, None, refl, sym, ◌∙◌, arith, inl, inr}
 use Rattle.std.proofs.Common.{Bool as Test, true, false}
 use Rattle.std.specs.Prelude.{nat_eq, ◌||◌}
 use Rattle.std.proofs.lemmas.Bool.{or_left, or_right}
@@ -9,12 +9,11 @@ use Rattle.cl_model.specs.Tree.{Expression, Statement, Loop, Program, Function}
 use Rattle.cl_model.specs.Lists.{IsOneOf}
 use Rattle.cl_model.specs.Calls.{function_at}
 use Rattle.cl_model.specs.Valid.{Scope, Has, OptionalFits, StatementFits, scope_after, NamesInOptional, declarations}
-use Rattle.cl_model.specs.Varying.{Condition, loop_condition, conditions_in_optional, conditions_of, assigns_in_optional, assigns, returns, exits, some_assigns, some_returns, AVariable, AResult, AnExpression, Varies, assigned_under, return_under}
+use Rattle.cl_model.specs.Varying.{Condition, loop_condition, conditions_in_optional, conditions_of, assigns_in_optional, assigns, returns, some_assigns, some_returns, AVariable, AResult, AnExpression, Varies, assigned_under, return_under}
 use Rattle.kir.specs.declared.line.Atom.{Atom}
 use Rattle.kir.specs.Tree.{Lines, joined_to, Kernel}
 use Rattle.kir.specs.Live.{reads, live_in}
 use Rattle.kir.specs.Steps.{atom_value}
-use Rattle.kir_lower.specs.declared.places.Value.{Value}
 use Rattle.kir_lower.specs.Made.{Made, Instance, next_cell}
 use Rattle.kir_lower.specs.Ways.{way_out}
 use Rattle.kir_lower.specs.Actions.{Code, Steps, Opened, opened, outward, round_code}
@@ -22,26 +21,25 @@ use Rattle.kir_lower.specs.Code.{Calls, optional_code, statement_code}
 use Rattle.even_laws.specs.Steady.{sets_in}
 use Rattle.even_laws.specs.Does.{Cells, Who}
 use Rattle.cl_agreement.proofs.Keeps.{body_sound}
-use Rattle.cl_agreement.proofs.Parts.{GoodRun, GoodOptional, Good, good_loop, turn_condition, TurnUnder, in_left, in_right}
+use Rattle.cl_agreement.proofs.Parts.{GoodRun, good_loop, turn_condition, TurnUnder, in_left, in_right}
 use Rattle.cl_agreement.proofs.Values.{InBody, UnderBody, BackBody, V}
-use Rattle.lowering_laws.proofs.Quiet.{Quiet, or_false, quiet_none, quiet_less, quiet_then}
+use Rattle.lowering_laws.proofs.Quiet.{Quiet, quiet_none, quiet_less, quiet_then}
 use Rattle.lowering_laws.proofs.Steps.{IsApart, IsFree, outward_quiet, round_quiet}
 use Rattle.lowering_laws.proofs.Scoped.{as_first}
-use Rattle.lowering_laws.proofs.Absent.{next_more, IsOut}
 use Rattle.lowering_laws.proofs.AbsentCode.{opened_up, optional_up, statement_up}
 use Rattle.lowering_laws.proofs.Across.{out_below}
 use Rattle.lowering_laws.proofs.Anew.{expression_quiet, statement_quiet}
 use Rattle.steady_laws.specs.Together.{Equal, Anything, Together}
 use Rattle.steady_laws.proofs.Places.{together_then}
 use Rattle.steady_laws.proofs.Rules.{together_seq}
-use Rattle.steady_laws.proofs.UnsetSteps.{Unset, opened_unset}
+use Rattle.steady_laws.proofs.UnsetSteps.{opened_unset}
 use Rattle.steady_laws.proofs.UnsetCode.{Off, optional_unset, statement_unset, round_up}
 use Rattle.steady_laws.proofs.Ground.{Even, Grown, outward_back, round_back, statement_back, optional_back}
-use Rattle.steady_laws.proofs.Fresh.{AtomIn, atom_not_read, optional_in}
+use Rattle.steady_laws.proofs.Fresh.{atom_not_read, optional_in}
 use Rattle.steady_laws.proofs.Setting.{Setting, Known, Bound, bound_before, ScopeWithin, known_below}
 use Rattle.steady_laws.proofs.Evaluated.{off_above, off_known, OptionalEqual, optional_together}
 use Rattle.steady_laws.proofs.Scopes.{has_after, undeclared, way_exits, more_ways}
-use Rattle.steady_laws.proofs.Guards.{AnswerEqual, Settled, Covers, covers_settled, known_clear, above_clear}
+use Rattle.steady_laws.proofs.Guards.{AnswerEqual, Settled, covers_settled, known_clear, above_clear}
 use Rattle.steady_laws.proofs.Exits.{IsSome, Pending, pending_more, pending_opened, free_even, apart_is, Outside, outside_kept, opened_together, outward_together}
 use Rattle.steady_laws.proofs.Rounds.{round_together}
 
@@ -172,7 +170,7 @@ module _ (program : Program) (kernel : Kernel) (one other : Who) (fn : ℕ) (cal
         let Ends : Cells → Cells → Type 0 = λ x y. (S → T → IsSome (way_out true true body) → x Co.exit ≡ y Co.exit) × Outside program kernel one other fn calls here set W exit x y in
         let Q : Cells → Cells → Type 0 = λ x y. (Settled program kernel one other fn calls here set scope (Loop site first test step body) → W → x exit ≡ y exit) × Ans x y in
         let round_go : (out' : ℕ → Test) (p' q' : Cells) → Bound program kernel here scope out' → Equal E (λ c. live_in c Cr.lines (out' c)) p' q' → (IsSome (way_out true true body) → p' Co.exit ≡ q' Co.exit)
-            → Outside program kernel one other fn calls here set W exit p' q' → Go out' Cr.lines Ends p' q' =
+        → Outside program kernel one other fn calls here set W exit p' q' → Go out' Cr.lines Ends p' q' =
         λ out' p' q' bound' al' y0 outside. round_together program kernel one other fn calls here set (IsSome (way_out true true body)) W Co.exit exit scope out' Ct.lines Cs.lines Cb.lines Ct.value Cb.made S T (assigns_in_optional test) (assigns_in_optional step) (assigns body) (returns body)
         within (omega (arith, low, a, b, d, e)) bound'
         (λ o x y bd l. together_then E one other o Ct.lines (λ x' y'. OptionalEqual program kernel one other fn calls here set test Ct.value.atom x' y') (λ x' y'. T → atom_value x' Ct.value.atom ≡ atom_value y' Ct.value.atom) x y

@@ -1,22 +1,22 @@
 -- Facts on lists and arms that stand before both go through them: what is settled in them, what covers them, and scopes.
-use Rattle.std.proofs.Common.{◌≡◌, ℕ, suc, ◌+◌, ◌<◌, List, [], ◌∷◌, ◌++◌, length, Option, Some, None, refl, sym, ap, ◌∙◌, subst, ◌⊎◌, inl, inr}
+use Rattle.std.proofs.Common.{◌≡◌, ℕ, ◌<◌, List, ◌∷◌, length, Option, Some, None, refl, sym, ◌∙◌, subst, inl, inr}
 use Rattle.std.proofs.Common.{Bool as Test, true, false}
-use Rattle.std.specs.Prelude.{nat_eq, ◌&&◌, ◌||◌}
+use Rattle.std.specs.Prelude.{◌&&◌, ◌||◌}
 use Rattle.std.proofs.lemmas.Bool.{or_left, or_right}
 use Rattle.std.proofs.lemmas.Option.{none-some, slice_get_within}
-use Rattle.cl_model.specs.Tree.{Expression, Statement, Do, Declare, Fill, Block, If, Loop, Switch, Break, Continue, Return, Barrier, Statements, empty, also, Arms, no_arm, arm, Program, Function}
+use Rattle.cl_model.specs.Tree.{Statement, Do, Declare, Fill, Block, If, Loop, Switch, Break, Continue, Return, Barrier, Statements, empty, also, Arms, no_arm, arm, Program, Function}
 use Rattle.cl_model.specs.Lists.{IsOneOf}
 use Rattle.cl_model.specs.Calls.{function_at}
-use Rattle.cl_model.specs.Valid.{Scope, Has, StatementFits, NamesInOptional, scope_after}
-use Rattle.cl_model.specs.Varying.{Condition, conditions_of, conditions_of_list, conditions_of_arms, some_assigns, some_returns, AnExpression, Varies}
-use Rattle.kir.specs.Tree.{Lines, Kernel}
+use Rattle.cl_model.specs.Valid.{Scope, StatementFits, scope_after}
+use Rattle.cl_model.specs.Varying.{Condition, conditions_of, conditions_of_list, conditions_of_arms, AnExpression, Varies}
+use Rattle.kir.specs.Tree.{Kernel}
 use Rattle.kir_lower.specs.Made.{Instance}
-use Rattle.kir_lower.specs.Ways.{way_out, way_out_of_all, way_out_of_arms, declares}
+use Rattle.kir_lower.specs.Ways.{way_out, way_out_of_all, declares}
 use Rattle.kir_lower.specs.Code.{Calls, Guarded, is_guarded}
 use Rattle.even_laws.specs.Does.{Who}
 use Rattle.even_laws.proofs.Living.{true_or_false}
 use Rattle.cl_agreement.proofs.Keeps.{Sound}
-use Rattle.cl_agreement.proofs.Parts.{GoodList, GoodArms, good_also, good_arm, conditions_also, in_left, in_right}
+use Rattle.cl_agreement.proofs.Parts.{GoodList, GoodArms, good_also, conditions_also, in_left, in_right}
 use Rattle.cl_agreement.proofs.Values.{InBody, UnderBody, BackBody}
 use Rattle.lowering_laws.proofs.Quiet.{Quiet}
 use Rattle.lowering_laws.proofs.Steps.{ListQuiet}

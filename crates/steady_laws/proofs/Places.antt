@@ -1,19 +1,14 @@
 -- Two items of one group that go together through the text of a kernel have equal values of the cells wherever both stand: the kernel is even in them.
-use Rattle.std.proofs.Common.{◌≡◌, ℕ, zero, suc, ℤ, pos, List, [], ◌∷◌, refl, sym, ap, ◌∙◌, subst, ◌⊎◌, inl, inr}
+use Rattle.std.proofs.Common.{ℕ, zero, suc, pos, List, [], ◌∷◌, refl, sym, subst, inl, inr}
 use Rattle.std.specs.Prelude.{Bool as Test, true, false}
-use Rattle.std.proofs.lemmas.Bool.{true≢false}
-use Rattle.work_items.specs.Histories.{Deed}
-use Rattle.cl_model.specs.Sizes.{Launch}
-use Rattle.cl_model.specs.Fitting.{FitsProgram}
 use Rattle.kir.specs.declared.line.Atom.{Atom}
 use Rattle.kir.specs.Tree.{Lines, NoLine, SetThen, LoadThen, StoreThen, ClearThen, IfThen, LoopThen, BarrierThen, Kernel}
 use Rattle.kir.specs.Places.{Behind, IntoChosen, IntoOther, IntoTest, ToAnswer, IntoBody, Place, lines_at, behind, chosen_of, other_of, test_of, body_of, answer_of, first_of, others_of}
-use Rattle.kir.specs.Places as kir_places
 use Rattle.kir.specs.Live.{live_in}
 use Rattle.kir.specs.Evenness.{IsEven}
 use Rattle.even_laws.specs.Steady.{tested}
-use Rattle.even_laws.specs.Does.{Cells, Who, put, computed, Answers, Enters, AtAnswer, Does}
-use Rattle.even_laws.specs.Path.{Branches, Loops, FirstDoes, TestIs, InBody, InTest, InAnswer, Comes, after_at}
+use Rattle.even_laws.specs.Does.{Cells, Who, put, computed, Answers, AtAnswer, Does}
+use Rattle.even_laws.specs.Path.{Branches, FirstDoes, TestIs, InBody, InTest, InAnswer, Comes, after_at}
 use Rattle.even_laws.proofs.Alike.{AreFellows}
 use Rattle.even_laws.proofs.Reached.{who_of, on_way}
 use Rattle.even_laws.proofs.Even.{fellows, comes_there, at_place, place_live}
@@ -68,9 +63,9 @@ module _ (Even : ℕ → Type 0) (one other : Who) where
   together_then out (IfThen site test chosen others rest) Q R f g t h = (
     t.0,
     λ x y. together_then (λ c. live_in c rest (out c)) chosen (λ a b. Together Even one other out rest Q a b) (λ a b. Together Even one other out rest R a b) f g (t.1 x y)
-    (λ a b d e q z. together_then out rest Q R a b z (λ m n d' e'. h m n (a, inl (x, d), d') (b, inl (y, e), e'))),
+        (λ a b d e q z. together_then out rest Q R a b z (λ m n d' e'. h m n (a, inl (x, d), d') (b, inl (y, e), e'))),
     λ x y. together_then (λ c. live_in c rest (out c)) others (λ a b. Together Even one other out rest Q a b) (λ a b. Together Even one other out rest R a b) f g (t.2 x y)
-    (λ a b d e q z. together_then out rest Q R a b z (λ m n d' e'. h m n (a, inr (x, d), d') (b, inr (y, e), e'))),
+        (λ a b d e q z. together_then out rest Q R a b z (λ m n d' e'. h m n (a, inr (x, d), d') (b, inr (y, e), e'))),
     λ a b x d y e. together_then out rest Q R a b (t.3 a b x d y e) (λ m n d' e'. h m n (a, inl (x, d), d') (b, inr (y, e), e')),
     λ a b x d y e. together_then out rest Q R a b (t.4 a b x d y e) (λ m n d' e'. h m n (a, inr (x, d), d') (b, inl (y, e), e')),
   )

@@ -1,16 +1,15 @@
 -- Both go together through a loop, given that they do so through its parts.
-use Rattle.std.proofs.Common.{◌≡◌, ℕ, suc, ◌+◌, ◌<◌, ◌≤◌, ℤ, pos, length, Option, Some, None, refl, sym, ap, ap₂, ◌∙◌, subst, arith, ◌⊎◌, inl, inr, if◌then◌else◌}
+use Rattle.std.proofs.Common.{◌≡◌, ℕ, ◌+◌, ◌<◌, ◌≤◌, ℤ, pos, length, Option, Some, None, refl, sym, ap, ◌∙◌, subst, arith, inl, inr}
 use Rattle.std.proofs.Common.{Bool as Test, true, false}
 use Rattle.std.specs.Prelude.{nat_eq, ◌||◌}
 use Rattle.std.proofs.lemmas.Bool.{or_left, or_right}
-use Rattle.std.proofs.lemmas.Option.{none-some}
 use Rattle.wg_num.specs.declared.types.IntType.{IntType}
 use Rattle.wg_num.specs.declared.types.IntType.TheVariants.{Int}
 use Rattle.cl_model.specs.Tree.{Program}
 use Rattle.cl_model.specs.Calls.{function_at}
 use Rattle.cl_model.specs.Values.{is_zero}
 use Rattle.cl_model.specs.Valid.{Scope, Has}
-use Rattle.cl_model.specs.Varying.{some_assigns, some_returns, AVariable, AResult, Varies}
+use Rattle.cl_model.specs.Varying.{some_assigns, AVariable, AResult, Varies}
 use Rattle.kir.specs.declared.line.Atom.{Atom}
 use Rattle.kir.specs.declared.line.Atom.TheVariants.{Const, Cell as CellAtom}
 use Rattle.kir.specs.Tree.{Copy, Lines, NoLine, SetThen, IfThen, LoopThen, joined_to, OfValue, Kernel}
@@ -21,21 +20,20 @@ use Rattle.kir_lower.specs.Made.{Made, Instance, next_cell, with_cell}
 use Rattle.kir_lower.specs.Actions.{set_to, settled, guarded_before, round_code}
 use Rattle.kir_lower.specs.Code.{Calls}
 use Rattle.even_laws.specs.Steady.{sets_in, tested}
-use Rattle.even_laws.specs.Does.{Cells, Who, put, Answers, Does}
-use Rattle.even_laws.proofs.Living.{true_or_false, or_either, live_behind_or}
-use Rattle.even_laws.proofs.Alike.{same_self, same_number, put_here, put_other, kept}
-use Rattle.lowering_laws.proofs.Quiet.{Quiet, or_false, or_parts, quiet_none, quiet_less, quiet_any, quiet_then, quiet_set, quiet_if_set}
+use Rattle.even_laws.specs.Does.{Cells, Who, put, Does}
+use Rattle.even_laws.proofs.Living.{true_or_false, or_either}
+use Rattle.even_laws.proofs.Alike.{same_self, put_here, put_other, kept}
+use Rattle.lowering_laws.proofs.Quiet.{Quiet, or_false, quiet_none, quiet_less, quiet_then, quiet_set, quiet_if_set}
 use Rattle.lowering_laws.proofs.Steps.{IsApart, computed_quiet, guarded_quiet}
-use Rattle.lowering_laws.proofs.Absent.{next_more, IsOut}
-use Rattle.lowering_laws.proofs.Across.{out_below}
+use Rattle.lowering_laws.proofs.Absent.{next_more}
 use Rattle.steady_laws.specs.Together.{Equal, Anything, Together}
 use Rattle.steady_laws.proofs.Places.{together_then}
-use Rattle.steady_laws.proofs.Rules.{Differ, branch_kept, together_seq, together_set, together_if, together_loop, Keeps}
+use Rattle.steady_laws.proofs.Rules.{branch_kept, together_seq, together_set, together_if, together_loop}
 use Rattle.steady_laws.proofs.Ground.{Even, Grown, value_not_even, back_value}
 use Rattle.steady_laws.proofs.Setting.{Setting, Known, Bound, bound_before, ScopeWithin, known_below}
 use Rattle.steady_laws.proofs.Acts.{apart_above, apart_below, set_then}
 use Rattle.steady_laws.proofs.UnsetSteps.{Unset, unset_none, unset_then, unset_set, unset_if, guarded_unset}
-use Rattle.steady_laws.proofs.Guards.{AnswerEqual, ExitEqual, Covers, guarded_together}
+use Rattle.steady_laws.proofs.Guards.{AnswerEqual, Covers, guarded_together}
 use Rattle.steady_laws.proofs.Exits.{Pending, free_even, apart_is, Outside, outside_kept, settled_quiet, settled_together}
 use Rattle.steady_laws.proofs.Words.{zero_is}
 
@@ -106,7 +104,7 @@ module _ (program : Program) (kernel : Kernel) (one other : Who) (fn : ℕ) (cal
 
     -- ---- no way out
 
-    pub     round_none : (site : ℕ) (first : Test) → (W' → ⊥) → (p q : Cells) → Equal E (λ c. live_in c (LoopThen site first lt answer.atom (joined_to lb ls) NoLine) (out c)) p q → K p q → Go out (LoopThen site first lt answer.atom (joined_to lb ls) NoLine) RoundEnds p q
+    pub round_none : (site : ℕ) (first : Test) → (W' → ⊥) → (p q : Cells) → Equal E (λ c. live_in c (LoopThen site first lt answer.atom (joined_to lb ls) NoLine) (out c)) p q → K p q → Go out (LoopThen site first lt answer.atom (joined_to lb ls) NoLine) RoundEnds p q
     round_none site first no_way p q al k =
         let body = joined_to lb ls in
         let heads = tested lt answer.atom body out in
@@ -128,14 +126,16 @@ module _ (program : Program) (kernel : Kernel) (one other : Who) (fn : ℕ) (cal
         (λ a b h df c e o. let kn = bound c e o in let no_st : (S × T) → ⊥ = λ st. df (h.0 st.1) in let off = none_assigned c e no_st in
         both_unset c (unset_test c e kn (λ x has ec z. off x has ec (or_left (at x) (as_ x || ab x) z))) (unset_body c e kn (λ x has ec z. off x has ec (or_right (at x) (as_ x || ab x) (or_right (as_ x) (ab x) z))))
         (unset_step c e kn (λ x has ec z. off x has ec (or_right (at x) (as_ x || ab x) (or_left (as_ x) (ab x) z)))))
-        (λ a b m n h df u v. let no_st : (S × T) → ⊥ = λ st. df (h.0 st.1) in
-        ((λ s t w. absurd (no_way w)), (
-          (λ w. let z = both_unset X (x_test w) (x_body w) (x_step w) in u X z ∙ (h.1.0 w ∙ sym (v X z))),
-          λ t s nv. elim (true_or_false rb) [
-            | inl r ↦ absurd (no_st (clash_result r nv))
-            | inr r ↦ let z = both_unset here.answer (r_test t s) (r_body t s r) (r_step t s) in u here.answer z ∙ (h.1.1 t s nv ∙ sym (v here.answer z))
-          ],
-        )))
+        (λ a b m n h df u v. let no_st : (S × T) → ⊥ = λ st. df (h.0 st.1) in (
+          (λ s t w. absurd (no_way w)),
+          (
+            (λ w. let z = both_unset X (x_test w) (x_body w) (x_step w) in u X z ∙ (h.1.0 w ∙ sym (v X z))),
+            λ t s nv. elim (true_or_false rb) [
+              | inl r ↦ absurd (no_st (clash_result r nv))
+              | inr r ↦ let z = both_unset here.answer (r_test t s) (r_body t s r) (r_step t s) in u here.answer z ∙ (h.1.1 t s nv ∙ sym (v here.answer z))
+            ],
+          ),
+        ))
         first p q al (λ e. k) (λ e. k)
 
     -- ---- a way out
@@ -221,10 +221,13 @@ module _ (program : Program) (kernel : Kernel) (one other : Who) (fn : ℕ) (cal
         (λ df c e o. let kn = bound_heads c e o in
         u_lines c (unset_test c e kn (λ x has ec z. df (h1.0 (clash x has (λ v. set.marked x (within x has) (subst E ec e) v) (or_left (at x) (as_ x || ab x) z)).0 w'))) (known_here c kn))
         (λ df m n x y. (
-          ((λ s w. absurd (df (h1.0 s w'))), (
-            (λ w. let u = u_lines X (x_test w) (x_low w) in branch_kept one (CellAtom Y) NoLine lines a1 m X x u ∙ (h1.1.0 w ∙ sym (branch_kept other (CellAtom Y) NoLine lines b1 n X y u))),
-            λ t s nv. let u = u_lines here.answer (r_test t s) (r_low t s) in branch_kept one (CellAtom Y) NoLine lines a1 m here.answer x u ∙ (h1.1.1 t s nv ∙ sym (branch_kept other (CellAtom Y) NoLine lines b1 n here.answer y u)),
-          )),
+          (
+            (λ s w. absurd (df (h1.0 s w'))),
+            (
+              (λ w. let u = u_lines X (x_test w) (x_low w) in branch_kept one (CellAtom Y) NoLine lines a1 m X x u ∙ (h1.1.0 w ∙ sym (branch_kept other (CellAtom Y) NoLine lines b1 n X y u))),
+              λ t s nv. let u = u_lines here.answer (r_test t s) (r_low t s) in branch_kept one (CellAtom Y) NoLine lines a1 m here.answer x u ∙ (h1.1.1 t s nv ∙ sym (branch_kept other (CellAtom Y) NoLine lines b1 n here.answer y u)),
+            ),
+          ),
           (λ s t. absurd (df (h1.0 s w'))),
         )))
         (λ m n d e z at_. (at_, (gone one a1 m (ap is_zero zero_a) d, gone other b1 n (ap is_zero zero_b) e)))) in
@@ -251,14 +254,16 @@ module _ (program : Program) (kernel : Kernel) (one other : Who) (fn : ℕ) (cal
         let off = none_assigned c e no_st in
         u_loop c (unset_test c e kn (λ x has ec z. off x has ec (or_left (at x) (as_ x || ab x) z))) (unset_body c e kn (λ x has ec z. off x has ec (or_right (at x) (as_ x || ab x) (or_right (as_ x) (ab x) z))))
         (unset_step c e kn (λ x has ec z. off x has ec (or_right (at x) (as_ x || ab x) (or_left (as_ x) (ab x) z)))) (free_even program kernel one other fn calls here set Y c y_not e) (known_here c kn))
-        (λ a b m n h df u v. let no_st : (S × T) → ⊥ = λ st. df (h.0.1 st.0 st.1) in
-        ((λ s t w. absurd (no_st (s, t))), (
-          (λ w. let z = u_loop X (x_test w) (x_body w) (x_step w) (x_apart w) (x_low w) in u X z ∙ (h.0.0.1.0 w ∙ sym (v X z))),
-          λ t s nv. elim (true_or_false rb) [
-            | inl r ↦ absurd (no_st (clash_result r nv))
-            | inr r ↦ let z = u_loop here.answer (r_test t s) (r_body t s r) (r_step t s) (r_apart t s) (r_low t s) in u here.answer z ∙ (h.0.0.1.1 t s nv ∙ sym (v here.answer z))
-          ],
-        )))
+        (λ a b m n h df u v. let no_st : (S × T) → ⊥ = λ st. df (h.0.1 st.0 st.1) in (
+          (λ s t w. absurd (no_st (s, t))),
+          (
+            (λ w. let z = u_loop X (x_test w) (x_body w) (x_step w) (x_apart w) (x_low w) in u X z ∙ (h.0.0.1.0 w ∙ sym (v X z))),
+            λ t s nv. elim (true_or_false rb) [
+              | inl r ↦ absurd (no_st (clash_result r nv))
+              | inr r ↦ let z = u_loop here.answer (r_test t s) (r_body t s r) (r_step t s) (r_apart t s) (r_low t s) in u here.answer z ∙ (h.0.0.1.1 t s nv ∙ sym (v here.answer z))
+            ],
+          ),
+        ))
         first p q al (λ e. ((λ s w. y0), k)) (λ e. ((λ w. y0), k))
 
     -- either

@@ -17,7 +17,7 @@ use Rattle.even_laws.proofs.Living.{neither, true_or_false, turned, live_more, i
 use Rattle.even_laws.proofs.Alike.{same_number, put_here, put_other, at_kept, kept}
 use Rattle.lowering_laws.proofs.Quiet.{live_joined}
 use Rattle.steady_laws.specs.Together.{Equal, Anything, Together}
-use Rattle.steady_laws.proofs.Places.{equal_before, together_ends, together_then}
+use Rattle.steady_laws.proofs.Places.{together_ends, together_then}
 
 tested_part : (a b b' x : Test) → (b ≡ true → b' ≡ true) → (a || (b || x)) ≡ true → (a || (b' || x)) ≡ true
 tested_part true b b' x f h = refl
@@ -73,18 +73,18 @@ module _ (Even : ℕ → Type 0) (one other : Who) where
   together_less out more (IfThen site test chosen others rest) Q f g h t = (
     λ c e l. t.0 c e (live_more c (IfThen site test chosen others rest) (out c) (more c) (h c) l),
     λ x y. together_less (λ c. live_in c rest (out c)) (λ c. live_in c rest (more c)) chosen (λ a b. Go out rest Q a b) f g (λ c. live_more c rest (out c) (more c) (h c))
-    (together_then Even one other (λ c. live_in c rest (more c)) chosen (λ a b. Go more rest Q a b) (λ a b. Go out rest Q a b) f g (t.1 x y) (λ m n d e q z. together_less out more rest Q m n h z)),
+        (together_then Even one other (λ c. live_in c rest (more c)) chosen (λ a b. Go more rest Q a b) (λ a b. Go out rest Q a b) f g (t.1 x y) (λ m n d e q z. together_less out more rest Q m n h z)),
     λ x y. together_less (λ c. live_in c rest (out c)) (λ c. live_in c rest (more c)) others (λ a b. Go out rest Q a b) f g (λ c. live_more c rest (out c) (more c) (h c))
-    (together_then Even one other (λ c. live_in c rest (more c)) others (λ a b. Go more rest Q a b) (λ a b. Go out rest Q a b) f g (t.2 x y) (λ m n d e q z. together_less out more rest Q m n h z)),
+        (together_then Even one other (λ c. live_in c rest (more c)) others (λ a b. Go more rest Q a b) (λ a b. Go out rest Q a b) f g (t.2 x y) (λ m n d e q z. together_less out more rest Q m n h z)),
     λ m n x d y e. together_less out more rest Q m n h (t.3 m n x d y e),
     λ m n x d y e. together_less out more rest Q m n h (t.4 m n x d y e),
   )
   together_less out more (LoopThen site first test answer body rest) Q f g h t = (
     λ c e l. t.0 c e (live_more c (LoopThen site first test answer body rest) (out c) (more c) (h c) l),
     λ n a b x y. together_less (tested test answer body (λ c. live_in c rest (out c))) (tested test answer body (λ c. live_in c rest (more c))) test Anything a b
-    (λ c. tested_part (reads c answer) (live_in c rest (out c)) (live_in c rest (more c)) (live_in c body (live_in c test false)) (live_more c rest (out c) (more c) (h c))) (t.1 n a b x y),
+        (λ c. tested_part (reads c answer) (live_in c rest (out c)) (live_in c rest (more c)) (live_in c body (live_in c test false)) (live_more c rest (out c) (more c) (h c))) (t.1 n a b x y),
     λ n a b x y. together_less (λ c. live_in c test (tested test answer body (λ d. live_in d rest (out d)) c)) (λ c. live_in c test (tested test answer body (λ d. live_in d rest (more d)) c)) body Anything a b
-    (λ c. live_more c test _ _ (tested_part (reads c answer) (live_in c rest (out c)) (live_in c rest (more c)) (live_in c body (live_in c test false)) (live_more c rest (out c) (more c) (h c)))) (t.2 n a b x y),
+        (λ c. live_more c test _ _ (tested_part (reads c answer) (live_in c rest (out c)) (live_in c rest (more c)) (live_in c body (live_in c test false)) (live_more c rest (out c) (more c) (h c)))) (t.2 n a b x y),
     λ a b x y. together_less out more rest Q a b h (t.3 a b x y),
   )
   together_less out more (BarrierThen site rest) Q f g h t = (λ c e l. t.0 c e (live_more c (BarrierThen site rest) (out c) (more c) (h c) l), together_less out more rest Q f g h t.1)
@@ -113,18 +113,18 @@ module _ (Even : ℕ → Type 0) (one other : Who) where
     together_joined (IfThen site test chosen others rest) f g t = (
       equal_joined (IfThen site test chosen others rest) f g t.0,
       λ x y. together_less (λ c. live_in c (joined_to rest tail) (out c)) (λ c. live_in c rest (Out c)) chosen (λ a b. Go out (joined_to rest tail) Q a b) f g (λ c. less_joined rest c)
-      (together_then Even one other (λ c. live_in c rest (Out c)) chosen (λ a b. Go Out rest Then a b) (λ a b. Go out (joined_to rest tail) Q a b) f g (t.1 x y) (λ m n d e q z. together_joined rest m n z)),
+          (together_then Even one other (λ c. live_in c rest (Out c)) chosen (λ a b. Go Out rest Then a b) (λ a b. Go out (joined_to rest tail) Q a b) f g (t.1 x y) (λ m n d e q z. together_joined rest m n z)),
       λ x y. together_less (λ c. live_in c (joined_to rest tail) (out c)) (λ c. live_in c rest (Out c)) others (λ a b. Go out (joined_to rest tail) Q a b) f g (λ c. less_joined rest c)
-      (together_then Even one other (λ c. live_in c rest (Out c)) others (λ a b. Go Out rest Then a b) (λ a b. Go out (joined_to rest tail) Q a b) f g (t.2 x y) (λ m n d e q z. together_joined rest m n z)),
+          (together_then Even one other (λ c. live_in c rest (Out c)) others (λ a b. Go Out rest Then a b) (λ a b. Go out (joined_to rest tail) Q a b) f g (t.2 x y) (λ m n d e q z. together_joined rest m n z)),
       λ m n x d y e. together_joined rest m n (t.3 m n x d y e),
       λ m n x d y e. together_joined rest m n (t.4 m n x d y e),
     )
     together_joined (LoopThen site first test answer body rest) f g t = (
       equal_joined (LoopThen site first test answer body rest) f g t.0,
       λ n a b x y. together_less (tested test answer body (λ c. live_in c (joined_to rest tail) (out c))) (tested test answer body (λ c. live_in c rest (Out c))) test Anything a b
-      (λ c. tested_part (reads c answer) (live_in c (joined_to rest tail) (out c)) (live_in c rest (Out c)) (live_in c body (live_in c test false)) (less_joined rest c)) (t.1 n a b (in_test n f a x) (in_test' n g b y)),
+          (λ c. tested_part (reads c answer) (live_in c (joined_to rest tail) (out c)) (live_in c rest (Out c)) (live_in c body (live_in c test false)) (less_joined rest c)) (t.1 n a b (in_test n f a x) (in_test' n g b y)),
       λ n a b x y. together_less (λ c. live_in c test (tested test answer body (λ d. live_in d (joined_to rest tail) (out d)) c)) (λ c. live_in c test (tested test answer body (λ d. live_in d rest (Out d)) c)) body Anything a b
-      (λ c. live_more c test _ _ (tested_part (reads c answer) (live_in c (joined_to rest tail) (out c)) (live_in c rest (Out c)) (live_in c body (live_in c test false)) (less_joined rest c))) (t.2 n a b (in_body one n f a x) (in_body other n g b y)),
+          (λ c. live_more c test _ _ (tested_part (reads c answer) (live_in c (joined_to rest tail) (out c)) (live_in c rest (Out c)) (live_in c body (live_in c test false)) (less_joined rest c))) (t.2 n a b (in_body one n f a x) (in_body other n g b y)),
       λ a b x y. together_joined rest a b (t.3 a b x y),
     )
       where
@@ -194,8 +194,8 @@ module _ (Even : ℕ → Type 0) (one other : Who) where
       mixed : Differ test f g → (m n : Cells) → Branches one test chosen others f m → Branches other test chosen others g n → Equal Even out m n × Q m n
       mixed df m n x y = (
         λ c e l. let u = unset df c e l in
-        let v = neither (sets_in c chosen) (sets_in c others) u in
-        branch_kept one test chosen others f m c x u ∙ (al c e (or_right (reads c test) _ (or_left (live_in c chosen (out c)) (live_in c others (out c)) (unset_live c chosen (out c) v.0 l))) ∙ sym (branch_kept other test chosen others g n c y u)),
+            let v = neither (sets_in c chosen) (sets_in c others) u in
+            branch_kept one test chosen others f m c x u ∙ (al c e (or_right (reads c test) _ (or_left (live_in c chosen (out c)) (live_in c others (out c)) (unset_live c chosen (out c) v.0 l))) ∙ sym (branch_kept other test chosen others g n c y u)),
         parted df m n x y,
       )
 

@@ -1,13 +1,13 @@
 -- What stands in a statement: it declares no variable in scope, its conditions have the scope around it in theirs, and a way out is one.
-use Rattle.std.proofs.Common.{◌≡◌, ℕ, zero, suc, ◌+◌, List, [], ◌∷◌, ◌++◌, Option, Some, None, refl, sym, ap, ◌∙◌, subst, arith, ◌⊎◌, inl, inr, if◌then◌else◌}
+use Rattle.std.proofs.Common.{◌≡◌, ℕ, ◌+◌, List, [], ◌∷◌, ◌++◌, Option, Some, None, refl, sym, ◌∙◌, subst, arith, ◌⊎◌, inl, inr, if◌then◌else◌}
 use Rattle.std.proofs.Common.{Bool as Test, true, false}
-use Rattle.std.specs.Prelude.{nat_eq, ◌||◌}
+use Rattle.std.specs.Prelude.{nat_eq}
 use Rattle.std.proofs.lemmas.Bool.{or_left, or_right}
 use Rattle.std.proofs.lemmas.Option.{none-some}
 use Rattle.cl_model.specs.Tree.{Expression, Apply, Update, Choose, Call, Expressions, none, more, Statement, Do, Declare, Fill, Block, If, Loop, Switch, Break, Continue, Return, Barrier, Statements, empty, also, Arms, no_arm, arm}
 use Rattle.cl_model.specs.Lists.{IsOneOf}
 use Rattle.cl_model.specs.Valid.{Scope, Has, IsScopedList, AreScopedArms, scope_after, declarations, all_declarations, arms_declarations}
-use Rattle.cl_model.specs.Varying.{Condition, conditions_in, conditions_among, conditions_in_optional, loop_condition, conditions_of, conditions_of_list, conditions_of_arms, exits, some_exits, arms_exit, returns, some_returns, arms_return}
+use Rattle.cl_model.specs.Varying.{Condition, conditions_in, conditions_among, conditions_in_optional, loop_condition, conditions_of, conditions_of_list, conditions_of_arms, exits, some_exits, arms_exit}
 use Rattle.kir_lower.specs.Ways.{first_of, way_out, way_out_of_all, way_out_of_arms, declares}
 use Rattle.even_laws.proofs.Living.{true_or_false}
 use Rattle.even_laws.proofs.Alike.{same_self, same_number}

@@ -1,10 +1,10 @@
 -- A function as it stands in a lowered kernel: which of its cells are those of variables that do not vary, and what the calls in it give.
-use Rattle.std.proofs.Common.{◌≡◌, ◌≢◌, ℕ, suc, ◌+◌, ◌<◌, ◌≤◌, List, [], ◌∷◌, length, Option, Some, None, slice_get, refl, sym, ap, ◌∙◌, subst, arith, ◌⊎◌, inl, inr}
+use Rattle.std.proofs.Common.{◌≡◌, ◌≢◌, ℕ, ◌+◌, ◌<◌, ◌≤◌, List, [], ◌∷◌, length, Option, Some, slice_get, refl, sym, ◌∙◌, subst, arith, ◌⊎◌, inl, inr}
 use Rattle.std.proofs.Common.{Bool as Test, true, false}
 use Rattle.std.specs.Prelude.{nat_eq}
 use Rattle.wg_num.specs.declared.types.IntType.{IntType}
 use Rattle.cl_model.specs.declared.program.Root.{Root}
-use Rattle.cl_model.specs.Tree.{Action, Expression, Call, Expressions, none, more, Program}
+use Rattle.cl_model.specs.Tree.{Call, Expressions, Program}
 use Rattle.cl_model.specs.Lists.{IsOneOf}
 use Rattle.cl_model.specs.Calls.{function_at}
 use Rattle.cl_model.specs.Valid.{Scope, Has, CanLoad, ArgumentsFit, parameter_kinds}
@@ -42,7 +42,7 @@ module _ (program : Program) (kernel : Kernel) (one other : Who) where
       → length values ≡ length (parameter_kinds (function_at program g)) → AllIn program kernel a (next_cell m) values → Grown program kernel (calls here site g (argument_roots here roots) values m).made
       → ((c : ℕ) → Even program kernel c → out c ≡ true → c < next_cell m) → Equal (Even program kernel) (λ c. live_in c (calls here site g (argument_roots here roots) values m).lines (out c)) p q → ArgumentsEqual g values p q
       → Together (Even program kernel) one other out (calls here site g (argument_roots here roots) values m).lines
-          (λ a b. (Varies program (AResult g) → ⊥) → atom_value a (calls here site g (argument_roots here roots) values m).value.atom ≡ atom_value b (calls here site g (argument_roots here roots) values m).value.atom) p q
+      (λ a b. (Varies program (AResult g) → ⊥) → atom_value a (calls here site g (argument_roots here roots) values m).value.atom ≡ atom_value b (calls here site g (argument_roots here roots) values m).value.atom) p q
 
   -- the function with this number as it stands there
   pub record Setting (fn : ℕ) (calls : Calls) (here : Instance) : Type 0 where

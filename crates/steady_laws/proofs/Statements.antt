@@ -1,52 +1,49 @@
 -- Both go together through the statements of a function.
-use Rattle.std.proofs.Common.{◌≡◌, ℕ, suc, ◌+◌, ◌<◌, ◌≤◌, ℤ, pos, length, List, [], ◌∷◌, Option, Some, None, refl, sym, ap, ◌∙◌, subst, arith, ◌⊎◌, inl, inr}
+use Rattle.std.proofs.Common.{◌≡◌, ℕ, ◌+◌, ◌<◌, ◌≤◌, pos, length, List, [], ◌∷◌, Option, Some, None, refl, sym, ap, ◌∙◌, subst, arith, ◌⊎◌, inl, inr}
 use Rattle.std.proofs.Common.{Bool as Test, true, false}
 use Rattle.std.specs.Prelude.{nat_eq, not, ◌&&◌, ◌||◌}
 use Rattle.std.proofs.lemmas.Bool.{or_left, or_right, and_parts}
 use Rattle.std.proofs.lemmas.Option.{none-some, slice_get_within}
 use Rattle.wg_num.specs.declared.types.IntType.{IntType}
 use Rattle.wg_num.specs.declared.types.IntType.TheVariants.{Int}
-use Rattle.cl_model.specs.Tree.{Set, Expression, Apply, Expressions, single, Statement, Do, Declare, Fill, Block, If, Loop, Switch, Break, Continue, Return, Barrier, Statements, empty, also, Arms, no_arm, arm, Program, Function}
-use Rattle.cl_model.specs.Lists.{IsOneOf}
+use Rattle.cl_model.specs.Tree.{Expression, Statement, Do, Declare, Fill, Block, If, Loop, Switch, Break, Continue, Return, Barrier, Statements, empty, also, Arms, no_arm, arm, Program, Function}
 use Rattle.cl_model.specs.Calls.{function_at}
-use Rattle.cl_model.specs.Values.{is_zero}
-use Rattle.cl_model.specs.Valid.{Scope, Has, ReturnFits, StatementFits, AllFit, ArmsFit, promoted, scope_after, declarations, all_declarations, arms_declarations}
-use Rattle.cl_model.specs.Varying.{assigns_in, assigns_among, assigns_in_optional, assigns, some_assigns, arms_assign, exits, some_exits, arms_exit, returns, some_returns, arms_return, conditions_in, conditions_of_list, conditions_of_arms, AVariable, AResult, AnExpression, Varies, assigned, operand, returning, assigned_under, return_under}
+use Rattle.cl_model.specs.Valid.{Scope, Has, ReturnFits, StatementFits, AllFit, ArmsFit, promoted, scope_after, all_declarations, arms_declarations}
+use Rattle.cl_model.specs.Varying.{assigns_in, assigns_among, assigns_in_optional, assigns, some_assigns, arms_assign, returns, some_returns, arms_return, conditions_in, conditions_of_list, AVariable, AResult, Varies, assigned, operand, returning, assigned_under, return_under}
 use Rattle.kir.specs.declared.line.Atom.{Atom}
-use Rattle.kir.specs.declared.line.Atom.TheVariants.{Const, Cell as CellAtom}
-use Rattle.kir.specs.Tree.{Copy, Lines, NoLine, SetThen, ClearThen, IfThen, joined_to, OfValue, Kernel}
+use Rattle.kir.specs.declared.line.Atom.TheVariants.{Cell as CellAtom}
+use Rattle.kir.specs.Tree.{Copy, Lines, NoLine, ClearThen, IfThen, joined_to, OfValue, Kernel}
 use Rattle.kir.specs.Live.{reads, live_in}
 use Rattle.kir.specs.Steps.{atom_value}
 use Rattle.kir_lower.specs.declared.places.Value.{Value}
 use Rattle.kir_lower.specs.Made.{Made, Instance, next_cell, with_cell, int, constant, type_at, element_at}
 use Rattle.kir_lower.specs.Ways.{first_of, way_out, way_out_of_all, way_out_of_arms, declares}
-use Rattle.kir_lower.specs.Actions.{set_to, opened, outward, round_code, selected, initial_lines, fallen_code, guarded_before}
+use Rattle.kir_lower.specs.Actions.{set_to, opened, round_code, selected, initial_lines, fallen_code, guarded_before}
 use Rattle.kir_lower.specs.Code.{Calls, expression_code, operands_code, optional_code, Guarded, is_guarded, before_rest, in_order, set_exit, entry_code, around_arm, statement_code, list_code, arms_code}
 use Rattle.even_laws.specs.Steady.{sets_in}
-use Rattle.even_laws.specs.Does.{Cells, Who, put, Does}
+use Rattle.even_laws.specs.Does.{Cells, Who, Does}
 use Rattle.even_laws.proofs.Living.{true_or_false, or_either}
-use Rattle.even_laws.proofs.Alike.{same_self, same_number, put_here, put_other, kept}
-use Rattle.cl_agreement.proofs.Keeps.{Sound}
+use Rattle.even_laws.proofs.Alike.{same_self, put_here, put_other}
 use Rattle.cl_agreement.proofs.Parts.{good_do, good_declare, good_fill, good_block, good_if, good_loop, good_switch, good_return, good_also, good_arm, if_condition, switch_condition, in_left, in_right}
 use Rattle.cl_agreement.proofs.Values.{InBody, UnderBody, BackBody}
-use Rattle.lowering_laws.proofs.Quiet.{Quiet, or_false, quiet_none, quiet_less, quiet_then, quiet_set, quiet_if, quiet_clear}
+use Rattle.lowering_laws.proofs.Quiet.{Quiet, or_false, quiet_none, quiet_set, quiet_if, quiet_clear}
 use Rattle.lowering_laws.proofs.Steps.{IsApart, IsFree, ListQuiet, initial_quiet, guarded_quiet, list_joined}
 use Rattle.lowering_laws.proofs.Scoped.{all_have, return_type, free_first, free_second}
 use Rattle.lowering_laws.proofs.Absent.{next_more}
-use Rattle.lowering_laws.proofs.AbsentCode.{expression_up, operands_up, optional_up, opened_up, statement_up, list_up}
+use Rattle.lowering_laws.proofs.AbsentCode.{expression_up, optional_up, opened_up, statement_up, list_up}
 use Rattle.lowering_laws.proofs.AbsentSteps.{all_labels_up}
 use Rattle.lowering_laws.proofs.Across.{out_below}
 use Rattle.lowering_laws.proofs.Anew.{list_quiet, arms_quiet}
 use Rattle.steady_laws.specs.Together.{Equal, Anything, Together}
 use Rattle.steady_laws.proofs.Places.{together_then}
-use Rattle.steady_laws.proofs.Rules.{Differ, branch_kept, together_seq, together_set, together_store, together_if}
-use Rattle.steady_laws.proofs.UnsetSteps.{Unset, unset_none, unset_then, unset_set}
-use Rattle.steady_laws.proofs.UnsetCode.{Clear, clear_left, clear_right, expression_unset, plain_unset, operands_unset, statement_unset, list_unset, arms_unset, selected_up, entry_up, fallen_up}
+use Rattle.steady_laws.proofs.Rules.{branch_kept, together_seq, together_set, together_if}
+use Rattle.steady_laws.proofs.UnsetSteps.{unset_then}
+use Rattle.steady_laws.proofs.UnsetCode.{Clear, clear_left, clear_right, expression_unset, plain_unset, operands_unset, list_unset, arms_unset, selected_up, entry_up, fallen_up}
 use Rattle.steady_laws.proofs.Ground.{Even, Grown, value_not_even, statement_back, list_back, arms_back, outward_back, round_back, selected_back, fallen_back, optional_back}
-use Rattle.steady_laws.proofs.Fresh.{AtomIn, AllIn, atom_not_read, values_not_read, expression_in, operands_in}
+use Rattle.steady_laws.proofs.Fresh.{AtomIn, atom_not_read, values_not_read, expression_in, operands_in}
 use Rattle.steady_laws.proofs.Setting.{Setting, Known, Bound, bound_before, ScopeWithin, known_below}
-use Rattle.steady_laws.proofs.Acts.{V, Same, apart_below, apart_above}
-use Rattle.steady_laws.proofs.Evaluated.{GE, GA, off_above, ValueEqual, expression_together, operands_together, plain_together}
+use Rattle.steady_laws.proofs.Acts.{V, Same, apart_above}
+use Rattle.steady_laws.proofs.Evaluated.{off_above, ValueEqual, expression_together, operands_together, plain_together}
 use Rattle.steady_laws.proofs.Scopes.{undeclared, undeclared_list, declares_none, same_scope, way_exits, some_or_none, way_first, way_second}
 use Rattle.steady_laws.proofs.Guards.{AnswerEqual, Settled, AllSettled, ArmsSettled, Covers, covers_given, covers_same, covers_both, known_clear, above_clear, before_inside, before_behind}
 use Rattle.steady_laws.proofs.Exits.{IsSome, Pending, pending_more, pending_opened, free_even, apart_is, Outside, outside_kept}
@@ -54,7 +51,7 @@ use Rattle.steady_laws.proofs.Arms.{all_back}
 use Rattle.steady_laws.proofs.Entries.{ArmEqual, arm_together}
 use Rattle.steady_laws.proofs.Switches.{switch_together}
 use Rattle.steady_laws.proofs.Loops.{GR, IsPart, StatementGo, bound_after, loop_together}
-use Rattle.steady_laws.proofs.Parts.{sound_first, inner_true, list_parts, declared_declares, GL, GM, within_after, part_left, part_right, part_behind, AllCalm, all_settled, covers_first, covers_all}
+use Rattle.steady_laws.proofs.Parts.{inner_true, list_parts, declared_declares, GL, GM, within_after, part_left, part_right, part_behind, all_settled, covers_first, covers_all}
 
 module _ (program : Program) (kernel : Kernel) (one other : Who) (fn : ℕ) (calls : Calls) (here : Instance) (set : Setting program kernel one other fn calls here) where
   abbrev F : Function
@@ -156,7 +153,7 @@ module _ (program : Program) (kernel : Kernel) (one other : Who) (fn : ℕ) (cal
   branches_unset : (exit : ℕ) (yes_ no_ : Statements) (m : Made) (c : ℕ) → AllFit program F yes_ → AllFit program F no_ → IsFree c exit (first_of (way_out_of_all true true yes_) (way_out_of_all true true no_))
       → Clear c here Size F.result (λ x. some_assigns yes_ x || some_assigns no_ x) (λ x. all_declarations yes_ x + all_declarations no_ x) (some_returns yes_ || some_returns no_) → c < next_cell m
       → (sets_in c (joined_to (list_code calls here exit false yes_ m).inside (list_code calls here exit false yes_ m).rest)
-        || sets_in c (joined_to (list_code calls here exit false no_ (list_code calls here exit false yes_ m).made).inside (list_code calls here exit false no_ (list_code calls here exit false yes_ m).made).rest)) ≡ false
+      || sets_in c (joined_to (list_code calls here exit false no_ (list_code calls here exit false yes_ m).made).inside (list_code calls here exit false no_ (list_code calls here exit false yes_ m).made).rest)) ≡ false
   branches_unset exit yes_ no_ m c h k free clear l =
       let cy = list_code calls here exit false yes_ m in
       let cn = list_code calls here exit false no_ cy.made in
@@ -186,9 +183,9 @@ module _ (program : Program) (kernel : Kernel) (one other : Who) (fn : ℕ) (cal
   -- all lines of a list, from those up to the first way out and the guarded ones
   pub list_from : (W : Type 0) (exit : ℕ) (list : Statements) (scope : Scope) (m : Made) (out : ℕ → Test) (p q : Cells) → Equal E (λ c. live_in c (joined_to (list_code calls here exit false list m).inside (list_code calls here exit false list m).rest) (out c)) p q
       → (Equal E (λ c. live_in c (list_code calls here exit false list m).inside (live_in c (list_code calls here exit false list m).rest (out c))) p q
-        → Go (λ c. live_in c (list_code calls here exit false list m).rest (out c)) (list_code calls here exit false list m).inside (λ a b. (AllSettled program kernel one other fn calls here set scope list → W → a exit ≡ b exit) × Ans a b) p q)
+      → Go (λ c. live_in c (list_code calls here exit false list m).rest (out c)) (list_code calls here exit false list m).inside (λ a b. (AllSettled program kernel one other fn calls here set scope list → W → a exit ≡ b exit) × Ans a b) p q)
       → ((a b : Cells) → Equal E (λ c. live_in c (list_code calls here exit false list m).rest (out c)) a b → (Unit {0} → AllSettled program kernel one other fn calls here set scope list → W → a exit ≡ b exit) → Ans a b
-        → Go out (list_code calls here exit false list m).rest (λ x y. (Unit {0} → AllSettled program kernel one other fn calls here set scope list → W → x exit ≡ y exit) × Ans x y) a b)
+      → Go out (list_code calls here exit false list m).rest (λ x y. (Unit {0} → AllSettled program kernel one other fn calls here set scope list → W → x exit ≡ y exit) × Ans x y) a b)
       → Go out (joined_to (list_code calls here exit false list m).inside (list_code calls here exit false list m).rest) (λ a b. (AllSettled program kernel one other fn calls here set scope list → W → a exit ≡ b exit) × Ans a b) p q
   list_from W exit list scope m out p q al inside_ behind_ =
       let cl = list_code calls here exit false list m in
@@ -248,16 +245,16 @@ module _ (program : Program) (kernel : Kernel) (one other : Who) (fn : ℕ) (cal
         (λ al'. operands_together program kernel one other fn calls here set values k.0 scope m (λ c. live_in c (ClearThen number stores) (out c)) p q k.1 (good_fill (InBody program fn) (UnderBody program fn) (BackBody program fn) scope site array values good) within low g
         (bound_before program kernel here (ClearThen number stores) scope out quiet bound) al')
         (λ a b d1 d2 al1 same.
-            let un : (c : ℕ) → here.base + Size ≤ c → c < next_cell m → sets_in c cv.lines ≡ false = λ c l u. (operands_unset program c calls set.up (set.unset c) F here values k.0 k.1 (off_above c Size here (assigns_among values) l) m (out_below c _ _ u)).is in
-            let o = outside_kept program kernel one other fn calls here set W exit cv.lines p q a b (λ w. un exit (pend.above w) (pend.below w)) (λ t r. un here.answer answer_above (pend.result_below t r)) d1 d2 (x0, ans) in
-            (al1, stores_together site (element_at here array) number 0 cv.values out (Ends W exit scope (Fill site array values)) a b al1 ((λ st. o.0), o.1)))
+        let un : (c : ℕ) → here.base + Size ≤ c → c < next_cell m → sets_in c cv.lines ≡ false = λ c l u. (operands_unset program c calls set.up (set.unset c) F here values k.0 k.1 (off_above c Size here (assigns_among values) l) m (out_below c _ _ u)).is in
+        let o = outside_kept program kernel one other fn calls here set W exit cv.lines p q a b (λ w. un exit (pend.above w) (pend.below w)) (λ t r. un here.answer answer_above (pend.result_below t r)) d1 d2 (x0, ans) in
+        (al1, stores_together site (element_at here array) number 0 cv.values out (Ends W exit scope (Fill site array values)) a b al1 ((λ st. o.0), o.1)))
     statement_together W exit (Block list) scope m h good part within low pend opens g =
         λ out p q bound al x0 ans.
         let cl = list_code calls here exit false list m in
         together_then E one other out (joined_to cl.inside cl.rest) (λ a b. (AllSettled program kernel one other fn calls here set scope list → W → a exit ≡ b exit) × Ans a b) (Ends W exit scope (Block list)) p q
         (list_from W exit list scope m out p q al
-            (λ al_. inside_together W exit false list scope m h (good_block (InBody program fn) (UnderBody program fn) (BackBody program fn) scope list good) part within low pend opens g out p q bound al_ x0 ans)
-            (λ a_ b_ al_ pre_ an_. behind_together W exit false list scope m h (good_block (InBody program fn) (UnderBody program fn) (BackBody program fn) scope list good) part within low pend opens g out (Unit {0}) (λ z. tt) (covers_given program kernel one other fn calls here set (Unit {0}) scope tt) a_ b_ bound al_ pre_ an_))
+        (λ al_. inside_together W exit false list scope m h (good_block (InBody program fn) (UnderBody program fn) (BackBody program fn) scope list good) part within low pend opens g out p q bound al_ x0 ans)
+        (λ a_ b_ al_ pre_ an_. behind_together W exit false list scope m h (good_block (InBody program fn) (UnderBody program fn) (BackBody program fn) scope list good) part within low pend opens g out (Unit {0}) (λ z. tt) (covers_given program kernel one other fn calls here set (Unit {0}) scope tt) a_ b_ bound al_ pre_ an_))
         (λ a b d1 d2 al1 z. ((λ st. z.0 (all_settled program kernel one other fn calls here set list scope st)), z.1))
     statement_together W exit (If site test yes_ no_) scope m h good part within low pend opens g =
         λ out p q bound al x0 ans.
@@ -286,42 +283,48 @@ module _ (program : Program) (kernel : Kernel) (one other : Who) (fn : ℕ) (cal
         together_seq E one other out ct.lines branch (λ x y. ValueEqual program kernel one other fn calls here set test ct.value.atom x y) Q p q al
         (λ al'. expression_together program kernel one other fn calls here set test h.0.0 scope m (λ c. live_in c branch (out c)) p q h.0.1 k.1 within low gt (bound_before program kernel here branch scope out quiet bound) al')
         (λ a1 b1 d1 e1 al1 s1.
-            let o = expression_outside W exit test scope m p q a1 b1 (inl h.0) pend d1 e1 (x0, ans) in
-            together_if E one other out site ct.value.atom ly ln Q a1 b1 al1
-            (λ nx ny al2. together_then E one other out ly (λ x y. (AllSettled program kernel one other fn calls here set scope yes_ → W → x exit ≡ y exit) × Ans x y) Q a1 b1
-            (list_from W exit yes_ scope ct.made out a1 b1 al2
-            (λ al_. inside_together W exit false yes_ scope ct.made h.1 k.2 (part_left program kernel one other fn calls here set (some_assigns yes_) (some_assigns no_) (some_returns yes_) (some_returns no_) part') within (omega (arith, low, a)) pend_t (λ s w. let z = way_first (way_out_of_all true true yes_) (way_out_of_all true true no_) s w in opens z.0 z.1) gy out a1 b1 bound al_ o.0 o.1)
-            (λ a_ b_ al_ pre_ an_. behind_together W exit false yes_ scope ct.made h.1 k.2 (part_left program kernel one other fn calls here set (some_assigns yes_) (some_assigns no_) (some_returns yes_) (some_returns no_) part') within (omega (arith, low, a)) pend_t (λ s w. let z = way_first (way_out_of_all true true yes_) (way_out_of_all true true no_) s w in opens z.0 z.1) gy out (Unit {0}) (λ z. tt) (covers_given program kernel one other fn calls here set (Unit {0}) scope tt) a_ b_ bound al_ pre_ an_))
-            (λ x y d2 e2 z t. ((λ st. t.0 (all_settled program kernel one other fn calls here set yes_ scope (λ s w c i. let z = way_first (way_out_of_all true true yes_) (way_out_of_all true true no_) s w in
-            st z.0 z.1 c (inr (in_right (conditions_in scope test) _ c (in_left (conditions_of_list scope yes_) (conditions_of_list scope no_) c i)))))), t.1)))
-            (λ nx ny al2. together_then E one other out ln (λ x y. (AllSettled program kernel one other fn calls here set scope no_ → W → x exit ≡ y exit) × Ans x y) Q a1 b1
-            (list_from W exit no_ scope cy.made out a1 b1 al2
-            (λ al_. inside_together W exit false no_ scope cy.made h.2 k.3 (part_right program kernel one other fn calls here set (some_assigns yes_) (some_assigns no_) (some_returns yes_) (some_returns no_) part') within (omega (arith, low, a, b)) pend_y (λ s w. let z = way_second (way_out_of_all true true yes_) (way_out_of_all true true no_) s w in opens z.0 z.1) g out a1 b1 bound al_ o.0 o.1)
-            (λ a_ b_ al_ pre_ an_. behind_together W exit false no_ scope cy.made h.2 k.3 (part_right program kernel one other fn calls here set (some_assigns yes_) (some_assigns no_) (some_returns yes_) (some_returns no_) part') within (omega (arith, low, a, b)) pend_y (λ s w. let z = way_second (way_out_of_all true true yes_) (way_out_of_all true true no_) s w in opens z.0 z.1) g out (Unit {0}) (λ z. tt) (covers_given program kernel one other fn calls here set (Unit {0}) scope tt) a_ b_ bound al_ pre_ an_))
-            (λ x y d2 e2 z t. ((λ st. t.0 (all_settled program kernel one other fn calls here set no_ scope (λ s w c i. let z = way_second (way_out_of_all true true yes_) (way_out_of_all true true no_) s w in
-            st z.0 z.1 c (inr (in_right (conditions_in scope test) _ c (in_right (conditions_of_list scope yes_) (conditions_of_list scope no_) c i)))))), t.1)))
-            (λ df c e o'. let kn = bound c e o' in let below = known_below program kernel here Size scope (next_cell m) c within low kn in
-            branches_unset exit yes_ no_ ct.made c h.1 h.2 (free c e)
-            (known_clear program kernel one other fn calls here set scope c (λ x. some_assigns yes_ x || some_assigns no_ x) (λ x. all_declarations yes_ x + all_declarations no_ x) (some_returns yes_ || some_returns no_) within kn
-            (λ x has ec z. df (s1 (λ v. set.marked x (within x has) (subst E ec e) (assigned_under cond k.0 v has z)))) (λ x has. undeclared (If site test yes_ no_) scope x good.names has)) (omega (arith, below, a)))
-            (λ df a2 b2 d2 e2. (
-              (λ st w. elim (some_or_none (way_out true true (If site test yes_ no_))) [
-                | inl kk ↦ absurd (df (s1 (st kk.0 kk.1 cond (inl refl) (way_exits true true (If site test yes_ no_) kk.0 kk.1))))
-                | inr nn ↦
-                    let u = branches_unset exit yes_ no_ ct.made exit h.1 h.2 (λ s w'. absurd (none-some s (sym nn ∙ w')))
-                    (above_clear program kernel one other fn calls here set exit (λ x. some_assigns yes_ x || some_assigns no_ x) (λ x. all_declarations yes_ x + all_declarations no_ x) (some_returns yes_ || some_returns no_) (pend.above w)
-                    (λ r t e. apart_is program kernel one other fn calls here set exit here.answer (pend.no_result w t e))) (let z = pend.below w in omega (arith, z, a)) in
-                    branch_kept one ct.value.atom ly ln a1 a2 exit d2 u ∙ (o.0 w ∙ sym (branch_kept other ct.value.atom ly ln b1 b2 exit e2 u))
-              ]),
-              (λ t r nv. elim (true_or_false (some_returns yes_ || some_returns no_)) [
-                | inl rr ↦ absurd (df (s1 (λ v. nv (return_under cond k.0 v rr))))
-                | inr rr ↦
-                    let u = branches_unset exit yes_ no_ ct.made here.answer h.1 h.2 (λ s w'. apart_is program kernel one other fn calls here set here.answer exit (λ z. pend.no_result (opens s w') t r (sym z)))
-                    (above_clear program kernel one other fn calls here set here.answer (λ x. some_assigns yes_ x || some_assigns no_ x) (λ x. all_declarations yes_ x + all_declarations no_ x) (some_returns yes_ || some_returns no_) answer_above
-                    (λ z. absurd (let y : true ≡ false = sym z ∙ rr in cc))) (let z = pend.result_below t r in omega (arith, z, a)) in
-                    branch_kept one ct.value.atom ly ln a1 a2 here.answer d2 u ∙ (o.1 t r nv ∙ sym (branch_kept other ct.value.atom ly ln b1 b2 here.answer e2 u))
-              ]),
-            )))
+        let o = expression_outside W exit test scope m p q a1 b1 (inl h.0) pend d1 e1 (x0, ans) in
+        together_if E one other out site ct.value.atom ly ln Q a1 b1 al1
+        (λ nx ny al2. together_then E one other out ly (λ x y. (AllSettled program kernel one other fn calls here set scope yes_ → W → x exit ≡ y exit) × Ans x y) Q a1 b1
+        (list_from W exit yes_ scope ct.made out a1 b1 al2
+        (λ al_. inside_together W exit false yes_ scope ct.made h.1 k.2 (part_left program kernel one other fn calls here set (some_assigns yes_) (some_assigns no_) (some_returns yes_) (some_returns no_) part') within (omega (arith, low, a)) pend_t (λ s w. let z = way_first (way_out_of_all true true yes_) (way_out_of_all true true no_) s w in opens z.0 z.1) gy out a1 b1 bound al_ o.0 o.1)
+        (λ a_ b_ al_ pre_ an_. behind_together W exit false yes_ scope ct.made h.1 k.2 (part_left program kernel one other fn calls here set (some_assigns yes_) (some_assigns no_) (some_returns yes_) (some_returns no_) part') within (omega (arith, low, a)) pend_t (λ s w. let z = way_first (way_out_of_all true true yes_) (way_out_of_all true true no_) s w in opens z.0 z.1) gy out (Unit {0}) (λ z. tt) (covers_given program kernel one other fn calls here set (Unit {0}) scope tt) a_ b_ bound al_ pre_ an_))
+        (λ x y d2 e2 z t. (
+          (λ st. t.0 (all_settled program kernel one other fn calls here set yes_ scope (λ s w c i. let z = way_first (way_out_of_all true true yes_) (way_out_of_all true true no_) s w in
+              st z.0 z.1 c (inr (in_right (conditions_in scope test) _ c (in_left (conditions_of_list scope yes_) (conditions_of_list scope no_) c i)))))),
+          t.1,
+        )))
+        (λ nx ny al2. together_then E one other out ln (λ x y. (AllSettled program kernel one other fn calls here set scope no_ → W → x exit ≡ y exit) × Ans x y) Q a1 b1
+        (list_from W exit no_ scope cy.made out a1 b1 al2
+        (λ al_. inside_together W exit false no_ scope cy.made h.2 k.3 (part_right program kernel one other fn calls here set (some_assigns yes_) (some_assigns no_) (some_returns yes_) (some_returns no_) part') within (omega (arith, low, a, b)) pend_y (λ s w. let z = way_second (way_out_of_all true true yes_) (way_out_of_all true true no_) s w in opens z.0 z.1) g out a1 b1 bound al_ o.0 o.1)
+        (λ a_ b_ al_ pre_ an_. behind_together W exit false no_ scope cy.made h.2 k.3 (part_right program kernel one other fn calls here set (some_assigns yes_) (some_assigns no_) (some_returns yes_) (some_returns no_) part') within (omega (arith, low, a, b)) pend_y (λ s w. let z = way_second (way_out_of_all true true yes_) (way_out_of_all true true no_) s w in opens z.0 z.1) g out (Unit {0}) (λ z. tt) (covers_given program kernel one other fn calls here set (Unit {0}) scope tt) a_ b_ bound al_ pre_ an_))
+        (λ x y d2 e2 z t. (
+          (λ st. t.0 (all_settled program kernel one other fn calls here set no_ scope (λ s w c i. let z = way_second (way_out_of_all true true yes_) (way_out_of_all true true no_) s w in
+              st z.0 z.1 c (inr (in_right (conditions_in scope test) _ c (in_right (conditions_of_list scope yes_) (conditions_of_list scope no_) c i)))))),
+          t.1,
+        )))
+        (λ df c e o'. let kn = bound c e o' in let below = known_below program kernel here Size scope (next_cell m) c within low kn in
+        branches_unset exit yes_ no_ ct.made c h.1 h.2 (free c e)
+        (known_clear program kernel one other fn calls here set scope c (λ x. some_assigns yes_ x || some_assigns no_ x) (λ x. all_declarations yes_ x + all_declarations no_ x) (some_returns yes_ || some_returns no_) within kn
+        (λ x has ec z. df (s1 (λ v. set.marked x (within x has) (subst E ec e) (assigned_under cond k.0 v has z)))) (λ x has. undeclared (If site test yes_ no_) scope x good.names has)) (omega (arith, below, a)))
+        (λ df a2 b2 d2 e2. (
+          (λ st w. elim (some_or_none (way_out true true (If site test yes_ no_))) [
+            | inl kk ↦ absurd (df (s1 (st kk.0 kk.1 cond (inl refl) (way_exits true true (If site test yes_ no_) kk.0 kk.1))))
+            | inr nn ↦
+                let u = branches_unset exit yes_ no_ ct.made exit h.1 h.2 (λ s w'. absurd (none-some s (sym nn ∙ w')))
+                (above_clear program kernel one other fn calls here set exit (λ x. some_assigns yes_ x || some_assigns no_ x) (λ x. all_declarations yes_ x + all_declarations no_ x) (some_returns yes_ || some_returns no_) (pend.above w)
+                (λ r t e. apart_is program kernel one other fn calls here set exit here.answer (pend.no_result w t e))) (let z = pend.below w in omega (arith, z, a)) in
+                branch_kept one ct.value.atom ly ln a1 a2 exit d2 u ∙ (o.0 w ∙ sym (branch_kept other ct.value.atom ly ln b1 b2 exit e2 u))
+          ]),
+          (λ t r nv. elim (true_or_false (some_returns yes_ || some_returns no_)) [
+            | inl rr ↦ absurd (df (s1 (λ v. nv (return_under cond k.0 v rr))))
+            | inr rr ↦
+                let u = branches_unset exit yes_ no_ ct.made here.answer h.1 h.2 (λ s w'. apart_is program kernel one other fn calls here set here.answer exit (λ z. pend.no_result (opens s w') t r (sym z)))
+                (above_clear program kernel one other fn calls here set here.answer (λ x. some_assigns yes_ x || some_assigns no_ x) (λ x. all_declarations yes_ x + all_declarations no_ x) (some_returns yes_ || some_returns no_) answer_above
+                (λ z. absurd (let y : true ≡ false = sym z ∙ rr in cc))) (let z = pend.result_below t r in omega (arith, z, a)) in
+                branch_kept one ct.value.atom ly ln a1 a2 here.answer d2 u ∙ (o.1 t r nv ∙ sym (branch_kept other ct.value.atom ly ln b1 b2 here.answer e2 u))
+          ]),
+        )))
     statement_together W exit (Loop site first test step body) scope m h good part within low pend opens g =
         let way = way_out true true body in
         let co = opened way exit m in
@@ -547,8 +550,8 @@ module _ (program : Program) (kernel : Kernel) (one other : Who) (fn : ℕ) (cal
         (λ z t r. apart_is program kernel one other fn calls here set n1 here.answer (λ z2. let y = pend.result_below t r in omega (arith, y, z2, one_more))))
         (λ none_ w. cells_free Y (pend.above w) (let z = pend.below w in omega (arith, z, a)) (λ s w2. absurd (none-some s (sym none_ ∙ w2))) (λ z t r. apart_is program kernel one other fn calls here set Y here.answer (pend.no_result w t r)))
         (λ out' p' q' bd al2 ex an. list_from W' Y body scope ce.made out' p' q' al2
-            (λ al_. inside_together W' Y false body scope ce.made h.0 kg.0 part_b within (omega (arith, low, a)) (pending_more program kernel one other fn calls here set W' Y (next_cell m) (next_cell ce.made) a pend) opens_first gl out' p' q' bd al_ ex an)
-            (λ a_ b_ al_ pre_ an_. behind_together W' Y false body scope ce.made h.0 kg.0 part_b within (omega (arith, low, a)) (pending_more program kernel one other fn calls here set W' Y (next_cell m) (next_cell ce.made) a pend) opens_first gl out' (Unit {0}) (λ z. tt) (covers_given program kernel one other fn calls here set (Unit {0}) scope tt) a_ b_ bd al_ pre_ an_))
+        (λ al_. inside_together W' Y false body scope ce.made h.0 kg.0 part_b within (omega (arith, low, a)) (pending_more program kernel one other fn calls here set W' Y (next_cell m) (next_cell ce.made) a pend) opens_first gl out' p' q' bd al_ ex an)
+        (λ a_ b_ al_ pre_ an_. behind_together W' Y false body scope ce.made h.0 kg.0 part_b within (omega (arith, low, a)) (pending_more program kernel one other fn calls here set W' Y (next_cell m) (next_cell ce.made) a pend) opens_first gl out' (Unit {0}) (λ z. tt) (covers_given program kernel one other fn calls here set (Unit {0}) scope tt) a_ b_ bd al_ pre_ an_))
         (λ y has nv asg. (cover.variables y has (part_b.assigned y asg) nv, clash y has nv (or_left (some_assigns body y) (arms_assign rest y) asg)))
         (λ r nv. (cover.result (part_b.returned r) nv, clash_result (or_left (some_returns body) (arms_return rest) r) nv))
         p q al' eq)

@@ -12,21 +12,20 @@ use Rattle.cl_model.specs.Valid.{HasType, HaveTypes, OptionalFits, IsPlainCall, 
 use Rattle.cl_model.specs.Varying.{sets, assigns_in, assigns_among, assigns_in_optional, assigns, some_assigns, arms_assign, returns, some_returns, arms_return}
 use Rattle.kir.specs.declared.line.Atom.{Atom}
 use Rattle.kir.specs.declared.line.Atom.TheVariants.{Cell as CellAtom}
-use Rattle.kir.specs.Tree.{Lines, NoLine, OfValue, OfFlag, ClearThen, IfThen}
+use Rattle.kir.specs.Tree.{Lines, NoLine, OfValue, OfFlag}
 use Rattle.kir_lower.specs.declared.places.Value.{Value}
 use Rattle.kir_lower.specs.Made.{Made, Instance, int, with_cell, next_cell, argument_roots}
 use Rattle.kir_lower.specs.Ways.{way_out, way_out_of_all, way_out_of_arms, declares}
 use Rattle.kir_lower.specs.Actions.{action_code, opened, round_code, outward, selected, fallen_code, changed}
-use Rattle.kir_lower.specs.Code.{Calls, expression_code, operands_code, optional_code, Guarded, is_guarded, before_rest, in_order, entry_code, around_arm, statement_code, list_code, arms_code}
-use Rattle.even_laws.specs.Steady.{sets_in}
+use Rattle.kir_lower.specs.Code.{Calls, expression_code, operands_code, optional_code, Guarded, is_guarded, in_order, entry_code, around_arm, statement_code, list_code, arms_code}
 use Rattle.even_laws.proofs.Living.{true_or_false}
 use Rattle.even_laws.proofs.Alike.{same_self}
 use Rattle.lowering_laws.proofs.Quiet.{or_parts}
 use Rattle.lowering_laws.proofs.Steps.{IsFree}
-use Rattle.lowering_laws.proofs.Scoped.{free_first, free_second, fewer_ways, fewer_of_arms, all_have, return_type, argument_count}
+use Rattle.lowering_laws.proofs.Scoped.{free_first, free_second, all_have, return_type, argument_count}
 use Rattle.lowering_laws.proofs.Making as making
 use Rattle.lowering_laws.proofs.Absent.{next_more, IsOut, out_within}
-use Rattle.lowering_laws.proofs.AbsentSteps.{action_within, opened_exit, three_out}
+use Rattle.lowering_laws.proofs.AbsentSteps.{action_within, opened_exit}
 use Rattle.lowering_laws.proofs.AbsentCode.{CallsUp, Up, opened_up, outward_up, expression_up, operands_up, optional_up, statement_up, list_up, arms_up, before_rest_same}
 use Rattle.steady_laws.proofs.UnsetSteps.{Unset, unset_none, unset_then, unset_set, unset_load, unset_if, changed_unset, action_unset, initial_unset, opened_unset, outward_unset, round_unset, selected_unset, entry_unset, fallen_unset, before_rest_unset}
 

@@ -1,5 +1,5 @@
 -- The lines of single steps set no cell but those that they are given and those that they make.
-use Rattle.std.proofs.Common.{◌≡◌, ℕ, ◌+◌, ◌<◌, ◌≤◌, ℤ, pos, List, [], ◌∷◌, Option, Some, None, refl, sym, ap, ◌∙◌, arith, inl, inr, if◌then◌else◌}
+use Rattle.std.proofs.Common.{◌≡◌, ℕ, ◌+◌, ℤ, List, [], ◌∷◌, Option, Some, None, refl, ap, ◌∙◌, arith, inl, inr, if◌then◌else◌}
 use Rattle.std.proofs.Common.{Bool as Test, true, false}
 use Rattle.std.specs.Prelude.{nat_eq, ◌||◌}
 use Rattle.wg_num.specs.declared.types.IntType.{IntType}
@@ -15,15 +15,15 @@ use Rattle.kir.specs.declared.line.Atom.TheVariants.{Cell as CellAtom}
 use Rattle.kir.specs.Tree.{Work, Lines, NoLine, SetThen, LoadThen, StoreThen, ClearThen, IfThen, LoopThen, BarrierThen, joined_to, OfValue, OfFlag}
 use Rattle.kir_lower.specs.declared.places.Value.{Value}
 use Rattle.kir_lower.specs.Made.{Made, Instance, with_cell, next_cell}
-use Rattle.kir_lower.specs.Actions.{first, second, changed, action_code, initial_lines, opened, is_none, guarded_before, settled, outward, round_code, labels_code, all_labels_code, selected, fallen_code}
+use Rattle.kir_lower.specs.Actions.{first, second, changed, action_code, initial_lines, opened, is_none, guarded_before, outward, round_code, labels_code, all_labels_code, selected, fallen_code}
 use Rattle.kir_lower.specs.Code.{before_rest, Guarded, entry_code}
 use Rattle.even_laws.specs.Steady.{sets_in}
 use Rattle.even_laws.proofs.Living.{turned, true_or_false}
-use Rattle.even_laws.proofs.Alike.{same_self, same_number}
-use Rattle.lowering_laws.proofs.Quiet.{or_false, or_parts}
+use Rattle.even_laws.proofs.Alike.{same_self}
+use Rattle.lowering_laws.proofs.Quiet.{or_false}
 use Rattle.lowering_laws.proofs.Steps.{IsFree}
 use Rattle.lowering_laws.proofs.Absent.{next_more, IsOut, out_within}
-use Rattle.lowering_laws.proofs.AbsentSteps.{action_uses, fresh, three_out, two_out, labels_up, all_labels_up}
+use Rattle.lowering_laws.proofs.AbsentSteps.{action_uses, three_out, two_out, labels_up, all_labels_up}
 
 module _ (c : ℕ) where
   -- the lines do not set the cell

@@ -1,52 +1,48 @@
 -- The kernel that a program is lowered to is even in the cells of the variables that do not vary.
-use Rattle.std.proofs.Common.{◌≡◌, ◌≢◌, ℕ, zero, suc, ◌+◌, ◌<◌, ◌≤◌, ℤ, pos, List, [], ◌∷◌, ◌++◌, length, take, map, Option, Some, None, slice_get, unwrap_or, refl, sym, ap, ◌∙◌, subst, arith, ◌⊎◌, inl, inr, append_assoc}
-use Rattle.std.proofs.Common.{Bool as Test, true, false}
-use Rattle.std.specs.Prelude.{nat_lt}
-use Rattle.std.proofs.lemmas.Bool.{ltb-true, lt-ltb}
-use Rattle.std.proofs.lemmas.Option.{none-some, same_Some, slice_get_within}
+use Rattle.std.proofs.Common.{◌≡◌, ℕ, zero, suc, ◌+◌, ◌<◌, ◌≤◌, pos, List, [], ◌∷◌, length, Option, Some, None, slice_get, unwrap_or, refl, sym, ap, ◌∙◌, subst, arith}
+use Rattle.std.proofs.Common.{true, false}
+use Rattle.std.proofs.lemmas.Bool.{lt-ltb}
+use Rattle.std.proofs.lemmas.Option.{same_Some, slice_get_within}
 use Rattle.wg_num.specs.declared.types.IntType.{IntType}
 use Rattle.cl_model.specs.declared.program.Space.TheVariants as space
 use Rattle.cl_model.specs.declared.program.Root.{Root}
 use Rattle.cl_model.specs.declared.program.Root.TheVariants.{Param, Constant, Local, Private}
 use Rattle.cl_model.specs.declared.program.VarKind.{VarKind}
 use Rattle.cl_model.specs.declared.program.VarKind.TheVariants.{Scalar, Pointer}
-use Rattle.cl_model.specs.Tree.{Call, Expressions, Program, Function}
-use Rattle.cl_model.specs.Lists.{IsOneOf}
+use Rattle.cl_model.specs.Tree.{Program, Function}
 use Rattle.cl_model.specs.Calls.{function_at, kernel_of}
 use Rattle.cl_model.specs.Objects.{is_constant_pointer}
 use Rattle.cl_model.specs.Valid.{IsValid, CallsEnd, CanLoad, RootIs, ArgumentsFit, parameter_kinds}
 use Rattle.cl_model.specs.Varying.{expressions_of_list, AVariable, AResult, Varies}
 use Rattle.cl_model.specs.Varying as varying
-use Rattle.kir.specs.declared.line.Atom.{Atom}
-use Rattle.kir.specs.Tree.{Lines, NoLine, joined_to, OfValue, Kernel, Variable, Cell}
+use Rattle.kir.specs.Tree.{OfValue, Kernel, Variable, Cell}
 use Rattle.kir.specs.Live.{live_in}
 use Rattle.kir.specs.Steps.{atom_value}
 use Rattle.kir.specs.Homes.{IsOf}
-use Rattle.kir.specs.Lowering.{Named, IsSteady, IsEvenWhereSteady}
-use Rattle.kir_lower.specs.declared.places.Value.{Value}
-use Rattle.kir_lower.specs.Made.{Made, Instance, next_cell, root_in, argument_root, argument_roots, variable_cells}
+use Rattle.kir.specs.Lowering.{Named, IsEvenWhereSteady}
+use Rattle.kir_lower.specs.Made.{Made, Instance, next_cell, root_in, argument_roots, variable_cells}
 use Rattle.kir_lower.specs.Ways.{way_out_of_all}
 use Rattle.kir_lower.specs.Actions.{opened}
-use Rattle.kir_lower.specs.Code.{Calls, result_code, body_code}
-use Rattle.kir_lower.specs.Whole.{Way, names_at, way_behind, instance_at, with_instance, parameter_lines, call_code, bound_lines, own_roots, kernel_way, kernel_code, nothing_made, lowered_of}
+use Rattle.kir_lower.specs.Code.{result_code, body_code}
+use Rattle.kir_lower.specs.Whole.{Way, names_at, way_behind, instance_at, with_instance, parameter_lines, call_code, bound_lines, own_roots, kernel_way, nothing_made, lowered_of}
 use Rattle.even_laws.specs.Steady.{is_constant_root}
-use Rattle.even_laws.specs.Does.{Cells, Who}
+use Rattle.even_laws.specs.Does.{Who}
 use Rattle.even_laws.proofs.Alike.{AreFellows}
 use Rattle.cl_agreement.proofs.Nesting.{callee_ends, ends_deeper, least_depth}
 use Rattle.lowering_laws.specs.Names.{AreNamed}
-use Rattle.lowering_laws.proofs.Variables.{cell_named, get_before, get_behind, get_there, variable_at, variable_count}
+use Rattle.lowering_laws.proofs.Variables.{cell_named, get_behind, get_there, variable_at}
 use Rattle.lowering_laws.proofs.Arguments.{call_goes, length_take}
 use Rattle.lowering_laws.proofs.Below.{valid_any}
 use Rattle.lowering_laws.proofs.AbsentCode.{opened_up, list_up}
 use Rattle.lowering_laws.proofs.AbsentCalls.{calls_up, instance_cells}
 use Rattle.lowering_laws.proofs.Starts.{calls_quiet}
 use Rattle.lowering_laws.proofs.Absent.{next_more}
-use Rattle.steady_laws.specs.Together.{Equal, Anything, Together}
+use Rattle.steady_laws.specs.Together.{Anything, Together}
 use Rattle.steady_laws.proofs.Places.{together_then, even_if_together}
 use Rattle.steady_laws.proofs.Rules.{together_seq}
 use Rattle.steady_laws.proofs.Ground.{Even, Grown, grown_before, value_not_even, back_value, CallsBack, list_back, opened_back}
 use Rattle.steady_laws.proofs.Fresh.{AtomIn, atom_within, CallsFresh}
-use Rattle.steady_laws.proofs.Setting.{ArgumentsEqual, CallsTogether, Setting}
+use Rattle.steady_laws.proofs.Setting.{CallsTogether, Setting}
 use Rattle.steady_laws.proofs.Bodies.{calls_unset, parameters_together, bound_together, body_together}
 
 module _ (program : Program) (names : List (List Named)) (kernel : Kernel) (valid : IsValid program) (named : AreNamed program names) (tables : kernel.tables ≡ program.tables) where

@@ -1,6 +1,6 @@
 -- What the tests of a lowered switch compute.
-use Rattle.std.proofs.Common.{◌≡◌, ℕ, zero, suc, ℤ, pos, negsuc, refl, sym, ap, ◌∙◌, arith, ◌⊎◌, inl, inr, ◌≤◌}
-use Rattle.std.proofs.Common.{Bool as Test, true, false}
+use Rattle.std.proofs.Common.{◌≡◌, ℕ, zero, suc, ℤ, pos, negsuc, refl, sym, ap, ◌∙◌, arith, inl, inr}
+use Rattle.std.proofs.Common.{true, false}
 use Rattle.std.specs.Prelude.{bit_and}
 use Rattle.std.specs.Ordering.{int_eq}
 use Rattle.std.proofs.lemmas.Nat.{and_le_r}

@@ -1,5 +1,5 @@
 -- What two items of one group have in common that do the same lines: equal values of some cells wherever both stand, and a relation where both have done them.
-use Rattle.std.specs.Prelude.{◌≡◌, ℕ, ℤ, ◌||◌}
+use Rattle.std.specs.Prelude.{◌≡◌, ℕ, ℤ}
 use Rattle.std.specs.Prelude.{Bool as Test, true, false}
 use Rattle.kir.specs.Tree.{Lines, NoLine, SetThen, LoadThen, StoreThen, ClearThen, IfThen, LoopThen, BarrierThen}
 use Rattle.kir.specs.Live.{live_in}
@@ -38,8 +38,8 @@ Together Even one other out (IfThen site test chosen others rest) Q f g =
 Together Even one other out (LoopThen site first test answer body rest) Q f g =
     Equal Even (λ c. live_in c (LoopThen site first test answer body rest) (out c)) f g
     × ((n : ℕ) (a b : Cells) → InTest one (LoopThen site first test answer body rest) n f a → InTest other (LoopThen site first test answer body rest) n g b
-        → Together Even one other (tested test answer body (λ c. live_in c rest (out c))) test Anything a b)
+    → Together Even one other (tested test answer body (λ c. live_in c rest (out c))) test Anything a b)
     × ((n : ℕ) (a b : Cells) → InBody one (LoopThen site first test answer body rest) n f a → InBody other (LoopThen site first test answer body rest) n g b
-        → Together Even one other (λ c. live_in c test (tested test answer body (λ d. live_in d rest (out d)) c)) body Anything a b)
+    → Together Even one other (λ c. live_in c test (tested test answer body (λ d. live_in d rest (out d)) c)) body Anything a b)
     × ((a b : Cells) → Loops one first test answer body f a → Loops other first test answer body g b → Together Even one other out rest Q a b)
 Together Even one other out (BarrierThen site rest) Q f g = Equal Even (λ c. live_in c (BarrierThen site rest) (out c)) f g × Together Even one other out rest Q f g
