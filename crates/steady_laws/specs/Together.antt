@@ -1,4 +1,6 @@
 -- What two items of one group have in common that do the same lines: equal values of some cells wherever both stand, and a relation where both have done them.
+-- No set of cells that is one for the whole text would do. In `if (get_local_id(0) == 0) return; int v = 0; if (g) return; v = v + 1; if (g) return; a[0] = v;`
+-- the cell that says which way out is pending differs behind the first line, and is equal for all that come to the second, where it guards what `v` is set to.
 use Rattle.std.specs.Prelude.{◌≡◌, ℕ, ℤ}
 use Rattle.std.specs.Prelude.{Bool as Test, true, false}
 use Rattle.kir.specs.Tree.{Lines, NoLine, SetThen, LoadThen, StoreThen, ClearThen, IfThen, LoopThen, BarrierThen}
