@@ -20,3 +20,4 @@ pub mod Switches
 pub mod Statements
 pub mod Bodies
 pub mod Wholes
+pub mod Fine
