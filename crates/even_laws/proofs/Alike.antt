@@ -24,21 +24,21 @@ use Rattle.even_laws.proofs.Living.{neither, true_or_false, turned, into_body, u
 
 -- ---- cells
 
-same_self : (c : ℕ) → nat_eq c c ≡ true
+pub same_self : (c : ℕ) → nat_eq c c ≡ true
 same_self c = grind (arith, nat_tests)
 
-same_number : (a b : ℕ) → nat_eq a b ≡ true → a ≡ b
+pub same_number : (a b : ℕ) → nat_eq a b ≡ true → a ≡ b
 same_number a b h = grind (arith, nat_tests)
 
 pub put_other : (f : Cells) (to c : ℕ) (v : ℤ) → nat_eq to c ≡ false → put f to v c ≡ f c
 put_other f to c v e = ap (λ b. if b then v else f c) e
 
-put_here : (f : Cells) (to c : ℕ) (v : ℤ) → nat_eq to c ≡ true → put f to v c ≡ v
+pub put_here : (f : Cells) (to c : ℕ) (v : ℤ) → nat_eq to c ≡ true → put f to v c ≡ v
 put_here f to c v e = ap (λ b. if b then v else f c) e
 
 -- ---- what is not set is kept
 
-at_kept : (c : ℕ) (T B : Cells → Cells → Type 0) (answer : Atom) → ((f g : Cells) → T f g → g c ≡ f c) → ((f g : Cells) → B f g → g c ≡ f c) → (first : Test) (n : ℕ) (f g : Cells) → AtAnswer first T B answer n f g → g c ≡ f c
+pub at_kept : (c : ℕ) (T B : Cells → Cells → Type 0) (answer : Atom) → ((f g : Cells) → T f g → g c ≡ f c) → ((f g : Cells) → B f g → g c ≡ f c) → (first : Test) (n : ℕ) (f g : Cells) → AtAnswer first T B answer n f g → g c ≡ f c
 at_kept c T B answer kt kb true zero f g h = kt f g h
 at_kept c T B answer kt kb false zero f g h = absurd h
 at_kept c T B answer kt kb true (suc n) f g h = kt h.2.0 g h.2.2 ∙ (kb h.0 h.2.0 h.2.1 ∙ at_kept c T B answer kt kb true n f h.0 h.1.0)

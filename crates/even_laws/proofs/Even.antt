@@ -90,7 +90,7 @@ module _ (kernel : Kernel) (launch : Launch) (fits : FitsProgram (shell_of kerne
   object_same (Local n) c = cc c
   object_same (Private n) c = cc c
 
-  fellows : AreFellows kernel (who_of kernel launch buffers one) (who_of kernel launch buffers other)
+  pub fellows : AreFellows kernel (who_of kernel launch buffers one) (who_of kernel launch buffers other)
   fellows = record {
     asks = λ what d h. asked launch one other same what d h;
     arguments = λ n. refl;
@@ -107,12 +107,12 @@ module _ (kernel : Kernel) (launch : Launch) (fits : FitsProgram (shell_of kerne
 
 module _ (text : Lines) where
   -- what is left to do at a place, and what is live behind it
-  abbrev IsAfter : Place → Tasks → Type 0
+  abbrev pub IsAfter : Place → Tasks → Type 0
   IsAfter at NoTask = Unit {0}
   IsAfter at (LinesAt p lines k) = (lines ≡ lines_at text at) × ((c : ℕ) → live_now c k ≡ after_at text at c)
   IsAfter at (AnswerAt p test answer body n k) = ⊥
 
-  abbrev IsAnswer : Place → Tasks → Type 0
+  abbrev pub IsAnswer : Place → Tasks → Type 0
   IsAnswer at NoTask = Unit {0}
   IsAnswer at (LinesAt p lines k) = ⊥
   IsAnswer at (AnswerAt p test answer body n k) = (test ≡ test_of (lines_at text at)) × (answer ≡ answer_of (lines_at text at)) × (body ≡ body_of (lines_at text at)) × ((c : ℕ) → live_now c k ≡ live_in c (behind (lines_at text at)) (after_at text at c))
@@ -160,7 +160,7 @@ module _ (text : Lines) where
   answer_after at (AnswerAt p test answer body m k) n h = absurd h
 
   -- a place behind a loop's answer is none: the ways of the text that are left to do begin elsewhere
-  abbrev At : Place → Tasks → Type 0
+  abbrev pub At : Place → Tasks → Type 0
   At [] t = IsAfter [] t
   At (ToAnswer ∷ at) t = IsAnswer at t
   At (Behind ∷ at) t = IsAfter (Behind ∷ at) t
@@ -234,7 +234,7 @@ module _ (text : Lines) where
   leg_answer (IntoTest ∷ at) t n h = answer_after (IntoTest ∷ at) t n h
   leg_answer (IntoBody ∷ at) t n h = answer_after (IntoBody ∷ at) t n h
 
-  at_place : (at : Place) (begun : List ℕ) → At at (tasks_at text at begun)
+  pub at_place : (at : Place) (begun : List ℕ) → At at (tasks_at text at begun)
   at_place [] begun = (refl, λ c. refl)
   at_place (Behind ∷ at) begun = leg_behind at (tasks_at text at begun) (at_place at begun)
   at_place (IntoChosen ∷ at) begun = leg_chosen at (tasks_at text at begun) (at_place at begun)
@@ -266,7 +266,7 @@ module _ (text : Lines) where
       by (inl e) = or_right (reads c answer) (live_now c k || live_in c body (live_in c test false)) (or_left (live_now c k) (live_in c body (live_in c test false)) e)
       by (inr e) = into_body c test answer body (λ d. live_now d k) e
 
-  place_live : (at : Place) → At at (tasks_at text at []) → (c : ℕ) → live_at text at c ≡ true → live_in c (lines_at text at) (after_at text at c) ≡ true
+  pub place_live : (at : Place) → At at (tasks_at text at []) → (c : ℕ) → live_at text at c ≡ true → live_in c (lines_at text at) (after_at text at c) ≡ true
   place_live [] h c l = lines_live [] (tasks_at text [] []) h c l
   place_live (Behind ∷ at) h c l = lines_live (Behind ∷ at) (tasks_at text (Behind ∷ at) []) h c l
   place_live (IntoChosen ∷ at) h c l = lines_live (IntoChosen ∷ at) (tasks_at text (IntoChosen ∷ at) []) h c l
@@ -278,7 +278,7 @@ module _ (text : Lines) where
 -- ---- the whole
 
 -- an item that stands at a point has come to it
-comes_there : (kernel : Kernel) (launch : Launch) (buffers : List (List ℕ)) (number : ℕ) (tasks : Tasks) (f : Cells) → OnWay kernel launch buffers number tasks f → (point : Point) → point_of tasks ≡ Some point → Comes (who_of kernel launch buffers number) kernel.body (λ c. pos 0) point.at point.begun f
+pub comes_there : (kernel : Kernel) (launch : Launch) (buffers : List (List ℕ)) (number : ℕ) (tasks : Tasks) (f : Cells) → OnWay kernel launch buffers number tasks f → (point : Point) → point_of tasks ≡ Some point → Comes (who_of kernel launch buffers number) kernel.body (λ c. pos 0) point.at point.begun f
 comes_there kernel launch buffers number NoTask f w point e = absurd (none-some point e)
 comes_there kernel launch buffers number (LinesAt at lines rest) f w point e =
     subst (λ (p : Point). Comes (who_of kernel launch buffers number) kernel.body (λ c. pos 0) p.at p.begun f) (same_Some (record { at = at; begun = begun_in rest }) point e) w.1

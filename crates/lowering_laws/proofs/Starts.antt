@@ -65,7 +65,7 @@ module _ (program : Program) (valid : IsValid program) (c : ℕ) where
   apart_from : (here : Instance) (n count : ℕ) → count ≡ n → IsOutside c here.base count → IsApart c here (numbers_below n)
   apart_from here n count e o x has = let k = has_below n x has in o x (omega (arith, e, k))
 
-  calls_quiet : (names : List (List Named)) (depth : ℕ) → CallsQuiet program c (call_code program names depth)
+  pub calls_quiet : (names : List (List Named)) (depth : ℕ) → CallsQuiet program c (call_code program names depth)
   unfolding call_code
   calls_quiet names zero here site function roots values m within count r = quiet_none c _ refl
   calls_quiet names (suc depth) here site function roots values m within count r =
