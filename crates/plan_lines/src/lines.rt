@@ -1,8 +1,15 @@
 //! The text of a plan.
 
-ghost use Rattle.std.specs.Prelude.{◌<◌, IfSome, length};
+ghost use Rattle.std.specs.Prelude.{◌≡◌, ◌++◌, IfOk, OnOk, codes, map};
+ghost use Rattle.std.specs.List.{flat_map, join_by};
+ghost use Rattle.cl_model.specs.View.{program_of};
+ghost use Rattle.kir.specs.Listed.{kind_of, cell_of};
+ghost use Rattle.kir.specs.View.{kernel_of};
+ghost use Rattle.ctx_plan.specs.View.{planned_of};
+ghost use Rattle.plan_lines.specs.Entries.{variable_of};
+ghost use Rattle.plan_lines.specs.Lines.{place_text, line_text, cell_line, is_kind_of, line_among, plan_lines_of};
 
-use crate::declared::{Variable, variables_of};
+use crate::variables::{Variable, variables_of};
 use cl_model::Program;
 use ctx_plan::{Home, Plan};
 use itoa::Buffer;
@@ -10,7 +17,9 @@ use kir::{Cell, CellKind, Kernel};
 use std::alloc::Global;
 use wg_num::{Memory, Place};
 
-fn put(text: &mut Vec<u8>, bytes: &[u8]) -> Result<(), Memory> {
+fn put(text: &mut Vec<u8>, bytes: &[u8]) -> Result<(), Memory>
+    ensures { OnOk result (text.new.items ≡ text.old.items ++ bytes.now) }
+{
     match text.extend_from_slice(bytes) {
         Ok(()) => Ok(()),
         Err(_) => Err(Memory),
@@ -18,7 +27,9 @@ fn put(text: &mut Vec<u8>, bytes: &[u8]) -> Result<(), Memory> {
 }
 
 // Whether the cell is that of the variable.
-fn is_cell_of(variable: &Variable, kind: &CellKind) -> bool {
+fn is_cell_of(variable: &Variable, kind: &CellKind) -> bool
+    ensures { result ≡ is_kind_of (variable_of variable.now) (kind_of kind.now) }
+{
     match kind {
         CellKind::Variable {
             calls,
@@ -34,61 +45,83 @@ fn is_cell_of(variable: &Variable, kind: &CellKind) -> bool {
     }
 }
 
-// The number of the variable's cell.
-fn cell_of(cells: &[Cell], variable: &Variable) -> Option<usize>
-    ensures { IfSome result (λ n. n < length cells.now) }
+fn put_place(text: &mut Vec<u8>, place: Place) -> Result<(), Memory>
+    ensures { OnOk result (text.new.items ≡ text.old.items ++ place_text place) }
 {
-    for n in 0..cells.len() {
-        if is_cell_of(variable, &cells[n].kind) {
-            return Some(n);
-        }
-    }
-    None
-}
-
-// The word for a home between regions; none for registers.
-fn word_of(home: Home) -> Option<&'static [u8]> {
-    match home {
-        Home::Register => None,
-        Home::Column(_) => Some(b"item "),
-        Home::Once(_) => Some(b"once "),
-    }
-}
-
-// A place, behind a stroke where others stand before it.
-fn put_place(text: &mut Vec<u8>, first: bool, place: Place) -> Result<(), Memory> {
     let mut line = Buffer::new();
     let mut column = Buffer::new();
-    if !first {
-        put(text, b"/")?;
-    }
     put(text, line.format(place.line).as_bytes())?;
     put(text, b":")?;
     put(text, column.format(place.column).as_bytes())
 }
 
-fn put_path(text: &mut Vec<u8>, path: &[Place]) -> Result<(), Memory> {
-    for n in 0..path.len() {
-        put_place(text, n == 0, path[n])?;
+// Places, each behind a stroke.
+fn put_further(text: &mut Vec<u8>, path: &[Place]) -> Result<(), Memory>
+    ensures { OnOk result (text.new.items ≡ text.old.items ++ flat_map (λ p. codes "/" ++ place_text p) path.now) }
+{
+    for place in path {
+        put(text, b"/")?;
+        put_place(text, *place)?;
     }
     Ok(())
 }
 
-// The line of a cell that is kept.
-fn put_cell(text: &mut Vec<u8>, home: Home, kind: &CellKind) -> Result<(), Memory> {
-    let Some(word) = word_of(home) else {
+// Places, with a stroke between each two.
+fn put_path(text: &mut Vec<u8>, path: &[Place]) -> Result<(), Memory>
+    ensures { OnOk result (text.new.items ≡ text.old.items ++ join_by place_text (codes "/") path.now) }
+{
+    let [first, rest @ ..] = path else {
         return Ok(());
     };
+    put_place(text, *first)?;
+    put_further(text, rest)
+}
+
+// The line of a variable that is kept so.
+fn put_line(text: &mut Vec<u8>, word: &[u8], path: &[Place], name: &[u8]) -> Result<(), Memory>
+    ensures { OnOk result (text.new.items ≡ text.old.items ++ line_text word.now path.now name.now) }
+{
+    put(text, word)?;
+    put(text, b" ")?;
+    put_path(text, path)?;
+    put(text, b" ")?;
+    put(text, name)?;
+    put(text, b"\n")
+}
+
+// The line of a cell with a home.
+fn put_cell(text: &mut Vec<u8>, home: Home, kind: &CellKind) -> Result<(), Memory>
+    ensures { OnOk result (text.new.items ≡ text.old.items ++ cell_line home (kind_of kind.now)) }
+{
     match kind {
-        CellKind::Variable { path, name, .. } => {
-            put(text, word)?;
-            put_path(text, path)?;
-            put(text, b" ")?;
-            put(text, name.bytes())?;
-            put(text, b"\n")
-        }
+        CellKind::Variable { path, name, .. } => match home {
+            Home::Register => Ok(()),
+            Home::Column(_) => put_line(text, b"item", path, name.bytes()),
+            Home::Once(_) => put_line(text, b"once", path, name.bytes()),
+        },
         CellKind::Flag | CellKind::Value => Ok(()),
     }
+}
+
+// The line of a variable, whose cell is one of these.
+fn put_variable(
+    text: &mut Vec<u8>,
+    homes: &[Home],
+    cells: &[Cell],
+    variable: &Variable,
+) -> Result<(), Memory>
+    ensures { OnOk result (text.new.items ≡ text.old.items ++ line_among homes.now (variable_of variable.now) 0 (map cell_of cells.now)) }
+{
+    for n in 0..cells.len() {
+        let kind = &cells[n].kind;
+        if is_cell_of(variable, kind) {
+            return match homes.get(n) {
+                Some(home) => put_cell(text, *home, kind),
+                None => Ok(()),
+            };
+        }
+    }
+    Ok(())
 }
 
 /// The text of a plan: one line for each variable that is kept between regions, in the order in
@@ -100,15 +133,13 @@ pub fn plan_text(
     program: &Program,
     kernel: &Kernel,
     plan: &Plan,
-) -> Result<Vec<u8>, Memory> {
+) -> Result<Vec<u8>, Memory>
+    ensures lines { IfOk result (λ t. t.items ≡ plan_lines_of (program_of program.now) (kernel_of kernel.now) (planned_of plan.now)) }
+{
     let variables = variables_of(alloc, program)?;
     let mut text = Vec::new(alloc);
     for variable in variables.iter() {
-        if let Some(n) = cell_of(&kernel.cells, variable) {
-            if let Some(home) = plan.homes.get(n) {
-                put_cell(&mut text, *home, &kernel.cells[n].kind)?;
-            }
-        }
+        put_variable(&mut text, &plan.homes, &kernel.cells, variable)?;
     }
     Ok(text)
 }

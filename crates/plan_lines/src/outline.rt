@@ -1,5 +1,11 @@
 //! The outline of a function: its declarations and its calls, in the order of the text.
 
+ghost use Rattle.std.specs.Prelude.{◌≡◌, ◌∷◌, [], ◌++◌, IfOk, OnOk};
+ghost use Rattle.cl_model.specs.Calls.{calls_in, calls_among, calls_in_optional};
+ghost use Rattle.cl_model.specs.View.{expression_of, argument_of, listed_expressions, optional_expression, statement_of, listed_statements, function_of};
+ghost use Rattle.ctx_plan.specs.Points.{listed_arguments, listed_arms};
+ghost use Rattle.plan_lines.specs.Entries.{call_entries, statement_entries, all_entries, arm_entries, function_entries};
+
 use cl_model::{Arg, Expr, Function, Stmt, SwitchArm, Target};
 use std::alloc::Global;
 use wg_num::Memory;
@@ -11,15 +17,25 @@ pub(crate) enum Entry {
     Calls { site: u32, function: u32 },
 }
 
-fn put(entries: &mut Vec<Entry>, entry: Entry) -> Result<(), Memory> {
+fn put(entries: &mut Vec<Entry>, entry: Entry) -> Result<(), Memory>
+    ensures { OnOk result (entries.new.items ≡ entries.old.items ++ entry ∷ []) }
+{
     match entries.push(entry) {
         Ok(()) => Ok(()),
         Err(_) => Err(Memory),
     }
 }
 
+fn put_call(entries: &mut Vec<Entry>, site: u32, function: u32) -> Result<(), Memory>
+    ensures { OnOk result (entries.new.items ≡ entries.old.items ++ call_entries (record { site = site; function = function } ∷ [])) }
+{
+    put(entries, Entry::Calls { site, function })
+}
+
 #[cycle(calls)]
-fn put_expressions(entries: &mut Vec<Entry>, list: &[Expr]) -> Result<(), Memory> {
+fn put_expressions(entries: &mut Vec<Entry>, list: &[Expr]) -> Result<(), Memory>
+    ensures { OnOk result (entries.new.items ≡ entries.old.items ++ call_entries (calls_among (listed_expressions list.now))) }
+{
     for e in list {
         put_expression(entries, e)?;
     }
@@ -27,27 +43,30 @@ fn put_expressions(entries: &mut Vec<Entry>, list: &[Expr]) -> Result<(), Memory
 }
 
 #[cycle(calls)]
-fn put_arguments(entries: &mut Vec<Entry>, list: &[Arg]) -> Result<(), Memory> {
+fn put_argument(entries: &mut Vec<Entry>, argument: &Arg) -> Result<(), Memory>
+    ensures { OnOk result (entries.new.items ≡ entries.old.items ++ call_entries (calls_in (argument_of argument.now))) }
+{
+    match argument {
+        Arg::Value(e) => put_expression(entries, e),
+        Arg::Offset { index, .. } => put_expression(entries, index),
+    }
+}
+
+#[cycle(calls)]
+fn put_arguments(entries: &mut Vec<Entry>, list: &[Arg]) -> Result<(), Memory>
+    ensures { OnOk result (entries.new.items ≡ entries.old.items ++ call_entries (calls_among (listed_arguments list.now))) }
+{
     for argument in list {
-        match argument {
-            Arg::Value(e) => put_expression(entries, e)?,
-            Arg::Offset { index, .. } => put_expression(entries, index)?,
-        }
+        put_argument(entries, argument)?;
     }
     Ok(())
 }
 
-#[cycle(calls)]
-fn put_target(entries: &mut Vec<Entry>, target: &Target) -> Result<(), Memory> {
-    match target {
-        Target::Var(_) => Ok(()),
-        Target::Element { index, .. } => put_expression(entries, index),
-    }
-}
-
 /// Puts the calls of an expression behind the entries.
 #[cycle(calls)]
-fn put_expression(entries: &mut Vec<Entry>, e: &Expr) -> Result<(), Memory> {
+fn put_expression(entries: &mut Vec<Entry>, e: &Expr) -> Result<(), Memory>
+    ensures { OnOk result (entries.new.items ≡ entries.old.items ++ call_entries (calls_in (expression_of e.now))) }
+{
     match e {
         Expr::Literal { .. } | Expr::Variable(_) => Ok(()),
         Expr::Unary { a, .. } | Expr::Convert { a, .. } => put_expression(entries, a),
@@ -66,7 +85,9 @@ fn put_expression(entries: &mut Vec<Entry>, e: &Expr) -> Result<(), Memory> {
             put_expression(entries, no)
         }
         Expr::Assign { target, value } | Expr::Update { target, value, .. } => {
-            put_target(entries, target)?;
+            if let Target::Element { index, .. } = target {
+                put_expression(entries, index)?;
+            }
             put_expression(entries, value)
         }
         Expr::Call {
@@ -75,19 +96,15 @@ fn put_expression(entries: &mut Vec<Entry>, e: &Expr) -> Result<(), Memory> {
             args,
         } => {
             put_arguments(entries, args)?;
-            put(
-                entries,
-                Entry::Calls {
-                    site: *site,
-                    function: *function,
-                },
-            )
+            put_call(entries, *site, *function)
         }
         Expr::Builtin { args, .. } => put_expressions(entries, args),
     }
 }
 
-fn put_optional(entries: &mut Vec<Entry>, e: &Option<Expr>) -> Result<(), Memory> {
+fn put_optional(entries: &mut Vec<Entry>, e: &Option<Expr>) -> Result<(), Memory>
+    ensures { OnOk result (entries.new.items ≡ entries.old.items ++ call_entries (calls_in_optional (optional_expression e.now))) }
+{
     match e {
         None => Ok(()),
         Some(e) => put_expression(entries, e),
@@ -95,7 +112,9 @@ fn put_optional(entries: &mut Vec<Entry>, e: &Option<Expr>) -> Result<(), Memory
 }
 
 #[cycle(statements)]
-fn put_statements(entries: &mut Vec<Entry>, list: &[Stmt]) -> Result<(), Memory> {
+fn put_statements(entries: &mut Vec<Entry>, list: &[Stmt]) -> Result<(), Memory>
+    ensures { OnOk result (entries.new.items ≡ entries.old.items ++ all_entries (listed_statements list.now)) }
+{
     for s in list {
         put_statement(entries, s)?;
     }
@@ -103,7 +122,9 @@ fn put_statements(entries: &mut Vec<Entry>, list: &[Stmt]) -> Result<(), Memory>
 }
 
 #[cycle(statements)]
-fn put_arms(entries: &mut Vec<Entry>, arms: &[SwitchArm]) -> Result<(), Memory> {
+fn put_arms(entries: &mut Vec<Entry>, arms: &[SwitchArm]) -> Result<(), Memory>
+    ensures { OnOk result (entries.new.items ≡ entries.old.items ++ arm_entries (listed_arms arms.now)) }
+{
     for arm in arms {
         put_statements(entries, &arm.body)?;
     }
@@ -112,7 +133,9 @@ fn put_arms(entries: &mut Vec<Entry>, arms: &[SwitchArm]) -> Result<(), Memory> 
 
 /// Puts the declarations and calls of a statement behind the entries.
 #[cycle(statements)]
-fn put_statement(entries: &mut Vec<Entry>, s: &Stmt) -> Result<(), Memory> {
+fn put_statement(entries: &mut Vec<Entry>, s: &Stmt) -> Result<(), Memory>
+    ensures { OnOk result (entries.new.items ≡ entries.old.items ++ statement_entries (statement_of s.now)) }
+{
     match s {
         Stmt::Do(e) => put_expression(entries, e),
         Stmt::Declare { var, value } => {
@@ -156,7 +179,9 @@ fn put_statement(entries: &mut Vec<Entry>, s: &Stmt) -> Result<(), Memory> {
 }
 
 /// The outline of a function, whose parameters are declared at the start of its body.
-pub(crate) fn outline_of(alloc: Global, function: &Function) -> Result<Vec<Entry>, Memory> {
+pub(crate) fn outline_of(alloc: Global, function: &Function) -> Result<Vec<Entry>, Memory>
+    ensures { IfOk result (λ v. v.items ≡ function_entries (function_of function.now)) }
+{
     let mut entries = Vec::new(alloc);
     for parameter in 0..function.params {
         put(&mut entries, Entry::Declares(parameter))?;

@@ -46,7 +46,7 @@ as_many : (vs : List Variable) → length (names_given vs) ≡ length (map (λ (
 as_many [] = refl
 as_many (v ∷ vs) = ap suc (as_many vs)
 
-named_as : (functions : List Function) (f : ℕ)
+pub named_as : (functions : List Function) (f : ℕ)
     → length {A = Named} (unwrap_or (slice_get (map (λ (g : Function). names_given g.variables) functions) f) []) ≡ length (unwrap_or (slice_get (map function_of functions) f) no_function).variables
 named_as [] f = refl
 named_as (g ∷ functions) zero = as_many g.variables

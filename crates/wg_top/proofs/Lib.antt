@@ -24,4 +24,5 @@ pub mod Passes
 pub mod Shape
 pub mod Follow
 pub mod DescribedLemmas
+pub mod PlanLemmas
 pub mod CompiledLemmas

@@ -6,10 +6,12 @@ use Rattle.cl_meaning.specs.Typed.{Unit'}
 use Rattle.cl_piece.specs.View.{unit_of}
 use Rattle.kir.specs.Tree.{Kernel}
 use Rattle.kir.specs.Lowering.{Named}
+use Rattle.kir.specs.View.{kernel_of}
 use Rattle.lane_code.specs.Program.{PlainCode, Items, Seq, Vote, Loop, Works, idle, then_work, Plain}
 use Rattle.lane_code.specs.View.{plain_of}
 use Rattle.lane_laws.specs.Chain.{NoWork, work_before}
 use Rattle.ctx_plan.specs.Planned.{Planned}
+use Rattle.ctx_plan.specs.View.{planned_of}
 use Rattle.regions.specs.Tree.{RegionOf, Tree, NoRegion, RegionThen, VoteThen, LoopThen}
 use Rattle.regions.specs.Split.{split_of}
 use Rattle.mask_lower.specs.Lowered.{region_code}
@@ -64,6 +66,8 @@ pub record IsLike (q p : Plain) : Type 0 where
 
 -- the kernel of a unit as the passes leave it, at a lane width
 pub record IsCompiledAt (width : ℕ) (c : Compiled) : Type 0 where
+  pub kernel : kernel_of c.kernel ≡ kernel_in (unit_of c.program)
+  pub plan : planned_of c.plan ≡ plan_in (unit_of c.program)
   pub group : IsLike (group_in width (unit_of c.program)) (plain_of c.group)
 
 -- the programs of the groups of a launch file's launches

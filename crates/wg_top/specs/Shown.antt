@@ -1,20 +1,32 @@
 -- What the commands that run nothing show of a launch file's launches.
-use Rattle.std.specs.Prelude.{◌≡◌, ⊤, ℕ, suc, Bool, List, [], ◌∷◌, ◌++◌, codes, decimal, if◌then◌else◌}
+use Rattle.std.specs.Prelude.{◌≡◌, ℕ, suc, Bool, List, [], ◌∷◌, ◌++◌, codes, decimal, if◌then◌else◌}
 use Rattle.launch_file.specs.Texts.{Text, Part}
 use Rattle.cl_meaning.specs.Typed.{Unit'}
+use Rattle.cl_model.specs.Lists.{AllDiffer}
+use Rattle.cl_model.specs.Valid.{IsValid}
+use Rattle.cl_valid.specs.Erased.{program_of}
+use Rattle.kir.specs.Inlined.{crossing_of}
+use Rattle.plan_lines.specs.Lines.{plan_lines_of}
+use Rattle.plan_lines.specs.Meaning.{AreLinesOf}
 use Rattle.lane_code.specs.Listing.{listing_text}
 use Rattle.wg_top.specs.declared.texts.Shown.{Shown}
 use Rattle.wg_top.specs.declared.texts.Shown.TheVariants.{Plan, Code}
 use Rattle.lane_code.specs.Program.{Plain}
-use Rattle.wg_top.specs.Middle.{group_in, IsLike}
+use Rattle.wg_top.specs.Middle.{names_in, kernel_in, plan_in, group_in, IsLike}
 
 -- a text of a launch, by the lane width, the name of its kernel and its unit
 abbrev pub Showing : Type 1
 Showing = (width : ℕ) → (name : List ℕ) → Unit' → (text : List ℕ) → Type 0
 
--- a text of which variables of the kernel are kept between its regions; nothing is said of its lines
+-- the text of a kernel's plan: of a valid program, a line for each variable that crosses, none twice, in the order in which declarations stand in the inlined text
+pub record IsPlanText (u : Unit') (text : List ℕ) : Type 0 where
+  pub lines : text ≡ plan_lines_of (program_of u) (kernel_in u) (plan_in u)
+  pub meaning : IsValid (program_of u) → AreLinesOf (program_of u) (names_in u) (crossing_of (program_of u)) text
+  pub once : IsValid (program_of u) → AllDiffer (crossing_of (program_of u))
+
+-- the text of the kernel's plan
 abbrev pub plan_shown : Showing
-plan_shown width name u text = ⊤
+plan_shown width name u text = IsPlanText u text
 
 -- the listing of a program that does what the kernel's group program does, in the same order
 abbrev pub code_shown : Showing

@@ -17,7 +17,7 @@ pub returns-clause-passes : goal.returns-clause-passes
 returns-clause-passes c =
     let kernel = kernel_is c.args.program (kernel_of c.in_ok-kernel.kernel) c.in_ok-kernel.ensures in
     let plan = plan_is c.args.program (kernel_of c.in_ok-kernel.kernel) (marks c.in_ok-varying.varying) (planned_of c.in_ok-plan.plan) kernel c.in_ok-varying.ensures.exact c.in_ok-plan.ensures.made in
-    record { group = group_is (lanes_of c.args.width) c.args.program (kernel_of c.in_ok-kernel.kernel) (planned_of c.in_ok-plan.plan) (plain_of c.in_ok-group.group) kernel plan c.in_ok-group.ensures.like }
+    record { kernel = kernel; plan = plan; group = group_is (lanes_of c.args.width) c.args.program (kernel_of c.in_ok-kernel.kernel) (planned_of c.in_ok-plan.plan) (plain_of c.in_ok-group.group) kernel plan c.in_ok-group.ensures.like }
 
 pub returns-clause-shaped : goal.returns-clause-shaped
 returns-clause-shaped c =

@@ -1,5 +1,12 @@
 //! The variables of the inlined kernel, in the order in which their declarations stand in its text.
 
+ghost use Rattle.std.specs.Prelude.{◌≡◌, ◌∷◌, [], ◌++◌, map, IfOk, OnOk};
+ghost use Rattle.cl_model.specs.Calls.{function_at};
+ghost use Rattle.cl_model.specs.View.{program_of};
+ghost use Rattle.kir.specs.Inlined.{function_text, variables_in};
+ghost use Rattle.kir.specs.Inlined as inlined;
+ghost use Rattle.plan_lines.specs.Entries.{variable_of, function_entries};
+
 use crate::outline::{Entry, outline_of};
 use cl_model::Program;
 use std::alloc::Global;
@@ -15,7 +22,9 @@ pub(crate) struct Variable {
 }
 
 // The sites of some calls and one more behind them.
-fn one_more(alloc: Global, calls: &[u32], site: u32) -> Result<Vec<u32>, Memory> {
+fn one_more(alloc: Global, calls: &[u32], site: u32) -> Result<Vec<u32>, Memory>
+    ensures { IfOk result (λ v. v.items ≡ calls.now ++ site ∷ []) }
+{
     let mut list = copy(alloc, calls)?;
     match list.push(site) {
         Ok(()) => Ok(list),
@@ -23,17 +32,31 @@ fn one_more(alloc: Global, calls: &[u32], site: u32) -> Result<Vec<u32>, Memory>
     }
 }
 
-fn copy(alloc: Global, calls: &[u32]) -> Result<Vec<u32>, Memory> {
+fn copy(alloc: Global, calls: &[u32]) -> Result<Vec<u32>, Memory>
+    ensures { IfOk result (λ v. v.items ≡ calls.now) }
+{
     match calls.to_vec(alloc) {
         Ok(list) => Ok(list),
         Err(_) => Err(Memory),
     }
 }
 
-fn put(list: &mut Vec<Variable>, variable: Variable) -> Result<(), Memory> {
+fn put(list: &mut Vec<Variable>, variable: Variable) -> Result<(), Memory>
+    ensures { OnOk result (map variable_of list.new.items ≡ map variable_of list.old.items ++ variable_of variable ∷ []) }
+{
     match list.push(variable) {
         Ok(()) => Ok(()),
         Err(_) => Err(Memory),
+    }
+}
+
+// The outline of the function with this number.
+fn entries_at(alloc: Global, program: &Program, function: u32) -> Result<Vec<Entry>, Memory>
+    ensures { IfOk result (λ v. v.items ≡ function_entries (function_at (program_of program.now) function)) }
+{
+    match program.functions.get(function as usize) {
+        Some(body) => outline_of(alloc, body),
+        None => Ok(Vec::new(alloc)),
     }
 }
 
@@ -45,14 +68,13 @@ fn put_function(
     calls: &[u32],
     function: u32,
     list: &mut Vec<Variable>,
-) -> Result<(), Memory> {
+) -> Result<(), Memory>
+    ensures { OnOk result (map variable_of list.new.items ≡ map variable_of list.old.items ++ variables_in (function_text (program_of program.now) depth calls.now function)) }
+{
     if depth == 0 {
         return Ok(());
     }
-    let Some(body) = program.functions.get(function as usize) else {
-        return Ok(());
-    };
-    let entries = outline_of(alloc, body)?;
+    let entries = entries_at(alloc, program, function)?;
     for entry in entries.iter() {
         match entry {
             Entry::Declares(number) => {
@@ -74,7 +96,9 @@ fn put_function(
 
 /// The variables of the inlined kernel, in the order in which their declarations stand in its text;
 /// a called function stands in place of the call.
-pub(crate) fn variables_of(alloc: Global, program: &Program) -> Result<Vec<Variable>, Memory> {
+pub(crate) fn variables_of(alloc: Global, program: &Program) -> Result<Vec<Variable>, Memory>
+    ensures { IfOk result (λ v. map variable_of v.items ≡ inlined.variables_of (program_of program.now)) }
+{
     let mut list = Vec::new(alloc);
     let depth = program.functions.len();
     put_function(alloc, program, depth, &[], program.kernel, &mut list)?;

@@ -1,0 +1,12 @@
+use Rattle.std.proofs.Common.{◌≡◌, drop, map}
+use Rattle.kir.specs.Listed.{cell_of}
+use Rattle.plan_lines.specs.Entries.{variable_of}
+use Rattle.plan_lines.specs.Lines.{line_among}
+use Rattle.plan_lines.proofs.lines.put_variable.Given as goal
+
+-- the text is as it was, and none of the cells so far is the variable's
+abbrev pub invariant-loop-n : goal.invariant-loop-n
+invariant-loop-n l = record {
+  same : l.text.items ≡ l.fn.text.items;
+  left : line_among l.homes (variable_of l.variable) l.n (map cell_of (drop l.n l.cells)) ≡ line_among l.homes (variable_of l.variable) 0 (map cell_of l.cells);
+}

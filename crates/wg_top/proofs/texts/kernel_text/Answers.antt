@@ -1,0 +1,17 @@
+use Rattle.std.proofs.Common.{sym, subst}
+use Rattle.std.proofs.lemmas.Result.{IfOk-weaker}
+use Rattle.cl_piece.specs.View.{unit_of}
+use Rattle.kir.specs.View.{kernel_of}
+use Rattle.ctx_plan.specs.View.{planned_of}
+use Rattle.wg_top.specs.declared.texts.Shown.{Shown}
+use Rattle.wg_top.specs.Shown.{showing}
+use Rattle.wg_top.proofs.PlanLemmas.{plan_text_of}
+use Rattle.wg_top.proofs.texts.kernel_text.Goals as goal
+
+pub returns-in-Plan : goal.returns-in-Plan
+returns-in-Plan c =
+    let k = c.args.kernel.now in
+    IfOk-weaker c.plan_text.result _ _
+    (λ t e width passed.
+    subst (λ (s : Shown). showing s width k.group.kernel (unit_of k.program) t.items) (sym c.in-Plan.is) (plan_text_of k.program (kernel_of k.kernel) (planned_of k.plan) t.items passed.kernel passed.plan e))
+    c.plan_text.ensures.lines
