@@ -3,7 +3,7 @@ ghost use Rattle.std.specs.Prelude.{◌≡◌, ◌++◌, ℕ, IfOk, IfErr, OnOk,
 ghost use Rattle.cl_piece.specs.View.{unit_of};
 ghost use Rattle.launch_file.specs.Texts.{text_of};
 ghost use Rattle.wg_top.specs.Causes.{standing, ReadingCause};
-ghost use Rattle.wg_top.specs.Middle.{IsCompiledAt};
+ghost use Rattle.wg_top.specs.Described.{IsCompiledAt};
 ghost use Rattle.wg_top.specs.Given.{IsGiven};
 ghost use Rattle.wg_top.specs.Shown.{showing, head_of, Shows};
 ghost use Rattle.wg_top.specs.Ends.{ShownRead};

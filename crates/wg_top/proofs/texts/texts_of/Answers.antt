@@ -5,7 +5,7 @@ use Rattle.cl_piece.specs.View.{unit_of}
 use Rattle.launch_file.specs.Binding.{part_at}
 use Rattle.launch_file.specs.Texts.{Part, text_of}
 use Rattle.wg_top.specs.declared.compile.Compiled.{Compiled}
-use Rattle.wg_top.specs.Middle.{IsCompiledAt}
+use Rattle.wg_top.specs.Described.{IsCompiledAt}
 use Rattle.wg_top.specs.Shown.{showing, head_of, AreTexts}
 use Rattle.wg_top.proofs.BoundLemmas.{at_place}
 use Rattle.wg_top.proofs.LaunchLemmas.{holds_at}
