@@ -1,5 +1,5 @@
 -- The values of a launch file by its table of keys; none where a needed key is missing or a value is of another kind.
-use Rattle.std.specs.Prelude.{◌≡◌, ◌&&◌, ◌==◌, Bool, true, false, nat_le, ℕ, ℤ, pos, negsuc, List, [], ◌∷◌, length, replicate, Option, Some, None, option_and_then, option_map, codes, IfSome, IsUtf8, if◌then◌else◌}
+use Rattle.std.specs.Prelude.{◌≡◌, ◌≤◌, ◌&&◌, ◌==◌, Bool, true, false, nat_le, ℕ, ℤ, pos, negsuc, List, [], ◌∷◌, length, replicate, Option, Some, None, option_and_then, option_map, codes, IfSome, IsUtf8, if◌then◌else◌}
 use Rattle.std.specs.List.{list_all}
 use Rattle.toml.specs.Data.{Data, Items, Members, no_items, item, no_members, member, as_array, as_integer, as_str, as_table, get_member}
 use Rattle.cl_token.specs.Bytes.{is_name_start, is_name_byte}
@@ -143,6 +143,10 @@ HasOneLength part = have_one_length part.global part.local part.offset ≡ true
 -- the names of a buffer's files are texts
 abbrev pub HasTexts : BufferText → Type 0
 HasTexts buffer = IfSome buffer.load IsUtf8 × IfSome buffer.save IsUtf8
+
+-- the number of a given name is one that a document has: below 2^63
+abbrev pub HasNumber : Define → Type 0
+HasNumber define = define.value ≤ 9223372036854775807
 
 -- the values of a file
 pub record Values : Type 0 where

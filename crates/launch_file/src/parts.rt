@@ -217,6 +217,7 @@ pub(crate) fn values_in(alloc: Global, table: &Table) -> Result<Option<Values>, 
     ensures same { IfOk result (λ o. option_map values_of o ≡ spec.values_in (table_view table.now)) }
     ensures texts { IfOk result (λ o. IfSome o (λ v. All spec.HasTexts v.buffers.items)) }
     ensures lengths { IfOk result (λ o. IfSome o (λ v. All (λ p. spec.HasOneLength (part_of p)) v.list.items)) }
+    ensures numbers { IfOk result (λ o. IfSome o (λ v. All spec.HasNumber v.defines.items)) }
 {
     let Some(format) = format_of(table) else {
         return Ok(None);

@@ -5,7 +5,7 @@ ghost use Rattle.toml.specs.Data.{as_table, get_member};
 ghost use Rattle.launch_file.specs.Keys.{has_only as has_only_keys, passes, each_passes, tables_pass};
 ghost use Rattle.launch_file.specs.Refusals as spec;
 ghost use Rattle.launch_file.specs.Texts.{part_of, text_of};
-ghost use Rattle.launch_file.specs.Values.{HasTexts, HasOneLength};
+ghost use Rattle.launch_file.specs.Values.{HasTexts, HasOneLength, HasNumber};
 ghost use Rattle.launch_file.specs.declared.text.LaunchError.TheVariants.{Fault};
 
 use crate::document::{DocumentError, document};
@@ -118,6 +118,7 @@ fn read_table(
     ensures read { IfOk result (λ t. spec.IsRead (table_view table.now) lanes turns (text_of t)) }
     ensures texts { IfOk result (λ t. All HasTexts t.buffers.items) }
     ensures lengths { IfOk result (λ t. All (λ p. HasOneLength (part_of p)) t.list.items) }
+    ensures numbers { IfOk result (λ t. All HasNumber t.defines.list.items) }
     ensures some { IfOk result (λ t. 1 ≤ length t.list.items) }
     ensures few { IfOk result (λ t. length t.list.items ≤ 16) }
     ensures apart { IfOk result (λ t. spec.saved_twice t.buffers.items ≡ false) }
@@ -149,6 +150,7 @@ pub fn read(
     ensures read { IfOk result (λ t. spec.Reads bytes.now lanes turns (text_of t)) }
     ensures texts { IfOk result (λ t. All HasTexts t.buffers.items) }
     ensures lengths { IfOk result (λ t. All (λ p. HasOneLength (part_of p)) t.list.items) }
+    ensures numbers { IfOk result (λ t. All HasNumber t.defines.list.items) }
     ensures some { IfOk result (λ t. 1 ≤ length t.list.items) }
     ensures few { IfOk result (λ t. length t.list.items ≤ 16) }
     ensures apart { IfOk result (λ t. spec.saved_twice t.buffers.items ≡ false) }

@@ -4,7 +4,7 @@ ghost use Rattle.std.specs.List.{list_any};
 ghost use Rattle.wg_num.specs.Operators.{lanes_of};
 ghost use Rattle.launch_file.specs.Refusals as spec;
 ghost use Rattle.launch_file.specs.Texts.{part_of, text_of};
-ghost use Rattle.launch_file.specs.Values.{HasTexts, HasOneLength};
+ghost use Rattle.launch_file.specs.Values.{HasTexts, HasOneLength, HasNumber};
 ghost use Rattle.launch_file.specs.ValueViews.{values_of};
 
 use crate::parts::Values;
@@ -129,9 +129,11 @@ pub(crate) fn settle(
 ) -> Result<LaunchText, u16>
     requires texts { All HasTexts values.buffers.items }
     requires lengths { All (λ p. HasOneLength (part_of p)) values.list.items }
+    requires numbers { All HasNumber values.defines.items }
     ensures ok { IfOk result (λ t. spec.Says lanes turns (values_of values) (text_of t)) }
     ensures texts { IfOk result (λ t. All HasTexts t.buffers.items) }
     ensures lengths { IfOk result (λ t. All (λ p. HasOneLength (part_of p)) t.list.items) }
+    ensures numbers { IfOk result (λ t. All HasNumber t.defines.list.items) }
     ensures some { IfOk result (λ t. 1 ≤ length t.list.items) }
     ensures few { IfOk result (λ t. length t.list.items ≤ 16) }
     ensures apart { IfOk result (λ t. spec.saved_twice t.buffers.items ≡ false) }

@@ -1,5 +1,5 @@
 //! The values of a launch file: the parts that stand alone.
-ghost use Rattle.std.specs.Prelude.{◌≡◌, IfOk, IfSome, IsUtf8, All, option_map, option_and_then, codes};
+ghost use Rattle.std.specs.Prelude.{◌≡◌, ◌≤◌, IfOk, IfSome, IsUtf8, All, option_map, option_and_then, codes};
 ghost use Rattle.std.specs.List.{list_all};
 ghost use Rattle.cl_token.specs.Bytes as class;
 ghost use Rattle.toml.specs.View.{view, table_view, items_view};
@@ -215,7 +215,8 @@ pub(crate) fn args_in(alloc: Global, table: &Table) -> Result<Option<Vec<ArgText
 }
 
 fn natural(value: &Value) -> Option<u64>
-    ensures { result ≡ option_and_then spec.natural (as_integer (view value.now)) }
+    ensures same { result ≡ option_and_then spec.natural (as_integer (view value.now)) }
+    ensures small { IfSome result (λ n. n ≤ 9223372036854775807) }
 {
     match value.as_integer() {
         Some(number) => {
@@ -231,7 +232,8 @@ fn natural(value: &Value) -> Option<u64>
 
 #[tactic(auto, unfolding(crate::specs::Values::define_of))]
 fn define_of(alloc: Global, key: &str, value: &Value) -> Result<Option<Define>, Memory>
-    ensures { IfOk result (λ o. o ≡ spec.define_of key.now (view value.now)) }
+    ensures same { IfOk result (λ o. o ≡ spec.define_of key.now (view value.now)) }
+    ensures numbers { IfOk result (λ o. IfSome o spec.HasNumber) }
 {
     let Some(number) = natural(value) else {
         return Ok(None);
@@ -247,7 +249,8 @@ fn define_of(alloc: Global, key: &str, value: &Value) -> Result<Option<Define>, 
 }
 
 fn defines_of(alloc: Global, table: &Table) -> Result<Option<Vec<Define>>, Memory>
-    ensures { IfOk result (λ o. option_map (λ v. v.items) o ≡ spec.defines_of (table_view table.now)) }
+    ensures same { IfOk result (λ o. option_map (λ v. v.items) o ≡ spec.defines_of (table_view table.now)) }
+    ensures numbers { IfOk result (λ o. IfSome o (λ v. All spec.HasNumber v.items)) }
 {
     let mut list = Vec::new(alloc);
     for (key, value) in table {
@@ -263,7 +266,8 @@ fn defines_of(alloc: Global, table: &Table) -> Result<Option<Vec<Define>>, Memor
 
 /// The given names of a file; none where it has no such key.
 pub(crate) fn defines_in(alloc: Global, table: &Table) -> Result<Option<Vec<Define>>, Memory>
-    ensures { IfOk result (λ o. option_map (λ v. v.items) o ≡ spec.optional_defines (get_member (codes "defines") (table_view table.now))) }
+    ensures same { IfOk result (λ o. option_map (λ v. v.items) o ≡ spec.optional_defines (get_member (codes "defines") (table_view table.now))) }
+    ensures numbers { IfOk result (λ o. IfSome o (λ v. All spec.HasNumber v.items)) }
 {
     match value_at(table, "defines") {
         Some(value) => match value.as_table() {

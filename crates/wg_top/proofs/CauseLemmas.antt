@@ -13,7 +13,7 @@ use Rattle.wg_top.specs.declared.RunError.TheVariants.{Failed, Absent, Source, L
 use Rattle.wg_top.specs.declared.Summary.{Summary}
 use Rattle.cl_meaning.specs.Typed.{Unit'}
 use Rattle.wg_front.specs.Front.{HasUnit}
-use Rattle.wg_top.specs.Causes.{Standing, Stands, SourceLoaded, RunRead, IsStopped, RunStopped, HasRun, Cause, ReadingCause, LeavesFiles, IsDone}
+use Rattle.wg_top.specs.Causes.{Standing, Stands, SourceLoaded, RunRead, StopsIn, RunStops, HasRun, Cause, ReadingCause, LeavesFiles, IsDone}
 use Rattle.wg_top.specs.Units.{AreCompiled}
 use Rattle.wg_top.specs.Stages.{TextRead, LaunchCause, ProgramCause, BackCause, LeavesOthers, IsRun}
 
@@ -59,8 +59,8 @@ program_cause old new ask bytes text Memory read loaded c = tt
 program_cause old new ask bytes text _ read loaded c = absurd c
 
 -- a launch that is not done, on the files of before
-stopped : (files later : Option FileMap) (ask : Files) (text : Text) (s : List Unit') (e : RunError) → RunRead files ask text s → later ≡ files → IsStopped later text s e → RunStopped files ask e
-stopped files later ask text s e read same c = record { text = text; units = s; read = read; stopped = subst (λ (f : Option FileMap). IsStopped f text s e) same c }
+stops : (files later : Option FileMap) (ask : Files) (text : Text) (s : List Unit') (e : RunError) → RunRead files ask text s → later ≡ files → StopsIn later text s e → RunStops files ask e
+stops files later ask text s e read same c = record { text = text; units = s; read = read; stops = subst (λ (f : Option FileMap). StopsIn f text s e) same c }
 
 -- a refusal while all is read is one of the run
 pub reading_cause : (old new : Standing) (ask : Files) (e : RunError) → ReadingCause old new ask e → Cause old new ask e
@@ -77,9 +77,9 @@ back_cause old mid new ask text s Failed read same before after c = rose_over ol
 back_cause old mid new ask text s Absent read same before after c =
     (rose_over old.misses mid.misses new.misses before.misses after.misses c.0, inr (text, s, record { read = read; accepted = c.1 }, subst (λ (f : Option FileMap). LacksOneFile f (loads_of text.buffers)) same c.2))
 back_cause old mid new ask text s (Launch number) read same before after c = inr (record { text = text; units = s; read = read; refused = c })
-back_cause old mid new ask text s (Range number several group item place) read same before after c = stopped old.files mid.files ask text s (Range number several group item place) read same c
-back_cause old mid new ask text s (Parted number several group item place) read same before after c = stopped old.files mid.files ask text s (Parted number several group item place) read same c
-back_cause old mid new ask text s (Turns number several) read same before after c = stopped old.files mid.files ask text s (Turns number several) read same c
+back_cause old mid new ask text s (Range number several group item place) read same before after c = stops old.files mid.files ask text s (Range number several group item place) read same c
+back_cause old mid new ask text s (Parted number several group item place) read same before after c = stops old.files mid.files ask text s (Parted number several group item place) read same c
+back_cause old mid new ask text s (Turns number several) read same before after c = stops old.files mid.files ask text s (Turns number several) read same c
 back_cause old mid new ask text s Memory read same before after c = tt
 back_cause old mid new ask text s _ read same before after c = absurd c
 

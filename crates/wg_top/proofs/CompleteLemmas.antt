@@ -1,12 +1,13 @@
 -- A run whose files are there and accepted, where no fault rises, is done, or wants memory.
-use Rattle.std.proofs.Common.{◌≡◌, ℕ, Bool, List, take, Option, Some, None, inl, inr, sym, ◌∙◌, ap₂, subst}
-use Rattle.std.specs.Prelude.{◌⊎◌}
+use Rattle.std.proofs.Common.{◌≡◌, ℕ, Bool, List, take, Option, Some, None, inl, inr, refl, sym, ◌∙◌, ap₂, subst, arith}
+use Rattle.std.specs.Prelude.{◌⊎◌, Result, Ok, Err, IfOk, IfErr}
 use Rattle.wg_outside.specs.Counts.{Rose}
 use Rattle.wg_outside.specs.Files.{FileMap, HasFileStart, LacksFile, told_file}
 use Rattle.buffer_io.specs.Loads.{LacksOneFile}
+use Rattle.buffer_io.specs.Saves.{AllSavedAs, KeepsAllBut}
 use Rattle.command_words.specs.Command.{Files}
 use Rattle.cl_model.specs.Sizes.{Launch as ModelLaunch}
-use Rattle.launch_file.specs.Binding.{loads_of}
+use Rattle.launch_file.specs.Binding.{loads_of, saves_of}
 use Rattle.launch_file.specs.Refusals.{Reads}
 use Rattle.launch_file.specs.Texts.{Text}
 use Rattle.launch_file.proofs.Unique.{one_text, read_or_refused}
@@ -19,11 +20,18 @@ use Rattle.lane_code.specs.Program.{Plain}
 use Rattle.wg_top.specs.Middle.{programs_in}
 use Rattle.wg_top.specs.Units.{AreCompiled, bind_refusal}
 use Rattle.wg_top.specs.Launches.{launches_in, LaunchesRan, EndsSo}
-use Rattle.wg_top.specs.Causes.{Standing, Cause, BuffersLoaded, RunStopped, Accepted, LacksName, IsSourceFault}
+use Rattle.wg_top.specs.Stages.{BackCause, IsRun}
+use Rattle.wg_top.specs.Causes.{Standing, Stands, Cause, BuffersLoaded, RunRead, RunStopped, RunStops, IsDone, IsTaken, Accepted, AcceptedClean, LeavesClean, HasLoops, LacksName, IsSourceFault}
+use Rattle.wg_top.specs.Outcomes.{AreLowered, AreMade, models_in, AreDone, IsOutcomeOf}
 use Rattle.wg_top.specs.Lines.{status_of}
-use Rattle.wg_top.specs.Ends.{Outside, Ends}
+use Rattle.wg_top.specs.Ends.{Outside, Ends, EndsClean}
 use Rattle.wg_front.proofs.FrontLemmas.{refused_or_unit}
+use Rattle.wg_top.specs.declared.Summary.{Summary}
 use Rattle.wg_top.proofs.LaunchLemmas.{done_only}
+use Rattle.wg_top.proofs.EndLemmas.{status_above, leaves_all}
+use Rattle.wg_top.proofs.CauseLemmas.{is_done, back_cause}
+use Rattle.wg_top.proofs.CleanLemmas.{leaves_clean, never_stops}
+use Rattle.wg_top.proofs.LoopLemmas.{no_turns_of}
 use Rattle.wg_top.proofs.ProgramLemmas.{one_units, no_refused}
 
 -- what is loaded of a file that is told
@@ -61,11 +69,11 @@ none_refused several ps launches before after (Turns number s) ran ends = let e 
 none_refused several ps launches before after _ ran ends = ends
 
 -- the launch file that was loaded is the one that is there
-read_text : (files : Option FileMap) (ask : Files) (text read : Text) (s : List Unit') (bytes : List ℕ) → Accepted files ask text s → HasFileStart files ask.launch 1048577 bytes → Reads bytes ask.lanes ask.turns read → read ≡ text
+read_text : (files : Option FileMap) (ask : Files) (text read : Text) (s : List Unit') (bytes : List ℕ) → IsTaken files ask text s → HasFileStart files ask.launch 1048577 bytes → Reads bytes ask.lanes ask.turns read → read ≡ text
 read_text files ask text read s bytes all loaded is =
     same_text bytes (take 1048577 all.launch_bytes) ask read text (start_is files ask.launch 1048577 bytes all.launch_bytes all.launch_told loaded) is all.reads
 
-none_lacked : (files : Option FileMap) (ask : Files) (text : Text) (s : List Unit') → Accepted files ask text s → LacksName files ask → ⊥
+none_lacked : (files : Option FileMap) (ask : Files) (text : Text) (s : List Unit') → IsTaken files ask text s → LacksName files ask → ⊥
 none_lacked files ask text s all lacks = elim lacks [
   | inl texts ↦ elim texts [
     | inl first ↦ not_lacked files ask.source all.source_bytes all.source_told first
@@ -78,27 +86,45 @@ none_lacked files ask text s all lacks = elim lacks [
       not_lacked files one.name told.0 told.1 one.lacks
 ]
 
--- no launch of theirs is refused
-none_stopped : (files : Option FileMap) (ask : Files) (text : Text) (s : List Unit') (e : RunError) → Accepted files ask text s → RunStopped files ask e → ⊥
-none_stopped files ask text s e all stopped =
-    let read = stopped.read in
-    let same : stopped.text ≡ text = read_text files ask text stopped.text s read.launch_bytes all read.launch_loaded read.reads in
+-- what was read is what is there
+same_read : (files : Option FileMap) (ask : Files) (text other : Text) (s t : List Unit') → IsTaken files ask text s → RunRead files ask other t → (other ≡ text) × (t ≡ s)
+same_read files ask text other s t all read =
+    let same : other ≡ text = read_text files ask text other s read.launch_bytes all read.launch_loaded read.reads in
     let bytes : read.source_bytes ≡ take 262145 all.source_bytes = start_is files ask.source 262145 read.source_bytes all.source_bytes all.source_told read.source_loaded in
-    let units : stopped.units ≡ s = same_units read.source_bytes (take 262145 all.source_bytes) stopped.text text stopped.units s bytes same read.compiled all.compiled in
-    let before = stopped.stopped.before in
-    let loaded : BuffersLoaded files text before = subst (λ (t : Text). BuffersLoaded files t before) same stopped.stopped.loaded in
-    let ends : EndsSo text.several (programs_in text s) (launches_in text) before e = subst (λ (us : List Unit'). EndsSo text.several (programs_in text us) (launches_in text) before e) units (subst (λ (t : Text). EndsSo t.several (programs_in t stopped.units) (launches_in t) before e) same stopped.stopped.ends) in
+    (same, same_units read.source_bytes (take 262145 all.source_bytes) other text t s bytes same read.compiled all.compiled)
+
+-- a launch that is not done
+pub stopped_of : (files : Option FileMap) (ask : Files) (e : RunError) → RunStops files ask e → RunStopped files ask e
+stopped_of files ask e x = record { text = x.text; units = x.units; read = x.read; stopped = x.stops.stopped }
+
+-- no launch of theirs is refused
+none_stopped : (files : Option FileMap) (ask : Files) (text : Text) (s : List Unit') (e : RunError) → Accepted files ask text s → RunStops files ask e → ⊥
+none_stopped files ask text s e all x =
+    let same = same_read files ask text x.text s x.units all.taken x.read in
+    let before = x.stops.stopped.before in
+    let loaded : BuffersLoaded files text before = subst (λ (t : Text). BuffersLoaded files t before) same.0 x.stops.stopped.loaded in
+    let ends : EndsSo text.several (programs_in text s) (launches_in text) before e = subst (λ (us : List Unit'). EndsSo text.several (programs_in text us) (launches_in text) before e) same.1 (subst (λ (t : Text). EndsSo t.several (programs_in t x.units) (launches_in t) before e) same.0 x.stops.stopped.ends) in
     let done = all.done before loaded in
     none_refused text.several (programs_in text s) (launches_in text) before done.0 e done.1 ends
 
-pub complete : (old new : Standing) (ask : Files) (text : Text) (s : List Unit') (e : RunError) (n : ℕ) → Accepted old.files ask text s → (Rose old.faults new.faults → ⊥) → n ≡ status_of e → Cause old new ask e → (n ≡ 0) ⊎ (n ≡ 8)
-complete old new ask text s Failed n all quiet is cause = absurd (quiet cause)
-complete old new ask text s Absent n all quiet is cause = absurd (none_lacked old.files ask text s all cause.1)
-complete old new ask text s (Source number place) n all quiet is cause =
+-- and none of clean launches
+none_unclean : (files : Option FileMap) (ask : Files) (text : Text) (s : List Unit') (e : RunError) → AcceptedClean files ask text s → RunStops files ask e → ⊥
+none_unclean files ask text s e all x =
+    let same = same_read files ask text x.text s x.units all.taken x.read in
+    let before = x.stops.stopped.before in
+    let loaded : BuffersLoaded files text before = subst (λ (t : Text). BuffersLoaded files t before) same.0 x.stops.stopped.loaded in
+    let lowered : AreLowered x.units = subst (λ (us : List Unit'). AreLowered us) (sym same.1) all.lowered in
+    let outcome : IsOutcomeOf (models_in s) (launches_in text) before e = subst (λ (us : List Unit'). IsOutcomeOf (models_in us) (launches_in text) before e) same.1 (subst (λ (t : Text). IsOutcomeOf (models_in x.units) (launches_in t) before e) same.0 (x.stops.outcome lowered)) in
+    never_stops s (launches_in text) before e (subst (λ (us : List Unit'). AreMade us) same.1 x.stops.made) (all.clean before loaded) outcome
+
+complete : (old new : Standing) (ask : Files) (text : Text) (s : List Unit') (e : RunError) (n : ℕ) → IsTaken old.files ask text s → ((d : RunError) → RunStops old.files ask d → ⊥) → (Rose old.faults new.faults → ⊥) → n ≡ status_of e → Cause old new ask e → (n ≡ 0) ⊎ (n ≡ 8)
+complete old new ask text s Failed n all never quiet is cause = absurd (quiet cause)
+complete old new ask text s Absent n all never quiet is cause = absurd (none_lacked old.files ask text s all cause.1)
+complete old new ask text s (Source number place) n all never quiet is cause =
     let same = read_text old.files ask text cause.text s cause.launch_bytes all cause.launch_loaded cause.reads in
     let bytes : cause.source_bytes ≡ take 262145 all.source_bytes = start_is old.files ask.source 262145 cause.source_bytes all.source_bytes all.source_told cause.source_loaded in
     absurd (no_fault cause.source_bytes (take 262145 all.source_bytes) cause.text text s number place bytes same cause.fault all.unit all.compiled)
-complete old new ask text s (Launch number) n all quiet is cause = absurd (elim cause [
+complete old new ask text s (Launch number) n all never quiet is cause = absurd (elim cause [
   | inl unread ↦
       let bytes : take 1048577 all.launch_bytes ≡ unread.launch_bytes = sym (start_is old.files ask.launch 1048577 unread.launch_bytes all.launch_bytes all.launch_told unread.launch_loaded) in
       read_or_refused unread.launch_bytes ask.lanes ask.turns text number (subst (λ (b : List ℕ). Reads b ask.lanes ask.turns text) bytes all.reads) unread.refused
@@ -109,16 +135,108 @@ complete old new ask text s (Launch number) n all quiet is cause = absurd (elim 
       let e : Some number ≡ None = sym unbound.refused ∙ (ap₂ bind_refusal same units ∙ all.accepted) in
       let never : ⊥ = cc e in never
 ])
-complete old new ask text s (Range launch several group item place) n all quiet is cause = absurd (none_stopped old.files ask text s (Range launch several group item place) all cause)
-complete old new ask text s (Parted launch several group item place) n all quiet is cause = absurd (none_stopped old.files ask text s (Parted launch several group item place) all cause)
-complete old new ask text s (Turns launch several) n all quiet is cause = absurd (none_stopped old.files ask text s (Turns launch several) all cause)
-complete old new ask text s Memory n all quiet is cause = inr is
+complete old new ask text s (Range launch several group item place) n all never quiet is cause = absurd (never (Range launch several group item place) cause)
+complete old new ask text s (Parted launch several group item place) n all never quiet is cause = absurd (never (Parted launch several group item place) cause)
+complete old new ask text s (Turns launch several) n all never quiet is cause = absurd (never (Turns launch several) cause)
+complete old new ask text s Memory n all never quiet is cause = inr is
 
 pub ends_complete : (old new : Outside) (ask : Files) (text : Text) (s : List Unit') (n : ℕ) → Ends old new ask n → Accepted old.store.files ask text s → (Rose old.store.faults new.store.faults → ⊥) → (Rose old.out.faults new.out.faults → ⊥) → (n ≡ 0) ⊎ (n ≡ 8)
 ends_complete old new ask text s n ends all quiet out_quiet = elim ends [
   | inl done ↦ inl done.status_is
   | inr more ↦ elim more [
     | inl unsaid ↦ absurd (out_quiet unsaid.failed)
-    | inr refused ↦ complete old.store new.store ask text s refused.error n all quiet refused.status_is refused.cause
+    | inr refused ↦ complete old.store new.store ask text s refused.error n all.taken (λ e stops. none_stopped old.store.files ask text s e all stops) quiet refused.status_is refused.cause
+  ]
+]
+
+-- ---- clean launches
+
+-- what a run of clean launches leaves
+done_clean : (old new : Option FileMap) (ask : Files) (text : Text) (s : List Unit') (summary : Summary) → AcceptedClean old ask text s → IsDone old new ask summary → LeavesClean old new text s
+done_clean old new ask text s summary all done =
+    let same = same_read old ask text done.text s done.units all.taken done.read.read in
+    let before = done.run.before in
+    let loaded : BuffersLoaded old text before = subst (λ (t : Text). BuffersLoaded old t before) same.0 done.run.loaded in
+    let lowered : AreLowered done.units = subst (λ (us : List Unit'). AreLowered us) (sym same.1) all.lowered in
+    let ran : AreDone (models_in s) (launches_in text) before done.after = subst (λ (us : List Unit'). AreDone (models_in us) (launches_in text) before done.after) same.1 (subst (λ (t : Text). AreDone (models_in done.units) (launches_in t) before done.after) same.0 (done.run.outcome lowered)) in
+    record {
+      before = before;
+      loaded = loaded;
+      after = done.after;
+      leaves = leaves_clean s (launches_in text) before done.after (subst (λ (us : List Unit'). AreMade us) same.1 done.run.made) (all.clean before loaded) ran;
+      saved = subst (λ (t : Text). AllSavedAs old new (saves_of t.buffers) done.after) same.0 done.saved;
+      others = subst (λ (t : Text). KeepsAllBut old new (saves_of t.buffers)) same.0 done.others;
+    }
+
+-- a refusal of clean launches is want of memory
+refused_clean : (old new : Standing) (ask : Files) (text : Text) (s : List Unit') (e : RunError) (n : ℕ) → AcceptedClean old.files ask text s → (Rose old.faults new.faults → ⊥) → n ≡ status_of e → Cause old new ask e → n ≡ 8
+refused_clean old new ask text s e n all quiet is cause = elim (complete old new ask text s e n all.taken (λ d stops. none_unclean old.files ask text s d all stops) quiet is cause) [
+  | inl zero ↦ absurd ((status_above e n is).0 zero)
+  | inr eight ↦ eight
+]
+
+-- a status says which
+is_memory : (e : RunError) → status_of e ≡ 8 → e ≡ Memory
+is_memory Failed is = absurd (omega (arith, is))
+is_memory Absent is = absurd (omega (arith, is))
+is_memory (Source number place) is = absurd (omega (arith, is))
+is_memory (Launch number) is = absurd (omega (arith, is))
+is_memory (Range launch several group item place) is = absurd (omega (arith, is))
+is_memory (Parted launch several group item place) is = absurd (omega (arith, is))
+is_memory (Turns launch several) is = absurd (omega (arith, is))
+is_memory Memory is = refl
+
+pub memory_clean : (old new : Standing) (ask : Files) (text : Text) (s : List Unit') (e : RunError) → AcceptedClean old.files ask text s → (Rose old.faults new.faults → ⊥) → Cause old new ask e → e ≡ Memory
+memory_clean old new ask text s e all quiet cause = is_memory e (refused_clean old new ask text s e (status_of e) all quiet refl cause)
+
+-- the same of a run that was read, by its answer
+pub run_clean : (old mid new : Option FileMap) (ask : Files) (read_text : Text) (units : List Unit') (r : Result Summary RunError) → RunRead old ask read_text units → mid ≡ old → IfOk r (IsRun mid new read_text units)
+    → IfOk r (λ summary. (text : Text) (s : List Unit') → AcceptedClean old ask text s → LeavesClean old new text s)
+run_clean old mid new ask read_text units (Ok summary) read same run = λ text s all. done_clean old new ask text s summary all (is_done old mid new ask read_text units summary read same run)
+run_clean old mid new ask read_text units (Err e) read same run = tt
+
+pub run_memory : (old mid new : Standing) (ask : Files) (read_text : Text) (units : List Unit') (r : Result Summary RunError) → RunRead old.files ask read_text units → mid.files ≡ old.files → Stands old mid → Stands mid new → IfErr r (BackCause mid new read_text units)
+    → IfErr r (λ e. (text : Text) (s : List Unit') → AcceptedClean old.files ask text s → (Rose old.faults new.faults → ⊥) → e ≡ Memory)
+run_memory old mid new ask read_text units (Ok summary) read same before after cause = tt
+run_memory old mid new ask read_text units (Err e) read same before after cause = λ text s all quiet. memory_clean old new ask text s e all quiet (back_cause old mid new ask read_text units e read same before after cause)
+
+pub ends_clean : (old new : Outside) (ask : Files) (text : Text) (s : List Unit') (n : ℕ) → Ends old new ask n → AcceptedClean old.store.files ask text s → (Rose old.store.faults new.store.faults → ⊥) → (Rose old.out.faults new.out.faults → ⊥) → EndsClean old.store.files new.store.files text s n
+ends_clean old new ask text s n ends all quiet out_quiet = elim ends [
+  | inl done ↦ inl (done.status_is, done_clean old.store.files new.store.files ask text s done.summary all done.done)
+  | inr more ↦ elim more [
+    | inl unsaid ↦ absurd (out_quiet unsaid.failed)
+    | inr refused ↦
+        let eight : n ≡ 8 = refused_clean old.store new.store ask text s refused.error n all quiet refused.status_is refused.cause in
+        inr (eight, leaves_all old.store new.store ask refused.error n refused.status_is refused.leaves (λ one. omega (arith, eight, one)))
+  ]
+]
+
+-- ---- loops
+
+-- a refusal for too many iterations says that there is a loop
+has_loops : (files : Option FileMap) (ask : Files) (number : ℕ) (several : Bool) → RunStops files ask (Turns number several) → HasLoops files ask
+has_loops files ask number several x = record {
+  text = x.text;
+  units = x.units;
+  read = x.read;
+  loops = λ lowered free. no_turns_of x.units (launches_in x.text) x.stops.stopped.before number several x.stops.made free (x.stops.outcome lowered);
+}
+
+refused_loops : (old new : Standing) (ask : Files) (e : RunError) (n : ℕ) → n ≡ status_of e → Cause old new ask e → n ≡ 7 → HasLoops old.files ask
+refused_loops old new ask Failed n is cause seven = absurd (omega arith)
+refused_loops old new ask Absent n is cause seven = absurd (omega arith)
+refused_loops old new ask (Source number place) n is cause seven = absurd (omega arith)
+refused_loops old new ask (Launch number) n is cause seven = absurd (omega arith)
+refused_loops old new ask (Range launch several group item place) n is cause seven = absurd (omega arith)
+refused_loops old new ask (Parted launch several group item place) n is cause seven = absurd (omega arith)
+refused_loops old new ask (Turns launch several) n is cause seven = has_loops old.files ask launch several cause
+refused_loops old new ask Memory n is cause seven = absurd (omega arith)
+
+pub ends_loops : (old new : Outside) (ask : Files) (n : ℕ) → Ends old new ask n → n ≡ 7 → HasLoops old.store.files ask
+ends_loops old new ask n ends seven = elim ends [
+  | inl done ↦ absurd (omega (arith, done.status_is, seven))
+  | inr more ↦ elim more [
+    | inl unsaid ↦ absurd (omega (arith, unsaid.status_is, seven))
+    | inr refused ↦ refused_loops old.store new.store ask refused.error n refused.status_is refused.cause seven
   ]
 ]

@@ -89,7 +89,7 @@ shaped_as u width name name_in_code p valid parts like one named =
     }
 
 -- the parts of a group program are those of the unit's kernel and plan
-parts_in : (u : Unit') (width : Width) (kernel : Kernel) (plan : Planned) (p : Plain) → kernel ≡ kernel_in u → plan ≡ plan_in u → HasPartsOf kernel plan width p → HasPartsOf (kernel_in u) (plan_in u) width p
+pub parts_in : (u : Unit') (width : Width) (kernel : Kernel) (plan : Planned) (p : Plain) → kernel ≡ kernel_in u → plan ≡ plan_in u → HasPartsOf kernel plan width p → HasPartsOf (kernel_in u) (plan_in u) width p
 parts_in u width kernel plan p kernel_is plan_is parts = subst (λ (x : Planned). HasPartsOf (kernel_in u) x width p) plan_is (subst (λ (k : Kernel). HasPartsOf k plan width p) kernel_is parts)
 
 -- the kernel and the plan that the passes answer are those of the unit

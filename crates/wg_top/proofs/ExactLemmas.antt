@@ -24,7 +24,7 @@ use Rattle.wg_top.specs.Launches.{launches_in, LaunchesRan, EndsBehind, EndsSo}
 use Rattle.wg_top.specs.Causes.{Standing, SourceLoaded, LaunchLoaded, RunRead, RunBound, BuffersLoaded, TextRefused, BindRefused, SourceRefused, RunStopped, Finds, Cause, IsDone}
 use Rattle.wg_top.specs.Lines.{status_of}
 use Rattle.wg_top.specs.Ends.{Outside, Ends}
-use Rattle.wg_top.proofs.CompleteLemmas.{same_text, same_units, no_fault, none_refused}
+use Rattle.wg_top.proofs.CompleteLemmas.{same_text, same_units, no_fault, none_refused, stopped_of}
 use Rattle.wg_top.proofs.LaunchLemmas.{one_end}
 use Rattle.wg_top.proofs.EndLemmas.{status_above}
 
@@ -280,9 +280,9 @@ refusal fs old new ask e Failed n told finds quiet is cause = absurd (quiet caus
 refusal fs old new ask e Absent n told finds quiet is cause = inl (is ∙ one_status fs ask Absent e (subst (λ (f : Option FileMap). Finds f ask Absent) told cause.1) finds)
 refusal fs old new ask e (Source number place) n told finds quiet is cause = inl (is ∙ one_status fs ask (Source number place) e (subst (λ (f : Option FileMap). Finds f ask (Source number place)) told cause) finds)
 refusal fs old new ask e (Launch number) n told finds quiet is cause = inl (is ∙ one_status fs ask (Launch number) e (subst (λ (f : Option FileMap). Finds f ask (Launch number)) told cause) finds)
-refusal fs old new ask e (Range launch several group item place) n told finds quiet is cause = inl (is ∙ one_status fs ask (Range launch several group item place) e (subst (λ (f : Option FileMap). Finds f ask (Range launch several group item place)) told cause) finds)
-refusal fs old new ask e (Parted launch several group item place) n told finds quiet is cause = inl (is ∙ one_status fs ask (Parted launch several group item place) e (subst (λ (f : Option FileMap). Finds f ask (Parted launch several group item place)) told cause) finds)
-refusal fs old new ask e (Turns launch several) n told finds quiet is cause = inl (is ∙ one_status fs ask (Turns launch several) e (subst (λ (f : Option FileMap). Finds f ask (Turns launch several)) told cause) finds)
+refusal fs old new ask e (Range launch several group item place) n told finds quiet is cause = inl (is ∙ one_status fs ask (Range launch several group item place) e (subst (λ (f : Option FileMap). Finds f ask (Range launch several group item place)) told (stopped_of old.files ask (Range launch several group item place) cause)) finds)
+refusal fs old new ask e (Parted launch several group item place) n told finds quiet is cause = inl (is ∙ one_status fs ask (Parted launch several group item place) e (subst (λ (f : Option FileMap). Finds f ask (Parted launch several group item place)) told (stopped_of old.files ask (Parted launch several group item place) cause)) finds)
+refusal fs old new ask e (Turns launch several) n told finds quiet is cause = inl (is ∙ one_status fs ask (Turns launch several) e (subst (λ (f : Option FileMap). Finds f ask (Turns launch several)) told (stopped_of old.files ask (Turns launch several) cause)) finds)
 refusal fs old new ask e Memory n told finds quiet is cause = inr is
 
 told_exact : (fs : FileMap) (old new : Outside) (ask : Files) (e : RunError) (n : ℕ) → old.store.files ≡ Some fs → Ends old new ask n → Finds (Some fs) ask e → (Rose old.store.faults new.store.faults → ⊥) → (n ≡ status_of e) ⊎ (n ≡ 8)

@@ -1,5 +1,5 @@
 -- Launches one after the other.
-use Rattle.std.proofs.Common.{◌≡◌, ℕ, zero, suc, ◌+◌, ◌<◌, Bool, List, [], ◌∷◌, ◌++◌, length, map, take, drop, get_or, Some, None, refl, sym, zero-add, add_assoc, ◌∙◌, ap, subst, arith}
+use Rattle.std.proofs.Common.{◌≡◌, ℕ, zero, suc, ◌+◌, ◌<◌, Bool, List, [], ◌∷◌, ◌++◌, length, map, take, drop, get_or, append_assoc, Some, None, refl, sym, zero-add, add_assoc, ◌∙◌, ap, subst, arith}
 use Rattle.std.specs.Prelude.{All, slice_get, slice_index_or, sum}
 use Rattle.std.proofs.Math.Seq.{take-suc, drop-cons}
 use Rattle.std.proofs.lemmas.List.{take-append-drop, map-append, length-map, length-take-le, get_or_default}
@@ -165,3 +165,17 @@ more_local_at xs k d lt = more_local xs k (get_or xs k d) lt (get_or_default xs 
 pub lengths_twice : {X : Type 0} (f : X → List ℕ) (xs : List X) → map (λ (b : List ℕ). length b) (map f xs) ≡ map (λ x. length (f x)) xs
 lengths_twice f [] = refl
 lengths_twice f (x ∷ xs) = ap (λ ns. length (f x) ∷ ns) (lengths_twice f xs)
+
+-- ---- things that are made of others, one after the other
+
+-- one more is made, of the first of those that are left
+pub made_next : {X Y V : Type 0} (view : X → V) (old : Y → V) (xs new : List X) (ys rest : List Y) (x : X) (y : Y) (all : List V) → new ≡ xs ++ x ∷ [] → ys ≡ y ∷ rest → view x ≡ old y → map view xs ++ map old ys ≡ all → map view new ++ map old rest ≡ all
+made_next view old xs new ys rest x y all pushed left same before =
+    ap (λ vs. map view vs ++ map old rest) pushed ∙ (ap (λ vs. vs ++ map old rest) (map-append view xs (x ∷ []))
+    ∙ (append_assoc (map view xs) (view x ∷ []) (map old rest) ∙ (ap (λ v. map view xs ++ (v ∷ map old rest)) same ∙ (sym (ap (λ vs. map view xs ++ map old vs) left) ∙ before))))
+
+-- the same, of what is seen itself
+pub taken_next : {X V : Type 0} (view : X → V) (xs new : List X) (ys rest : List V) (x : X) (y : V) (all : List V) → new ≡ xs ++ x ∷ [] → ys ≡ y ∷ rest → view x ≡ y → map view xs ++ ys ≡ all → map view new ++ rest ≡ all
+taken_next view xs new ys rest x y all pushed left same before =
+    ap (λ vs. map view vs ++ rest) pushed ∙ (ap (λ vs. vs ++ rest) (map-append view xs (x ∷ []))
+    ∙ (append_assoc (map view xs) (view x ∷ []) rest ∙ (ap (λ v. map view xs ++ (v ∷ rest)) same ∙ (sym (ap (λ vs. map view xs ++ vs) left) ∙ before))))

@@ -8,6 +8,9 @@ pub mod CompleteLemmas
 pub mod ShapeLemmas
 pub mod LaunchLemmas
 pub mod MeaningLemmas
+pub mod OutcomeLemmas
+pub mod CleanLemmas
+pub mod LoopLemmas
 pub mod FitLemmas
 pub mod BoundLemmas
 pub mod ShownLemmas

@@ -9,7 +9,8 @@ use Rattle.cl_model.specs.Valid.{parameter_kinds}
 use Rattle.lane_code.specs.View.{plain_of}
 use Rattle.wg_top.specs.declared.compile.Compiled.{Compiled}
 use Rattle.kir_lower.specs.Whole.{lowered_of}
-use Rattle.wg_top.specs.Middle.{kernel_in, group_in, IsCompiledAt}
+use Rattle.wg_top.specs.Middle.{kernel_in, group_in}
+use Rattle.wg_top.specs.Described.{IsCompiledAt}
 use Rattle.launch_bind.specs.Needed.{needs_of_kernel}
 use Rattle.wg_top.specs.Units.{needs_in}
 

@@ -1,5 +1,5 @@
 -- The launches of a launch file over its buffers.
-use Rattle.std.proofs.Common.{◌≡◌, ℕ, zero, suc, ◌-◌, ◌<◌, ◌≤◌, Bool, true, false, List, [], ◌∷◌, length, map, take, replicate, get_or, Option, Some, None, refl, sym, ◌∙◌, ap, ap₂, subst, arith}
+use Rattle.std.proofs.Common.{◌≡◌, ℕ, zero, suc, ◌-◌, ◌^◌, ◌<◌, ◌≤◌, Bool, true, false, List, [], ◌∷◌, length, map, take, replicate, get_or, Option, Some, None, refl, sym, ◌∙◌, ap, ap₂, subst, arith}
 use Rattle.std.specs.Prelude.{All, IfSome, IsUtf8}
 use Rattle.std.specs.List.{list_any}
 use Rattle.std.proofs.lemmas.Bool.{or_parts}
@@ -16,9 +16,16 @@ use Rattle.cl_model.specs.Fitting.{FitBuffers}
 use Rattle.group_run.specs.declared.launcher.Launcher.{Launcher}
 use Rattle.cl_model.specs.View.{launch_of}
 use Rattle.launch_file.specs.Binding.{lengths_of, loads_of, saves_of, count_of}
-use Rattle.launch_file.specs.Texts.{Text}
+use Rattle.launch_file.specs.Texts.{Text, Part}
+use Rattle.cl_prep.specs.declared.prep.Define.{Define}
+use Rattle.cl_valid.specs.Law.{DefinesFit}
+use Rattle.cl_valid.specs.Erased.{program_of}
+use Rattle.cl_model.specs.Valid.{IsValid}
+use Rattle.wg_front.specs.Compiled.{IsCompiled}
+use Rattle.wg_front.proofs.ValidLemmas.{compiled_valid}
+use Rattle.wg_top.proofs.ErasedLemmas.{program_same}
 use Rattle.launch_file.specs.Refusals.{saved_again, saved_twice, is_this}
-use Rattle.launch_file.specs.Values.{HasTexts}
+use Rattle.launch_file.specs.Values.{HasTexts, HasNumber}
 use Rattle.lane_code.specs.Program.{Plain}
 use Rattle.lane_code.specs.View.{plain_of}
 use Rattle.wg_top.specs.declared.RunError.{RunError}
@@ -27,9 +34,11 @@ use Rattle.wg_top.specs.declared.Summary.{Summary}
 use Rattle.wg_top.specs.declared.compile.Compiled.{Compiled}
 use Rattle.cl_meaning.specs.Typed.{Unit'}
 use Rattle.cl_piece.specs.View.{unit_of}
-use Rattle.wg_top.specs.Middle.{IsCompiledAt, group_in, programs_in}
-use Rattle.wg_top.specs.Units.{bind_refusal}
-use Rattle.wg_top.specs.Causes.{Standing, BuffersLoaded, HasRun}
+use Rattle.wg_top.specs.Middle.{group_in, programs_in}
+use Rattle.wg_top.specs.Described.{IsCompiledAt}
+use Rattle.wg_top.specs.Units.{AreCompiled, bind_refusal}
+use Rattle.wg_top.specs.Causes.{Standing, BuffersLoaded, StopsIn, HasRun}
+use Rattle.wg_top.specs.Outcomes.{AreLowered, AreMade, models_in, AreDone, IsOutcomeOf}
 use Rattle.wg_top.specs.Stages.{BackCause, LeavesOthers, SaveStopped, IsRun}
 use Rattle.wg_top.proofs.MeaningLemmas.{AreLike, ran_like, so_like}
 use Rattle.wg_top.specs.Launches.{IsReady, HasLimits, launches_in, LaunchesRan, EndsSo, all_groups, all_items}
@@ -105,15 +114,22 @@ pub programs_are : (width : ℕ) (kernels : List Compiled) → All (IsCompiledAt
 programs_are width [] all = tt
 programs_are width (c ∷ kernels) all = ((all 0 c (omega arith)).group, programs_are width kernels (λ k d lt. all (suc k) d (omega arith)))
 
--- a launch that is not done
-pub is_stopped : (old new : Standing) (text : Text) (units : List Unit') (before : List (List ℕ)) (programs : List Plain) (launches : List Launch) (e : RunError) → bind_refusal text units ≡ None → BuffersLoaded old.files text before → AreLike (programs_in text units) programs → launches ≡ launches_in text → EndsSo text.several programs launches before e → BackCause old new text units e
-is_stopped old new text units before programs launches (Range number several group item place) accepted loaded same are ends =
-    record { accepted = accepted; before = before; loaded = loaded; ends = so_like text.several (programs_in text units) programs (launches_in text) before (Range number several group item place) same (subst (λ (ls : List Launch). EndsSo text.several programs ls before (Range number several group item place)) are ends) }
-is_stopped old new text units before programs launches (Parted number several group item place) accepted loaded same are ends =
-    record { accepted = accepted; before = before; loaded = loaded; ends = so_like text.several (programs_in text units) programs (launches_in text) before (Parted number several group item place) same (subst (λ (ls : List Launch). EndsSo text.several programs ls before (Parted number several group item place)) are ends) }
-is_stopped old new text units before programs launches (Turns number several) accepted loaded same are ends =
-    record { accepted = accepted; before = before; loaded = loaded; ends = so_like text.several (programs_in text units) programs (launches_in text) before (Turns number several) same (subst (λ (ls : List Launch). EndsSo text.several programs ls before (Turns number several)) are ends) }
-is_stopped old new text units before programs launches _ accepted loaded same are ends = absurd ends
+-- a launch that is not done, which is an outcome of it
+stops_in : (files : Option FileMap) (text : Text) (units : List Unit') (before : List (List ℕ)) (programs : List Plain) (launches : List Launch) (e : RunError) → bind_refusal text units ≡ None → BuffersLoaded files text before → AreLike (programs_in text units) programs → launches ≡ launches_in text
+    → EndsSo text.several programs launches before e → AreMade units → (EndsSo text.several (programs_in text units) (launches_in text) before e → AreLowered units → IsOutcomeOf (models_in units) (launches_in text) before e) → StopsIn files text units e
+stops_in files text units before programs launches e accepted loaded same are ends made outcome =
+    let mine : EndsSo text.several (programs_in text units) (launches_in text) before e = so_like text.several (programs_in text units) programs (launches_in text) before e same (subst (λ (ls : List Launch). EndsSo text.several programs ls before e) are ends) in
+    record { stopped = record { accepted = accepted; before = before; loaded = loaded; ends = mine }; made = made; outcome = outcome mine }
+
+pub is_stopped : (old new : Standing) (text : Text) (units : List Unit') (before : List (List ℕ)) (programs : List Plain) (launches : List Launch) (e : RunError) → bind_refusal text units ≡ None → BuffersLoaded old.files text before → AreLike (programs_in text units) programs → launches ≡ launches_in text
+    → EndsSo text.several programs launches before e → AreMade units → ((x : RunError) → EndsSo text.several (programs_in text units) (launches_in text) before x → AreLowered units → IsOutcomeOf (models_in units) (launches_in text) before x) → BackCause old new text units e
+is_stopped old new text units before programs launches (Range number several group item place) accepted loaded same are ends made outcome =
+    let e = Range number several group item place in stops_in old.files text units before programs launches e accepted loaded same are ends made (outcome e)
+is_stopped old new text units before programs launches (Parted number several group item place) accepted loaded same are ends made outcome =
+    let e = Parted number several group item place in stops_in old.files text units before programs launches e accepted loaded same are ends made (outcome e)
+is_stopped old new text units before programs launches (Turns number several) accepted loaded same are ends made outcome =
+    let e = Turns number several in stops_in old.files text units before programs launches e accepted loaded same are ends made (outcome e)
+is_stopped old new text units before programs launches _ accepted loaded same are ends made outcome = absurd ends
 
 -- it leaves all files
 pub stopped_leaves : (old new : Standing) (text : Text) (units : List Unit') (several : Bool) (before : List (List ℕ)) (programs : List Plain) (launches : List Launch) (e : RunError) → new.files ≡ old.files → EndsSo several programs launches before e → LeavesOthers old new text units e
@@ -123,12 +139,11 @@ stopped_leaves old new text units several before programs launches (Turns number
 stopped_leaves old new text units several before programs launches _ same ends = absurd ends
 
 -- the launches ran
-pub has_run : (files : Option FileMap) (text : Text) (units : List Unit') (before after : List (List ℕ)) (programs : List Plain) (launches : List Launch) → BuffersLoaded files text before → AreLike (programs_in text units) programs → launches ≡ launches_in text → LaunchesRan programs launches before after → HasRun files text units after
-has_run files text units before after programs launches loaded same are ran = record {
-  before = before;
-  loaded = loaded;
-  ran = ran_like (programs_in text units) programs (launches_in text) before after same (subst (λ (ls : List Launch). LaunchesRan programs ls before after) are ran);
-}
+pub has_run : (files : Option FileMap) (text : Text) (units : List Unit') (before after : List (List ℕ)) (programs : List Plain) (launches : List Launch) → BuffersLoaded files text before → AreLike (programs_in text units) programs → launches ≡ launches_in text → LaunchesRan programs launches before after
+    → AreMade units → (LaunchesRan (programs_in text units) (launches_in text) before after → AreLowered units → AreDone (models_in units) (launches_in text) before after) → HasRun files text units after
+has_run files text units before after programs launches loaded same are ran made outcome =
+    let mine : LaunchesRan (programs_in text units) (launches_in text) before after = ran_like (programs_in text units) programs (launches_in text) before after same (subst (λ (ls : List Launch). LaunchesRan programs ls before after) are ran) in
+    record { before = before; loaded = loaded; ran = mine; made = made; outcome = outcome mine }
 
 -- a save failed
 pub save_stopped : (old mid new : Option FileMap) (text : Text) (s : List Unit') (saves : List (Option (List ℕ))) (after : List (List ℕ)) → bind_refusal text s ≡ None → mid ≡ old → saves ≡ saves_of text.buffers → HasRun old text s after → StopsAt mid new saves after → KeepsAllBut mid new saves → SaveStopped old new text s
@@ -174,3 +189,24 @@ ready_launcher buffers launchers launches x same all some is =
 
 pub buffers_fit : (buffers : List BufferText) (launchers : List Launcher) (launches : List Bindings) (bytes : List (List ℕ)) → map (λ q. q.launch) launchers ≡ launches → All (IsReady buffers) launches → map (λ (b : List ℕ). length b) bytes ≡ lengths_of buffers → All (λ q. FitBuffers (launch_of q.launch) bytes) launchers
 buffers_fit buffers launchers launches bytes same all sizes k d lt = sizes ∙ sym (ready_each buffers launchers launches same all k d lt).lengths
+
+-- ---- the typed units of a call are valid
+
+numbers_fit : (defines : List Define) → All HasNumber defines → DefinesFit defines
+numbers_fit [] all = tt
+numbers_fit (d ∷ defines) all = (below_power d.value (all 0 d (omega arith)), numbers_fit defines (λ k e lt. all (suc k) e (omega arith)))
+  where
+    below_power : (n : ℕ) → n ≤ 9223372036854775807 → n < 2 ^ 63
+    below_power n h = omega (arith, h)
+
+unit_valid : (bytes : List ℕ) (defines : List Define) (kernel : List ℕ) (c : Compiled) → DefinesFit defines → IsCompiled bytes defines kernel (unit_of c.program) → IsValid (program_of (unit_of c.program))
+unit_valid bytes defines kernel c fit is = subst IsValid (sym (program_same c.program)) (compiled_valid bytes defines kernel c.program fit is)
+
+units_valid : (bytes : List ℕ) (defines : List Define) (parts : List Part) (cs : List Compiled) → DefinesFit defines → AreCompiled bytes defines parts (map (λ c. unit_of c.program) cs) → All (λ c. IsValid (program_of (unit_of c.program))) cs
+units_valid bytes defines parts [] fit are k d lt = absurd (omega arith)
+units_valid bytes defines (part ∷ parts) (c ∷ cs) fit are zero d lt = unit_valid bytes defines part.kernel c fit are.0
+units_valid bytes defines (part ∷ parts) (c ∷ cs) fit are (suc k) d lt = units_valid bytes defines parts cs fit are.1 k d (omega arith)
+units_valid bytes defines [] (c ∷ cs) fit are k d lt = absurd are
+
+pub kernels_valid : (bytes : List ℕ) (defines : List Define) (parts : List Part) (cs : List Compiled) → All HasNumber defines → AreCompiled bytes defines parts (map (λ c. unit_of c.program) cs) → All (λ c. IsValid (program_of (unit_of c.program))) cs
+kernels_valid bytes defines parts cs numbers are = units_valid bytes defines parts cs (numbers_fit defines numbers) are

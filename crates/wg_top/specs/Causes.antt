@@ -17,6 +17,8 @@ use Rattle.wg_front.specs.Front.{HasUnit, StandsAt}
 use Rattle.wg_top.specs.Units.{AreCompiled, IsFirstRefused, bind_refusal}
 use Rattle.wg_top.specs.Launches.{launches_in, LaunchesRan, EndsSo, all_groups, all_items}
 use Rattle.wg_top.specs.Middle.{programs_in}
+use Rattle.wg_top.specs.Loops.{HaveNoLoop}
+use Rattle.wg_top.specs.Outcomes.{AreLowered, AreMade, models_in, AreDone, IsOutcomeOf, AreClean, AllLeave}
 
 -- a store at one moment
 pub record Standing : Type 0 where
@@ -113,6 +115,19 @@ pub record RunStopped (files : Option FileMap) (ask : Files) (error : RunError) 
   pub read : RunRead files ask text units
   pub stopped : IsStopped files text units error
 
+-- besides, what is kept once is equal; and where the kernels come from their programs, that end is an outcome of the launch, on buffers that those before it may leave
+pub record StopsIn (files : Option FileMap) (text : Text) (units : List Unit') (error : RunError) : Type 0 where
+  pub stopped : IsStopped files text units error
+  pub made : AreMade units
+  pub outcome : AreLowered units → IsOutcomeOf (models_in units) (launches_in text) stopped.before error
+
+-- all was read, and that holds of what was read
+pub record RunStops (files : Option FileMap) (ask : Files) (error : RunError) : Type 0 where
+  pub text : Text
+  pub units : List Unit'
+  pub read : RunRead files ask text units
+  pub stops : StopsIn files text units error
+
 -- the cause of a refusal that the files decide, without faults and want of memory
 abbrev pub Finds : Option FileMap → Files → RunError → Type 0
 Finds files ask Failed = ⊥
@@ -130,9 +145,9 @@ Cause old new ask Failed = Rose old.faults new.faults
 Cause old new ask Absent = Rose old.misses new.misses × Finds old.files ask Absent
 Cause old new ask (Source number place) = Finds old.files ask (Source number place)
 Cause old new ask (Launch number) = Finds old.files ask (Launch number)
-Cause old new ask (Range launch several group item place) = Finds old.files ask (Range launch several group item place)
-Cause old new ask (Parted launch several group item place) = Finds old.files ask (Parted launch several group item place)
-Cause old new ask (Turns launch several) = Finds old.files ask (Turns launch several)
+Cause old new ask (Range launch several group item place) = RunStops old.files ask (Range launch several group item place)
+Cause old new ask (Parted launch several group item place) = RunStops old.files ask (Parted launch several group item place)
+Cause old new ask (Turns launch several) = RunStops old.files ask (Turns launch several)
 Cause old new ask Memory = ⊤
 
 -- the cause of a refusal of a command that runs nothing
@@ -144,11 +159,13 @@ ReadingCause old new ask (Launch number) = TextRefused old.files ask number
 ReadingCause old new ask Memory = ⊤
 ReadingCause old new ask _ = ⊥
 
--- the buffers were loaded, and the launches are done
+-- the buffers were loaded, and the launches are done; what is kept once is equal; and where the kernels come from their programs, those ends are outcomes of the launches
 pub record HasRun (files : Option FileMap) (text : Text) (units : List Unit') (after : List (List ℕ)) : Type 0 where
   pub before : List (List ℕ)
   pub loaded : BuffersLoaded files text before
   pub ran : LaunchesRan (programs_in text units) (launches_in text) before after
+  pub made : AreMade units
+  pub outcome : AreLowered units → AreDone (models_in units) (launches_in text) before after
 
 -- saving had begun: the launches ran, the buffers before one are saved, and those behind it and all other names are as before
 pub record SaveFailed (old new : Option FileMap) (ask : Files) : Type 0 where
@@ -177,8 +194,8 @@ pub record IsDone (old new : Option FileMap) (ask : Files) (summary : Summary) :
   pub groups : summary.groups ≡ all_groups (launches_in text)
   pub items : summary.items ≡ all_items (launches_in text)
 
--- the store tells its files, has those that the run loads, the source has a unit and the launches' kernels, no condition stands on the launch file, and each launch is done on the buffers that those before it leave
-pub record Accepted (files : Option FileMap) (ask : Files) (text : Text) (units : List Unit') : Type 0 where
+-- the store tells its files, has those that the run loads, the source has a unit and the launches' kernels, and no condition stands on the launch file
+pub record IsTaken (files : Option FileMap) (ask : Files) (text : Text) (units : List Unit') : Type 0 where
   pub source_bytes : List ℕ
   pub launch_bytes : List ℕ
   pub source_told : told_file files ask.source ≡ Some (Some source_bytes)
@@ -188,4 +205,30 @@ pub record Accepted (files : Option FileMap) (ask : Files) (text : Text) (units 
   pub unit : HasUnit (take 262145 source_bytes) text.defines
   pub compiled : AreCompiled (take 262145 source_bytes) text.defines text.list units
   pub accepted : bind_refusal text units ≡ None
+
+-- besides, each launch is done on the buffers that those before it leave
+pub record Accepted (files : Option FileMap) (ask : Files) (text : Text) (units : List Unit') : Type 0 where
+  pub taken : IsTaken files ask text units
   pub done : (before : List (List ℕ)) → BuffersLoaded files text before → (after : List (List ℕ)) × LaunchesRan (programs_in text units) (launches_in text) before after
+
+-- and of launches of which no run races, faults, parts or begins too many iterations: each is clean on the buffers that those before it leave, and the kernels come from their programs
+pub record AcceptedClean (files : Option FileMap) (ask : Files) (text : Text) (units : List Unit') : Type 0 where
+  pub taken : IsTaken files ask text units
+  pub lowered : AreLowered units
+  pub clean : (before : List (List ℕ)) → BuffersLoaded files text before → AreClean (models_in units) (launches_in text) before
+
+-- every interleaving of the launches leaves these buffers, which are saved, each whole; all names that are not saved are as before
+pub record LeavesClean (old new : Option FileMap) (text : Text) (units : List Unit') : Type 0 where
+  pub before : List (List ℕ)
+  pub loaded : BuffersLoaded old text before
+  pub after : List (List ℕ)
+  pub leaves : AllLeave (models_in units) (launches_in text) before after
+  pub saved : AllSavedAs old new (saves_of text.buffers) after
+  pub others : KeepsAllBut old new (saves_of text.buffers)
+
+-- all was read, and where the kernels come from their programs, some program of a launch has a loop
+pub record HasLoops (files : Option FileMap) (ask : Files) : Type 0 where
+  pub text : Text
+  pub units : List Unit'
+  pub read : RunRead files ask text units
+  pub loops : AreLowered units → HaveNoLoop (models_in units) → ⊥

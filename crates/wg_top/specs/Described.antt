@@ -1,22 +1,27 @@
 -- What a compiled kernel is: its plan, its shape, what is kept once for a group, and its ends where its kernel comes from the program.
-use Rattle.std.specs.Prelude.{◌≡◌, ℕ, List, Some, slice_get}
+use Rattle.std.specs.Prelude.{◌≡◌, ℕ, List, Some, slice_get, sum}
 use Rattle.wg_num.specs.declared.types.Width.{Width}
 use Rattle.cl_model.specs.Tree.{Program}
 use Rattle.cl_model.specs.Sizes.{Launch}
 use Rattle.cl_model.specs.Fitting.{FitsProgram}
 use Rattle.cl_model.specs.Agreement.{Agrees, AgreesInRuns}
+use Rattle.cl_model.specs.Valid.{IsValid}
 use Rattle.cl_piece.specs.View.{unit_of}
 use Rattle.cl_valid.specs.Erased.{program_of}
 use Rattle.kir.specs.Tree.{Variable, Kernel}
 use Rattle.kir.specs.Homes.{IsCellOf}
 use Rattle.kir.specs.Lowering.{IsLoweringOf}
+use Rattle.kir.specs.View.{kernel_of}
 use Rattle.diverge.specs.Rounds.{varying_of}
 use Rattle.ctx_plan.specs.declared.plan.Home.TheVariants as home
 use Rattle.ctx_plan.specs.Planned.{Planned}
+use Rattle.ctx_plan.specs.View.{planned_of}
+use Rattle.lane_code.specs.Fits.{LaunchFits}
 use Rattle.lane_code.specs.View.{plain_of}
 use Rattle.wg_top.specs.declared.compile.Compiled.{Compiled}
-use Rattle.wg_top.specs.Middle.{names_in, kernel_in, plan_in}
+use Rattle.wg_top.specs.Middle.{names_in, kernel_in, plan_in, group_in, IsLike}
 use Rattle.wg_top.specs.Compiled.{IsPlanned, IsShaped, IsCompiledFrom}
+use Rattle.wg_top.specs.Outcome.{EndsInOutcomes}
 
 -- it is said which variables vary, each cell has its home, and the program of a group has the plan's columns and slots
 abbrev pub IsPlannedAt : Width → Compiled → Type 0
@@ -49,3 +54,13 @@ IsLowered c = IsLoweringOf (program_of (unit_of c.program)) (names_in (unit_of c
 abbrev pub IsCompiledAs : Width → List ℕ → Compiled → Type 0
 IsCompiledAs width name c =
     IsCompiledFrom (program_of (unit_of c.program)) name (varying_of (program_of (unit_of c.program))) (kernel_in (unit_of c.program)) (plan_in (unit_of c.program)) width c.group.kernel (plain_of c.group)
+
+-- the kernel of a unit as the passes leave it, at a lane width: it, its plan and its group program are those of the unit; of a valid program, what is kept once is equal; and where its
+-- kernel comes from the program, a launch that fits the group program fits the program, and the group program of a valid one ends in outcomes of it
+pub record IsCompiledAt (width : ℕ) (c : Compiled) : Type 0 where
+  pub kernel : kernel_of c.kernel ≡ kernel_in (unit_of c.program)
+  pub plan : planned_of c.plan ≡ plan_in (unit_of c.program)
+  pub group : IsLike (group_in width (unit_of c.program)) (plain_of c.group)
+  pub once : IsValid (program_of (unit_of c.program)) → KeepsOnce c
+  pub fits : IsLowered c → (launch : Launch) → LaunchFits (plain_of c.group).params (sum (plain_of c.group).locals) launch → FitsProgram (program_of (unit_of c.program)) launch
+  pub ends : IsLowered c → IsValid (program_of (unit_of c.program)) → EndsInOutcomes (program_of (unit_of c.program)) (plain_of c.group)

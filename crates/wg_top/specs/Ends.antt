@@ -10,7 +10,8 @@ use Rattle.command_words.specs.Command.{Files, Request, run, plan, code, sample,
 use Rattle.wg_top.specs.declared.Summary.{Summary}
 use Rattle.launch_file.specs.Texts.{Text}
 use Rattle.cl_meaning.specs.Typed.{Unit'}
-use Rattle.wg_top.specs.Causes.{Standing, standing, Cause, ReadingCause, RunRead, LeavesFiles, IsDone}
+use Rattle.wg_top.specs.Causes.{Standing, standing, Cause, ReadingCause, RunRead, LeavesFiles, IsDone, LeavesClean}
+use Rattle.wg_top.specs.Outcomes.{AreMade}
 use Rattle.wg_top.specs.Shown.{Showing, plan_shown, code_shown, Shows}
 use Rattle.wg_top.specs.Sample.{IsSample, SampleCause}
 use Rattle.wg_top.specs.Lines.{IsSaid, done_line, sample_line, error_line, status_of}
@@ -77,6 +78,10 @@ pub record EndsRefused (old new : Outside) (ask : Files) (status : ℕ) : Type 0
 abbrev pub Ends : Outside → Outside → Files → ℕ → Type 0
 Ends old new ask status = EndsDone old new ask status ⊎ EndsUnsaid old new ask status ⊎ EndsRefused old new ask status
 
+-- the run of clean launches is done and leaves what every interleaving leaves, or it wants memory and changes no file
+abbrev pub EndsClean : Option FileMap → Option FileMap → Text → List Unit' → (status : ℕ) → Type 0
+EndsClean old new text units status = ((status ≡ 0) × LeavesClean old new text units) ⊎ ((status ≡ 8) × (new ≡ old))
+
 -- nothing but that line on `err` happens
 pub record EndsSaying (old new : Outside) (line : List ℕ) : Type 0 where
   pub store_stays : new.store ≡ old.store
@@ -87,12 +92,13 @@ pub record EndsSaying (old new : Outside) (line : List ℕ) : Type 0 where
 abbrev pub usage_line : List ℕ
 usage_line = codes "wgcc: usage\n"
 
--- all was read, and these are the texts of its launches
+-- all was read, these are the texts of its launches, and what is kept once is equal
 pub record ShownRead (files : Option FileMap) (ask : Files) (show : Showing) (shown : List ℕ) : Type 0 where
   pub text : Text
   pub units : List Unit'
   pub read : RunRead files ask text units
   pub shows : Shows show text units shown
+  pub made : AreMade units
 
 -- the texts are on `out`
 pub record EndsShown (old new : Outside) (ask : Files) (show : Showing) (status : ℕ) : Type 0 where

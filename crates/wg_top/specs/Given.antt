@@ -1,22 +1,27 @@
 -- What is known of a launch file that was read, and of its kernels.
 use Rattle.std.specs.Prelude.{◌≡◌, ◌≤◌, All, false, length, map}
+use Rattle.cl_model.specs.Valid.{IsValid}
+use Rattle.cl_piece.specs.View.{unit_of}
+use Rattle.cl_valid.specs.Erased.{program_of}
 use Rattle.launch_file.specs.Texts.{text_of, part_of}
-use Rattle.launch_file.specs.Values.{HasTexts, HasOneLength}
+use Rattle.launch_file.specs.Values.{HasTexts, HasOneLength, HasNumber}
 use Rattle.launch_file.specs.Refusals.{saved_twice}
 use Rattle.launch_file.specs.declared.text.LaunchText.{LaunchText}
 use Rattle.wg_top.specs.declared.reading.Given.{Given}
-use Rattle.wg_top.specs.Middle.{IsCompiledAt}
+use Rattle.wg_top.specs.Described.{IsCompiledAt}
 
--- the names of its files are texts, no file is saved twice, and it has from 1 to 16 launches, each in 1 to 3 dimensions
+-- the names of its files are texts, the numbers of given names are below 2^63, no file is saved twice, and it has from 1 to 16 launches, each in 1 to 3 dimensions
 pub record IsText (text : LaunchText) : Type 0 where
   pub texts : All HasTexts text.buffers.items
+  pub numbers : All HasNumber text.defines.list.items
   pub lengths : All (λ p. HasOneLength (part_of p)) text.list.items
   pub some : 1 ≤ length text.list.items
   pub few : length text.list.items ≤ 16
   pub apart : saved_twice text.buffers.items ≡ false
 
--- besides, each kernel is as the passes leave it, and has the name that its launch says
+-- besides, each kernel is as the passes leave it, its program is valid, and it has the name that its launch says
 pub record IsGiven (given : Given) : Type 0 where
   pub text : IsText given.text
   pub passes : All (IsCompiledAt (text_of given.text).lanes) given.kernels.items
+  pub valid : All (λ c. IsValid (program_of (unit_of c.program))) given.kernels.items
   pub names : map (λ c. c.group.kernel) given.kernels.items ≡ map (λ p. p.kernel) (text_of given.text).list

@@ -2,6 +2,8 @@ pub mod Compiled
 pub mod Middle
 pub mod Outcome
 pub mod Described
+pub mod Loops
+pub mod Outcomes
 pub mod Units
 pub mod Given
 pub mod Launches

@@ -3,21 +3,16 @@ use Rattle.std.specs.Prelude.{◌≡◌, ℕ, true, false, List, map}
 use Rattle.cl_model.specs.Tree.{Table}
 use Rattle.cl_valid.specs.Erased.{program_of}
 use Rattle.cl_meaning.specs.Typed.{Unit'}
-use Rattle.cl_piece.specs.View.{unit_of}
 use Rattle.kir.specs.Tree.{Kernel}
 use Rattle.kir.specs.Lowering.{Named}
-use Rattle.kir.specs.View.{kernel_of}
 use Rattle.lane_code.specs.Program.{PlainCode, Items, Seq, Vote, Loop, Works, idle, then_work, Plain}
-use Rattle.lane_code.specs.View.{plain_of}
 use Rattle.lane_laws.specs.Chain.{NoWork, work_before}
 use Rattle.ctx_plan.specs.Planned.{Planned}
-use Rattle.ctx_plan.specs.View.{planned_of}
 use Rattle.regions.specs.Tree.{RegionOf, Tree, NoRegion, RegionThen, VoteThen, LoopThen}
 use Rattle.regions.specs.Split.{split_of}
 use Rattle.mask_lower.specs.Lowered.{region_code}
 use Rattle.item_loops.specs.Built.{array_sizes}
 use Rattle.launch_file.specs.Texts.{Text}
-use Rattle.wg_top.specs.declared.compile.Compiled.{Compiled}
 use Rattle.kir_lower.specs.Whole.{lowered_of}
 use Rattle.diverge.specs.Rounds.{varying_of}
 use Rattle.ctx_plan.specs.Made.{plan_of}
@@ -63,12 +58,6 @@ group_in width u = group_with width (kernel_in u) (plan_in u)
 pub record IsLike (q p : Plain) : Type 0 where
   pub parts : p ≡ record q { top = p.top }
   pub chain : work_before p.top NoWork ≡ work_before q.top NoWork
-
--- the kernel of a unit as the passes leave it, at a lane width
-pub record IsCompiledAt (width : ℕ) (c : Compiled) : Type 0 where
-  pub kernel : kernel_of c.kernel ≡ kernel_in (unit_of c.program)
-  pub plan : planned_of c.plan ≡ plan_in (unit_of c.program)
-  pub group : IsLike (group_in width (unit_of c.program)) (plain_of c.group)
 
 -- the programs of the groups of a launch file's launches
 abbrev pub programs_in : Text → List Unit' → List Plain

@@ -15,7 +15,7 @@ use Rattle.wg_top.specs.declared.Summary.{Summary}
 use Rattle.cl_meaning.specs.Typed.{Unit'}
 use Rattle.wg_top.specs.Units.{IsFirstRefused, bind_refusal}
 use Rattle.wg_top.specs.Launches.{launches_in, all_groups, all_items}
-use Rattle.wg_top.specs.Causes.{Standing, LaunchLoaded, IsSourceFault, IsStopped, HasRun}
+use Rattle.wg_top.specs.Causes.{Standing, LaunchLoaded, IsSourceFault, StopsIn, HasRun}
 
 -- the launch file was loaded, and says this with the options
 pub record TextRead (files : Option FileMap) (launch : List ℕ) (lanes turns : Option ℕ) (text : Text) : Type 0 where
@@ -66,9 +66,9 @@ abbrev pub BackCause : Standing → Standing → Text → List Unit' → RunErro
 BackCause old new text units Failed = Rose old.faults new.faults
 BackCause old new text units Absent = Rose old.misses new.misses × (bind_refusal text units ≡ None) × LacksOneFile old.files (loads_of text.buffers)
 BackCause old new text units (Launch number) = bind_refusal text units ≡ Some number
-BackCause old new text units (Range launch several group item place) = IsStopped old.files text units (Range launch several group item place)
-BackCause old new text units (Parted launch several group item place) = IsStopped old.files text units (Parted launch several group item place)
-BackCause old new text units (Turns launch several) = IsStopped old.files text units (Turns launch several)
+BackCause old new text units (Range launch several group item place) = StopsIn old.files text units (Range launch several group item place)
+BackCause old new text units (Parted launch several group item place) = StopsIn old.files text units (Parted launch several group item place)
+BackCause old new text units (Turns launch several) = StopsIn old.files text units (Turns launch several)
 BackCause old new text units Memory = ⊤
 BackCause old new text units _ = ⊥
 

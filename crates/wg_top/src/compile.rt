@@ -10,8 +10,8 @@ ghost use Rattle.kir.specs.View.{kernel_of};
 ghost use Rattle.ctx_plan.specs.View.{planned_of};
 ghost use Rattle.lane_code.specs.View.{plain_of};
 ghost use Rattle.item_loops.specs.Program.{HasPartsOf, IsOneCode};
-ghost use Rattle.wg_top.specs.Middle.{IsLike, group_with, IsCompiledAt};
-ghost use Rattle.wg_top.specs.Described.{IsShapedAs, IsPlannedAt, KeepsOnce, IsLowered, IsCompiledAs};
+ghost use Rattle.wg_top.specs.Middle.{IsLike, group_with};
+ghost use Rattle.wg_top.specs.Described.{IsShapedAs, IsPlannedAt, KeepsOnce, IsLowered, IsCompiledAs, IsCompiledAt};
 
 use cl_model::Program;
 use ctx_plan::Plan;

@@ -8,7 +8,7 @@ ghost use Rattle.cl_piece.specs.View.{unit_of};
 ghost use Rattle.lane_code.specs.View.{plain_of};
 ghost use Rattle.lane_code.specs.Fits.{LaunchFits};
 ghost use Rattle.launch_file.specs.Texts.{text_of};
-ghost use Rattle.wg_top.specs.Middle.{IsCompiledAt};
+ghost use Rattle.wg_top.specs.Described.{IsCompiledAt};
 ghost use Rattle.wg_top.specs.Units.{bind_refusal};
 ghost use Rattle.wg_top.specs.Given.{IsText};
 ghost use Rattle.wg_top.specs.Stages.{BindCause};
@@ -138,6 +138,7 @@ fn prepare_one(alloc: Global, kernel: Compiled, launch: Launch) -> Result<Launch
     requires { LaunchFits (plain_of kernel.group).params 0 (launch_of launch) }
     ensures program { IfOk result (λ l. l.program ≡ kernel.group) }
     ensures launch { IfOk result (λ l. l.launch ≡ launch) }
+    ensures fit { IfOk result (λ l. LaunchFits (plain_of l.program).params (sum (plain_of l.program).locals) (launch_of l.launch)) }
 {
     let Compiled {
         program,
@@ -167,6 +168,7 @@ pub(crate) fn prepare_each(
     requires { AllFit kernels.items launches.items }
     ensures programs { IfOk result (λ v. map (λ l. plain_of l.program) v.items ≡ map (λ c. plain_of c.group) kernels.items) }
     ensures launches { IfOk result (λ v. map (λ l. l.launch) v.items ≡ launches.items) }
+    ensures fit { IfOk result (λ v. All (λ l. LaunchFits (plain_of l.program).params (sum (plain_of l.program).locals) (launch_of l.launch)) v.items) }
 {
     let mut launchers = Vec::new(alloc);
     let mut rest = launches.into_iter();

@@ -5,10 +5,10 @@ ghost use Rattle.std.specs.Prelude.{◌≡◌, ◌≤◌, ◌⊎◌, List, map, 
 ghost use Rattle.command_words.specs.Command.{Files, Request, run, TakesWords, files_of, request_of};
 ghost use Rattle.launch_file.specs.Texts.{Text};
 ghost use Rattle.wg_outside.specs.Counts.{Rose};
-ghost use Rattle.wg_top.specs.Causes.{Accepted, Finds};
+ghost use Rattle.wg_top.specs.Causes.{Accepted, AcceptedClean, HasLoops, Finds};
 ghost use Rattle.wg_top.specs.declared.RunError.{RunError};
 ghost use Rattle.cl_meaning.specs.Typed.{Unit'};
-ghost use Rattle.wg_top.specs.Ends.{sink_standing, outside, AreWords, Ends, EndsShowing, EndsSample, EndsAsked, EndsSaying, KeepsOut, SaysLine, usage_line};
+ghost use Rattle.wg_top.specs.Ends.{sink_standing, outside, AreWords, Ends, EndsShowing, EndsSample, EndsClean, EndsAsked, EndsSaying, KeepsOut, SaysLine, usage_line};
 ghost use Rattle.wg_top.specs.Shown.{showing};
 ghost use Rattle.wg_top.specs.Lines.{status_of};
 
@@ -246,6 +246,11 @@ pub fn wgcc<S: Store, O: Sink, E: Sink>(
         Accepted (S.files store.old) ask text units →
         (Rose (S.faults store.old) (S.faults store.new) → ⊥) → (Rose (O.faults out.old) (O.faults out.new) → ⊥) →
         (result ≡ 0) ⊎ (result ≡ 8) }
+    ensures clean { (ask : Files) (text : Text) (units : List Unit') → AreWords (map string_bytes words.now) (run ask) →
+        AcceptedClean (S.files store.old) ask text units →
+        (Rose (S.faults store.old) (S.faults store.new) → ⊥) → (Rose (O.faults out.old) (O.faults out.new) → ⊥) →
+        EndsClean (S.files store.old) (S.files store.new) text units result }
+    ensures looped { (ask : Files) → AreWords (map string_bytes words.now) (run ask) → result ≡ 7 → HasLoops (S.files store.old) ask }
     ensures exact { (ask : Files) (error : RunError) → AreWords (map string_bytes words.now) (run ask) →
         is_some (S.files store.old) ≡ true → Finds (S.files store.old) ask error →
         (Rose (S.faults store.old) (S.faults store.new) → ⊥) → (result ≡ status_of error) ⊎ (result ≡ 8) }

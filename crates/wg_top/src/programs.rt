@@ -8,7 +8,7 @@ ghost use Rattle.cl_piece.specs.View.{unit_of};
 ghost use Rattle.launch_file.specs.Texts.{Text, text_of, part_of};
 ghost use Rattle.wg_front.specs.Front.{HasUnit, IsRefusal};
 ghost use Rattle.wg_front.specs.Compiled.{IsSource, IsCompiled, IsUnitRefusal, places_of};
-ghost use Rattle.wg_top.specs.Middle.{IsCompiledAt};
+ghost use Rattle.wg_top.specs.Described.{IsCompiledAt};
 ghost use Rattle.wg_top.specs.Units.{AreCompiled};
 ghost use Rattle.wg_top.specs.Stages.{ProgramCause, KernelCause, KernelsCause};
 

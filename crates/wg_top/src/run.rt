@@ -1,11 +1,16 @@
 // Running the launches of a launch file from its files.
-ghost use Rattle.std.specs.Prelude.{◌≡◌, All, None, IfOk, IfErr, length, map};
+ghost use Rattle.std.specs.Prelude.{◌≡◌, All, List, None, IfOk, IfErr, length, map};
 ghost use Rattle.cl_model.specs.View.{launch_of};
+ghost use Rattle.cl_model.specs.Valid.{IsValid};
 ghost use Rattle.cl_piece.specs.View.{unit_of};
-ghost use Rattle.launch_file.specs.Texts.{text_of};
-ghost use Rattle.wg_top.specs.Causes.{standing, Stands, Cause, LeavesFiles, IsDone};
+ghost use Rattle.cl_valid.specs.Erased.{program_of};
+ghost use Rattle.cl_meaning.specs.Typed.{Unit'};
+ghost use Rattle.launch_file.specs.Texts.{Text, text_of};
+ghost use Rattle.wg_outside.specs.Counts.{Rose};
+ghost use Rattle.wg_top.specs.declared.RunError.TheVariants as refusals;
+ghost use Rattle.wg_top.specs.Causes.{standing, Stands, Cause, LeavesFiles, IsDone, AcceptedClean, LeavesClean};
 ghost use Rattle.wg_top.specs.Stages.{BackCause, LeavesOthers, IsRun};
-ghost use Rattle.wg_top.specs.Middle.{IsCompiledAt};
+ghost use Rattle.wg_top.specs.Described.{IsCompiledAt};
 ghost use Rattle.wg_top.specs.Units.{bind_refusal};
 ghost use Rattle.wg_top.specs.Given.{IsText, IsGiven};
 ghost use Rattle.wg_top.specs.Launches.{launches_in, IsReady, AllFit};
@@ -33,6 +38,7 @@ fn run_bound<S: Store>(
     requires text { IsText text.now }
     requires as_many { length launches.items ≡ length text.now.list.items }
     requires passes { All (IsCompiledAt (text_of text.now).lanes) kernels.items }
+    requires valid { All (λ c. IsValid (program_of (unit_of c.program))) kernels.items }
     requires launches { map launch_of launches.items ≡ launches_in (text_of text.now) }
     requires ready { All (IsReady text.now.buffers.items) launches.items }
     requires fit { AllFit kernels.items launches.items }
@@ -95,6 +101,10 @@ pub fn run_source<S: Store>(
     ensures err { IfErr result (Cause (standing S.files S.faults S.misses store.old) (standing S.files S.faults S.misses store.new) (asked source.now launch.now lanes turns)) }
     ensures left { IfErr result (LeavesFiles (standing S.files S.faults S.misses store.old) (standing S.files S.faults S.misses store.new) (asked source.now launch.now lanes turns)) }
     ensures stands { Stands (standing S.files S.faults S.misses store.old) (standing S.files S.faults S.misses store.new) }
+    ensures clean { IfOk result (λ _. (text : Text) (units : List Unit') → AcceptedClean (S.files store.old) (asked source.now launch.now lanes turns) text units →
+        LeavesClean (S.files store.old) (S.files store.new) text units) }
+    ensures done { IfErr result (λ error. (text : Text) (units : List Unit') → AcceptedClean (S.files store.old) (asked source.now launch.now lanes turns) text units →
+        (Rose (S.faults store.old) (S.faults store.new) → ⊥) → error ≡ refusals.Memory) }
 {
     match read_all(alloc, store, source, launch, Options { lanes, turns }) {
         Ok(given) => run_given(alloc, store, given),

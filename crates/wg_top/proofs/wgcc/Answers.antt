@@ -1,9 +1,9 @@
-use Rattle.std.proofs.Common.{map, refl, string_bytes}
+use Rattle.std.proofs.Common.{map, inr, refl, string_bytes}
 use Rattle.command_words.specs.Command.{Request, run, request_of}
 use Rattle.wg_top.specs.Ends.{Outside, outside, EndsSaying, usage_line}
 use Rattle.wg_top.proofs.EndLemmas.{asked_failed, asked_absent, asked_no_save, asked_quiet, asked_line, asked_out, asked_no_usage, asked_memory}
 use Rattle.wg_top.proofs.WordLemmas.{as_asked}
-use Rattle.wg_top.proofs.CompleteLemmas.{ends_complete}
+use Rattle.wg_top.proofs.CompleteLemmas.{ends_complete, ends_clean, ends_loops}
 use Rattle.wg_top.proofs.ExactLemmas.{ends_exact}
 use Rattle.wg_top.proofs.wgcc.Goals as goal
 
@@ -77,6 +77,20 @@ returns-in-Ok-clause-complete g c =
     let request : Request = request_of c.in-Ok.asked in
     λ ask text s given all quiet out_quiet. ends_complete old new ask text s c.do_words.result (as_asked old new (map string_bytes c.args.words.now) request (run ask) c.do_words.result c.in-Ok.ensures.asked given.asks c.do_words.ensures) all quiet out_quiet
 
+pub returns-in-Ok-clause-clean : goal.returns-in-Ok-clause-clean
+returns-in-Ok-clause-clean g c =
+    let old : Outside = (outside g.S.Store.files g.S.Store.faults g.S.Store.misses g.O.Sink.written g.O.Sink.faults g.E.Sink.written g.E.Sink.faults c.args.store.now c.args.out.now c.args.err.now) in
+    let new : Outside = (outside g.S.Store.files g.S.Store.faults g.S.Store.misses g.O.Sink.written g.O.Sink.faults g.E.Sink.written g.E.Sink.faults c.do_words.new.store c.do_words.new.out c.do_words.new.err) in
+    let request : Request = request_of c.in-Ok.asked in
+    λ ask text s given all quiet out_quiet. ends_clean old new ask text s c.do_words.result (as_asked old new (map string_bytes c.args.words.now) request (run ask) c.do_words.result c.in-Ok.ensures.asked given.asks c.do_words.ensures) all quiet out_quiet
+
+pub returns-in-Ok-clause-looped : goal.returns-in-Ok-clause-looped
+returns-in-Ok-clause-looped g c =
+    let old : Outside = (outside g.S.Store.files g.S.Store.faults g.S.Store.misses g.O.Sink.written g.O.Sink.faults g.E.Sink.written g.E.Sink.faults c.args.store.now c.args.out.now c.args.err.now) in
+    let new : Outside = (outside g.S.Store.files g.S.Store.faults g.S.Store.misses g.O.Sink.written g.O.Sink.faults g.E.Sink.written g.E.Sink.faults c.do_words.new.store c.do_words.new.out c.do_words.new.err) in
+    let request : Request = request_of c.in-Ok.asked in
+    λ ask given seven. ends_loops old new ask c.do_words.result (as_asked old new (map string_bytes c.args.words.now) request (run ask) c.do_words.result c.in-Ok.ensures.asked given.asks c.do_words.ensures) seven
+
 pub returns-in-Ok-clause-exact : goal.returns-in-Ok-clause-exact
 returns-in-Ok-clause-exact g c =
     let old : Outside = (outside g.S.Store.files g.S.Store.faults g.S.Store.misses g.O.Sink.written g.O.Sink.faults g.E.Sink.written g.E.Sink.faults c.args.store.now c.args.out.now c.args.err.now) in
@@ -95,3 +109,9 @@ returns-in-Err-Memory-clause-ends g c =
 
 pub returns-in-Err-Usage-clause-complete : goal.returns-in-Err-Usage-clause-complete
 returns-in-Err-Usage-clause-complete g c = λ ask text s given all quiet out_quiet. absurd (c.read_words.ensures.usage (cc) given.taken)
+
+pub returns-in-Err-Usage-clause-clean : goal.returns-in-Err-Usage-clause-clean
+returns-in-Err-Usage-clause-clean g c = λ ask text s given all quiet out_quiet. absurd (c.read_words.ensures.usage (cc) given.taken)
+
+pub returns-in-Err-Memory-clause-clean : goal.returns-in-Err-Memory-clause-clean
+returns-in-Err-Memory-clause-clean g c = λ ask text s given all quiet out_quiet. inr (refl, refl)

@@ -11,7 +11,7 @@ use Rattle.launch_file.specs.Texts.{Part, part_of, text_of}
 use Rattle.launch_file.specs.Values.{HasOneLength}
 use Rattle.cl_meaning.specs.Typed.{Unit'}
 use Rattle.wg_top.specs.declared.compile.Compiled.{Compiled}
-use Rattle.wg_top.specs.Middle.{IsCompiledAt}
+use Rattle.wg_top.specs.Described.{IsCompiledAt}
 use Rattle.wg_top.specs.Units.{needs_in}
 use Rattle.wg_top.proofs.BoundLemmas.{one_bound, all_ready, is_ready, is_fit, more_fit, part_has, refused_later, refused_here, at_place}
 use Rattle.wg_top.proofs.LaunchLemmas.{holds_at}

@@ -7,7 +7,7 @@ use Rattle.launch_file.specs.Texts.{part_of}
 use Rattle.cl_piece.specs.View.{unit_of}
 use Rattle.wg_front.specs.Compiled.{IsCompiled}
 use Rattle.wg_top.specs.declared.compile.Compiled.{Compiled}
-use Rattle.wg_top.specs.Middle.{IsCompiledAt}
+use Rattle.wg_top.specs.Described.{IsCompiledAt}
 use Rattle.wg_top.specs.Stages.{KernelCause}
 use Rattle.wg_top.proofs.ProgramLemmas.{one_compiled, one_refused, more_of, pushed_of}
 use Rattle.wg_top.proofs.programs.compile_each.Goals as goal

@@ -6,7 +6,7 @@ use Rattle.cl_tree.specs.Syntax.{view}
 use Rattle.cl_piece.specs.View.{unit_of}
 use Rattle.launch_file.specs.Texts.{part_of}
 use Rattle.wg_front.specs.Compiled.{IsSource, places_of}
-use Rattle.wg_top.specs.Middle.{IsCompiledAt}
+use Rattle.wg_top.specs.Described.{IsCompiledAt}
 use Rattle.wg_top.specs.Units.{AreCompiled}
 use Rattle.wg_top.proofs.programs.compile_each.Given as goal
 

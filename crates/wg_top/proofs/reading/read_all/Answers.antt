@@ -2,6 +2,8 @@ use Rattle.command_words.specs.Command.{Files}
 use Rattle.wg_top.specs.Causes.{Standing, standing}
 use Rattle.wg_top.specs.Ends.{asked}
 use Rattle.wg_top.proofs.CauseLemmas.{launch_cause, program_cause, text_before, run_read}
+use Rattle.launch_file.specs.Texts.{text_of}
+use Rattle.wg_top.proofs.RunLemmas.{kernels_valid}
 use Rattle.wg_top.proofs.reading.read_all.Goals as goal
 
 pub returns-in-Err-clause-err : goal.returns-in-Err-clause-err
@@ -17,6 +19,16 @@ returns-in-Ok-compile_all-clause-read g c =
     let ask : Files = asked c.args.source.now c.args.launch.now c.args.options.lanes c.args.options.turns in
     let text = text_before old.files (g.S.Store.files c.load.new.self) _ _ _ _ c.in-Ok.ensures.files_stay c.in-Ok-load_launch.ensures.ok in
     run_read old.files ask c.in-Ok.bytes.items c.deref.result.now _ _ c.in-Ok.ensures.content c.deref.ensures.value text c.in-Ok-compile_all.ensures.unit c.in-Ok-compile_all.ensures.compiled
+
+pub returns-in-Ok-compile_all-clause-given : goal.returns-in-Ok-compile_all-clause-given
+returns-in-Ok-compile_all-clause-given g c =
+    let text = c.in-Ok-load_launch.text in
+    record {
+      text = c.in-Ok-load_launch.ensures.is;
+      passes = c.in-Ok-compile_all.ensures.passes;
+      valid = kernels_valid c.deref.result.now (text_of text).defines (text_of text).list c.in-Ok-compile_all.kernels.items c.in-Ok-load_launch.ensures.is.numbers c.in-Ok-compile_all.ensures.compiled;
+      names = c.in-Ok-compile_all.ensures.names;
+    }
 
 pub returns-clause-err : goal.returns-clause-err
 returns-clause-err g c =

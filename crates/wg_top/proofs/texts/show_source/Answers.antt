@@ -1,0 +1,20 @@
+use Rattle.std.proofs.Common.{List, map}
+use Rattle.cl_meaning.specs.Typed.{Unit'}
+use Rattle.cl_piece.specs.View.{unit_of}
+use Rattle.launch_file.specs.Texts.{Text, text_of}
+use Rattle.wg_top.specs.declared.compile.Compiled.{Compiled}
+use Rattle.wg_top.proofs.OutcomeLemmas.{all_made}
+use Rattle.wg_top.proofs.texts.show_source.Goals as goal
+
+pub returns-in-Ok-texts_of-clause-ok : goal.returns-in-Ok-texts_of-clause-ok
+returns-in-Ok-texts_of-clause-ok g c =
+    let text : Text = text_of c.in-Ok.given.text in
+    let kernels : List Compiled = c.in-Ok.given.kernels.items in
+    let units : List Unit' = map (λ (k : Compiled). unit_of k.program) kernels in
+    record {
+      text = text;
+      units = units;
+      read = c.in-Ok.ensures.read;
+      shows = c.in-Ok-texts_of.ensures;
+      made = all_made text.lanes kernels c.in-Ok.ensures.given.passes c.in-Ok.ensures.given.valid;
+    }

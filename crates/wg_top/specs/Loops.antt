@@ -1,0 +1,37 @@
+-- Programs without a loop.
+use Rattle.std.specs.Prelude.{◌≡◌, ◌||◌, true, false, ⊤, List, [], ◌∷◌}
+use Rattle.std.specs.Prelude.{Bool as Test}
+use Rattle.cl_model.specs.Lists.{Each}
+use Rattle.cl_model.specs.Tree.{Statement, Do, Declare, Fill, Block, If, Loop, Switch, Break, Continue, Return, Barrier, Statements, empty, also, Arms, no_arm, arm, Function, Program}
+
+-- a statement is a loop, or has one in it
+abbrev mutual
+  pub has_loop : Statement → Test
+  has_loop (Do e) = false
+  has_loop (Declare x value) = false
+  has_loop (Fill site array values) = false
+  has_loop (Block list) = have_loop list
+  has_loop (If site test chosen other) = have_loop chosen || have_loop other
+  has_loop (Loop site test_first test step body) = true
+  has_loop (Switch site value arms) = arms_have_loop arms
+  has_loop (Break site) = false
+  has_loop (Continue site) = false
+  has_loop (Return site value) = false
+  has_loop (Barrier site) = false
+
+  pub have_loop : Statements → Test
+  have_loop empty = false
+  have_loop (also s rest) = has_loop s || have_loop rest
+
+  pub arms_have_loop : Arms → Test
+  arms_have_loop no_arm = false
+  arms_have_loop (arm labels other body rest) = have_loop body || arms_have_loop rest
+
+-- no function of the program has a loop
+abbrev pub HasNoLoop : Program → Type 0
+HasNoLoop program = Each (λ (g : Function). have_loop g.body ≡ false) program.functions
+
+-- the same of each program
+abbrev pub HaveNoLoop : List Program → Type 0
+HaveNoLoop [] = ⊤
+HaveNoLoop (p ∷ programs) = HasNoLoop p × HaveNoLoop programs

@@ -1,0 +1,83 @@
+-- What a launch file's launches come to by the model: every interleaving of their work-items, one launch behind the other.
+use Rattle.std.specs.Prelude.{◌≡◌, ◌+◌, ⊤, ℕ, zero, suc, List, [], ◌∷◌, length, map, take}
+use Rattle.work_items.specs.Items.{Move}
+use Rattle.work_items.specs.Runs.{world_after, IsMaximal}
+use Rattle.cl_model.specs.Tree.{Program}
+use Rattle.cl_model.specs.Sizes.{Launch}
+use Rattle.cl_model.specs.Valid.{IsValid}
+use Rattle.cl_model.specs.Meaning.{machine_of, start_world, IsCleanLaunch, EndsDone, EndsRange, EndsParted, EndsTurns}
+use Rattle.cl_meaning.specs.Typed.{Unit'}
+use Rattle.cl_valid.specs.Erased.{program_of}
+use Rattle.kir.specs.Lowering.{IsLoweringOf}
+use Rattle.wg_top.specs.declared.RunError.{RunError}
+use Rattle.wg_top.specs.declared.RunError.TheVariants as error
+use Rattle.wg_top.specs.Middle.{names_in, kernel_in, plan_in}
+use Rattle.wg_top.specs.Described.{KeepsOnceWhatIsEqual}
+
+-- ---- units
+
+-- the kernel without calls of each unit comes from its program: the one premise of what is said of outcomes, which is not proved yet
+abbrev pub AreLowered : List Unit' → Type 0
+AreLowered [] = ⊤
+AreLowered (u ∷ units) = IsLoweringOf (program_of u) (names_in u) (kernel_in u) × AreLowered units
+
+-- the program of a unit is valid, and what is kept once for a group has equal values in all its work-items at the same point, in each launch that fits
+pub record IsMade (u : Unit') : Type 0 where
+  pub valid : IsValid (program_of u)
+  pub once : KeepsOnceWhatIsEqual (program_of u) (kernel_in u) (plan_in u)
+
+-- the same of each unit
+abbrev pub AreMade : List Unit' → Type 0
+AreMade [] = ⊤
+AreMade (u ∷ units) = IsMade u × AreMade units
+
+-- the programs of units
+abbrev pub models_in : List Unit' → List Program
+models_in units = map program_of units
+
+-- ---- every launch
+
+-- each launch may be done: after some run of it on the buffers that the one before it left every work-item has ended; and the last one leaves these
+abbrev pub AreDone : List Program → List Launch → (before after : List (List ℕ)) → Type 0
+AreDone [] [] before after = after ≡ before
+AreDone (p ∷ programs) (launch ∷ launches) before after = (mid : List (List ℕ)) × EndsDone p launch before mid × AreDone programs launches mid after
+AreDone _ _ before after = ⊥
+
+-- so many launches may be done, and the next one may end so on the buffers that they leave
+abbrev pub EndBehind : (Program → Launch → List (List ℕ) → Type 0) → List Program → List Launch → (before : List (List ℕ)) → (behind : ℕ) → Type 0
+EndBehind Ends (p ∷ programs) (launch ∷ launches) before zero = Ends p launch before
+EndBehind Ends (p ∷ programs) (launch ∷ launches) before (suc behind) = (mid : List (List ℕ)) × EndsDone p launch before mid × EndBehind Ends programs launches mid behind
+EndBehind Ends _ _ before behind = ⊥
+
+-- the launch with that number, counted from 1, may end so behind those before it
+pub record MayEnd (Ends : Program → Launch → List (List ℕ) → Type 0) (programs : List Program) (launches : List Launch) (before : List (List ℕ)) (number : ℕ) : Type 0 where
+  pub behind : ℕ
+  pub ends : EndBehind Ends programs launches before behind
+  pub number_is : number ≡ behind + 1
+
+-- what a refusal says of a launch is an outcome of that launch
+abbrev pub IsOutcomeOf : List Program → List Launch → (before : List (List ℕ)) → RunError → Type 0
+IsOutcomeOf programs launches before (error.Range number several group item place) = MayEnd (λ p launch buffers. EndsRange p launch buffers group item place) programs launches before number
+IsOutcomeOf programs launches before (error.Parted number several group item place) = MayEnd (λ p launch buffers. EndsParted p launch buffers group item place) programs launches before number
+IsOutcomeOf programs launches before (error.Turns number several) = MayEnd EndsTurns programs launches before number
+IsOutcomeOf programs launches before _ = ⊥
+
+-- ---- clean launches
+
+-- each launch is clean on the buffers that those before it leave
+abbrev pub AreClean : List Program → List Launch → (before : List (List ℕ)) → Type 0
+AreClean [] [] before = ⊤
+AreClean (p ∷ programs) (launch ∷ launches) before = IsCleanLaunch p launch before × ((mid : List (List ℕ)) → EndsDone p launch before mid → AreClean programs launches mid)
+AreClean _ _ before = ⊥
+
+-- every interleaving of the launch leaves these buffers: there is one after which every work-item has ended, and each run that no move can follow leaves them
+pub record EachLeaves (program : Program) (launch : Launch) (before after : List (List ℕ)) : Type 0 where
+  pub done : EndsDone program launch before after
+  pub each : (moves : List Move) → IsMaximal (machine_of program launch) (start_world program launch before) moves
+      → take (length launch.lengths) (world_after (machine_of program launch) (start_world program launch before) moves).memory ≡ after
+
+-- the same of each launch, on the buffers that the one before it leaves
+abbrev pub AllLeave : List Program → List Launch → (before after : List (List ℕ)) → Type 0
+AllLeave [] [] before after = after ≡ before
+AllLeave (p ∷ programs) (launch ∷ launches) before after = (mid : List (List ℕ)) × EachLeaves p launch before mid × AllLeave programs launches mid after
+AllLeave _ _ before after = ⊥
