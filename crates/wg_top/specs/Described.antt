@@ -55,7 +55,7 @@ abbrev pub IsCompiledAs : Width → List ℕ → Compiled → Type 0
 IsCompiledAs width name c =
     IsCompiledFrom (program_of (unit_of c.program)) name (varying_of (program_of (unit_of c.program))) (kernel_in (unit_of c.program)) (plan_in (unit_of c.program)) width c.group.kernel (plain_of c.group)
 
--- the kernel of a unit as the passes leave it, at a lane width: its kernel without calls, its plan and its group program are those of the unit; of a valid program, what is kept once is equal; and where its
+-- the kernel of a unit as the passes leave it, at a lane width: it, its plan and its group program are those of the unit; of a valid program, what is kept once is equal; and where its
 -- kernel comes from the program, a launch that fits the group program fits the program, and the group program of a valid one ends in outcomes of it
 pub record IsCompiledAt (width : ℕ) (c : Compiled) : Type 0 where
   pub kernel : kernel_of c.kernel ≡ kernel_in (unit_of c.program)

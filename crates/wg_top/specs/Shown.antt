@@ -3,7 +3,6 @@ use Rattle.std.specs.Prelude.{◌≡◌, ℕ, suc, Bool, List, [], ◌∷◌, �
 use Rattle.launch_file.specs.Texts.{Text, Part}
 use Rattle.cl_meaning.specs.Typed.{Unit'}
 use Rattle.cl_model.specs.Lists.{AllDiffer}
-use Rattle.cl_model.specs.Valid.{IsValid}
 use Rattle.cl_valid.specs.Erased.{program_of}
 use Rattle.kir.specs.Inlined.{crossing_of}
 use Rattle.plan_lines.specs.Lines.{plan_lines_of}
@@ -18,11 +17,11 @@ use Rattle.wg_top.specs.Middle.{names_in, kernel_in, plan_in, group_in, IsLike}
 abbrev pub Showing : Type 1
 Showing = (width : ℕ) → (name : List ℕ) → Unit' → (text : List ℕ) → Type 0
 
--- the text of a kernel's plan: of a valid program, a line for each variable that crosses, none twice, in the order in which declarations stand in the inlined text
+-- the text of a kernel's plan: a line for each variable that crosses, none twice, in the order in which declarations stand in the inlined text
 pub record IsPlanText (u : Unit') (text : List ℕ) : Type 0 where
   pub lines : text ≡ plan_lines_of (program_of u) (kernel_in u) (plan_in u)
-  pub meaning : IsValid (program_of u) → AreLinesOf (program_of u) (names_in u) (crossing_of (program_of u)) text
-  pub once : IsValid (program_of u) → AllDiffer (crossing_of (program_of u))
+  pub meaning : AreLinesOf (program_of u) (names_in u) (crossing_of (program_of u)) text
+  pub once : AllDiffer (crossing_of (program_of u))
 
 -- the text of the kernel's plan
 abbrev pub plan_shown : Showing

@@ -1,6 +1,8 @@
 // What the commands that run nothing print.
 ghost use Rattle.std.specs.Prelude.{◌≡◌, ◌++◌, ℕ, IfOk, IfErr, OnOk, map};
+ghost use Rattle.cl_model.specs.Valid.{IsValid};
 ghost use Rattle.cl_piece.specs.View.{unit_of};
+ghost use Rattle.cl_valid.specs.Erased.{program_of};
 ghost use Rattle.launch_file.specs.Texts.{text_of};
 ghost use Rattle.wg_top.specs.Causes.{standing, ReadingCause};
 ghost use Rattle.wg_top.specs.Described.{IsCompiledAt};
@@ -38,7 +40,7 @@ fn put(text: &mut Vec<u8>, bytes: &[u8]) -> Result<(), Memory>
 
 // The text of one kernel.
 fn kernel_text(alloc: Global, shown: Shown, kernel: &Compiled) -> Result<Vec<u8>, Memory>
-    ensures { IfOk result (λ v. (width : ℕ) → IsCompiledAt width kernel.now → showing shown width kernel.now.group.kernel (unit_of kernel.now.program) v.items) }
+    ensures { IfOk result (λ v. (width : ℕ) → IsCompiledAt width kernel.now → IsValid (program_of (unit_of kernel.now.program)) → showing shown width kernel.now.group.kernel (unit_of kernel.now.program) v.items) }
 {
     match shown {
         Shown::Plan => plan_text(alloc, &kernel.program, &kernel.kernel, &kernel.plan),

@@ -12,6 +12,6 @@ pub returns-in-Plan : goal.returns-in-Plan
 returns-in-Plan c =
     let k = c.args.kernel.now in
     IfOk-weaker c.plan_text.result _ _
-    (λ t e width passed.
-    subst (λ (s : Shown). showing s width k.group.kernel (unit_of k.program) t.items) (sym c.in-Plan.is) (plan_text_of k.program (kernel_of k.kernel) (planned_of k.plan) t.items passed.kernel passed.plan e))
+    (λ t e width passed valid.
+    subst (λ (s : Shown). showing s width k.group.kernel (unit_of k.program) t.items) (sym c.in-Plan.is) (plan_text_of k.program (kernel_of k.kernel) (planned_of k.plan) t.items valid passed.kernel passed.plan e))
     c.plan_text.ensures.lines

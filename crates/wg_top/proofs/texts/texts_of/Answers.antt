@@ -1,7 +1,9 @@
 use Rattle.std.proofs.Common.{◌≡◌, ℕ, ◌+◌, ◌<◌, ◌≤◌, ◌++◌, List, [], length, map, sym, ap, ap₂, ◌∙◌, subst, append-nil, arith}
 use Rattle.std.proofs.lemmas.List.{length-map, get_or_default}
 use Rattle.cl_meaning.specs.Typed.{Unit'}
+use Rattle.cl_model.specs.Valid.{IsValid}
 use Rattle.cl_piece.specs.View.{unit_of}
+use Rattle.cl_valid.specs.Erased.{program_of}
 use Rattle.launch_file.specs.Binding.{part_at}
 use Rattle.launch_file.specs.Texts.{Part, text_of}
 use Rattle.wg_top.specs.declared.compile.Compiled.{Compiled}
@@ -26,8 +28,9 @@ loop-k-preserved c = λ later texts.
     let in_parts : c.loop-k.k < length text.list = omega (arith, in_kernels, many) in
     let part : Part = part_at text k in
     let passed : IsCompiledAt text.lanes kernel = holds_at (IsCompiledAt text.lanes) kernels k kernel in_kernels c.index.ensures c.requires.passes in
+    let valid : IsValid (program_of (unit kernel)) = holds_at (λ (q : Compiled). IsValid (program_of (unit_of q.program))) kernels k kernel in_kernels c.index.ensures c.requires.valid in
     let name : kernel.group.kernel ≡ part.kernel = same_at (λ (q : Compiled). q.group.kernel) (λ (p : Part). p.kernel) kernels text.list c.requires.names k kernel _ in_kernels in_parts c.index.ensures in
-    let shown = subst (λ (n : List ℕ). showing c.args.shown text.lanes n (unit kernel) c.in_ok-own.own.items) name (c.in_ok-own.ensures text.lanes passed) in
+    let shown = subst (λ (n : List ℕ). showing c.args.shown text.lanes n (unit kernel) c.in_ok-own.own.items) name (c.in_ok-own.ensures text.lanes passed valid) in
     let put : c.put.new.text.items ≡ (c.loop-k.text.items ++ head_of text.several (k + 1)) ++ c.in_ok-own.own.items = c.in_ok-put.ensures ∙ ap₂ (λ (a b : List ℕ). a ++ b) c.in_ok-put_head.ensures c.deref.ensures.value in
     subst (λ (t : List ℕ). AreTexts (showing c.args.shown) text.lanes text.several 1 text.list units (t ++ later)) (sym put)
     (one_text (showing c.args.shown) text.lanes text.several text.list units k part (unit kernel) c.loop-k.text.items c.in_ok-own.own.items later in_parts in_units (get_or_default text.list k _ part in_parts) (at_place unit kernels k kernel in_kernels c.index.ensures) shown c.loop-k.invariant texts)
