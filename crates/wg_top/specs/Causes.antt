@@ -228,7 +228,7 @@ pub record LeavesClean (old new : Option FileMap) (text : Text) (units : List Un
   pub saved : AllSavedAs old new (saves_of text.buffers) after
   pub others : KeepsAllBut old new (saves_of text.buffers)
 
--- all was read, and where the kernels come from their programs, some program of a launch has a loop
+-- all was read, and where the kernels come from their programs, the kernel of some launch has a loop, or a function that it calls
 pub record HasLoops (files : Option FileMap) (ask : Files) : Type 0 where
   pub text : Text
   pub units : List Unit'
