@@ -42,10 +42,12 @@ use Rattle.mask_lower.specs.Layout.{HasSizes}
 use Rattle.wg_top.specs.declared.compile.Compiled.{Compiled}
 use Rattle.wg_top.specs.declared.RunError.{RunError}
 use Rattle.wg_top.specs.declared.RunError.TheVariants as error
-use Rattle.wg_top.specs.Middle.{names_in, kernel_in, group_in, IsLike, programs_in}
+use Rattle.wg_top.specs.Middle.{names_in, kernel_in, plan_in, group_in, IsLike, programs_in}
+use Rattle.diverge.specs.Rounds.{varying_of}
+use Rattle.wg_top.specs.Compiled.{IsCompiledFrom}
 use Rattle.wg_top.specs.Described.{IsCompiledAt}
 use Rattle.wg_top.specs.Outcome.{IsOutcome, EndsInOutcomes}
-use Rattle.wg_top.specs.Outcomes.{AreLowered, AreMade, models_in, AreDone, EndBehind, IsOutcomeOf}
+use Rattle.wg_top.specs.Outcomes.{AreLowered, AreMade, IsCompiledTo, AreCompiledTo, models_in, AreDone, EndBehind, IsOutcomeOf}
 use Rattle.wg_top.specs.Launches.{launch_end, launches_in, LaunchRan, LaunchesRan, EndsBehind, EndsSo, site_place, start_place}
 use Rattle.wg_top.proofs.MeaningLemmas.{end_like}
 use Rattle.wg_top.proofs.SumLemmas.{sum-append}
@@ -148,6 +150,29 @@ made_each width (c ∷ cs) passes valid = (record { valid = valid.0; once = pass
 pub all_made : (width : ℕ) (cs : List Compiled) → All (IsCompiledAt width) cs → All (λ c. IsValid (program_of (unit_of c.program))) cs → AreMade (map (λ c. unit_of c.program) cs)
 all_made width cs passes valid = made_each width cs (all_at (IsCompiledAt width) cs passes) (all_at (λ c. IsValid (program_of (unit_of c.program))) cs valid)
 
+-- the group program of each, under the name of its launch's kernel
+compiled_to : (width : ℕ) (c : Compiled) (name : List ℕ) → IsCompiledAt width c → IsValid (program_of (unit_of c.program)) → c.group.kernel ≡ name → IsCompiledTo width name (unit_of c.program)
+compiled_to width c name passes valid named = record {
+  group = plain_of c.group;
+  like = passes.group;
+  lanes = passes.lanes;
+  lanes_are = passes.lanes_are;
+  compiled = λ lowered.
+      subst (λ (n : List ℕ). IsCompiledFrom (program_of (unit_of c.program)) n (varying_of (program_of (unit_of c.program))) (kernel_in (unit_of c.program)) (plan_in (unit_of c.program)) passes.lanes n (plain_of c.group)) named (passes.whole lowered valid);
+}
+
+compiled_each : (width : ℕ) (cs : List Compiled) (parts : List Part) → AllAt (IsCompiledAt width) cs → AllAt (λ c. IsValid (program_of (unit_of c.program))) cs → map (λ c. c.group.kernel) cs ≡ map (λ p. p.kernel) parts → AreCompiledTo width parts (map (λ c. unit_of c.program) cs)
+compiled_each width [] [] passes valid named = tt
+compiled_each width (c ∷ cs) (part ∷ parts) passes valid named =
+    let first : c.group.kernel ≡ part.kernel = cc named in
+    let rest : map (λ (c : Compiled). c.group.kernel) cs ≡ map (λ (p : Part). p.kernel) parts = cc named in
+    (compiled_to width c part.kernel passes.0 valid.0 first, compiled_each width cs parts passes.1 valid.1 rest)
+compiled_each width [] (part ∷ parts) passes valid named = absurd (let never : ⊥ = cc named in never)
+compiled_each width (c ∷ cs) [] passes valid named = absurd (let never : ⊥ = cc named in never)
+
+pub all_compiled : (width : ℕ) (cs : List Compiled) (parts : List Part) → All (IsCompiledAt width) cs → All (λ c. IsValid (program_of (unit_of c.program))) cs → map (λ c. c.group.kernel) cs ≡ map (λ p. p.kernel) parts → AreCompiledTo width parts (map (λ c. unit_of c.program) cs)
+all_compiled width cs parts passes valid named = compiled_each width cs parts (all_at (IsCompiledAt width) cs passes) (all_at (λ c. IsValid (program_of (unit_of c.program))) cs valid) named
+
 -- what was made ready fits
 pub prepared : (all : List Launcher) → All (λ q. LaunchFits (plain_of q.program).params (sum (plain_of q.program).locals) (launch_of q.launch)) all → AllPrepared (map (λ q. plain_of q.program) all) (map (λ q. launch_of q.launch) all)
 prepared [] fit = tt
@@ -157,7 +182,7 @@ promise : (width turns : ℕ) (buffers : List BufferText) (c : Compiled) (part :
     → LaunchFits (plain_of c.group).params (sum (plain_of c.group).locals) (launch_in turns buffers part) → Promise (program_of (unit_of c.program)) (group_in width (unit_of c.program)) (launch_in turns buffers part)
 promise width turns buffers c part passes valid lowered fits = record {
   sites = places_are width (unit_of c.program) lowered;
-  ends = ends_like (program_of (unit_of c.program)) (group_in width (unit_of c.program)) (plain_of c.group) (launch_in turns buffers part) passes.group (passes.ends lowered valid)
+  ends = ends_like (program_of (unit_of c.program)) (group_in width (unit_of c.program)) (plain_of c.group) (launch_in turns buffers part) passes.group (passes.whole lowered valid).outcomes
       (passes.fits lowered (launch_in turns buffers part) fits) (has_sizes turns buffers part fits.dimensions);
   keeps = keeps_lengths (group_in width (unit_of c.program)) (launch_in turns buffers part);
 }

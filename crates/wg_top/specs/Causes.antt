@@ -18,7 +18,7 @@ use Rattle.wg_top.specs.Units.{AreCompiled, IsFirstRefused, bind_refusal}
 use Rattle.wg_top.specs.Launches.{launches_in, LaunchesRan, EndsSo, all_groups, all_items}
 use Rattle.wg_top.specs.Middle.{programs_in}
 use Rattle.wg_top.specs.Loops.{HaveNoLoop}
-use Rattle.wg_top.specs.Outcomes.{AreLowered, AreMade, models_in, AreDone, IsOutcomeOf, AreClean, AllLeave}
+use Rattle.wg_top.specs.Outcomes.{AreLowered, AreMade, AreCompiledTo, models_in, AreDone, IsOutcomeOf, AreClean, AllLeave}
 
 -- a store at one moment
 pub record Standing : Type 0 where
@@ -119,6 +119,7 @@ pub record RunStopped (files : Option FileMap) (ask : Files) (error : RunError) 
 pub record StopsIn (files : Option FileMap) (text : Text) (units : List Unit') (error : RunError) : Type 0 where
   pub stopped : IsStopped files text units error
   pub made : AreMade units
+  pub compiled : AreCompiledTo text.lanes text.list units
   pub outcome : AreLowered units → IsOutcomeOf (models_in units) (launches_in text) stopped.before error
 
 -- all was read, and that holds of what was read
@@ -165,6 +166,7 @@ pub record HasRun (files : Option FileMap) (text : Text) (units : List Unit') (a
   pub loaded : BuffersLoaded files text before
   pub ran : LaunchesRan (programs_in text units) (launches_in text) before after
   pub made : AreMade units
+  pub compiled : AreCompiledTo text.lanes text.list units
   pub outcome : AreLowered units → AreDone (models_in units) (launches_in text) before after
 
 -- saving had begun: the launches ran, the buffers before one are saved, and those behind it and all other names are as before
@@ -226,7 +228,7 @@ pub record LeavesClean (old new : Option FileMap) (text : Text) (units : List Un
   pub saved : AllSavedAs old new (saves_of text.buffers) after
   pub others : KeepsAllBut old new (saves_of text.buffers)
 
--- all was read, and where the kernels come from their programs, some program of a launch has a loop
+-- all was read, and where the kernels come from their programs, the kernel of some launch has a loop, or a function that it calls
 pub record HasLoops (files : Option FileMap) (ask : Files) : Type 0 where
   pub text : Text
   pub units : List Unit'

@@ -1,6 +1,7 @@
 -- What a compiled kernel is: its plan, its shape, what is kept once for a group, and its ends where its kernel comes from the program.
 use Rattle.std.specs.Prelude.{◌≡◌, ℕ, List, Some, slice_get, sum}
 use Rattle.wg_num.specs.declared.types.Width.{Width}
+use Rattle.wg_num.specs.Operators.{lanes_of}
 use Rattle.cl_model.specs.Tree.{Program}
 use Rattle.cl_model.specs.Sizes.{Launch}
 use Rattle.cl_model.specs.Fitting.{FitsProgram}
@@ -21,7 +22,6 @@ use Rattle.lane_code.specs.View.{plain_of}
 use Rattle.wg_top.specs.declared.compile.Compiled.{Compiled}
 use Rattle.wg_top.specs.Middle.{names_in, kernel_in, plan_in, group_in, IsLike}
 use Rattle.wg_top.specs.Compiled.{IsPlanned, IsShaped, IsCompiledFrom}
-use Rattle.wg_top.specs.Outcome.{EndsInOutcomes}
 
 -- it is said which variables vary, each cell has its home, and the program of a group has the plan's columns and slots
 abbrev pub IsPlannedAt : Width → Compiled → Type 0
@@ -55,12 +55,14 @@ abbrev pub IsCompiledAs : Width → List ℕ → Compiled → Type 0
 IsCompiledAs width name c =
     IsCompiledFrom (program_of (unit_of c.program)) name (varying_of (program_of (unit_of c.program))) (kernel_in (unit_of c.program)) (plan_in (unit_of c.program)) width c.group.kernel (plain_of c.group)
 
--- the kernel of a unit as the passes leave it, at a lane width: it, its plan and its group program are those of the unit; of a valid program, what is kept once is equal; and where its
--- kernel comes from the program, a launch that fits the group program fits the program, and the group program of a valid one ends in outcomes of it
+-- the kernel of a unit as the passes leave it, at so many lanes: it, its plan and its group program are those of the unit; of a valid program, what is kept once is equal; and where its
+-- kernel comes from the program, a launch that fits the group program fits the program, and for a valid one it has its plan, its ends and its shape
 pub record IsCompiledAt (width : ℕ) (c : Compiled) : Type 0 where
   pub kernel : kernel_of c.kernel ≡ kernel_in (unit_of c.program)
   pub plan : planned_of c.plan ≡ plan_in (unit_of c.program)
   pub group : IsLike (group_in width (unit_of c.program)) (plain_of c.group)
   pub once : IsValid (program_of (unit_of c.program)) → KeepsOnce c
   pub fits : IsLowered c → (launch : Launch) → LaunchFits (plain_of c.group).params (sum (plain_of c.group).locals) launch → FitsProgram (program_of (unit_of c.program)) launch
-  pub ends : IsLowered c → IsValid (program_of (unit_of c.program)) → EndsInOutcomes (program_of (unit_of c.program)) (plain_of c.group)
+  pub lanes : Width
+  pub lanes_are : lanes_of lanes ≡ width
+  pub whole : IsLowered c → IsValid (program_of (unit_of c.program)) → IsCompiledAs lanes c.group.kernel c

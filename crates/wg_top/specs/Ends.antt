@@ -11,7 +11,7 @@ use Rattle.wg_top.specs.declared.Summary.{Summary}
 use Rattle.launch_file.specs.Texts.{Text}
 use Rattle.cl_meaning.specs.Typed.{Unit'}
 use Rattle.wg_top.specs.Causes.{Standing, standing, Cause, ReadingCause, RunRead, LeavesFiles, IsDone, LeavesClean}
-use Rattle.wg_top.specs.Outcomes.{AreMade}
+use Rattle.wg_top.specs.Outcomes.{AreMade, AreCompiledTo}
 use Rattle.wg_top.specs.Shown.{Showing, plan_shown, code_shown, Shows}
 use Rattle.wg_top.specs.Sample.{IsSample, SampleCause}
 use Rattle.wg_top.specs.Lines.{IsSaid, done_line, sample_line, error_line, status_of}
@@ -99,6 +99,7 @@ pub record ShownRead (files : Option FileMap) (ask : Files) (show : Showing) (sh
   pub read : RunRead files ask text units
   pub shows : Shows show text units shown
   pub made : AreMade units
+  pub compiled : AreCompiledTo text.lanes text.list units
 
 -- the texts are on `out`
 pub record EndsShown (old new : Outside) (ask : Files) (show : Showing) (status : ℕ) : Type 0 where

@@ -1,8 +1,9 @@
--- Programs without a loop.
+-- Kernels without a loop.
 use Rattle.std.specs.Prelude.{◌≡◌, ◌||◌, true, false, ⊤, List, [], ◌∷◌}
 use Rattle.std.specs.Prelude.{Bool as Test}
 use Rattle.cl_model.specs.Lists.{Each}
-use Rattle.cl_model.specs.Tree.{Statement, Do, Declare, Fill, Block, If, Loop, Switch, Break, Continue, Return, Barrier, Statements, empty, also, Arms, no_arm, arm, Function, Program}
+use Rattle.cl_model.specs.Calls.{Instance, instances, function_at}
+use Rattle.cl_model.specs.Tree.{Statement, Do, Declare, Fill, Block, If, Loop, Switch, Break, Continue, Return, Barrier, Statements, empty, also, Arms, no_arm, arm, Program}
 
 -- a statement is a loop, or has one in it
 abbrev mutual
@@ -27,9 +28,9 @@ abbrev mutual
   arms_have_loop no_arm = false
   arms_have_loop (arm labels other body rest) = have_loop body || arms_have_loop rest
 
--- no function of the program has a loop
+-- neither the kernel nor a function that it calls, or that those call, has a loop
 abbrev pub HasNoLoop : Program → Type 0
-HasNoLoop program = Each (λ (g : Function). have_loop g.body ≡ false) program.functions
+HasNoLoop program = Each (λ (i : Instance). have_loop (function_at program i.function).body ≡ false) (instances program)
 
 -- the same of each program
 abbrev pub HaveNoLoop : List Program → Type 0

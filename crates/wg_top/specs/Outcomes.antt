@@ -1,5 +1,7 @@
 -- What a launch file's launches come to by the model: every interleaving of their work-items, one launch behind the other.
 use Rattle.std.specs.Prelude.{◌≡◌, ◌+◌, ⊤, ℕ, zero, suc, List, [], ◌∷◌, length, map, take}
+use Rattle.wg_num.specs.declared.types.Width.{Width}
+use Rattle.wg_num.specs.Operators.{lanes_of}
 use Rattle.work_items.specs.Items.{Move}
 use Rattle.work_items.specs.Runs.{world_after, IsMaximal}
 use Rattle.cl_model.specs.Tree.{Program}
@@ -9,9 +11,13 @@ use Rattle.cl_model.specs.Meaning.{machine_of, start_world, IsCleanLaunch, EndsD
 use Rattle.cl_meaning.specs.Typed.{Unit'}
 use Rattle.cl_valid.specs.Erased.{program_of}
 use Rattle.kir.specs.Lowering.{IsLoweringOf}
+use Rattle.diverge.specs.Rounds.{varying_of}
+use Rattle.lane_code.specs.Program.{Plain}
+use Rattle.launch_file.specs.Texts.{Part}
 use Rattle.wg_top.specs.declared.RunError.{RunError}
 use Rattle.wg_top.specs.declared.RunError.TheVariants as error
-use Rattle.wg_top.specs.Middle.{names_in, kernel_in, plan_in}
+use Rattle.wg_top.specs.Middle.{names_in, kernel_in, plan_in, group_in, IsLike}
+use Rattle.wg_top.specs.Compiled.{IsCompiledFrom}
 use Rattle.wg_top.specs.Described.{KeepsOnceWhatIsEqual}
 
 -- ---- units
@@ -30,6 +36,21 @@ pub record IsMade (u : Unit') : Type 0 where
 abbrev pub AreMade : List Unit' → Type 0
 AreMade [] = ⊤
 AreMade (u ∷ units) = IsMade u × AreMade units
+
+-- the group program of a unit under a name, at so many lanes: it does what `group_in` does, in the same order; and where the kernel without calls comes from the program, it
+-- has its plan, it ends in outcomes of the program in each launch that fits, and it accesses no more than is written
+pub record IsCompiledTo (width : ℕ) (name : List ℕ) (u : Unit') : Type 0 where
+  pub group : Plain
+  pub like : IsLike (group_in width u) group
+  pub lanes : Width
+  pub lanes_are : lanes_of lanes ≡ width
+  pub compiled : IsLoweringOf (program_of u) (names_in u) (kernel_in u) → IsCompiledFrom (program_of u) name (varying_of (program_of u)) (kernel_in u) (plan_in u) lanes name group
+
+-- the same of each launch's unit, under the name of its kernel
+abbrev pub AreCompiledTo : (width : ℕ) → List Part → List Unit' → Type 0
+AreCompiledTo width [] [] = ⊤
+AreCompiledTo width (part ∷ parts) (u ∷ units) = IsCompiledTo width part.kernel u × AreCompiledTo width parts units
+AreCompiledTo width _ _ = ⊥
 
 -- the programs of units
 abbrev pub models_in : List Unit' → List Program

@@ -236,6 +236,7 @@ pub fn wgcc<S: Store, O: Sink, E: Sink>(
     // What each status says.
     ensures failed { result ≡ 1 → Rose (S.faults store.old) (S.faults store.new) ⊎ Rose (O.faults out.old) (O.faults out.new) }
     ensures absent { result ≡ 9 → Rose (S.misses store.old) (S.misses store.new) }
+    ensures looped { (ask : Files) → AreWords (map string_bytes words.now) (run ask) → result ≡ 7 → HasLoops (S.files store.old) ask }
     ensures no_save { (result ≡ 0 → ⊥) → (result ≡ 1 → ⊥) → S.files store.new ≡ S.files store.old }
     ensures quiet { result ≡ 0 → sink_standing E.written E.faults err.new ≡ sink_standing E.written E.faults err.old }
     ensures line { (result ≡ 0 → ⊥) → SaysLine (sink_standing E.written E.faults err.old) (sink_standing E.written E.faults err.new) }
@@ -246,14 +247,16 @@ pub fn wgcc<S: Store, O: Sink, E: Sink>(
         Accepted (S.files store.old) ask text units →
         (Rose (S.faults store.old) (S.faults store.new) → ⊥) → (Rose (O.faults out.old) (O.faults out.new) → ⊥) →
         (result ≡ 0) ⊎ (result ≡ 8) }
+    ensures exact { (ask : Files) (error : RunError) → AreWords (map string_bytes words.now) (run ask) →
+        is_some (S.files store.old) ≡ true → Finds (S.files store.old) ask error →
+        (Rose (S.faults store.old) (S.faults store.new) → ⊥) → (result ≡ status_of error) ⊎ (result ≡ 8) }
+
+    // Where no interleaving of any launch races, faults, parts or begins more iterations than the
+    // turns, and the kernels come from their programs: what every interleaving leaves is saved.
     ensures clean { (ask : Files) (text : Text) (units : List Unit') → AreWords (map string_bytes words.now) (run ask) →
         AcceptedClean (S.files store.old) ask text units →
         (Rose (S.faults store.old) (S.faults store.new) → ⊥) → (Rose (O.faults out.old) (O.faults out.new) → ⊥) →
         EndsClean (S.files store.old) (S.files store.new) text units result }
-    ensures looped { (ask : Files) → AreWords (map string_bytes words.now) (run ask) → result ≡ 7 → HasLoops (S.files store.old) ask }
-    ensures exact { (ask : Files) (error : RunError) → AreWords (map string_bytes words.now) (run ask) →
-        is_some (S.files store.old) ≡ true → Finds (S.files store.old) ask error →
-        (Rose (S.faults store.old) (S.faults store.new) → ⊥) → (result ≡ status_of error) ⊎ (result ≡ 8) }
 {
     match read_words(alloc, words) {
         Ok(asked) => do_words(alloc, asked, store, out, err),

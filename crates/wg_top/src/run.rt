@@ -39,6 +39,7 @@ fn run_bound<S: Store>(
     requires as_many { length launches.items ≡ length text.now.list.items }
     requires passes { All (IsCompiledAt (text_of text.now).lanes) kernels.items }
     requires valid { All (λ c. IsValid (program_of (unit_of c.program))) kernels.items }
+    requires names { map (λ c. c.group.kernel) kernels.items ≡ map (λ p. p.kernel) (text_of text.now).list }
     requires launches { map launch_of launches.items ≡ launches_in (text_of text.now) }
     requires ready { All (IsReady text.now.buffers.items) launches.items }
     requires fit { AllFit kernels.items launches.items }
@@ -88,7 +89,9 @@ fn run_given<S: Store>(alloc: Global, store: &mut S, given: Given) -> Result<Sum
 /// and `turns` are the numbers of the options that are given. The source is loaded first, then the
 /// launch file, then the buffers in order; the first step that is refused ends the call. The
 /// launches run in order, each on the buffers that the one before it left. No file is saved before
-/// each work-item has ended.
+/// each work-item has ended. Where no interleaving of any launch races, faults, parts or begins too
+/// many iterations, the files are there and no fault rises, and the kernels come from their programs,
+/// the saved buffers are what every interleaving leaves, and the one refusal is want of memory.
 pub fn run_source<S: Store>(
     alloc: Global,
     store: &mut S,
@@ -103,7 +106,7 @@ pub fn run_source<S: Store>(
     ensures stands { Stands (standing S.files S.faults S.misses store.old) (standing S.files S.faults S.misses store.new) }
     ensures clean { IfOk result (λ _. (text : Text) (units : List Unit') → AcceptedClean (S.files store.old) (asked source.now launch.now lanes turns) text units →
         LeavesClean (S.files store.old) (S.files store.new) text units) }
-    ensures done { IfErr result (λ error. (text : Text) (units : List Unit') → AcceptedClean (S.files store.old) (asked source.now launch.now lanes turns) text units →
+    ensures only_memory { IfErr result (λ error. (text : Text) (units : List Unit') → AcceptedClean (S.files store.old) (asked source.now launch.now lanes turns) text units →
         (Rose (S.faults store.old) (S.faults store.new) → ⊥) → error ≡ refusals.Memory) }
 {
     match read_all(alloc, store, source, launch, Options { lanes, turns }) {

@@ -1,3 +1,4 @@
+use Rattle.std.proofs.Common.{refl}
 use Rattle.cl_piece.specs.View.{unit_of}
 use Rattle.kir.specs.View.{kernel_of}
 use Rattle.ctx_plan.specs.View.{planned_of}
@@ -36,18 +37,14 @@ returns-clause-planned c = planned_at c
 pub returns-clause-once : goal.returns-clause-once
 returns-clause-once c = λ valid. kept_once (program_of (unit_of c.args.program)) (kernel_in (unit_of c.args.program)) (plan_in (unit_of c.args.program)) valid (planned_at c valid).homes
 
--- the whole record, where the kernel comes from the program
-compiled_at : goal.returns-clause-compiled
-compiled_at c =
+pub returns-clause-compiled : goal.returns-clause-compiled
+returns-clause-compiled c =
     let kernel = kernel_is c.args.program (kernel_of c.in_ok-kernel.kernel) c.in_ok-kernel.ensures in
     let plan = plan_is c.args.program (kernel_of c.in_ok-kernel.kernel) (marks c.in_ok-varying.varying) (planned_of c.in_ok-plan.plan) kernel c.in_ok-varying.ensures.exact c.in_ok-plan.ensures.made in
     let like = group_is (lanes_of c.args.width) c.args.program (kernel_of c.in_ok-kernel.kernel) (planned_of c.in_ok-plan.plan) (plain_of c.in_ok-group.group) kernel plan c.in_ok-group.ensures.like in
     λ valid.
     compiled_in (unit_of c.args.program) c.args.width c.args.name.now c.in_ok-group.group.kernel (kernel_of c.in_ok-kernel.kernel) (planned_of c.in_ok-plan.plan) (plain_of c.in_ok-group.group) kernel plan c.in_ok-kernel.kernel.valid (planned_at c valid) like
     c.in_ok-group.ensures.one c.in_ok-group.group.valid (codes_well c.in_ok-group.group.top) c.in_ok-group.ensures.name
-
-pub returns-clause-compiled : goal.returns-clause-compiled
-returns-clause-compiled c = compiled_at c
 
 pub returns-clause-passes : goal.returns-clause-passes
 returns-clause-passes c =
@@ -62,5 +59,9 @@ returns-clause-passes c =
       group = like;
       once = λ valid. kept_once (program_of u) (kernel_in u) (plan_in u) valid (planned_at c valid).homes;
       fits = λ lowered. fits_program (program_of u) (names_in u) (kernel_in u) (plan_in u) c.args.width (plain_of c.in_ok-group.group) lowered parts;
-      ends = λ lowered valid. (compiled_at c valid lowered).outcomes;
+      lanes = c.args.width;
+      lanes_are = refl;
+      whole = λ lowered valid.
+          compiled_in u c.args.width c.in_ok-group.group.kernel c.in_ok-group.group.kernel (kernel_of c.in_ok-kernel.kernel) (planned_of c.in_ok-plan.plan) (plain_of c.in_ok-group.group) kernel plan c.in_ok-kernel.kernel.valid (planned_at c valid) like
+          c.in_ok-group.ensures.one c.in_ok-group.group.valid (codes_well c.in_ok-group.group.top) refl lowered;
     }

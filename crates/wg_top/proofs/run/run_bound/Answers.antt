@@ -18,8 +18,8 @@ use Rattle.wg_top.specs.Launches.{IsReady, launches_in}
 use Rattle.wg_top.proofs.MeaningLemmas.{AreLike}
 use Rattle.wg_top.proofs.LaunchLemmas.{lengths_twice}
 use Rattle.wg_top.proofs.RunLemmas.{ready_first, load_texts, save_texts, started_lengths, as_many, loaded_of, programs_are, is_stopped, stopped_leaves, has_run, save_stopped, is_run, apart, map_twice, ready_launcher, buffers_fit}
-use Rattle.wg_top.proofs.OutcomeLemmas.{AllPrepared, all_made, prepared, ran_outcome, stop_outcome}
-use Rattle.wg_top.specs.Outcomes.{AreMade}
+use Rattle.wg_top.proofs.OutcomeLemmas.{AllPrepared, all_made, all_compiled, prepared, ran_outcome, stop_outcome}
+use Rattle.wg_top.specs.Outcomes.{AreMade, AreCompiledTo}
 use Rattle.wg_top.proofs.run.run_bound.Goals as goal
 
 pub load_all-requires-clause-texts : goal.load_all-requires-clause-texts
@@ -59,7 +59,8 @@ returns-in-Err-run_each-clause-err g c =
     let groups : List Plain = map (λ (k : Compiled). plain_of k.group) c.args.kernels.items in
     let fit : AllPrepared groups (launches_in text) = subst (λ (ls : List Launch). AllPrepared groups ls) are (subst (λ (ps : List Plain). AllPrepared ps launches) c.in-Ok-prepare_each.ensures.programs (prepared all c.in-Ok-prepare_each.ensures.fit)) in
     let made : AreMade units = all_made text.lanes c.args.kernels.items c.requires.passes c.requires.valid in
-    is_stopped (standing g.S.Store.files g.S.Store.faults g.S.Store.misses c.args.store.now) (standing g.S.Store.files g.S.Store.faults g.S.Store.misses c.load_all.new.store) text units before programs launches c.in-Err-run_each.error c.requires.accepted loaded like are c.in-Err-run_each.ensures.stops made (stop_outcome text c.args.kernels.items c.requires.passes c.requires.valid fit before loaded_sizes)
+    let compiled : AreCompiledTo text.lanes text.list units = all_compiled text.lanes c.args.kernels.items text.list c.requires.passes c.requires.valid c.requires.names in
+    is_stopped (standing g.S.Store.files g.S.Store.faults g.S.Store.misses c.args.store.now) (standing g.S.Store.files g.S.Store.faults g.S.Store.misses c.load_all.new.store) text units before programs launches c.in-Err-run_each.error c.requires.accepted loaded like are c.in-Err-run_each.ensures.stops made compiled (stop_outcome text c.args.kernels.items c.requires.passes c.requires.valid fit before loaded_sizes)
 
 pub returns-in-Err-run_each-clause-left : goal.returns-in-Err-run_each-clause-left
 returns-in-Err-run_each-clause-left g c =
@@ -156,7 +157,8 @@ returns-in-Ok-save_all-clause-ok g c =
     let groups : List Plain = map (λ (k : Compiled). plain_of k.group) c.args.kernels.items in
     let fit : AllPrepared groups (launches_in text) = subst (λ (ls : List Launch). AllPrepared groups ls) are (subst (λ (ps : List Plain). AllPrepared ps launches) c.in-Ok-prepare_each.ensures.programs (prepared all c.in-Ok-prepare_each.ensures.fit)) in
     let made : AreMade units = all_made text.lanes c.args.kernels.items c.requires.passes c.requires.valid in
-    let run : HasRun (g.S.Store.files c.args.store.now) text units after = has_run (g.S.Store.files c.args.store.now) text units before after programs launches loaded like are c.in-Ok-run_each.ensures.ran made (ran_outcome text c.args.kernels.items c.requires.passes c.requires.valid fit before loaded_sizes after) in
+    let compiled : AreCompiledTo text.lanes text.list units = all_compiled text.lanes c.args.kernels.items text.list c.requires.passes c.requires.valid c.requires.names in
+    let run : HasRun (g.S.Store.files c.args.store.now) text units after = has_run (g.S.Store.files c.args.store.now) text units before after programs launches loaded like are c.in-Ok-run_each.ensures.ran made compiled (ran_outcome text c.args.kernels.items c.requires.passes c.requires.valid fit before loaded_sizes after) in
     is_run (g.S.Store.files c.args.store.now) (g.S.Store.files c.load_all.new.store) _ text units c.launch.result.now.saves.items after c.count_all-summary.result (map launch_of c.deref.result.now) c.requires.accepted c.load_all.ensures.files_stay there.saves run c.in-Ok-save_all.ensures.saved c.in-Ok-save_all.ensures.others (ap (map launch_of) c.deref.ensures.value ∙ c.requires.launches) c.count_all-summary.ensures.groups c.count_all-summary.ensures.items
 
 pub returns-clause-left : goal.returns-clause-left
@@ -181,5 +183,6 @@ returns-clause-left g c =
     let groups : List Plain = map (λ (k : Compiled). plain_of k.group) c.args.kernels.items in
     let fit : AllPrepared groups (launches_in text) = subst (λ (ls : List Launch). AllPrepared groups ls) are (subst (λ (ps : List Plain). AllPrepared ps launches) c.in-Ok-prepare_each.ensures.programs (prepared all c.in-Ok-prepare_each.ensures.fit)) in
     let made : AreMade units = all_made text.lanes c.args.kernels.items c.requires.passes c.requires.valid in
-    let run : HasRun (g.S.Store.files c.args.store.now) text units after = has_run (g.S.Store.files c.args.store.now) text units before after programs launches loaded like are c.in-Ok-run_each.ensures.ran made (ran_outcome text c.args.kernels.items c.requires.passes c.requires.valid fit before loaded_sizes after) in
+    let compiled : AreCompiledTo text.lanes text.list units = all_compiled text.lanes c.args.kernels.items text.list c.requires.passes c.requires.valid c.requires.names in
+    let run : HasRun (g.S.Store.files c.args.store.now) text units after = has_run (g.S.Store.files c.args.store.now) text units before after programs launches loaded like are c.in-Ok-run_each.ensures.ran made compiled (ran_outcome text c.args.kernels.items c.requires.passes c.requires.valid fit before loaded_sizes after) in
     inr (save_stopped (g.S.Store.files c.args.store.now) (g.S.Store.files c.load_all.new.store) _ text units c.launch.result.now.saves.items after c.requires.accepted c.load_all.ensures.files_stay there.saves run c.in-Err-save_all.ensures.stops c.in-Err-save_all.ensures.others)

@@ -40,16 +40,16 @@ returns-in-Ok-clause-clean g c =
     let ask : Files = asked c.args.source.now c.args.launch.now c.args.lanes c.args.turns in
     run_clean old.files mid.files _ ask _ _ c.run_given.result c.in-Ok.ensures.read c.in-Ok.ensures.files_stay c.run_given.ensures.ok
 
-pub returns-in-Ok-clause-done : goal.returns-in-Ok-clause-done
-returns-in-Ok-clause-done g c =
+pub returns-in-Ok-clause-only_memory : goal.returns-in-Ok-clause-only_memory
+returns-in-Ok-clause-only_memory g c =
     let old : Standing = standing g.S.Store.files g.S.Store.faults g.S.Store.misses c.args.store.now in
     let mid : Standing = standing g.S.Store.files g.S.Store.faults g.S.Store.misses c.read_all.new.store in
     let new : Standing = standing g.S.Store.files g.S.Store.faults g.S.Store.misses c.run_given.new.store in
     let ask : Files = asked c.args.source.now c.args.launch.now c.args.lanes c.args.turns in
     run_memory old mid new ask _ _ c.run_given.result c.in-Ok.ensures.read c.in-Ok.ensures.files_stay c.in-Ok.ensures.stands c.run_given.ensures.stands c.run_given.ensures.err
 
-pub returns-in-Err-clause-done : goal.returns-in-Err-clause-done
-returns-in-Err-clause-done g c =
+pub returns-in-Err-clause-only_memory : goal.returns-in-Err-clause-only_memory
+returns-in-Err-clause-only_memory g c =
     let old : Standing = standing g.S.Store.files g.S.Store.faults g.S.Store.misses c.args.store.now in
     let new : Standing = standing g.S.Store.files g.S.Store.faults g.S.Store.misses c.read_all.new.store in
     let ask : Files = asked c.args.source.now c.args.launch.now c.args.lanes c.args.turns in

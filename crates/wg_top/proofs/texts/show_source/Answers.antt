@@ -3,7 +3,7 @@ use Rattle.cl_meaning.specs.Typed.{Unit'}
 use Rattle.cl_piece.specs.View.{unit_of}
 use Rattle.launch_file.specs.Texts.{Text, text_of}
 use Rattle.wg_top.specs.declared.compile.Compiled.{Compiled}
-use Rattle.wg_top.proofs.OutcomeLemmas.{all_made}
+use Rattle.wg_top.proofs.OutcomeLemmas.{all_made, all_compiled}
 use Rattle.wg_top.proofs.texts.show_source.Goals as goal
 
 pub returns-in-Ok-texts_of-clause-ok : goal.returns-in-Ok-texts_of-clause-ok
@@ -17,4 +17,5 @@ returns-in-Ok-texts_of-clause-ok g c =
       read = c.in-Ok.ensures.read;
       shows = c.in-Ok-texts_of.ensures;
       made = all_made text.lanes kernels c.in-Ok.ensures.given.passes c.in-Ok.ensures.given.valid;
+      compiled = all_compiled text.lanes kernels text.list c.in-Ok.ensures.given.passes c.in-Ok.ensures.given.valid c.in-Ok.ensures.given.names;
     }
