@@ -34,15 +34,19 @@ pub record MarkedFrom (whole : Marks) (at : Place) (marks : Marks) : Type 0 wher
   pub rest : Marks
   pub is : marks_at whole at ≡ marks_then marks rest
 
--- lines with these marks cover what leads from the first tasks to the second: where the second are covered behind them, the first are covered before them.
--- They may stand at any place with these marks, before any lines, where so many iterations of the loops around have begun
-abbrev pub LinesCover : Program → Marks → ℕ → List ℕ → Marks → Lines → (from to : List Task) → Type 0
-LinesCover program whole n begun marks lines from to =
-    (at : Place) (tail : Lines) (k : Tasks) → begun_in k ≡ begun → MarkedFrom whole at marks → CoversIn program whole n to (LinesAt (place_behind lines at) tail k)
-    → CoversIn program whole n from (LinesAt at (joined_to lines tail) k)
+-- lines with these marks cover the tasks: where so much is covered behind them, the tasks are covered before them. They may stand at any place with
+-- these marks, before any lines, where so many iterations of the loops around have begun
+pub record LinesCoverTo (program : Program) (whole : Marks) (n : ℕ) (begun : List ℕ) (marks : Marks) (lines : Lines) (from : List Task) (Rest : Tasks → Type 0) : Type 0 where
+  pub covers : (at : Place) (tail : Lines) (k : Tasks) → begun_in k ≡ begun → MarkedFrom whole at marks → Rest (LinesAt (place_behind lines at) tail k) → CoversIn program whole n from (LinesAt at (joined_to lines tail) k)
 
--- the same of what can be left by a way out: behind the lines it is covered how the item goes on
+-- the tasks are left at their end
+abbrev pub LinesCover : Program → Marks → ℕ → List ℕ → Marks → Lines → (from to : List Task) → Type 0
+LinesCover program whole n begun marks lines from to = LinesCoverTo program whole n begun marks lines from (CoversIn program whole n to)
+
+-- however a statement before the tasks is left, it is covered how the item goes on
+abbrev pub CoversOut : Program → Marks → ℕ → List Task → Tasks → Type 0
+CoversOut program whole n rest k = (o : Option Exit) → CoversIn program whole n (unwind o rest) k
+
+-- the tasks may be left by a way out
 abbrev pub LinesCoverOut : Program → Marks → ℕ → List ℕ → Marks → Lines → (from rest : List Task) → Type 0
-LinesCoverOut program whole n begun marks lines from rest =
-    (at : Place) (tail : Lines) (k : Tasks) → begun_in k ≡ begun → MarkedFrom whole at marks
-    → ((o : Option Exit) → CoversIn program whole n (unwind o rest) (LinesAt (place_behind lines at) tail k)) → CoversIn program whole n from (LinesAt at (joined_to lines tail) k)
+LinesCoverOut program whole n begun marks lines from rest = LinesCoverTo program whole n begun marks lines from (CoversOut program whole n rest)
