@@ -1,3 +1,4 @@
 pub mod Passing
 pub mod Rules
 pub mod Expressions
+pub mod Rounds
