@@ -2,3 +2,4 @@ pub mod Passing
 pub mod Rules
 pub mod Expressions
 pub mod Rounds
+pub mod Guards

@@ -1,5 +1,5 @@
 -- The rules of covering: a step of the program's item, a step of the kernel's, and lines one after another.
-use Rattle.std.proofs.Common.{◌≡◌, ℕ, zero, suc, ◌≤◌, List, ◌∷◌, sym, ap, ◌∙◌, subst, arith, ⊎_elim, ◌⊎◌}
+use Rattle.std.proofs.Common.{◌≡◌, ℕ, zero, suc, ◌≤◌, List, ◌∷◌, Some, None, sym, ap, ◌∙◌, subst, arith, ⊎_elim, ◌⊎◌}
 use Rattle.cl_model.specs.Tree.{Program, Barrier}
 use Rattle.cl_model.specs.Task.{Task, Run, Point as ProgramPoint}
 use Rattle.kir.specs.declared.line.Atom.{Atom}
@@ -8,8 +8,8 @@ use Rattle.kir.specs.Places.{Behind, IntoChosen, IntoOther, Place, Tasks, LinesA
 use Rattle.kir_moves.specs.Leads.{Leads, past_end, past_barrier, into_chosen, into_other, ComesTo, there, by_leg}
 use Rattle.lowering_laws.specs.Marks.{Way, Marks, MarkThen, FormThen, marks_then, first_way, Shaped}
 use Rattle.lowering_laws.proofs.Joined.{join_assoc, join_none}
-use Rattle.parting_laws.specs.Coming.{unwind, TasksLead, StandsAtBarrier, ComesToBarrier}
-use Rattle.parting_laws.specs.Covering.{ComesToLine, CoversIn, MarkedFrom, LinesCoverTo, LinesCover, CoversOut}
+use Rattle.parting_laws.specs.Coming.{Exit, unwind, TasksLead, StandsAtBarrier, ComesToBarrier}
+use Rattle.parting_laws.specs.Covering.{ComesToLine, CoversIn, MarkedFrom, LinesCoverTo, LinesCover, CoversOut, LinesCoverOut}
 use Rattle.parting_laws.proofs.Passing.{come_on, passes, passes_all, place_joined, marked_first, marked_behind, marked_chosen, marked_other}
 
 -- no barrier stands first
@@ -144,3 +144,24 @@ module _ {program : Program} {whole : Marks} {n : ℕ} {begun : List ℕ} where
         (subst (λ z. CoversIn program whole n from (LinesAt (IntoOther ∷ at) z (LinesAt (Behind ∷ at) tail k))) (join_none other)
         (f.covers (IntoOther ∷ at) NoLine (LinesAt (Behind ∷ at) tail k) e (marked_other whole at one two marks way m) (steady _ _ (by_leg past_end there) c)));
   }
+
+  -- lines behind, which the kernel's item passes
+  pub before_free : {a : Lines} {ma : Marks} {from : List Task} {Rest : Tasks → Type 0} (b : Lines) (mb : Marks) → IsSteady Rest → LinesCoverTo program whole n begun ma a from Rest → LinesCoverTo program whole n begun (marks_then ma mb) (joined_to a b) from Rest
+  before_free {a} {ma} {from} {Rest} b mb steady f = record {
+    covers = λ at tail k e m c.
+        subst (λ z. CoversIn program whole n from (LinesAt at z k)) (sym (join_assoc a b tail))
+        (f.covers at (joined_to b tail) k e (marked_first whole at ma mb m) (steady _ _ (passes b (place_behind a at) tail k) (subst (λ z. Rest (LinesAt z tail k)) (place_joined a b at) c)));
+  }
+
+  -- a statement before others: its ways out lead past them
+  pub then_out : {a b : Lines} {ma mb : Marks} {from mid rest : List Task} → Shaped a ma → ((x : Exit) → unwind (Some x) mid ≡ unwind (Some x) rest) → LinesCoverOut program whole n begun ma a from mid → LinesCoverOut program whole n begun mb b mid rest
+      → LinesCoverOut program whole n begun (marks_then ma mb) (joined_to a b) from rest
+  then_out {a} {b} {ma} {mb} {from} {mid} {rest} s same f g = record {
+    covers = λ at tail k e m c.
+        subst (λ z. CoversIn program whole n from (LinesAt at z k)) (sym (join_assoc a b tail))
+        (f.covers at (joined_to b tail) k e (marked_first whole at ma mb m) (go at tail k e m (λ o. subst (λ z. CoversIn program whole n (unwind o rest) (LinesAt z tail k)) (place_joined a b at) (c o))));
+  }
+    where
+      go : (at : Place) (tail : Lines) (k : Tasks) → begun_in k ≡ begun → MarkedFrom whole at (marks_then ma mb) → CoversOut program whole n rest (LinesAt (place_behind b (place_behind a at)) tail k) → CoversOut program whole n mid (LinesAt (place_behind a at) (joined_to b tail) k)
+      go at tail k e m c None = g.covers (place_behind a at) tail k e (marked_behind whole at a ma mb s m) c
+      go at tail k e m c (Some x) = subst (λ z. CoversIn program whole n z (LinesAt (place_behind a at) (joined_to b tail) k)) (sym (same x)) (by_lines program whole n (unwind (Some x) rest) b (place_behind a at) tail k (c (Some x)))
