@@ -3,3 +3,5 @@ pub mod Rules
 pub mod Expressions
 pub mod Rounds
 pub mod Guards
+pub mod Entries
+pub mod Bodies
