@@ -1,31 +1,29 @@
 -- The lines of statements cover them.
-use Rattle.std.proofs.Common.{◌≡◌, ℕ, zero, suc, ◌+◌, ℤ, pos, List, [], ◌∷◌, ◌++◌, Option, Some, None, refl, sym, ap, ◌∙◌, subst, arith}
+use Rattle.std.proofs.Common.{◌≡◌, ℕ, suc, ◌+◌, ℤ, pos, List, [], ◌∷◌, ◌++◌, Option, Some, None, sym, subst, arith}
 use Rattle.std.proofs.Common.{Bool as Test}
 use Rattle.std.specs.Prelude.{true, false, ◌&&◌}
-use Rattle.cl_model.specs.Tree.{Expression, Statement, Do, Declare, Fill, Block, If, Loop, Switch, Break, Continue, Return, Barrier, Statements, empty, also, Arms, no_arm, arm, Function, Program}
+use Rattle.cl_model.specs.Tree.{Expression, Statement, Do, Declare, Fill, Block, If, Loop, Switch, Break, Continue, Return, Barrier, Statements, empty, also, Arms, no_arm, arm, Program}
 use Rattle.cl_model.specs.Lists.{Each}
-use Rattle.cl_model.specs.Calls.{calls_in, calls_among, calls_in_optional, calls_of, calls_of_all, calls_of_arms}
-use Rattle.cl_model.specs.Task.{Operand, Own, Tested, Chosen, Other, Nth, Turn, Body, Step, Arm, Point as ProgramPoint, Task, Run, Evaluate, Keep, Discard, Clear, Initialise, Branch, Select, InSwitch, Leave}
-use Rattle.cl_model.specs.Steps.{count_of, in_order, test_tasks, step_tasks, behind_break, behind_continue, initial_tasks, Entry, nowhere, entry, entry_tasks, arm_tasks}
+use Rattle.cl_model.specs.Calls.{calls_in, calls_in_optional, calls_of, calls_of_all, calls_of_arms}
+use Rattle.cl_model.specs.Task.{Operand, Own, Tested, Chosen, Other, Nth, Turn, Body, Step, Arm, Point as ProgramPoint, Task, Run, Keep, Discard, Clear, Branch, Select, InSwitch, Leave}
+use Rattle.cl_model.specs.Steps.{count_of, in_order, test_tasks, step_tasks, behind_break, behind_continue, initial_tasks, Entry, entry, entry_tasks, arm_tasks}
 use Rattle.kir.specs.declared.line.Atom.{Atom}
 use Rattle.kir.specs.declared.line.Atom.TheVariants.{Cell as CellAtom}
-use Rattle.kir.specs.Tree.{Lines, NoLine, SetThen, ClearThen, IfThen, LoopThen, BarrierThen, joined_to, OfValue}
-use Rattle.kir.specs.Places.{Behind, Place, Tasks, LinesAt, place_behind}
-use Rattle.kir_moves.specs.Leads.{past_end}
-use Rattle.kir_lower.specs.declared.places.Value.{Value}
-use Rattle.kir_lower.specs.Made.{Made, Instance, next_cell, with_cell, int, element_at}
+use Rattle.kir.specs.Tree.{Lines, NoLine, IfThen, BarrierThen, joined_to, OfValue}
+use Rattle.kir.specs.Places.{Tasks, LinesAt}
+use Rattle.kir_lower.specs.Made.{Made, Instance, next_cell, with_cell, int}
 use Rattle.kir_lower.specs.Ways.{way_out, way_out_of_all, way_out_of_arms, declares}
-use Rattle.kir_lower.specs.Actions.{set_to, initial_lines, opened, guarded_before, settled, outward, round_code, selected, fallen_code}
-use Rattle.kir_lower.specs.Code.{Calls, expression_code, operands_code, optional_code, Guarded, is_guarded, in_order as in_order_code, set_exit, entry_code, around_arm, statement_code, list_code, arms_code, result_code, body_code}
-use Rattle.lowering_laws.specs.Marks.{Way, further, in_turn, Marks, NoMark, MarkThen, FormThen, marks_then, all_marked, Shaped, no_line, set_line, if_line}
-use Rattle.lowering_laws.specs.CodeMarks.{CallMarks, optional_marks, GuardedMarks, guarded_marks, marks_in_order, round_marks, statement_marks, list_marks, arms_marks, body_marks}
+use Rattle.kir_lower.specs.Actions.{opened, settled, outward, round_code, selected, fallen_code}
+use Rattle.kir_lower.specs.Code.{Calls, expression_code, optional_code, is_guarded, in_order as in_order_code, entry_code, around_arm, statement_code, list_code, arms_code}
+use Rattle.lowering_laws.specs.Marks.{Way, further, in_turn, Marks, NoMark, FormThen, all_marked, Shaped, no_line, set_line, if_line}
+use Rattle.lowering_laws.specs.CodeMarks.{CallMarks, optional_marks, marks_in_order, round_marks, statement_marks, list_marks, arms_marks}
 use Rattle.lowering_laws.proofs.Joined.{join_assoc}
-use Rattle.lowering_laws.proofs.Shapes.{shaped_all, expression_shaped, operands_shaped, optional_shaped, round_shaped, in_order_shaped, statement_shaped, list_shaped, arms_shaped}
-use Rattle.parting_laws.specs.Coming.{Exit, Continues, Breaks, Returns, unwind, behind_call, TasksLead}
-use Rattle.parting_laws.specs.Covering.{CoversIn, MarkedFrom, LinesCover, CoversOut, LinesCoverOut}
-use Rattle.parting_laws.proofs.Rules.{Never, each_task, one_task, two_tasks, by_way, by_all, by_lead, barrier_covers, steady_in, steady_out, then_cover, then_out, free_cover, before_free, step_before, step_behind, either_step, chosen_cover, other_cover}
+use Rattle.lowering_laws.proofs.Shapes.{shaped_all, expression_shaped, operands_shaped, optional_shaped, in_order_shaped, statement_shaped, list_shaped}
+use Rattle.parting_laws.specs.Coming.{Continues, Breaks, Returns, behind_call, TasksLead}
+use Rattle.parting_laws.specs.Covering.{CoversIn, LinesCover, CoversOut, LinesCoverOut}
+use Rattle.parting_laws.proofs.Rules.{Never, each_task, one_task, two_tasks, by_way, barrier_covers, steady_in, steady_out, then_cover, then_out, free_cover, before_free, step_before, step_behind, either_step, chosen_cover, other_cover}
 use Rattle.parting_laws.proofs.Expressions.{each_left, each_right, CallsCover, CallsShaped, InReach, expression_covers, operands_cover}
-use Rattle.parting_laws.proofs.Rounds.{unwind_in_order, unwind_arms, marker, testing, stepping, PartsCover, rounds_cover}
+use Rattle.parting_laws.proofs.Rounds.{unwind_in_order, unwind_arms, marker, testing, stepping, rounds_cover}
 use Rattle.parting_laws.proofs.Guards.{ListCovers, straight, guarded_covers, before_covers}
 use Rattle.parting_laws.proofs.Entries.{Enters, enters_nowhere, enters_here, enters_later, value_enters}
 

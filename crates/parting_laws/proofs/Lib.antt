@@ -5,3 +5,4 @@ pub mod Rounds
 pub mod Guards
 pub mod Entries
 pub mod Bodies
+pub mod Whole
