@@ -6,3 +6,5 @@ pub mod Guards
 pub mod Entries
 pub mod Bodies
 pub mod Whole
+pub mod Standing
+pub mod Barriers
