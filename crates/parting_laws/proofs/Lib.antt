@@ -8,3 +8,4 @@ pub mod Bodies
 pub mod Whole
 pub mod Standing
 pub mod Barriers
+pub mod Parting
