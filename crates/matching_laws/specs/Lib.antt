@@ -1,0 +1,5 @@
+pub mod Setting
+pub mod Exits
+pub mod Facts
+pub mod Held
+pub mod Ready
