@@ -1,2 +1,6 @@
 pub mod Lines
 pub mod Keeping
+pub mod Actions
+pub mod Readying
+pub mod Fixing
+pub mod Expressions

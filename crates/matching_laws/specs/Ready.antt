@@ -1,6 +1,6 @@
 -- What is known of a part of the program's text before its lines: it is sound, its variables are in scope where its way leads, its calls end,
 -- and the cells and arrays that are made for it are the kernel's.
-use Rattle.std.specs.Prelude.{◌≡◌, ℕ, ◌+◌, ◌≤◌, List, [], ◌∷◌, ◌++◌, Option, Some, length, slice_get, flat_map, nat_eq, if◌then◌else◌}
+use Rattle.std.specs.Prelude.{◌≡◌, ℕ, ◌+◌, ◌≤◌, List, [], ◌∷◌, ◌++◌, Option, Some, length, slice_get, flat_map, nat_eq, false, if◌then◌else◌}
 use Rattle.wg_num.specs.declared.types.IntType.{IntType}
 use Rattle.cl_model.specs.declared.program.Root.{Root}
 use Rattle.cl_model.specs.declared.program.Space.{Space}
@@ -9,16 +9,18 @@ use Rattle.cl_model.specs.Lists.{Each, IsOneOf}
 use Rattle.cl_model.specs.Tree as tree
 use Rattle.cl_model.specs.Tree.{Action, Array, Expression, Apply, Update, Choose, Call, Expressions, none, more, Statement, Statements, Arms, Program, Function}
 use Rattle.cl_model.specs.Agreement.{Owned, owned_by, IsInScope, IsInScopeAmong, IsInScopeAt, IsInScopeList, IsInScopeArm, IsInBody, IsScopedAt}
-use Rattle.cl_model.specs.Calls.{CallSite, function_at, Instance as Placing, instances_below}
-use Rattle.cl_model.specs.Objects.{PlacedArray, placed_arrays, place_among, placed_from, object_of, kernel_objects}
+use Rattle.cl_model.specs.Calls.{CallSite, calls_in, calls_among, function_at, Instance as Placing, instances_below}
+use Rattle.cl_model.specs.Objects.{PlacedArray, placed_arrays, placed_from, same_path, object_of, kernel_objects}
 use Rattle.cl_model.specs.Steps.{count_of}
 use Rattle.cl_model.specs.Task.{Operand, Nth, Arm, Point as ProgramPoint}
 use Rattle.cl_model.specs.Valid.{Scope, Has, RootIs, CanLoad, CanStore, CanBeCalled, ArgumentsFit, parameter_kinds, CallsEnd}
 use Rattle.kir.specs.Homes.{IsCellOf}
 use Rattle.kir.specs.Steps.{shell_of}
-use Rattle.kir_lower.specs.Made.{Made, root_in, element_at}
+use Rattle.kir_lower.specs.Made.{Made, next_cell, root_in, element_at}
+use Rattle.kir_lower.specs.Code.{Calls, expression_code, operands_code}
 use Rattle.lowering_laws.specs.Marks.{Way}
 use Rattle.matching_laws.specs.Setting.{Setting, Activation, own_variable, behind_variables}
+use Rattle.matching_laws.specs.Held.{Within}
 
 -- ---- sound text
 
@@ -72,6 +74,11 @@ placed_below program depth path (c ∷ calls) =
     flat_map (λ (i : Placing). placed_from i.path 0 (function_at program i.function).arrays) (instances_below program depth (path ++ c.site ∷ []) c.function)
     ++ placed_below program depth path calls
 
+-- none of the arrays is behind these calls
+abbrev pub Elsewhere : List PlacedArray → List ℕ → Type 0
+Elsewhere [] path = Unit {0}
+Elsewhere (a ∷ arrays) path = (same_path a.path path ≡ false) × Elsewhere arrays path
+
 -- how many of the calls are at the site
 abbrev pub calls_at : ℕ → List CallSite → ℕ
 calls_at n [] = 0
@@ -86,7 +93,11 @@ pub record AreNext (S : Setting) (C : Activation) (m : Made) (calls : List CallS
   pub count : length m.arrays ≡ length first
   -- no two are at one site, and no array behind one of them stands before
   pub differ : (n : ℕ) → calls_at n calls ≤ 1
-  pub apart : (c : CallSite) → IsOneOf calls c → (path : List ℕ) (n : ℕ) → place_among first ((C.here.calls ++ c.site ∷ []) ++ path) n ≡ length first
+  pub apart : (c : CallSite) → IsOneOf calls c → (path : List ℕ) → Elsewhere first ((C.here.calls ++ c.site ∷ []) ++ path)
+
+-- what is made for calls that end: their arrays
+abbrev pub Adds : Setting → Activation → List CallSite → Made → Made → Type 0
+Adds S C calls a b = Each (λ (c : CallSite). CallsEnd S.program C.depth c.function) calls → length b.arrays ≡ length a.arrays + length (placed_below S.program C.depth C.here.calls calls)
 
 -- ---- the function under way
 
@@ -124,3 +135,21 @@ LeadsToList S C scope way k list =
 abbrev pub LeadsToArms : Setting → Activation → Scope → Way → ℕ → Arms → Type 0
 LeadsToArms S C scope way k arms =
     (begun : List ℕ) (n i : ℕ) → n ≡ i + k → (l : ℕ) (more : ProgramPoint) (v : Owned) → IsInScopeArm (IsInBody S.program C.depth) C.function (owned_by C.function scope) arms i l more v → IsScopedAt S.program (way begun ++ Arm n ∷ Nth l ∷ more) v
+
+-- ---- all of it
+
+-- an expression at a way, whose lines are made here
+pub record ReadyExpression (S : Setting) (C : Activation) (calls : Calls) (scope : Scope) (way : Way) (e : Expression) (m : Made) : Type 0 where
+  pub sound : IsSound S.program (function_at S.program C.function) scope e
+  pub leads : LeadsTo S C scope way e
+  pub next : AreNext S C m (calls_in e)
+  pub within : Within S (expression_code calls C.here e m).made
+  pub low : C.low ≤ next_cell m
+
+-- operands, the first with this number
+pub record ReadyOperands (S : Setting) (C : Activation) (calls : Calls) (scope : Scope) (way : Way) (k : ℕ) (list : Expressions) (m : Made) : Type 0 where
+  pub sound : AreSound S.program (function_at S.program C.function) scope list
+  pub leads : LeadsAmong S C scope way k list
+  pub next : AreNext S C m (calls_among list)
+  pub within : Within S (operands_code calls C.here list m).made
+  pub low : C.low ≤ next_cell m
