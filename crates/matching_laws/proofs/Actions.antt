@@ -132,9 +132,9 @@ module _ (S : Setting) (G : ℕ → Item → ProgramItem → Type 0) (R : Rules 
       → IsFixed S C.low (next_cell m) was → IsFixed S C.low (next_cell m) by → Within S (changed op of back was.atom by.atom m).made
       → marks_at S.marks at ≡ marks_then (all_marked way (changed op of back was.atom by.atom m).lines) tm
       → ((at' : Place) (new : Store) → marks_at S.marks at' ≡ tm → Kept C.here.base (behind_variables S C) None (next_cell m) cells new
-          → atom_value new (changed op of back was.atom by.atom m).value.atom ≡ program_changed op of back (atom_value cells was.atom) (atom_value cells by.atom)
-          → ((scope : Scope) (vars : Store) → IsWithin S C scope → behind_variables S C ≤ C.low → Same S C scope cells vars → Same S C scope new vars)
-          → G n (kernel_item S new (LinesAt at' T k)) j)
+      → atom_value new (changed op of back was.atom by.atom m).value.atom ≡ program_changed op of back (atom_value cells was.atom) (atom_value cells by.atom)
+      → ((scope : Scope) (vars : Store) → IsWithin S C scope → behind_variables S C ≤ C.low → Same S C scope cells vars → Same S C scope new vars)
+      → G n (kernel_item S new (LinesAt at' T k)) j)
       → G n (kernel_item S cells (LinesAt at (joined_to (changed op of back was.atom by.atom m).lines T) k)) j
   changed_follows op of back was by m n T way tm k at cells j low fw fb within e go =
       let m1 = with_cell m OfValue of in

@@ -1,42 +1,38 @@
 -- The lines of an expression do what its evaluation does.
-use Rattle.std.proofs.Common.{◌≡◌, ℕ, zero, suc, ◌+◌, ◌<◌, ◌≤◌, ℤ, pos, List, [], ◌∷◌, ◌++◌, length, map, Option, Some, None, refl, sym, ap, ap₂, ◌∙◌, subst, arith, inl, inr, ⊎_elim, true, false, if◌then◌else◌}
+use Rattle.std.proofs.Common.{◌≡◌, ℕ, zero, suc, ◌+◌, ◌<◌, ◌≤◌, ℤ, List, [], ◌∷◌, ◌++◌, length, Option, Some, None, refl, sym, ap, ap₂, ◌∙◌, subst, arith, inr, true, false, if◌then◌else◌}
 use Rattle.std.proofs.Common.{Bool as Test}
 use Rattle.std.specs.Prelude.{◌||◌}
 use Rattle.work_items.specs.Memory.{Access}
-use Rattle.work_items.specs.Items.{Goes, Loads, Stores}
-use Rattle.wg_num.specs.declared.types.IntType.{IntType}
-use Rattle.wg_num.specs.declared.types.Bin.{Bin}
+use Rattle.work_items.specs.Items.{Loads, Stores}
 use Rattle.wg_num.specs.Bytes.{size_of, bytes_of, value_of_bytes}
 use Rattle.cl_model.specs.declared.program.Root.{Root}
-use Rattle.cl_model.specs.Agreement.{Owned, HasOwned, owned_by, IsInScope, IsInScopeAmong, IsInBody, IsScopedAt}
-use Rattle.cl_model.specs.Calls.{CallSite, calls_in, calls_among, function_at}
+use Rattle.cl_model.specs.Agreement.{Owned, HasOwned, owned_by, IsInBody, IsScopedAt}
+use Rattle.cl_model.specs.Calls.{calls_in, calls_among, function_at}
 use Rattle.cl_model.specs.Meaning.{is_test}
 use Rattle.cl_model.specs.Task.{Operand, Own, Tested, Chosen, Other, Into, Task, Evaluate, Finish, Peek, Alter, Decide, Enter, Item as ProgramItem, Point as ProgramPoint, first_point}
-use Rattle.cl_model.specs.Tree as tree
 use Rattle.cl_model.specs.Tree.{Action, Expression, Apply, Update, Choose, Call, Expressions, none, more}
-use Rattle.cl_model.specs.Steps.{action_next, last, before, taken_onto, taken, below, changed as program_changed, each_operand, count_of, access_at as program_access, object_at as program_object, item_next as program_next}
-use Rattle.cl_model.specs.Valid.{Scope, Has}
+use Rattle.cl_model.specs.Steps.{action_next, last, before, taken_onto, taken, below, changed as program_changed, each_operand, count_of, access_at as program_access, object_at as program_object}
+use Rattle.cl_model.specs.Valid.{Scope}
 use Rattle.cl_model.specs.Values.{is_zero}
-use Rattle.kir.specs.declared.line.Atom.{Atom}
-use Rattle.kir.specs.declared.line.Atom.TheVariants.{Const, Cell as CellAtom}
-use Rattle.kir.specs.Tree.{Lines, NoLine, SetThen, LoadThen, StoreThen, IfThen, Copy, joined_to, OfFlag, OfValue}
+use Rattle.kir.specs.declared.line.Atom.TheVariants.{Cell as CellAtom}
+use Rattle.kir.specs.Tree.{Lines, NoLine, LoadThen, StoreThen, IfThen, Copy, joined_to, OfValue}
 use Rattle.kir.specs.Places.{Behind, IntoChosen, IntoOther, Place, Tasks, LinesAt, begun_in}
-use Rattle.kir.specs.Steps.{Item, atom_value, branched, access_at, item_next}
+use Rattle.kir.specs.Steps.{Item, atom_value, access_at}
 use Rattle.kir_lower.specs.declared.places.Value.{Value}
 use Rattle.kir_lower.specs.Made.{Made, next_cell, with_cell, argument_roots, root_in}
-use Rattle.kir_lower.specs.Actions.{atoms_of, action_code, changed, loaded, stored, set_to}
+use Rattle.kir_lower.specs.Actions.{action_code, changed, stored, set_to}
 use Rattle.kir_lower.specs.Code.{Calls, expression_code, operands_code}
 use Rattle.lowering_laws.specs.Marks.{Way, further, Marks, NoMark, MarkThen, FormThen, marks_then, all_marked, marks_behind, marks_one, marks_two, marks_at}
-use Rattle.lowering_laws.specs.CodeMarks.{CallMarks, finish_way, expression_marks, operands_marks}
+use Rattle.lowering_laws.specs.CodeMarks.{CallMarks, expression_marks, operands_marks}
 use Rattle.lowering_laws.proofs.Joined.{join_assoc}
 use Rattle.lowering_laws.proofs.Making.{call_of}
 use Rattle.matching_laws.specs.Setting.{Setting, Store, updated, kernel_item, Activation, inside, behind_variables}
 use Rattle.matching_laws.specs.Held.{Within, IsFixed, AreFixed, Holding, Kept, Same, IsWithin}
 use Rattle.matching_laws.specs.Facts.{Rules}
 use Rattle.matching_laws.specs.Ready.{IsSoundCall, AreNext, Adds, IsUnderWay, ReadyExpression, ReadyOperands}
-use Rattle.matching_laws.proofs.Lines.{PlainAtom, plain_facts, apart_cell, updated_same, updated_other, Sim, end_line, value_line}
-use Rattle.matching_laws.proofs.Keeping.{Grows, grows_count, grows_with, next_with, within_less, value_made, made_no_variable, fixed_plain, fixed_more, fixed_kept, value_fixed, kept_refl, kept_trans, kept_set, holding_kept, same_set}
-use Rattle.matching_laws.proofs.Actions.{Stays, Done, changed_follows, changed_grows, changed_fixed, either_holds, action_follows}
+use Rattle.matching_laws.proofs.Lines.{PlainAtom, plain_facts, apart_cell, updated_same, Sim, end_line, value_line}
+use Rattle.matching_laws.proofs.Keeping.{Grows, grows_count, next_with, within_less, value_made, made_no_variable, fixed_plain, fixed_more, fixed_kept, value_fixed, kept_refl, kept_trans, kept_set, same_set}
+use Rattle.matching_laws.proofs.Actions.{Stays, Done, changed_follows, changed_fixed, either_holds, action_follows}
 use Rattle.matching_laws.proofs.Readying.{next_right}
 use Rattle.matching_laws.proofs.Fixing.{operands_add, here_in_scope, has_owned, expression_grows, operands_grow, apply_operands, operands_first, operands_rest, call_arguments, update_index, update_value, choose_test, choose_chosen, choose_other, expression_fixed, operands_fixed}
 
@@ -102,7 +98,7 @@ module _ (S : Setting) (G : ℕ → Item → ProgramItem → Type 0) (R : Rules 
       → C.low ≤ next_cell m → Within S (calls C.here site g (argument_roots C.here roots) values m).made → AreFixed S C.low (next_cell m) values → Holding cells values args
       → marks_at S.marks at ≡ marks_then (marks C.here way site g (argument_roots C.here roots) values m) tm
       → ((at' : Place) (new : Store) (v : ℤ) → marks_at S.marks at' ≡ tm → ((c : ℕ) → c < next_cell m → new c ≡ cells c) → atom_value new (calls C.here site g (argument_roots C.here roots) values m).value.atom ≡ v
-          → Sim S G R C n new (LinesAt at' T k) ts (v ∷ vs) vars)
+      → Sim S G R C n new (LinesAt at' T k) ts (v ∷ vs) vars)
       → Sim S G R C n cells (LinesAt at (joined_to (calls C.here site g (argument_roots C.here roots) values m).lines T) k) (Enter (way (begun_in k)) site g roots (length args) ∷ ts) (pushed args vs) vars
 
   -- lines of calls that do what the calls do
@@ -140,7 +136,7 @@ module _ (S : Setting) (G : ℕ → Item → ProgramItem → Type 0) (R : Rules 
         (n : ℕ) (T : Lines) (tm : Marks) (k : Tasks) (at : Place) (cells vars : Store) (ts : List Task) (vs : List ℤ)
         → Stays S C scope ts → marks_at S.marks at ≡ marks_then (operands_marks calls marks C.here way first list m) tm → Same S C scope cells vars
         → ((at' : Place) (new vars' : Store) (args : List ℤ) → length args ≡ count_of list → marks_at S.marks at' ≡ tm → Same S C scope new vars' → Kept C.here.base (behind_variables S C) None (next_cell m) cells new
-            → Holding new (operands_code calls C.here list m).values args → Sim S G R C n new (LinesAt at' T k) ts (pushed args vs) vars')
+        → Holding new (operands_code calls C.here list m).values args → Sim S G R C n new (LinesAt at' T k) ts (pushed args vs) vars')
         → Sim S G R C n cells (LinesAt at (joined_to (operands_code calls C.here list m).lines T) k) (each_operand (way (begun_in k)) first list ts) vs vars
 
     apply_follows : (action : Action) (operands : Expressions) (way : Way) (m : Made) → ReadyExpression S C calls scope way (Apply action operands) m → OperandsFollow operands way 0 m → ExpressionFollows (Apply action operands) way m
@@ -280,7 +276,7 @@ module _ (S : Setting) (G : ℕ → Item → ProgramItem → Type 0) (R : Rules 
           let branch : Test → ProgramItem = λ b. inside S C ((if b then Evaluate (at0 ++ Other ∷ []) other else Evaluate (at0 ++ Chosen ∷ []) chosen) ∷ ts) vs vars1 in
           -- each branch sets the new cell last
           let finish : (high : ℕ) (value : Value) → next_cell m ≤ high → high ≤ to → PlainAtom S value.atom → (at2 : Place) (c2 vars2 : Store) (w : ℤ) → Same S C scope c2 vars2 → Kept base behind None high c1 c2 → atom_value c2 value.atom ≡ w
-              → Sim S G R C n c2 (LinesAt at2 (set_to to value.atom) tail) ts (w ∷ vs) vars2 =
+          → Sim S G R C n c2 (LinesAt at2 (set_to to value.atom) tail) ts (w ∷ vs) vars2 =
           λ high value more_ less plain at2 c2 vars2 w s2 kept2 h2.
           let got = atom_value c2 value.atom in
           let c3 = updated c2 to got in

@@ -1,28 +1,28 @@
 -- What is known of the parts of expressions, and that the value of each is a constant or a cell that was made for it.
-use Rattle.std.proofs.Common.{◌≡◌, ℕ, zero, suc, ◌+◌, ◌<◌, ◌≤◌, List, [], ◌∷◌, ◌++◌, length, Option, Some, None, refl, sym, ap, ◌∙◌, subst, arith, append_assoc, inl, inr}
+use Rattle.std.proofs.Common.{◌≡◌, ℕ, suc, ◌≤◌, List, [], ◌∷◌, ◌++◌, Option, refl, sym, subst, arith, append_assoc, inl, inr}
 use Rattle.std.proofs.Common.{Bool as Test}
-use Rattle.cl_model.specs.Agreement.{Owned, owned_by, HasOwned, IsInScope, IsInScopeAmong, IsInBody, IsScopedAt}
-use Rattle.cl_model.specs.Calls.{CallSite, calls_in, calls_among, function_at}
-use Rattle.cl_model.specs.Task.{Operand, Tested, Chosen, Other, Into, Leg, Point as ProgramPoint}
+use Rattle.cl_model.specs.Agreement.{Owned, owned_by, HasOwned, IsInScope, IsInBody, IsScopedAt}
+use Rattle.cl_model.specs.Calls.{calls_in, calls_among, function_at}
+use Rattle.cl_model.specs.Task.{Operand, Tested, Chosen, Other, Leg, Point as ProgramPoint}
 use Rattle.cl_model.specs.Tree as tree
 use Rattle.cl_model.specs.Tree.{Action, Expression, Apply, Update, Choose, Call, Expressions, none, more}
-use Rattle.cl_model.specs.Valid.{Scope, Has, binary_type}
+use Rattle.cl_model.specs.Valid.{Scope, Has}
 use Rattle.cl_model.specs.Steps.{count_of}
 use Rattle.wg_num.specs.declared.types.IntType.{IntType}
 use Rattle.wg_num.specs.declared.types.Bin.{Bin}
 use Rattle.cl_model.specs.declared.program.Root.{Root}
-use Rattle.kir.specs.declared.line.Atom.TheVariants.{Const, Cell as CellAtom}
+use Rattle.kir.specs.declared.line.Atom.TheVariants.{Cell as CellAtom}
 use Rattle.kir.specs.Tree.{OfFlag, OfValue}
 use Rattle.kir_lower.specs.declared.places.Value.{Value}
-use Rattle.kir_lower.specs.Made.{Made, next_cell, with_cell, argument_roots, root_in}
-use Rattle.kir_lower.specs.Actions.{first, second, action_code, changed, loaded}
+use Rattle.kir_lower.specs.Made.{Made, next_cell, with_cell, argument_roots}
+use Rattle.kir_lower.specs.Actions.{first, second, action_code, changed}
 use Rattle.kir_lower.specs.Code.{Calls, expression_code, operands_code}
 use Rattle.lowering_laws.specs.Marks.{Way, further}
 use Rattle.lowering_laws.proofs.Making.{call_of, action_makes, expression_makes, operands_make}
 use Rattle.matching_laws.specs.Setting.{Setting, Activation}
 use Rattle.matching_laws.specs.Held.{Within, IsFixed, AreFixed}
-use Rattle.matching_laws.specs.Ready.{LeadsTo, LeadsAmong, AreNext, Adds, IsSoundCall, ReadyExpression, ReadyOperands}
-use Rattle.matching_laws.proofs.Keeping.{Grows, grows_same, grows_before, grows_with, grows_count, within_less, value_fixed, fixed_more, all_more, first_fixed, second_fixed, next_with}
+use Rattle.matching_laws.specs.Ready.{AreNext, Adds, IsSoundCall, ReadyExpression, ReadyOperands}
+use Rattle.matching_laws.proofs.Keeping.{Grows, grows_same, grows_before, grows_with, grows_count, within_less, value_fixed, fixed_more, first_fixed, second_fixed, next_with}
 use Rattle.matching_laws.proofs.Actions.{changed_grows, changed_fixed, either_fixed}
 use Rattle.matching_laws.proofs.Readying.{next_left, next_right, adds_same, adds_before}
 
@@ -263,6 +263,7 @@ module _ (S : Setting) (C : Activation) (calls : Calls)
       operands_fixed scope way k (more e rest) m r =
           let ce = expression_code calls C.here e m in
           let cr = operands_code calls C.here rest ce.made in
-          let g = grows_count (calls_among rest) ce.made cr.made (operands_grow rest ce.made) in
-          (fixed_more S C.low (next_cell ce.made) (next_cell cr.made) ce.value g (expression_fixed scope (further way (Operand k)) e m (operands_first scope way k e rest m r)),
-          operands_fixed scope way (suc k) rest ce.made (operands_rest scope way k e rest m r))
+          let g = grows_count (calls_among rest) ce.made cr.made (operands_grow rest ce.made) in (
+            fixed_more S C.low (next_cell ce.made) (next_cell cr.made) ce.value g (expression_fixed scope (further way (Operand k)) e m (operands_first scope way k e rest m r)),
+            operands_fixed scope way (suc k) rest ce.made (operands_rest scope way k e rest m r),
+          )

@@ -4,3 +4,4 @@ pub mod Actions
 pub mod Readying
 pub mod Fixing
 pub mod Expressions
+pub mod Leaving

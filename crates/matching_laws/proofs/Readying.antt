@@ -1,31 +1,15 @@
 -- What is known of a part of the text is known of its own parts.
-use Rattle.std.proofs.Common.{◌≡◌, ℕ, zero, suc, ◌+◌, ◌<◌, ◌≤◌, List, [], ◌∷◌, ◌++◌, length, Option, Some, None, refl, sym, ap, ap₂, ◌∙◌, subst, arith, length-append, append_assoc, append-nil, inl, inr, true, false, eq-eqb, ne_eqb, if◌then◌else◌}
-use Rattle.std.proofs.Common.{Bool as Test}
+use Rattle.std.proofs.Common.{◌≡◌, ℕ, zero, suc, ◌+◌, ◌<◌, List, [], ◌∷◌, ◌++◌, length, refl, sym, ap, ◌∙◌, subst, arith, length-append, append_assoc, append-nil, inl, inr, true, false, eq-eqb, ne_eqb, if◌then◌else◌}
 use Rattle.std.specs.Prelude.{nat_eq, ◌&&◌, flat_map}
 use Rattle.std.proofs.lemmas.List.Concat.{flat_map-cons}
 use Rattle.std.proofs.lemmas.Grind.{flat_map-append}
-use Rattle.std.proofs.lemmas.Bool.{and_parts, eqb-true, true≢false}
-use Rattle.cl_model.specs.Agreement.{Owned, owned_by, HasOwned, IsInScope, IsInScopeAmong, IsInBody, IsScopedAt}
-use Rattle.cl_model.specs.Calls.{CallSite, calls_in, calls_among, function_at, Instance, instances_below, calls_of_all}
+use Rattle.cl_model.specs.Calls.{CallSite, function_at, Instance, instances_below, calls_of_all}
 use Rattle.cl_model.specs.Lists.{IsOneOf, Each}
 use Rattle.cl_model.specs.Objects.{PlacedArray, placed_from, place_among, same_path}
-use Rattle.cl_model.specs.Task.{Operand, Tested, Chosen, Other, Own, Into, Point as ProgramPoint}
-use Rattle.cl_model.specs.Tree as tree
-use Rattle.cl_model.specs.Tree.{Action, Expression, Apply, Update, Choose, Call, Expressions, none, more, Array, Program}
-use Rattle.cl_model.specs.Valid.{Scope, Has, CallsEnd}
-use Rattle.cl_model.specs.Steps.{each_operand, count_of}
-use Rattle.kir.specs.Tree.{OfFlag, OfValue}
-use Rattle.kir_lower.specs.declared.places.Value.{Value}
-use Rattle.kir_lower.specs.Made.{Made, next_cell, with_cell, argument_roots, root_in}
-use Rattle.kir_lower.specs.Actions.{action_code, changed, loaded}
-use Rattle.kir_lower.specs.Code.{Calls, expression_code, operands_code}
-use Rattle.lowering_laws.specs.Marks.{Way, further}
-use Rattle.lowering_laws.proofs.Making.{call_of, action_makes, expression_makes, operands_make}
+use Rattle.cl_model.specs.Tree.{Array, Program}
+use Rattle.kir_lower.specs.Made.{Made}
 use Rattle.matching_laws.specs.Setting.{Setting, Activation}
-use Rattle.matching_laws.specs.Held.{Within}
-use Rattle.matching_laws.specs.Ready.{IsSound, LeadsTo, LeadsAmong, AreNext, Adds, Elsewhere, placed_below, calls_at, ReadyExpression, ReadyOperands}
-use Rattle.matching_laws.proofs.Keeping.{Grows, grows_same, grows_before, grows_with, grows_count, within_less}
-use Rattle.matching_laws.proofs.Actions.{changed_grows}
+use Rattle.matching_laws.specs.Ready.{AreNext, Adds, Elsewhere, placed_below, calls_at}
 
 -- ---- lists of calls
 

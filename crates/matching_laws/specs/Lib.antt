@@ -3,3 +3,4 @@ pub mod Exits
 pub mod Facts
 pub mod Held
 pub mod Ready
+pub mod Bodies
