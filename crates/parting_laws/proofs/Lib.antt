@@ -9,3 +9,4 @@ pub mod Whole
 pub mod Standing
 pub mod Barriers
 pub mod Parting
+pub mod Reached

@@ -26,7 +26,7 @@ use Rattle.lowering_laws.specs.Marks.{Marks, point_marked}
 use Rattle.lowering_laws.specs.CodeMarks.{kernel_marks}
 use Rattle.lowering_laws.proofs.OneToOne.{points_differ}
 use Rattle.parting_laws.specs.Coming.{behind_call, RunLeads, EvaluateLeads, TaskLeads, TasksLead, StandsAtBarrier, ComesToBarrier}
-use Rattle.parting_laws.specs.Covering.{StandsAtLine, Covers}
+use Rattle.parting_laws.specs.Covering.{StandsAtLine, ComesToLine, Covers}
 use Rattle.parting_laws.specs.Nodes.{IsBarrierNode, node_at, AreInPlace}
 use Rattle.parting_laws.proofs.Standing.{lead_keeps, at_barrier}
 use Rattle.parting_laws.proofs.Barriers.{kernel_marked, point_is_barrier}
@@ -150,16 +150,17 @@ module _ (program : Program) (launch : Launch) (goes_on : Access → Type 0) (t 
   pub answer_leads : (i : ProgramItem) (ts : List Task) → LeadsTo (first_next program launch i ts) t → TasksLead program ts t.tasks
   answer_leads i ts h = step_leads i ts (leads_may (first_next program launch i ts) h)
 
+-- tasks in place of which the first's point is that of a barrier stand at it
+pub stands_there : (program : Program) (p : ProgramPoint) → IsBarrierNode (node_at program p) → (ts : List Task) → first_point ts ≡ Some p → AreInPlace program ts → StandsAtBarrier p ts
+stands_there program p b [] e placed = absurd (none-some p e)
+stands_there program p b (task ∷ rest) e placed =
+    let same = same_Some (task_point task) p e in
+    subst (λ z. StandsAtBarrier z (task ∷ rest)) same (at_barrier program task rest placed.0 (subst (λ z. IsBarrierNode (node_at program z)) (sym same) b))
+
 -- an item that can come to the point of a barrier comes to the barrier
 pub comes_to_barrier : (program : Program) (launch : Launch) (buffers : List (List ℕ)) (j : ProgramItem) (q : Option ProgramPoint) (p : ProgramPoint) → q ≡ Some p → ProgramCanCome program launch buffers j q → AreInPlace program j.tasks → IsBarrierNode (node_at program p)
     → (n : ℕ) × ComesToBarrier program n p j.tasks
-comes_to_barrier program launch buffers j q p e arrived placed b = (0, stands j.tasks e placed)
-  where
-    stands : (ts : List Task) → first_point ts ≡ Some p → AreInPlace program ts → StandsAtBarrier p ts
-    stands [] e placed = absurd (none-some p e)
-    stands (task ∷ rest) e placed =
-        let same = same_Some (task_point task) p e in
-        subst (λ z. StandsAtBarrier z (task ∷ rest)) same (at_barrier program task rest placed.0 (subst (λ z. IsBarrierNode (node_at program z)) (sym same) b))
+comes_to_barrier program launch buffers j q p e arrived placed b = (0, stands_there program p b j.tasks e placed)
 comes_to_barrier program launch buffers j q p e (by_step {after = t} m c) placed b =
     let lead = step_leads program launch (IsWithin program launch buffers) t j j.tasks m in
     let more = comes_to_barrier program launch buffers t q p e c (lead_keeps program j.tasks t.tasks lead placed) b in
@@ -204,7 +205,7 @@ module _ (kernel : Kernel) (launch : Launch) where
   kernel_comes q i k e (by_leg {next = next} lead on) = let s = steps i k next lead in come_by i q k next e s (kernel_comes q s.after next s.tasks on)
 
 -- each step keeps what is left in place
-lead_placed : (text : Lines) (from next : Tasks) → Leads from next → Placed text from → Placed text next
+pub lead_placed : (text : Lines) (from next : Tasks) → Leads from next → Placed text from → Placed text next
 lead_placed text _ _ past_end (e, l, n, p) = p
 lead_placed text _ _ past_set (e, l, n, p) = (ap past e, ap behind l, n, p)
 lead_placed text _ _ past_load (e, l, n, p) = (ap past e, ap behind l, n, p)
@@ -244,6 +245,16 @@ line_point text marks point (AnswerAt at test answer body n k) s p = absurd s
 
 -- ---- parting
 
+-- where the kernel's item may come to the line of the program's point, it can come to the point of the line
+pub comes_to_line : (program : Program) (names : List (List Named)) (launch : Launch) (i : Item) → Placed (lowered_of program names).body i.tasks → (point : Point) → IsBarrierPoint (lowered_of program names).body point
+    → ComesToLine (kernel_marks program names) (point_marked (kernel_marks program names) point) i.tasks → ItemCanCome (lowered_of program names) launch i (Some point)
+comes_to_line program names launch i placed point is r =
+    let text = (lowered_of program names).body in
+    let marks = kernel_marks program names in
+    let there' = line_point text marks (point_marked marks point) r.there r.stands (come_placed text r.there i.tasks r.comes placed) in
+    let same : there'.at ≡ point = points_differ program names there'.at point there'.barrier is there'.marked in
+    subst (λ z. ItemCanCome (lowered_of program names) launch i z) (there'.stands ∙ ap (λ (z : Point). Some z) same) (kernel_comes (lowered_of program names) launch r.there i i.tasks refl r.comes)
+
 -- what the covering of the two items' tasks gives
 pub parting : (program : Program) (names : List (List Named)) (launch : Launch) (buffers : List (List ℕ)) (i : Item) (j : ProgramItem) → Placed (lowered_of program names).body i.tasks → AreInPlace program j.tasks
     → Covers program (kernel_marks program names) j.tasks i.tasks
@@ -253,7 +264,4 @@ parting program names launch buffers i j placed in_place covers point is never c
     let marks = kernel_marks program names in
     let b = point_is_barrier program text marks (kernel_marked program names) point is.barrier in
     let c = comes_to_barrier program launch buffers j _ (point_marked marks point) refl can in_place b in
-    let r = (covers c.0).reach (point_marked marks point) c.0 (omega arith) c.1 in
-    let there' = line_point text marks (point_marked marks point) r.there r.stands (come_placed text r.there i.tasks r.comes placed) in
-    let same : there'.at ≡ point = points_differ program names there'.at point there'.barrier is there'.marked in
-    never (subst (λ z. ItemCanCome (lowered_of program names) launch i z) (there'.stands ∙ ap (λ (z : Point). Some z) same) (kernel_comes (lowered_of program names) launch r.there i i.tasks refl r.comes))
+    never (comes_to_line program names launch i placed point is ((covers c.0).reach (point_marked marks point) c.0 (omega arith) c.1))
