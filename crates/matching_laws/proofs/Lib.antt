@@ -5,3 +5,4 @@ pub mod Readying
 pub mod Fixing
 pub mod Expressions
 pub mod Leaving
+pub mod CellTypes
