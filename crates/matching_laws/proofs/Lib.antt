@@ -6,3 +6,5 @@ pub mod Fixing
 pub mod Expressions
 pub mod Leaving
 pub mod CellTypes
+pub mod Covered
+pub mod Followed
