@@ -5,3 +5,6 @@ pub mod Readying
 pub mod Fixing
 pub mod Expressions
 pub mod Leaving
+pub mod Guards
+pub mod Containing
+pub mod Statements
