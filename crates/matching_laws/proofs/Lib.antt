@@ -8,3 +8,4 @@ pub mod Leaving
 pub mod Guards
 pub mod Containing
 pub mod Statements
+pub mod Lists
