@@ -19,10 +19,10 @@ use Rattle.kir.specs.Tree.{Lines, NoLine, LoadThen, StoreThen, IfThen, Copy, joi
 use Rattle.kir.specs.Places.{Behind, IntoChosen, IntoOther, Place, Tasks, LinesAt, begun_in}
 use Rattle.kir.specs.Steps.{Item, atom_value, access_at}
 use Rattle.kir_lower.specs.declared.places.Value.{Value}
-use Rattle.kir_lower.specs.Made.{Made, next_cell, with_cell, argument_roots, root_in}
+use Rattle.kir_lower.specs.Made.{Made, Instance, next_cell, with_cell, argument_roots, root_in}
 use Rattle.kir_lower.specs.Actions.{action_code, changed, stored, set_to}
 use Rattle.kir_lower.specs.Code.{Calls, expression_code, operands_code}
-use Rattle.lowering_laws.specs.Marks.{Way, further, Marks, NoMark, MarkThen, FormThen, marks_then, all_marked, marks_behind, marks_one, marks_two, marks_at}
+use Rattle.lowering_laws.specs.Marks.{Way, further, Marks, NoMark, MarkThen, FormThen, marks_then, all_marked, marks_behind, marks_one, marks_two, marks_at, Shaped}
 use Rattle.lowering_laws.specs.CodeMarks.{CallMarks, expression_marks, operands_marks}
 use Rattle.lowering_laws.proofs.Joined.{join_assoc}
 use Rattle.lowering_laws.proofs.Making.{call_of}
@@ -103,6 +103,7 @@ module _ (S : Setting) (G : ℕ → Item → ProgramItem → Type 0) (R : Rules 
 
   -- lines of calls that do what the calls do
   pub record AreCalls (calls : Calls) (marks : CallMarks) : Type 0 where
+    pub shaped : (here : Instance) (way : Way) (site function : ℕ) (roots : List Root) (values : List Value) (m : Made) → Shaped (calls here site function roots values m).lines (marks here way site function roots values m)
     pub grows : (site function : ℕ) (roots : List Root) (values : List Value) (m : Made) → Grows (call_of site function ∷ []) m (calls C.here site function roots values m).made
     pub adds : (site function : ℕ) (roots : List Root) (values : List Value) (m : Made) → Adds S C (call_of site function ∷ []) m (calls C.here site function roots values m).made
     pub fixed : (site g : ℕ) (roots : List (Option Root)) (values : List Value) (count : ℕ) (m : Made) → IsSoundCall S.program (function_at S.program C.function) g roots count → AreNext S C m (call_of site g ∷ [])
@@ -111,7 +112,7 @@ module _ (S : Setting) (G : ℕ → Item → ProgramItem → Type 0) (R : Rules 
 
   module _ (under : IsUnderWay S C) (calls : Calls) (marks : CallMarks) (all : AreCalls calls marks) (scope : Scope) (inner : IsWithin S C scope) where
     -- a part of the scope at a leg of the way
-    stays_at : (way : Way) (begun : List ℕ) (legs : ProgramPoint) (task : Task) (ts : List Task) → first_point (task ∷ ts) ≡ Some (way begun ++ legs) → ((v : Owned) → HasOwned (owned_by C.function scope) v → IsScopedAt S.program (way begun ++ legs) v)
+    pub stays_at : (way : Way) (begun : List ℕ) (legs : ProgramPoint) (task : Task) (ts : List Task) → first_point (task ∷ ts) ≡ Some (way begun ++ legs) → ((v : Owned) → HasOwned (owned_by C.function scope) v → IsScopedAt S.program (way begun ++ legs) v)
         → Stays S C scope (task ∷ ts)
     stays_at way begun legs task ts e h = record { point = way begun ++ legs; stands = e; scoped = λ x has. h (record { function = C.function; variable = x }) (has_owned C.function scope x has) }
 

@@ -5,6 +5,10 @@ pub mod Readying
 pub mod Fixing
 pub mod Expressions
 pub mod Leaving
+pub mod Guards
+pub mod Containing
+pub mod Statements
+pub mod Lists
 pub mod CellTypes
 pub mod Covered
 pub mod Followed
