@@ -12,3 +12,4 @@ pub mod Lists
 pub mod CellTypes
 pub mod Covered
 pub mod Followed
+pub mod Sounding
