@@ -9,3 +9,5 @@ pub mod Guards
 pub mod Containing
 pub mod Statements
 pub mod Lists
+pub mod Loops
+pub mod Rounds
