@@ -11,3 +11,4 @@ pub mod Statements
 pub mod Lists
 pub mod Loops
 pub mod Rounds
+pub mod Turning

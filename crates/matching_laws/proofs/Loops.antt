@@ -44,6 +44,11 @@ use Rattle.matching_laws.proofs.Lists.{no_marks, at_less, as_none}
 
 -- ---- expressions that may be absent
 
+-- the cell of a construct's own way out, if it has one
+abbrev pub own_cell : Option ℕ → Option ℕ → Made → Option ℕ
+own_cell None cell m = cell
+own_cell (Some o) cell m = Some (next_cell m)
+
 -- the value of a test on the list of values
 abbrev pub with_value : Option Expression → ℤ → List ℤ → List ℤ
 with_value None v vs = vs
@@ -176,11 +181,6 @@ module _ (S : Setting) (G : ℕ → Item → ProgramItem → Type 0) (R : Rules 
       (λ at1 new vars1 v e1 s1 kept1 h1. R.task n _ _ _ refl refl (go at1 new vars1 e1 s1 kept1)))
 
   -- ---- the parts of a loop
-
-  -- the cell of the loop's own way out, if it has one
-  abbrev pub own_cell : Option ℕ → Option ℕ → Made → Option ℕ
-  own_cell None cell m = cell
-  own_cell (Some o) cell m = Some (next_cell m)
 
   module _ (cell : Option ℕ) (exit : ℕ) (way : Way) (site : ℕ) (first : Test) (test step : Option Expression) (body : Statement) (m : Made) (out around : Option ℕ) where
     -- what is made in order: its cell, its test, its step, its body, the loop, what goes on around
