@@ -5,28 +5,28 @@ use Rattle.std.specs.Prelude.{nat_eq, ◌&&◌}
 use Rattle.std.proofs.lemmas.Bool.{eqb-true}
 use Rattle.std.proofs.lemmas.Option.{none-some, slice_get_within}
 use Rattle.cl_model.specs.declared.program.Root.{Root}
-use Rattle.cl_model.specs.Agreement.{Owned, owned_by, HasOwned, IsInScope, IsInScopeAmong, IsInScopeAt, IsInScopeList, IsInBody, IsScopedAt}
-use Rattle.cl_model.specs.Calls.{calls_in, calls_among, calls_in_optional, calls_of, calls_of_all, calls_of_arms, function_at}
+use Rattle.cl_model.specs.Agreement.{Owned, owned_by, HasOwned, IsInScope, IsInScopeAt, IsInScopeList, IsInBody, IsScopedAt}
+use Rattle.cl_model.specs.Calls.{calls_in, calls_in_optional, calls_of, calls_of_all, calls_of_arms, function_at}
 use Rattle.cl_model.specs.Steps.{in_order}
-use Rattle.cl_model.specs.Task.{Operand, Own, Tested, Chosen, Other, Nth, Task, Run, Point as ProgramPoint, first_point}
-use Rattle.cl_model.specs.Tree.{Expression, Expressions, Statement, Do, Declare, Fill, Block, If, Loop, Switch, Break, Continue, Return, Barrier, Statements, empty, also, Arms, no_arm, arm, Program, Function}
+use Rattle.cl_model.specs.Task.{Operand, Tested, Chosen, Other, Nth, Task, Point as ProgramPoint}
+use Rattle.cl_model.specs.Tree.{Expression, Expressions, Statement, Do, Declare, Fill, Block, If, Loop, Switch, Break, Continue, Return, Barrier, Statements, empty, also, Arms, Function}
 use Rattle.cl_model.specs.Valid.{Scope, Has, scope_after}
 use Rattle.kir.specs.Tree.{Lines, OfFlag, OfValue}
 use Rattle.kir_lower.specs.declared.places.Value.{Value}
-use Rattle.kir_lower.specs.Made.{Made, next_cell, with_cell}
-use Rattle.kir_lower.specs.Ways.{first_of, way_out, way_out_of_all, way_out_of_arms, declares}
-use Rattle.kir_lower.specs.Code.{Calls, expression_code, operands_code, optional_code, Guarded, is_guarded, before_rest, in_order as code_in_order, statement_code, list_code, arms_code}
+use Rattle.kir_lower.specs.Made.{Made, next_cell}
+use Rattle.kir_lower.specs.Ways.{first_of, way_out, way_out_of_all, declares}
+use Rattle.kir_lower.specs.Code.{Calls, expression_code, optional_code, Guarded, is_guarded, before_rest, statement_code, list_code, arms_code}
 use Rattle.lowering_laws.specs.Marks.{Way, further}
-use Rattle.lowering_laws.proofs.Making.{call_of, expression_makes, optional_makes, statement_makes, list_makes, arms_make}
+use Rattle.lowering_laws.proofs.Making.{call_of, optional_makes, statement_makes, list_makes, arms_make}
 use Rattle.matching_laws.specs.Setting.{Setting, Store, Activation, inside, own_variable}
 use Rattle.matching_laws.specs.Held.{Within, IsWithin}
-use Rattle.matching_laws.specs.Ready.{IsSound, HasOwn, AreNext, Adds, LeadsToStatement, LeadsToList, ReadyExpression, ReadyOperands}
-use Rattle.matching_laws.specs.Bodies.{IsSoundStatement, declares_it, ends_in, ends_of_list, IsNeverScoped, IsExit, HasExit, ReadyStatement, ReadyList}
+use Rattle.matching_laws.specs.Ready.{HasOwn, Adds, ReadyExpression, ReadyOperands}
+use Rattle.matching_laws.specs.Bodies.{IsSoundStatement, declares_it, IsExit, HasExit, ReadyStatement, ReadyList}
 use Rattle.matching_laws.proofs.Lines.{Comes, never}
 use Rattle.matching_laws.proofs.Keeping.{Grows, grows_same, grows_before, grows_with, grows_count, within_less}
-use Rattle.matching_laws.proofs.Actions.{Stays, comes_now}
+use Rattle.matching_laws.proofs.Actions.{comes_now}
 use Rattle.matching_laws.proofs.Readying.{next_left, next_right, adds_same, adds_before}
-use Rattle.matching_laws.proofs.Fixing.{further_leads, has_owned, expression_grows, expression_adds, operands_grow}
+use Rattle.matching_laws.proofs.Fixing.{further_leads, has_owned, expression_grows, expression_adds}
 
 -- ---- scopes
 

@@ -1,5 +1,5 @@
 -- The lines that ask for a pending way out: what a loop or switch settles, what goes on around it, and guards.
-use Rattle.std.proofs.Common.{◌≡◌, ℕ, zero, suc, ◌+◌, ◌<◌, ◌≤◌, ℤ, pos, List, [], ◌∷◌, Option, Some, None, refl, sym, ap, ap₂, ◌∙◌, subst, arith, true, false, if◌then◌else◌}
+use Rattle.std.proofs.Common.{◌≡◌, ℕ, ◌<◌, ℤ, pos, ◌∷◌, Option, Some, None, refl, sym, ap, ◌∙◌, subst, arith, true, false, if◌then◌else◌}
 use Rattle.std.proofs.Common.{Bool as Test}
 use Rattle.std.specs.Prelude.{◌||◌}
 use Rattle.std.specs.Ordering.{int_eq}
@@ -9,11 +9,10 @@ use Rattle.wg_num.specs.declared.types.Bin.TheVariants.{Eq}
 use Rattle.wg_num.specs.Operators.{binary_of}
 use Rattle.cl_model.specs.Task.{Item as ProgramItem}
 use Rattle.cl_model.specs.Values.{is_zero}
-use Rattle.kir.specs.declared.line.Atom.{Atom}
-use Rattle.kir.specs.declared.line.Atom.TheVariants.{Const, Cell as CellAtom}
+use Rattle.kir.specs.declared.line.Atom.TheVariants.{Cell as CellAtom}
 use Rattle.kir.specs.Tree.{Binary, Copy, Lines, NoLine, SetThen, LoadThen, StoreThen, ClearThen, IfThen, LoopThen, BarrierThen, OfValue, joined_to}
 use Rattle.kir.specs.Places.{Behind, IntoChosen, IntoOther, Place, Tasks, LinesAt, begun_in}
-use Rattle.kir.specs.Steps.{Item, atom_value}
+use Rattle.kir.specs.Steps.{Item}
 use Rattle.kir_lower.specs.Made.{Made, next_cell, with_cell, int}
 use Rattle.kir_lower.specs.Actions.{set_to, settled, outward, is_none, guarded_before}
 use Rattle.lowering_laws.specs.Marks.{Way, Marks, NoMark, FormThen, marks_then, all_marked, marks_behind, marks_one, marks_two, marks_at}
@@ -22,8 +21,8 @@ use Rattle.lowering_laws.proofs.Joined.{join_none}
 use Rattle.matching_laws.specs.Setting.{Setting, Store, updated, kernel_item, Activation}
 use Rattle.matching_laws.specs.Exits.{Exit, Continues, Breaks, Returns, pending}
 use Rattle.matching_laws.specs.Facts.{Rules}
-use Rattle.matching_laws.specs.Held.{Within, IsMade}
-use Rattle.matching_laws.proofs.Lines.{NoVariable, PlainAtom, PlainWork, updated_same, updated_other, end_line, value_line, if_line}
+use Rattle.matching_laws.specs.Held.{Within}
+use Rattle.matching_laws.proofs.Lines.{NoVariable, updated_same, updated_other, end_line, value_line, if_line}
 use Rattle.matching_laws.proofs.Keeping.{value_made, made_no_variable, cell_plain}
 use Rattle.matching_laws.proofs.Actions.{equal_value}
 

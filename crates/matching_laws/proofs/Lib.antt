@@ -12,3 +12,7 @@ pub mod Lists
 pub mod Loops
 pub mod Rounds
 pub mod Turning
+pub mod CellTypes
+pub mod Covered
+pub mod Followed
+pub mod Sounding

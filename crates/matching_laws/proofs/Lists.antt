@@ -1,24 +1,23 @@
 -- The lines of a list, guarded behind the statements that have a way out, do what the statements do.
-use Rattle.std.proofs.Common.{◌≡◌, ℕ, zero, suc, ◌+◌, ◌<◌, ◌≤◌, ℤ, pos, List, [], ◌∷◌, ◌++◌, Option, Some, None, refl, sym, ap, ap₂, ◌∙◌, subst, arith, inl, inr, true, false, if◌then◌else◌}
+use Rattle.std.proofs.Common.{◌≡◌, ℕ, suc, ◌<◌, ◌≤◌, ℤ, pos, List, [], ◌∷◌, ◌++◌, Option, Some, None, refl, sym, ◌∙◌, subst, true, false}
 use Rattle.std.proofs.Common.{Bool as Test}
 use Rattle.std.specs.Prelude.{◌&&◌}
 use Rattle.std.proofs.lemmas.Bool.{true≢false, and_parts}
-use Rattle.cl_model.specs.declared.program.Root.{Root}
 use Rattle.wg_num.specs.declared.types.IntType.TheVariants.{Int}
 use Rattle.cl_model.specs.Calls.{calls_of}
 use Rattle.cl_model.specs.Steps.{in_order}
-use Rattle.cl_model.specs.Task.{Nth, Task, Run, Item as ProgramItem, Point as ProgramPoint}
+use Rattle.cl_model.specs.Task.{Nth, Task, Run, Item as ProgramItem}
 use Rattle.cl_model.specs.Tree.{Statement, Do, Declare, Fill, Block, If, Loop, Switch, Break, Continue, Return, Barrier, Statements, empty, also}
 use Rattle.cl_model.specs.Valid.{Scope, Has, scope_after}
-use Rattle.kir.specs.Tree.{Lines, NoLine, joined_to}
+use Rattle.kir.specs.Tree.{Lines, joined_to}
 use Rattle.kir.specs.Places.{Place, Tasks, LinesAt, begun_in}
 use Rattle.kir.specs.Steps.{Item}
 use Rattle.kir_lower.specs.Made.{Made, next_cell}
 use Rattle.kir_lower.specs.Ways.{way_out, way_out_of_all, declares}
 use Rattle.kir_lower.specs.Actions.{is_none, guarded_before}
 use Rattle.kir_lower.specs.Code.{Calls, Guarded, is_guarded, before_rest, statement_code, list_code}
-use Rattle.lowering_laws.specs.Marks.{Way, further, Marks, NoMark, MarkThen, FormThen, marks_then, marks_at, Shaped, no_line, set_line, load_line, store_line, clear_line, if_line, loop_line, barrier_line}
-use Rattle.lowering_laws.specs.CodeMarks.{CallMarks, GuardedMarks, guarded_marks, marks_before_rest, statement_marks, list_marks}
+use Rattle.lowering_laws.specs.Marks.{Way, further, Marks, NoMark, marks_then, marks_at, Shaped, no_line, set_line, load_line, store_line, clear_line, if_line, loop_line, barrier_line}
+use Rattle.lowering_laws.specs.CodeMarks.{CallMarks, GuardedMarks, marks_before_rest, statement_marks, list_marks}
 use Rattle.lowering_laws.proofs.Shapes.{list_shaped}
 use Rattle.matching_laws.specs.Setting.{Setting, Store, kernel_item, Activation, inside, own_variable}
 use Rattle.matching_laws.specs.Exits.{Exit, pending, unwound, leaves, some_leave, Can, ListCan}
@@ -115,10 +114,10 @@ module _ (S : Setting) (G : ℕ → Item → ProgramItem → Type 0) (R : Rules 
         → next_cell m ≤ next_cell m1 → (declared ≡ true → (x : Exit) → leaves x s ≡ true → ⊥) → (o ≡ None → (x : Exit) → leaves x s ≡ true → ⊥) → ((site : ℕ) → o ≡ Some site → (cell ≡ Some exit) × NoVariable S exit) → (is_none c.inside ≡ true → g.inside ≡ NoMark)
         → ((begun : List ℕ) (ts : List Task) (x : ℕ) → 0 < declares_it s x → (us : List ℤ) (vars' : Store) → Comes S (own_variable C x) (inside S C (in_order (way begun) (suc first) rest ts) us vars'))
         → ((n : ℕ) (T : Lines) (tm : Marks) (k : Tasks) (at : Place) (cells vars : Store) (ts : List Task) (vs : List ℤ)
-            → ((x : ℕ) → 0 < declares_it s x → (us : List ℤ) (vars' : Store) → Comes S (own_variable C x) (inside S C ts us vars'))
-            → marks_at S.marks at ≡ marks_then one tm → At S C cell scope None (pos 0) cells vars
-            → StatementDone S G R C n (next_cell m) cell (scope_after scope s) (Can s) T tm k cells ts vs
-            → Sim S G R C n cells (LinesAt at (joined_to lines T) k) (Run (way (begun_in k) ++ Nth first ∷ []) s ∷ ts) vs vars)
+        → ((x : ℕ) → 0 < declares_it s x → (us : List ℤ) (vars' : Store) → Comes S (own_variable C x) (inside S C ts us vars'))
+        → marks_at S.marks at ≡ marks_then one tm → At S C cell scope None (pos 0) cells vars
+        → StatementDone S G R C n (next_cell m) cell (scope_after scope s) (Can s) T tm k cells ts vs
+        → Sim S G R C n cells (LinesAt at (joined_to lines T) k) (Run (way (begun_in k) ++ Nth first ∷ []) s ∷ ts) vs vars)
         → RestFollows (suc first) (scope_after scope s) m1 rest c g
         → (NoVariable S exit → RestOff exit c.rest g.rest)
         → (n : ℕ) (T T1 : Lines) (tm tm1 : Marks) (k k1 : Tasks) (at : Place) (cells vars : Store) (ts : List Task) (vs : List ℤ) → begun_in k1 ≡ begun_in k

@@ -1,50 +1,45 @@
 -- The lines of statements without a loop or switch do what their runs do.
-use Rattle.std.proofs.Common.{◌≡◌, ℕ, zero, suc, ◌+◌, ◌<◌, ◌≤◌, ℤ, pos, List, [], ◌∷◌, ◌++◌, length, map, Option, Some, None, slice_get, unwrap_or, refl, sym, ap, ap₂, ◌∙◌, subst, arith, inl, inr, ⊎_elim, true, false, if◌then◌else◌, eq-eqb, ◌⊎◌}
+use Rattle.std.proofs.Common.{◌≡◌, ℕ, suc, ◌+◌, ◌<◌, ◌≤◌, ℤ, pos, List, [], ◌∷◌, ◌++◌, length, map, Option, Some, None, slice_get, unwrap_or, refl, sym, ap, ap₂, ◌∙◌, subst, arith, inr, true, false, if◌then◌else◌, eq-eqb}
 use Rattle.std.proofs.Common.{Bool as Test}
-use Rattle.std.specs.Prelude.{nat_eq, ◌&&◌}
-use Rattle.std.proofs.lemmas.Bool.{true≢false}
 use Rattle.std.proofs.lemmas.Option.{same_Some, slice_get_within}
-use Rattle.work_items.specs.Items.{Goes, Stores, Waits}
+use Rattle.work_items.specs.Items.{Goes, Stores}
 use Rattle.wg_num.specs.declared.types.IntType.{IntType}
 use Rattle.wg_num.specs.declared.types.IntType.TheVariants.{Int, Long}
 use Rattle.wg_num.specs.Bytes.{bytes_of}
 use Rattle.cl_model.specs.declared.program.Root.TheVariants.{Private}
 use Rattle.cl_model.specs.declared.program.Space.TheVariants as space
-use Rattle.cl_model.specs.Agreement.{Owned, owned_by, HasOwned, IsInBody, IsScopedAt}
-use Rattle.cl_model.specs.Calls.{calls_in, calls_among, calls_of, calls_of_all, function_at}
+use Rattle.cl_model.specs.Calls.{calls_in, calls_of_all, function_at}
 use Rattle.cl_model.specs.Meaning.{is_test}
 use Rattle.cl_model.specs.Objects.{array_bytes, zeros}
-use Rattle.cl_model.specs.Steps.{no_array, array_at, initial_tasks, in_order, count_of, taken, below, behind_return, object_at as program_object, item_next as program_next}
-use Rattle.cl_model.specs.Task.{Operand, Own, Tested, Chosen, Other, Nth, Task, Run, Evaluate, Discard, Keep, Clear, Initialise, Branch, Leave, Item as ProgramItem, Point as ProgramPoint, first_point}
-use Rattle.cl_model.specs.Tree.{Array, Expression, Expressions, Statement, Do, Declare, Fill, Block, If, Break, Continue, Return, Barrier, Statements, empty, also}
-use Rattle.cl_model.specs.Valid.{Scope, Has, scope_after}
+use Rattle.cl_model.specs.Steps.{no_array, array_at, initial_tasks, in_order, count_of, object_at as program_object}
+use Rattle.cl_model.specs.Task.{Operand, Own, Tested, Chosen, Other, Task, Run, Discard, Keep, Clear, Initialise, Branch, Leave, Item as ProgramItem, Point as ProgramPoint}
+use Rattle.cl_model.specs.Tree.{Array, Expression, Expressions, Statement, Do, Declare, Fill, Block, If, Break, Continue, Return, Barrier, Statements}
+use Rattle.cl_model.specs.Valid.{Scope, scope_after}
 use Rattle.cl_model.specs.Values.{is_zero}
-use Rattle.kir.specs.declared.line.Atom.{Atom}
-use Rattle.kir.specs.declared.line.Atom.TheVariants.{Const, Cell as CellAtom}
+use Rattle.kir.specs.declared.line.Atom.TheVariants.{Const}
 use Rattle.kir.specs.Tree.{Copy, Lines, NoLine, SetThen, StoreThen, ClearThen, IfThen, BarrierThen, joined_to}
 use Rattle.kir.specs.Places.{Behind, IntoChosen, IntoOther, Place, Tasks, LinesAt, begun_in}
-use Rattle.kir.specs.Steps.{Item, atom_value, array_size, item_next}
+use Rattle.kir.specs.Steps.{Item, atom_value, array_size}
 use Rattle.kir_lower.specs.declared.places.Value.{Value}
 use Rattle.kir_lower.specs.Made.{Made, next_cell, int, element_at}
-use Rattle.kir_lower.specs.Actions.{set_to, initial_lines, guarded_before, atoms_of}
+use Rattle.kir_lower.specs.Actions.{set_to, initial_lines, atoms_of}
 use Rattle.kir_lower.specs.Code.{Calls, expression_code, operands_code, in_order as code_in_order, statement_code, list_code}
 use Rattle.lowering_laws.specs.Marks.{Way, further, Marks, NoMark, MarkThen, FormThen, marks_then, all_marked, marks_behind, marks_one, marks_two, marks_at}
 use Rattle.lowering_laws.specs.CodeMarks.{CallMarks, expression_marks, operands_marks, marks_in_order, statement_marks, list_marks}
-use Rattle.lowering_laws.proofs.Joined.{join_assoc, join_none}
+use Rattle.lowering_laws.proofs.Joined.{join_none}
 use Rattle.matching_laws.specs.Setting.{Setting, Store, updated, kernel_item, Activation, frame, inside, behind_variables, own_variable}
-use Rattle.matching_laws.specs.Exits.{Exit, Continues, Breaks, Returns, pending, unwound, given_by, is_return, leaves, some_leave, Can, ListCan}
-use Rattle.matching_laws.specs.Held.{Within, IsMade, IsFixed, AreFixed, Holding, Apart, Kept, Same, IsWithin, At}
+use Rattle.matching_laws.specs.Exits.{Exit, Continues, Breaks, Returns, pending, unwound, given_by, some_leave, Can, ListCan}
+use Rattle.matching_laws.specs.Held.{AreFixed, Holding, Kept, Same, IsWithin, At}
 use Rattle.matching_laws.specs.Facts.{Rules}
-use Rattle.matching_laws.specs.Ready.{IsUnderWay, HasOwn}
-use Rattle.matching_laws.specs.Bodies.{declares_it, IsBody, IsExit, ReadyStatement, ReadyList}
-use Rattle.matching_laws.proofs.Lines.{PlainAtom, plain_facts, stands_alike, Comes, own_value, updated_same, updated_other, Sim, end_line, value_line, set_line}
-use Rattle.matching_laws.proofs.Keeping.{grows_count, made_no_variable, fixed_plain, fixed_kept, kept_refl, kept_trans, kept_set, kept_own, kept_exit, kept_weaker, same_set, same_declared}
-use Rattle.matching_laws.proofs.Actions.{Stays, Done}
-use Rattle.matching_laws.proofs.Fixing.{expression_grows, operands_grow, expression_fixed, operands_fixed}
+use Rattle.matching_laws.specs.Ready.{IsUnderWay}
+use Rattle.matching_laws.specs.Bodies.{declares_it, IsBody, IsExit, ReadyStatement}
+use Rattle.matching_laws.proofs.Lines.{plain_facts, stands_alike, Comes, own_value, updated_same, updated_other, Sim, end_line, value_line, set_line}
+use Rattle.matching_laws.proofs.Keeping.{grows_count, made_no_variable, fixed_plain, kept_refl, kept_trans, kept_set, kept_own, kept_exit, kept_weaker, same_set, same_declared}
+use Rattle.matching_laws.proofs.Fixing.{expression_grows, expression_fixed, operands_fixed}
 use Rattle.matching_laws.proofs.Expressions.{marks_assoc, pushed, below_pushed, taken_pushed, at_lines, AreCalls, stays_at, expression_follows, operands_follow}
 use Rattle.matching_laws.proofs.Leaving.{or_left, or_right, return_same}
-use Rattle.matching_laws.proofs.Guards.{marks_none, KeptBut, Bridge}
-use Rattle.matching_laws.proofs.Containing.{do_part, declare_part, return_part, fill_part, block_part, if_test, if_chosen, if_other, list_grows, scope_more}
+use Rattle.matching_laws.proofs.Guards.{marks_none, Bridge}
+use Rattle.matching_laws.proofs.Containing.{do_part, declare_part, return_part, fill_part, if_test, list_grows}
 
 -- ---- what holds between statements
 
@@ -183,7 +178,7 @@ module _ (S : Setting) (G : ℕ → Item → ProgramItem → Type 0) (R : Rules 
             (own_value S C (updated vars1 x w) x ∙ ap (λ z. Some z) (updated_same vars1 x w))
             (go (Behind ∷ at1) (updated new (C.here.base + x) w) (updated vars1 x w) None (pos 0) tt (ap marks_behind e1) (at_declared S C under is_body cell exit scope m r.exits new vars1 x w less a1)
             (kept_trans C.here.base C.low cell (next_cell m) (next_cell m) cells new _ (omega arith) (kept_weaker C.here.base (behind_variables S C) C.low cell (next_cell m) cells new under.below kept1)
-            (kept_own C.here.base C.low cell (next_cell m) new (C.here.base + x) w (omega arith) (omega (arith, less, b)))))))) 
+            (kept_own C.here.base C.low cell (next_cell m) new (C.here.base + x) w (omega arith) (omega (arith, less, b))))))))
 
         -- the stores of values into an array
         initial_follows : (array : ℕ) (a : Array) (high site : ℕ) → slice_get (function_at S.program C.function).arrays array ≡ Some a → a.space ≡ space.Private
