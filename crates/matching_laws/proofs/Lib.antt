@@ -9,6 +9,9 @@ pub mod Guards
 pub mod Containing
 pub mod Statements
 pub mod Lists
+pub mod Loops
+pub mod Rounds
+pub mod Turning
 pub mod CellTypes
 pub mod Covered
 pub mod Followed
