@@ -92,7 +92,7 @@ module _ (S : Setting) (names : List (List Named)) (lowered : S.kernel ≡ lower
     reads_alike = facts.reads_alike;
     reads_value = facts.reads_value;
     sets_alike = facts.sets_alike;
-    sets_value = facts.sets_value;
+    sets_value = λ v c is r. facts.sets_value v c is r s.in_place;
   }
     where
       parts : (point : Point) → IsBarrierPoint S.kernel.body point → (ItemCanCome S.kernel S.launch i (Some point) → ⊥) → ProgramCanCome S.program S.launch S.buffers j (Some (point_marked S.marks point)) → ⊥
