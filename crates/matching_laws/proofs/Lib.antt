@@ -16,3 +16,4 @@ pub mod CellTypes
 pub mod Covered
 pub mod Followed
 pub mod Sounding
+pub mod Arming
