@@ -17,3 +17,4 @@ pub mod Covered
 pub mod Followed
 pub mod Sounding
 pub mod Arming
+pub mod Switches
