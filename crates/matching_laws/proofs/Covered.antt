@@ -236,4 +236,5 @@ module _ (S : Setting) where
       ends = λ n i j facts e e' types fit. ends_cover n j i.tasks e';
       select = λ n cells k ts v vs fs held next t e types_held g gv types fit. select_covers n k ts v vs fs next t e (λ z. g z (types_held z types) fit);
       typed = λ n i j g types fit. g types types fit;
+      fit = λ n i j g types fit. g fit types fit;
     }

@@ -243,6 +243,7 @@ module _ (S : Setting) (names : List (List Named)) (lowered : S.kernel ≡ lower
     ends = ends_both;
     select = select_both;
     typed = λ n i j g s. g s.types s;
+    fit = λ n i j g s. g s.fit s;
   }
 
   -- where both start

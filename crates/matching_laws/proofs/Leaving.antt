@@ -180,15 +180,15 @@ return_same S us us' ws ws' fs (InSwitch at site ∷ ts) vs = return_same S us u
 return_same S us us' ws ws' fs (Leave at ∷ ts) vs = return_same S us us' ws ws' fs ts vs
 
 -- statements in order hold no marker
-break_order : (at : ProgramPoint) (k : ℕ) (list : Statements) (ts : List Task) → behind_break (in_order at k list ts) ≡ behind_break ts
+pub break_order : (at : ProgramPoint) (k : ℕ) (list : Statements) (ts : List Task) → behind_break (in_order at k list ts) ≡ behind_break ts
 break_order at k empty ts = refl
 break_order at k (also s rest) ts = break_order at (suc k) rest ts
 
-continue_order : (at : ProgramPoint) (k : ℕ) (list : Statements) (ts : List Task) → behind_continue (in_order at k list ts) ≡ behind_continue ts
+pub continue_order : (at : ProgramPoint) (k : ℕ) (list : Statements) (ts : List Task) → behind_continue (in_order at k list ts) ≡ behind_continue ts
 continue_order at k empty ts = refl
 continue_order at k (also s rest) ts = continue_order at (suc k) rest ts
 
-return_order : (i : ProgramItem) (at : ProgramPoint) (k : ℕ) (list : Statements) (ts : List Task) (vs : List ℤ) → behind_return i (in_order at k list ts) vs ≡ behind_return i ts vs
+pub return_order : (i : ProgramItem) (at : ProgramPoint) (k : ℕ) (list : Statements) (ts : List Task) (vs : List ℤ) → behind_return i (in_order at k list ts) vs ≡ behind_return i ts vs
 return_order i at k empty ts vs = refl
 return_order i at k (also s rest) ts vs = return_order i at (suc k) rest ts vs
 

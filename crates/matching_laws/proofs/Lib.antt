@@ -18,3 +18,5 @@ pub mod Followed
 pub mod Sounding
 pub mod Scoping
 pub mod Starting
+pub mod Arming
+pub mod Switches

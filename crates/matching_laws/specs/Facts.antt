@@ -16,6 +16,7 @@ use Rattle.kir.specs.Steps.{shell_of, Item, atom_value, branched, item_next}
 use Rattle.kir.specs.Live.{tasks_read, tasks_set}
 use Rattle.kir.specs.Homes.{IsCellOf}
 use Rattle.kir.specs.Matching.{StandsAlike, StepsTo, ComesToScope, value_in}
+use Rattle.kir_moves.proofs.Told.{TasksFit}
 use Rattle.lowering_laws.specs.Marks.{point_marked}
 use Rattle.parting_laws.specs.Nodes.{AreInPlace}
 use Rattle.matching_laws.specs.Setting.{Setting, Store, kernel_item, program_item}
@@ -73,3 +74,5 @@ pub record Rules (S : Setting) (G : ℕ → Item → ProgramItem → Type 0) : T
       → ((z : ℤ) → G n (kernel_item S (held z) k) (next z)) → G n (kernel_item S cells k) (next v) → G n (kernel_item S cells k) (program_item S ts (v ∷ vs) fs)
   -- cells hold values of their types
   pub typed : (n : ℕ) (i : Item) (j : ProgramItem) → (HoldsTypes S i.cells → G n i j) → G n i j
+  -- and the lines that are left fit
+  pub fit : (n : ℕ) (i : Item) (j : ProgramItem) → (TasksFit S.kernel i.tasks → G n i j) → G n i j
