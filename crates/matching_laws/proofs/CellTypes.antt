@@ -42,11 +42,8 @@ use Rattle.kir.specs.Meaning.{GoesOn}
 use Rattle.kir.specs.Fits.{same_type, has_type, is_value, atom_type, type_of_cell, work_fits, work_type, cell_takes, type_of_parameter}
 use Rattle.kir_moves.proofs.Told.{TasksFit}
 use Rattle.matching_laws.specs.Setting.{Setting}
+use Rattle.matching_laws.specs.Sized.{HasGlobalSizes}
 use Rattle.matching_laws.specs.Facts.{HoldsTypes}
-
--- each size is at least 1
-abbrev pub HasGlobalSizes : Launch → Type 0
-HasGlobalSizes launch = 0 < product launch.global
 
 -- the type of a cell
 abbrev type_of : Kernel → ℕ → Option IntType

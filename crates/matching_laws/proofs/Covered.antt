@@ -28,8 +28,9 @@ use Rattle.parting_laws.specs.Covering.{ComesToLine}
 use Rattle.parting_laws.specs.Reaching.{PassesTo, TurnsTo, Answers, as_is, answered, CoversFewer}
 use Rattle.parting_laws.proofs.Reached.{stands_waits, IsOwnStep, test_steps, covers_less, covers_by, covers_lead}
 use Rattle.matching_laws.specs.Setting.{Setting, program_item}
+use Rattle.matching_laws.specs.Sized.{HasGlobalSizes}
 use Rattle.matching_laws.specs.Facts.{HoldsTypes, Rules}
-use Rattle.matching_laws.proofs.CellTypes.{HasGlobalSizes, fits_keep, types_keep}
+use Rattle.matching_laws.proofs.CellTypes.{fits_keep, types_keep}
 
 -- a step with no access is no wait
 own_not_waiting : {T : Type 0} (next : Next T) → IsOwnStep next → IsWaiting next → ⊥

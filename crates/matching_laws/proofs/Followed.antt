@@ -9,12 +9,13 @@ use Rattle.cl_model.specs.Fitting.{FitsProgram}
 use Rattle.cl_model.specs.Values.{is_zero}
 use Rattle.cl_model.specs.Task.{Task, Frame, Item as ProgramItem, first_point}
 use Rattle.cl_model.specs.Steps.{item_next as program_next}
-use Rattle.cl_model.specs.Meaning.{is_test, machine_of as program_machine, ItemCanCome as ProgramCanCome}
+use Rattle.cl_model.specs.Meaning.{is_test, machine_of as program_machine, start_item as program_start_item, ItemCanCome as ProgramCanCome}
 use Rattle.kir.specs.declared.line.Atom.{Atom}
 use Rattle.kir.specs.Tree.{Lines, IfThen}
 use Rattle.kir.specs.Places.{Place, Point, Tasks, LinesAt, AnswerAt, iteration, begun_in, point_of}
 use Rattle.kir.specs.Steps.{shell_of, Item, atom_value, branched, item_next}
-use Rattle.kir.specs.Meaning.{machine_of, GoesOn, ItemCanCome}
+use Rattle.kir.specs.Fits.{lines_fit}
+use Rattle.kir.specs.Meaning.{machine_of, start_item, GoesOn, ItemCanCome}
 use Rattle.kir.specs.Matching.{SameNext, StandsAlike, IsBarrierPoint, AreAlike}
 use Rattle.kir.specs.Lowering.{Named}
 use Rattle.kir.proofs.Placed.{Placed}
@@ -31,8 +32,9 @@ use Rattle.parting_laws.proofs.Standing.{lead_keeps}
 use Rattle.parting_laws.proofs.Parting.{lead_placed, step_leads as program_leads}
 use Rattle.parting_laws.proofs.Reached.{parting_alike}
 use Rattle.matching_laws.specs.Setting.{Setting, Store, kernel_item, program_item}
+use Rattle.matching_laws.specs.Sized.{HasGlobalSizes}
 use Rattle.matching_laws.specs.Facts.{HoldsTypes, Facts, Rules}
-use Rattle.matching_laws.proofs.CellTypes.{HasGlobalSizes, fits_keep}
+use Rattle.matching_laws.proofs.CellTypes.{fits_keep, types_start}
 use Rattle.matching_laws.proofs.Covered.{step_leads, may_go, may_begin, may_wait, may_load, may_store, fewer_covers, task_covers, line_covers, branch_leads, test_covers, round_covers, begins_covers, loads_cover, stores_cover, waits_cover, ends_cover, select_covers, types_on, fits_on}
 
 module _ (S : Setting) (names : List (List Named)) (lowered : S.kernel ≡ lowered_of S.program names) (marked : S.marks ≡ kernel_marks S.program names) (fits : FitsProgram (shell_of S.kernel) S.launch) (sizes : HasGlobalSizes S.launch) where
@@ -92,7 +94,7 @@ module _ (S : Setting) (names : List (List Named)) (lowered : S.kernel ≡ lower
     reads_alike = facts.reads_alike;
     reads_value = facts.reads_value;
     sets_alike = facts.sets_alike;
-    sets_value = facts.sets_value;
+    sets_value = λ v c is r. facts.sets_value v c is r s.in_place;
   }
     where
       parts : (point : Point) → IsBarrierPoint S.kernel.body point → (ItemCanCome S.kernel S.launch i (Some point) → ⊥) → ProgramCanCome S.program S.launch S.buffers j (Some (point_marked S.marks point)) → ⊥
@@ -243,3 +245,7 @@ module _ (S : Setting) (names : List (List Named)) (lowered : S.kernel ≡ lower
     typed = λ n i j g s. g s.types s;
     fit = λ n i j g s. g s.fit s;
   }
+
+  -- where both start
+  pub standing_start : lines_fit S.kernel S.kernel.body ≡ true → (item : ℕ) → Standing (start_item S.kernel item) (program_start_item S.program S.launch item)
+  standing_start valid item = record { types = types_start S; fit = (valid, tt); placed = (refl, refl, refl, tt); in_place = (refl, tt) }

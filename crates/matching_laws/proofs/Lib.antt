@@ -18,3 +18,5 @@ pub mod Followed
 pub mod Sounding
 pub mod Arming
 pub mod Switches
+pub mod Scoping
+pub mod Starting

@@ -5,8 +5,9 @@ use Rattle.std.specs.Prelude.{nat_eq, ◌&&◌}
 use Rattle.std.proofs.lemmas.Bool.{eqb-true, true≢false}
 use Rattle.std.proofs.lemmas.Option.{same_Some}
 use Rattle.work_items.specs.Memory.{Access}
-use Rattle.work_items.specs.Items.{Next, Goes}
-use Rattle.work_items.specs.Histories.{Deed, DoesOnce}
+use Rattle.work_items.specs.Items.{Next, Ends, Waits, Goes, Begins, Loads, Stores}
+use Rattle.work_items.specs.Histories.{Deed, Passed, Turned, Read, Wrote, DoesOnce}
+use Rattle.work_items.specs.Coming.{MayLead}
 use Rattle.cl_model.specs.Agreement.{IsScopedAt}
 use Rattle.cl_model.specs.Meaning.{is_test, lengths_of, MayBeTold}
 use Rattle.cl_model.specs.Objects.{same_path}
@@ -22,6 +23,10 @@ use Rattle.kir.specs.Live.{reads, work_reads, tasks_read, tasks_set}
 use Rattle.kir.specs.Homes.{IsCellOf, IsOf}
 use Rattle.kir.specs.Matching.{StandsAlike, StepsTo, ComesNext, arrives, passes, ComesToScope, IsInScope, value_in}
 use Rattle.lowering_laws.specs.Marks.{Way, Marks, MarkThen, marks_at, first_way, point_marked}
+use Rattle.kir.specs.Meaning.{GoesOn}
+use Rattle.parting_laws.specs.Nodes.{AreInPlace}
+use Rattle.parting_laws.proofs.Standing.{lead_keeps}
+use Rattle.parting_laws.proofs.Parting.{step_leads}
 use Rattle.matching_laws.specs.Setting.{Setting, Store, updated, kernel_item, Activation, frame, inside, own_variable}
 use Rattle.matching_laws.specs.Facts.{Facts, Rules}
 
@@ -52,7 +57,7 @@ plain_facts S i j p = record {
   reads_alike = λ v c is r. absurd (not_both (tasks_read c i.tasks) r (p.reads_none v c is));
   reads_value = λ v c is r. absurd (not_both (tasks_read c i.tasks) r (p.reads_none v c is));
   sets_alike = λ v c is r. absurd (not_both (tasks_set c i.tasks) r (p.sets_none v c is));
-  sets_value = λ v c is r done more i' j' s t. absurd (not_both (tasks_set c i.tasks) r (p.sets_none v c is));
+  sets_value = λ v c is r placed done more i' j' s t. absurd (not_both (tasks_set c i.tasks) r (p.sets_none v c is));
 }
 
 -- another cell
@@ -96,15 +101,50 @@ one_step lengths told next (d ∷ (d' ∷ ds)) a b e s = absurd s
 -- the item comes to the scope at once, or never
 pub data Comes (S : Setting) (v : Variable) (j : ProgramItem) : Type 0 where
   at_once : IsInScope S.program v j → Comes S v j
-  never : ((point : ProgramPoint) → IsScopedAt S.program point (record { function = v.function; variable = v.number }) → ⊥) → Comes S v j
+  never : ((j' : ProgramItem) (point : ProgramPoint) → AreInPlace S.program j'.tasks → first_point j'.tasks ≡ Some point → IsScopedAt S.program point (record { function = v.function; variable = v.number }) → ⊥) → Comes S v j
+
+-- a step leaves the tasks in place
+step_in_place : (S : Setting) (j j' : ProgramItem) → MayLead GoesOn (program_next S.program S.launch j) j' → AreInPlace S.program j.tasks → AreInPlace S.program j'.tasks
+step_in_place S j j' h placed = lead_keeps S.program j.tasks j'.tasks (step_leads S.program S.launch GoesOn j' j j.tasks h) placed
+
+-- one deed is a step
+deed_leads : {X : Type 0} (lengths : ℕ → ℕ) (told : Access → List ℕ → Type 0) (next : Next X) (deed : Deed) (to : X) → DoesOnce lengths told next deed to → MayLead GoesOn next to
+deed_leads lengths told (Waits site after) Passed to d = d
+deed_leads lengths told (Begins after) Turned to d = d
+deed_leads lengths told (Loads site access after) (Read at read bytes) to d = (tt, (bytes, d.4))
+deed_leads lengths told (Stores site object index bytes after) (Wrote at object' index' bytes') to d = (tt, d.5)
+deed_leads lengths told Ends deed to d = absurd d
+deed_leads lengths told (Goes after) deed to d = absurd d
+deed_leads lengths told (Waits site after) Turned to d = absurd d
+deed_leads lengths told (Waits site after) (Read at read bytes) to d = absurd d
+deed_leads lengths told (Waits site after) (Wrote at object' index' bytes') to d = absurd d
+deed_leads lengths told (Begins after) Passed to d = absurd d
+deed_leads lengths told (Begins after) (Read at read bytes) to d = absurd d
+deed_leads lengths told (Begins after) (Wrote at object' index' bytes') to d = absurd d
+deed_leads lengths told (Loads site access after) Passed to d = absurd d
+deed_leads lengths told (Loads site access after) Turned to d = absurd d
+deed_leads lengths told (Loads site access after) (Wrote at object' index' bytes') to d = absurd d
+deed_leads lengths told (Stores site object index bytes after) Passed to d = absurd d
+deed_leads lengths told (Stores site object index bytes after) Turned to d = absurd d
+deed_leads lengths told (Stores site object index bytes after) (Read at read bytes') to d = absurd d
+
+steps_lead : {X : Type 0} (lengths : ℕ → ℕ) (told : Access → List ℕ → Type 0) (next : Next X) (deeds : List Deed) (to : X) → StepsTo lengths told next deeds to → MayLead GoesOn next to
+steps_lead lengths told next [] to s = subst (λ z. MayLead GoesOn z to) (sym s) refl
+steps_lead lengths told next (d ∷ []) to s = deed_leads lengths told next d to s
+steps_lead lengths told next (d ∷ (d' ∷ ds)) to s = absurd s
+
+-- the state in scope to which the item comes has its tasks in place
+comes_in_place : (S : Setting) (v : Variable) (j : ProgramItem) (deeds : List Deed) (j' : ProgramItem) → ComesToScope S.program S.launch S.buffers v j deeds j' → AreInPlace S.program j.tasks → AreInPlace S.program j'.tasks
+comes_in_place S v j _ j' (arrives {deeds = deeds} st h) placed = step_in_place S j j' (steps_lead _ _ _ deeds j' st) placed
+comes_in_place S v j _ j' (passes {mid = mid} deeds more st not_yet c) placed = comes_in_place S v mid more j' c (step_in_place S j mid (steps_lead _ _ _ deeds mid st) placed)
 
 -- so the next value there is that of the next state
 pub next_value : (S : Setting) (v : Variable) (j j1 : ProgramItem) (w : ℤ) → program_next S.program S.launch j ≡ Goes j1 → Comes S v j1 → value_in j1.frames v ≡ Some w
-    → (deeds : List Deed) (j' : ProgramItem) → ComesToScope S.program S.launch S.buffers v j deeds j' → value_in j'.frames v ≡ Some w
-next_value S v j j1 w e (never none) here deeds j' c = let s = comes_here (IsInScope S.program v) c in absurd (none s.point s.scoped)
-next_value S v j j1 w e (at_once scoped) here _ j' (arrives {deeds = deeds} st h) =
+    → AreInPlace S.program j.tasks → (deeds : List Deed) (j' : ProgramItem) → ComesToScope S.program S.launch S.buffers v j deeds j' → value_in j'.frames v ≡ Some w
+next_value S v j j1 w e (never none) here placed deeds j' c = let s = comes_here (IsInScope S.program v) c in absurd (none j' s.point (comes_in_place S v j deeds j' c placed) s.stands s.scoped)
+next_value S v j j1 w e (at_once scoped) here placed _ j' (arrives {deeds = deeds} st h) =
     subst (λ (z : ProgramItem). value_in z.frames v ≡ Some w) (one_step _ _ _ deeds j1 j' e st) here
-next_value S v j j1 w e (at_once scoped) here _ j' (passes {mid = mid} deeds more st not_yet c) =
+next_value S v j j1 w e (at_once scoped) here placed _ j' (passes {mid = mid} deeds more st not_yet c) =
     absurd (not_yet (subst (IsInScope S.program v) (one_step _ _ _ deeds j1 mid e st) scoped))
 
 -- ---- frames
@@ -166,7 +206,7 @@ module _ (S : Setting) (G : ℕ → Item → ProgramItem → Type 0) (R : Rules 
             let w : v ≡ own_variable C x = same_variable S v (own_variable C x) (C.here.base + x) (subst (λ z. IsCellOf S.kernel v z) same is) own in
             ap (λ z. value_in j.frames z) w ∙ own_value S C vars x ∙ ap (λ z. Some z) (sym holds) ∙ ap (λ z. Some (cells z)) (sym same);
         sets_alike = λ v c is r. absurd (not_both (nat_eq c to) r (apart_cell S to none v c is));
-        sets_value = λ v c is r done more i' j' s t. absurd (not_both (nat_eq c to) r (apart_cell S to none v c is));
+        sets_value = λ v c is r placed done more i' j' s t. absurd (not_both (nat_eq c to) r (apart_cell S to none v c is));
       }) refl g
 
   -- a variable is set, where the program's item then sets it
@@ -185,10 +225,10 @@ module _ (S : Setting) (G : ℕ → Item → ProgramItem → Type 0) (R : Rules 
         reads_alike = λ u c is r. absurd (not_both (work_reads c work) r (plain u c is));
         reads_value = λ u c is r. absurd (not_both (work_reads c work) r (plain u c is));
         sets_alike = λ u c is r. stands_alike S cells at (SetThen to work rest) k way more j e f;
-        sets_value = λ u c is r done deeds i' j' s t.
+        sets_value = λ u c is r placed done deeds i' j' s t.
             let same : c ≡ to = eqb-true c to r in
             let z : v ≡ u = same_variable S v u to own (subst (λ y. IsCellOf S.kernel u y) same is) in
             let there : i1 ≡ i' = one_step (lengths_of (shell_of S.kernel) S.launch S.buffers) (MayBeTold (shell_of S.kernel) S.launch S.buffers) (item_next S.kernel S.launch i) done i1 i' refl s in
             let held : i1.cells c ≡ w = ap (λ y. i1.cells y) same ∙ updated_same cells to w in
-            next_value S u j j1 (i'.cells c) goes (subst (λ y. Comes S y j1) z comes) (subst (λ y. value_in j1.frames y ≡ Some (i'.cells c)) z (holds ∙ ap (λ y. Some y) (sym held) ∙ ap (λ (y : Item). Some (y.cells c)) there)) (done ++ deeds) j' t;
+            next_value S u j j1 (i'.cells c) goes (subst (λ y. Comes S y j1) z comes) (subst (λ y. value_in j1.frames y ≡ Some (i'.cells c)) z (holds ∙ ap (λ y. Some y) (sym held) ∙ ap (λ (y : Item). Some (y.cells c)) there)) placed (done ++ deeds) j' t;
       }) refl (R.task n i1 j j1 goes quiet g)

@@ -1,46 +1,30 @@
 -- The lines of a loop do what its run does.
-use Rattle.std.proofs.Common.{◌≡◌, ℕ, zero, suc, ◌+◌, ◌<◌, ◌≤◌, ℤ, pos, List, [], ◌∷◌, ◌++◌, length, Option, Some, None, refl, sym, ap, ap₂, ◌∙◌, subst, arith, append_assoc, inl, inr, ⊎_elim, true, false, if◌then◌else◌, ◌⊎◌}
+use Rattle.std.proofs.Common.{◌≡◌, ℕ, zero, suc, ◌<◌, ◌≤◌, ℤ, pos, List, [], ◌∷◌, ◌++◌, length, Option, Some, None, refl, sym, ap, ◌∙◌, subst, arith, inl, inr, ⊎_elim, true, false}
 use Rattle.std.proofs.Common.{Bool as Test}
-use Rattle.std.proofs.lemmas.Bool.{true≢false}
-use Rattle.std.proofs.lemmas.Option.{none-some, same_Some}
 use Rattle.work_items.specs.Items.{Goes, Begins}
-use Rattle.wg_num.specs.declared.types.IntType.TheVariants.{Int}
-use Rattle.cl_model.specs.Agreement.{Owned, owned_by, HasOwned, IsInScope, IsInScopeAt, IsInBody, IsScopedAt}
-use Rattle.cl_model.specs.Calls.{calls_in, calls_in_optional, calls_of, function_at}
-use Rattle.cl_model.specs.Steps.{test_tasks, step_tasks, iteration as program_iteration, item_next as program_next}
-use Rattle.cl_model.specs.Task.{Leg, Own, Tested, Body, Step, Turn, Task, Run, Evaluate, Discard, InLoop, Item as ProgramItem, Point as ProgramPoint}
+use Rattle.cl_model.specs.Agreement.{Owned, owned_by, HasOwned, IsScopedAt}
+use Rattle.cl_model.specs.Steps.{test_tasks, step_tasks, iteration as program_iteration}
+use Rattle.cl_model.specs.Task.{Own, Tested, Body, Step, Turn, Task, Run, Evaluate, Discard, InLoop, Item as ProgramItem}
 use Rattle.cl_model.specs.Tree.{Expression, Statement, Do, Declare, Fill, Block, If, Loop, Switch, Break, Continue, Return, Barrier}
-use Rattle.cl_model.specs.Valid.{Scope, Has, scope_after}
-use Rattle.cl_model.specs.Values.{is_zero}
+use Rattle.cl_model.specs.Valid.{Scope, scope_after}
 use Rattle.kir.specs.declared.line.Atom.{Atom}
-use Rattle.kir.specs.declared.line.Atom.TheVariants.{Const, Cell as CellAtom}
-use Rattle.kir.specs.Tree.{Copy, Lines, NoLine, SetThen, IfThen, LoopThen, OfFlag, OfValue, joined_to}
-use Rattle.kir.specs.Places.{Behind, IntoChosen, IntoOther, IntoTest, IntoBody, Place, Tasks, LinesAt, AnswerAt, begun_in, iteration}
-use Rattle.kir.specs.Steps.{Item, atom_value, answer_next, item_next}
-use Rattle.kir_lower.specs.Made.{Made, next_cell, with_cell, int}
+use Rattle.kir.specs.Tree.{Lines, LoopThen, joined_to}
+use Rattle.kir.specs.Places.{Behind, IntoTest, Place, Tasks, LinesAt, AnswerAt, begun_in, iteration}
+use Rattle.kir.specs.Steps.{Item, atom_value, answer_next}
+use Rattle.kir_lower.specs.Made.{Made, next_cell}
 use Rattle.kir_lower.specs.Ways.{way_out}
 use Rattle.kir_lower.specs.Actions.{set_to, opened, settled, outward, guarded_before, is_none, round_code}
 use Rattle.kir_lower.specs.Code.{Calls, expression_code, optional_code, statement_code}
-use Rattle.lowering_laws.specs.Marks.{Way, in_turn, Marks, NoMark, MarkThen, FormThen, marks_then, all_marked, marks_behind, marks_one, marks_two, marks_at}
-use Rattle.lowering_laws.specs.CodeMarks.{CallMarks, optional_marks, guarded_marks, round_marks, statement_marks}
-use Rattle.lowering_laws.proofs.Joined.{join_none}
-use Rattle.lowering_laws.proofs.Shapes.{optional_shaped}
-use Rattle.matching_laws.specs.Setting.{Setting, Store, updated, kernel_item, Activation, frame, inside, behind_variables}
-use Rattle.matching_laws.specs.Exits.{Exit, Continues, Breaks, Returns, pending, unwound, given_by, leaves, Can}
-use Rattle.matching_laws.specs.Held.{Within, IsMade, IsFixed, Apart, Kept, Same, IsWithin, At}
+use Rattle.lowering_laws.specs.Marks.{Way, in_turn, Marks, marks_then, all_marked, marks_at}
+use Rattle.lowering_laws.specs.CodeMarks.{CallMarks, optional_marks, round_marks, statement_marks}
+use Rattle.matching_laws.specs.Setting.{Setting, Store, kernel_item, Activation, frame, inside, behind_variables}
+use Rattle.matching_laws.specs.Held.{Within, Apart, Kept, Same, IsWithin}
 use Rattle.matching_laws.specs.Facts.{Rules}
-use Rattle.matching_laws.specs.Ready.{IsUnderWay, AreNext, ReadyExpression}
-use Rattle.matching_laws.specs.Bodies.{declares_it, IsSoundOptional, IsBody, IsExit, ReadyStatement}
-use Rattle.matching_laws.proofs.Lines.{NoVariable, PlainAtom, plain_facts, updated_same, updated_other, Sim, end_line, value_line, if_line}
-use Rattle.matching_laws.proofs.Keeping.{grows_count, grows_with, next_with, within_less, value_made, flag_made, made_no_variable, cell_plain, fixed_plain, kept_refl, kept_trans, kept_set, kept_weaker, same_set}
-use Rattle.matching_laws.proofs.Readying.{next_left, next_right, adds_same}
-use Rattle.matching_laws.proofs.Fixing.{expression_grows, expression_fixed}
-use Rattle.matching_laws.proofs.Expressions.{marks_assoc, at_lines, AreCalls, stays_at, expression_follows}
-use Rattle.matching_laws.proofs.Leaving.{IsThere, leaves_way, none_left, fewer_none, continue_round, break_round, return_round}
-use Rattle.matching_laws.proofs.Guards.{ended, passed_on, KeptBut, marks_none, some_pending, settled_follows, outward_follows, Bridge, guard_on, guard_off}
-use Rattle.matching_laws.proofs.Containing.{exit_more, optional_grows, optional_adds, statement_grows, scope_more}
-use Rattle.matching_laws.proofs.Statements.{answer_kept, at_kept, at_set, StatementDone, StatementFollows}
-use Rattle.matching_laws.proofs.Lists.{no_marks, at_less, as_none}
+use Rattle.matching_laws.specs.Ready.{IsUnderWay, ReadyExpression}
+use Rattle.matching_laws.specs.Bodies.{declares_it, IsBody, IsExit, ReadyStatement}
+use Rattle.matching_laws.proofs.Lines.{PlainAtom, plain_facts, Sim}
+use Rattle.matching_laws.proofs.Keeping.{kept_refl}
+use Rattle.matching_laws.proofs.Expressions.{AreCalls, stays_at, expression_follows}
 
 -- ---- expressions that may be absent
 
@@ -155,7 +139,7 @@ module _ (S : Setting) (G : ℕ → Item → ProgramItem → Type 0) (R : Rules 
       → (n b : ℕ) (begun : List ℕ) (T : Lines) (tm : Marks) (k : Tasks) (at : Place) (cells vars : Store) (ts : List Task) (vs : List ℤ) → begun_in k ≡ b ∷ begun
       → marks_at S.marks at ≡ marks_then (optional_marks calls marks C.here (in_turn way Tested) test m) tm → Same S C scope cells vars
       → ((at' : Place) (new vars' : Store) (v : ℤ) → marks_at S.marks at' ≡ tm → Same S C scope new vars' → Kept C.here.base (behind_variables S C) None (next_cell m) cells new → IsAnswer test v → atom_value new (optional_code calls C.here test m).value.atom ≡ v
-          → Sim S G R C n new (LinesAt at' T k) (InLoop (way begun) site test step body b ∷ ts) (with_value test v vs) vars')
+      → Sim S G R C n new (LinesAt at' T k) (InLoop (way begun) site test step body b ∷ ts) (with_value test v vs) vars')
       → Sim S G R C n cells (LinesAt at (joined_to (optional_code calls C.here test m).lines T) k) (test_tasks (way begun) b test (InLoop (way begun) site test step body b ∷ ts)) vs vars
   test_follows way site None step body m low r scoped n b begun T tm k at cells vars ts vs same e s go = go at cells vars (pos 1) e s (kept_refl C.here.base (behind_variables S C) None (next_cell m) cells) refl refl
   test_follows way site (Some t) step body m low r scoped n b begun T tm k at cells vars ts vs same e s go =

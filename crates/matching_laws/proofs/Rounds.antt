@@ -1,44 +1,42 @@
 -- Loops without and with a way out of their body.
-use Rattle.std.proofs.Common.{◌≡◌, ℕ, zero, suc, ◌+◌, ◌<◌, ◌≤◌, ℤ, pos, List, [], ◌∷◌, ◌++◌, length, Option, Some, None, refl, sym, ap, ap₂, ◌∙◌, subst, arith, inl, inr, ⊎_elim, true, false, if◌then◌else◌, ◌⊎◌}
+use Rattle.std.proofs.Common.{◌≡◌, ℕ, suc, ◌+◌, ◌<◌, ◌≤◌, ℤ, pos, List, [], ◌∷◌, Option, Some, None, refl, sym, ap, ◌∙◌, subst, arith, inl, inr, ⊎_elim, true, false, ◌⊎◌}
 use Rattle.std.proofs.Common.{Bool as Test}
 use Rattle.std.proofs.lemmas.Option.{none-some, same_Some}
-use Rattle.work_items.specs.Items.{Goes}
 use Rattle.wg_num.specs.declared.types.IntType.TheVariants.{Int}
-use Rattle.cl_model.specs.Calls.{calls_in_optional, calls_of, function_at}
+use Rattle.cl_model.specs.Calls.{calls_in_optional, calls_of}
 use Rattle.cl_model.specs.Steps.{test_tasks, step_tasks, iteration as program_iteration}
-use Rattle.cl_model.specs.Task.{Tested, Body, Step, Turn, Task, Run, InLoop, Item as ProgramItem}
+use Rattle.cl_model.specs.Task.{Tested, Body, Step, Task, Run, InLoop, Item as ProgramItem}
 use Rattle.cl_model.specs.Tree.{Expression, Statement, Loop}
-use Rattle.cl_model.specs.Valid.{Scope, Has, scope_after}
+use Rattle.cl_model.specs.Valid.{Scope, scope_after}
 use Rattle.cl_model.specs.Values.{is_zero}
 use Rattle.kir.specs.declared.line.Atom.TheVariants.{Const, Cell as CellAtom}
 use Rattle.kir.specs.Tree.{Copy, Lines, NoLine, SetThen, IfThen, LoopThen, OfFlag, OfValue, joined_to}
 use Rattle.kir.specs.Places.{Behind, IntoChosen, IntoOther, IntoTest, IntoBody, Place, Tasks, LinesAt, AnswerAt, begun_in, iteration}
 use Rattle.kir.specs.Steps.{Item, atom_value, answer_next}
-use Rattle.kir_lower.specs.Made.{Made, next_cell, with_cell, int}
-use Rattle.kir_lower.specs.Ways.{way_out}
+use Rattle.kir_lower.specs.Made.{Made, next_cell, with_cell}
 use Rattle.kir_lower.specs.Actions.{set_to, settled, outward, guarded_before}
 use Rattle.kir_lower.specs.Code.{Calls, optional_code}
 use Rattle.lowering_laws.specs.Marks.{Way, in_turn, Marks, NoMark, MarkThen, FormThen, marks_then, all_marked, marks_behind, marks_one, marks_two, marks_at}
 use Rattle.lowering_laws.specs.CodeMarks.{CallMarks, guarded_marks}
 use Rattle.lowering_laws.proofs.Joined.{join_none}
-use Rattle.lowering_laws.proofs.Making.{round_makes, outward_makes}
+use Rattle.lowering_laws.proofs.Making.{outward_makes}
 use Rattle.lowering_laws.proofs.Shapes.{optional_shaped}
 use Rattle.matching_laws.specs.Setting.{Setting, Store, updated, kernel_item, Activation, inside, behind_variables}
 use Rattle.matching_laws.specs.Exits.{Exit, Continues, Breaks, Returns, pending, unwound, given_by, leaves, Can}
-use Rattle.matching_laws.specs.Held.{Within, IsMade, Apart, Kept, Same, IsWithin, At}
+use Rattle.matching_laws.specs.Held.{Within, Apart, Kept, IsWithin, At}
 use Rattle.matching_laws.specs.Facts.{Rules}
 use Rattle.matching_laws.specs.Ready.{IsUnderWay}
 use Rattle.matching_laws.specs.Bodies.{IsBody, IsExit}
-use Rattle.matching_laws.proofs.Lines.{NoVariable, PlainAtom, plain_facts, updated_same, updated_other, Sim, end_line, value_line, if_line}
-use Rattle.matching_laws.proofs.Keeping.{Grows, grows_same, grows_before, grows_with, grows_count, next_with, within_less, value_made, flag_made, made_no_variable, cell_plain, fixed_plain, kept_refl, kept_trans, kept_set, kept_weaker, same_set}
+use Rattle.matching_laws.proofs.Lines.{NoVariable, PlainAtom, plain_facts, updated_same, Sim, end_line, value_line, if_line}
+use Rattle.matching_laws.proofs.Keeping.{Grows, grows_same, grows_before, grows_with, grows_count, next_with, within_less, value_made, made_no_variable, cell_plain, fixed_plain, kept_trans, kept_set, kept_weaker}
 use Rattle.matching_laws.proofs.Fixing.{expression_fixed}
 use Rattle.matching_laws.proofs.Expressions.{AreCalls}
 use Rattle.matching_laws.proofs.Leaving.{leaves_way, none_left, continue_round, break_round, return_round}
-use Rattle.matching_laws.proofs.Guards.{ended, passed_on, KeptBut, marks_none, some_pending, settled_follows, outward_follows, Bridge, guard_on, guard_off}
+use Rattle.matching_laws.proofs.Guards.{ended, passed_on, marks_none, some_pending, settled_follows, outward_follows, guard_on, guard_off}
 use Rattle.matching_laws.proofs.Containing.{exit_more, optional_grows, statement_grows, scope_more}
 use Rattle.matching_laws.proofs.Statements.{answer_kept, at_kept, at_set, StatementDone, StatementFollows}
 use Rattle.matching_laws.proofs.Lists.{no_marks, at_less, as_none}
-use Rattle.matching_laws.proofs.Loops.{IsAnswer, with_value, ReadyOptional, declares_none, kept_inner, rounds, enters, test_follows, step_follows, own_cell, made_cell, made_test, made_step, made_body, made_round, made_around, loop_lines, test_marks, step_marks, body_marks, loop_marks, LoopParts}
+use Rattle.matching_laws.proofs.Loops.{IsAnswer, with_value, ReadyOptional, declares_none, kept_inner, rounds, enters, test_follows, step_follows, made_test, made_step, made_body, test_marks, step_marks, body_marks, LoopParts}
 
 module _ (S : Setting) (G : ℕ → Item → ProgramItem → Type 0) (R : Rules S G) (C : Activation) (calls : Calls) (marks : CallMarks) (under : IsUnderWay S C) (is_body : IsBody S C) (all : AreCalls S G R C calls marks) (scope : Scope) (inner : IsWithin S C scope)
     (cell : Option ℕ) (exit : ℕ) (way : Way) (site : ℕ) (first : Test) (test step : Option Expression) (body : Statement) (m : Made) where
@@ -93,9 +91,10 @@ module _ (S : Setting) (G : ℕ → Item → ProgramItem → Type 0) (R : Rules 
           (test_follows S G R C calls marks under is_body all scope inner way site test step body m P.low P.test_part (λ begun i v h. P.scoped begun i 0 v h) n b (begun_in k) NoLine NoMark answer (IntoTest ∷ at1) cells vars ts vs refl
           (ap marks_one e ∙ sym (marks_none one)) inv.0.same
           (λ at2 new vars2 v e2 s2 kept2 is holds. end_line S G R C n new at2 answer _
-          (go new vars2 v
-          (at_kept S C under is_body cell exit scope m P.exits P.low None (pos 0) cells new vars vars2 inv.0 s2 kept2,
-          kept_trans C.here.base C.low cell (next_cell m) (next_cell m) start cells new (omega arith) inv.1 (kept_weaker C.here.base (behind_variables S C) C.low cell (next_cell m) cells new under.below kept2))
+          (go new vars2 v (
+            at_kept S C under is_body cell exit scope m P.exits P.low None (pos 0) cells new vars vars2 inv.0 s2 kept2,
+            kept_trans C.here.base C.low cell (next_cell m) (next_cell m) start cells new (omega arith) inv.1 (kept_weaker C.here.base (behind_variables S C) C.low cell (next_cell m) cells new under.below kept2),
+          )
           is holds)))
 
       plain_bodies : (n b : ℕ) (cells vars : Store) → LoopDone T tm k start ts vs n → PlainInv cells vars → ((new vars' : Store) → PlainInv new vars' → PlainHead n b new vars')
@@ -116,10 +115,11 @@ module _ (S : Setting) (G : ℕ → Item → ProgramItem → Type 0) (R : Rules 
                 subst (λ z. Sim S G R C n new (LinesAt at2 z head) (step_tasks (way (begun_in k)) b step rest) vs vars2) (join_none plain_step)
                 (step_follows S G R C calls marks under is_body all scope inner way step made1 P.step_part (λ begun i u h. P.scoped begun i 1 u h) n b (begun_in k) NoLine NoMark head at2 new vars2 rest vs refl (e2 ∙ sym (marks_none ms)) a3.same
                 (λ at3 new3 vars3 e3 s3 kept3. end_line S G R C n new3 at3 head _
-                (next new3 vars3
-                (at_kept S C under is_body cell exit scope made1 (exit_more S C cell exit m made1 g1 P.exits) (omega (arith, low, g1)) None (pos 0) new new3 vars2 vars3 a3 s3 kept3,
-                kept_trans C.here.base C.low cell (next_cell m) (next_cell made1) start new new3 g1 (kept_trans C.here.base C.low cell (next_cell m) (next_cell made2) start cells new (omega (arith, g1, g2)) inv.1 kept2)
-                (kept_weaker C.here.base (behind_variables S C) C.low cell (next_cell made1) new new3 under.below kept3)))))
+                (next new3 vars3 (
+                  at_kept S C under is_body cell exit scope made1 (exit_more S C cell exit m made1 g1 P.exits) (omega (arith, low, g1)) None (pos 0) new new3 vars2 vars3 a3 s3 kept3,
+                  kept_trans C.here.base C.low cell (next_cell m) (next_cell made1) start new new3 g1 (kept_trans C.here.base C.low cell (next_cell m) (next_cell made2) start cells new (omega (arith, g1, g2)) inv.1 kept2)
+                      (kept_weaker C.here.base (behind_variables S C) C.low cell (next_cell made1) new new3 under.below kept3),
+                ))))
             | Some x ↦ λ can a2. absurd (none_left x body P.is_out can)
           ]) can a2)
 
@@ -230,10 +230,11 @@ module _ (S : Setting) (G : ℕ → Item → ProgramItem → Type 0) (R : Rules 
     -- the answer's cell is set
     set_answer : (p : Option Exit) (u : ℤ) (cells vars : Store) (v : ℤ) → At S C (Some own) scope p u cells vars → Kept C.here.base C.low None (next_cell m) start cells
         → At S C (Some own) scope p u (updated cells to v) vars × Kept C.here.base C.low None (next_cell m) start (updated cells to v)
-    set_answer p u cells vars v at kept =
-        (at_set S C under is_body (Some own) own scope cb.made exits_b low_b p u cells vars to v inner (omega arith) at,
-        kept_trans C.here.base C.low None (next_cell m) (next_cell m) start cells (updated cells to v) (omega arith) kept
-        (kept_set C.here.base C.low None (next_cell m) cells to v (let b = g0 in let c = g1 in let d = g2 in let f = g3 in omega (arith, b, c, d, f))))
+    set_answer p u cells vars v at kept = (
+      at_set S C under is_body (Some own) own scope cb.made exits_b low_b p u cells vars to v inner (omega arith) at,
+      kept_trans C.here.base C.low None (next_cell m) (next_cell m) start cells (updated cells to v) (omega arith) kept
+          (kept_set C.here.base C.low None (next_cell m) cells to v (let b = g0 in let c = g1 in let d = g2 in let f = g3 in omega (arith, b, c, d, f))),
+    )
 
     module _ (e : marks_at S.marks at1 ≡ FormThen way
         (MarkThen way (FormThen way NoMark (marks_then (test_marks S G R C calls marks under is_body all scope inner cell exit way site first test step body m (Some o) around) (all_marked way (set_to to ct.value.atom))) NoMark))
@@ -371,27 +372,28 @@ module _ (S : Setting) (G : ℕ → Item → ProgramItem → Type 0) (R : Rules 
           step_follows S G R C calls marks under is_body all scope inner way step ct.made P.step_part (λ begun i u h. P.scoped begun i 1 u h) n b (begun_in k) T1 tm1 k1 at4 c3 vars2 rest vs same e4 at_3.same
           (λ at5 c5 vars5 e5 s5 kept5.
           bridge n c5 _ at5 e5 (λ at6 e6. end_line S G R C n c5 at6 head _
-          (next c5 vars5
-          (at_kept S C under is_body (Some own) own scope ct.made exits_t (omega (arith, low, a0, a1)) None (pos 0) c3 c5 vars2 vars5 at_3 s5 kept5,
-          kept_trans C.here.base C.low None (next_cell m) (next_cell ct.made) start c3 c5 (omega (arith, a0, a1)) k3 (kept_weaker C.here.base (behind_variables S C) C.low None (next_cell ct.made) c3 c5 le kept5))))))) in
+          (next c5 vars5 (
+            at_kept S C under is_body (Some own) own scope ct.made exits_t (omega (arith, low, a0, a1)) None (pos 0) c3 c5 vars2 vars5 at_3 s5 kept5,
+            kept_trans C.here.base C.low None (next_cell m) (next_cell ct.made) start c3 c5 (omega (arith, a0, a1)) k3 (kept_weaker C.here.base (behind_variables S C) C.low None (next_cell ct.made) c3 c5 le kept5),
+          )))))) in
           let off : (x : Exit) → c3 own ≡ pending (Some x) → given_by p v ≡ given_by (Some x) v → (Some x ≡ Some Continues → ⊥) → (Some x ≡ Some Returns → leaves Returns body ≡ true)
-              → G n (kernel_item S c3 (LinesAt at3 guard head)) (unwound (passed_on (Some x)) v (inside S C ts vs vars2)) = λ x holds same no_continue returns.
+          → G n (kernel_item S c3 (LinesAt at3 guard head)) (unwound (passed_on (Some x)) v (inside S C ts vs vars2)) = λ x holds same no_continue returns.
           subst (λ z. G n (kernel_item S c3 (LinesAt at3 z head)) (unwound (passed_on (Some x)) v (inside S C ts vs vars2))) (join_none guard)
           (guard_off S G R C x o own cs.lines NoLine n NoLine way ms NoMark NoMark head at3 c3 _ own_plain holds (e3 ∙ sym (marks_none gm))
           (λ at4 e4. end_line S G R C n c3 at4 head _ (head_off x n b c3 vars2 v d (settled_at (Some x) holds same) k3 zero_ no_continue returns))) in
           (elim p as (λ p. Can body p → c3 own ≡ pending (ended p) → ((q : Option Exit) → c3 own ≡ pending q → given_by p v ≡ given_by q v → At S C (Some own) scope q v c3 vars2)
-              → ((x : Exit) → c3 own ≡ pending (Some x) → given_by p v ≡ given_by (Some x) v → (Some x ≡ Some Continues → ⊥) → (Some x ≡ Some Returns → leaves Returns body ≡ true)
-                  → G n (kernel_item S c3 (LinesAt at3 guard head)) (unwound (passed_on (Some x)) v (inside S C ts vs vars2)))
-              → G n (kernel_item S c3 (LinesAt at3 guard head)) (unwound p v (inside S C stepping vs vars2))) [
+          → ((x : Exit) → c3 own ≡ pending (Some x) → given_by p v ≡ given_by (Some x) v → (Some x ≡ Some Continues → ⊥) → (Some x ≡ Some Returns → leaves Returns body ≡ true)
+          → G n (kernel_item S c3 (LinesAt at3 guard head)) (unwound (passed_on (Some x)) v (inside S C ts vs vars2)))
+          → G n (kernel_item S c3 (LinesAt at3 guard head)) (unwound p v (inside S C stepping vs vars2))) [
             | None ↦ λ can holds3 settled_at off. on (as_none S C (Some own) scope v c3 vars2 (settled_at None holds3 refl))
             | Some x ↦ (elim x as (λ x. Can body (Some x) → c3 own ≡ pending (ended (Some x)) → ((q : Option Exit) → c3 own ≡ pending q → given_by (Some x) v ≡ given_by q v → At S C (Some own) scope q v c3 vars2)
                 → ((y : Exit) → c3 own ≡ pending (Some y) → given_by (Some x) v ≡ given_by (Some y) v → (Some y ≡ Some Continues → ⊥) → (Some y ≡ Some Returns → leaves Returns body ≡ true)
-                    → G n (kernel_item S c3 (LinesAt at3 guard head)) (unwound (passed_on (Some y)) v (inside S C ts vs vars2)))
+                → G n (kernel_item S c3 (LinesAt at3 guard head)) (unwound (passed_on (Some y)) v (inside S C ts vs vars2)))
                 → G n (kernel_item S c3 (LinesAt at3 guard head)) (unwound (Some x) v (inside S C stepping vs vars2))) [
-              | Continues ↦ λ can holds3 settled_at off. subst (λ z. G n (kernel_item S c3 (LinesAt at3 guard head)) z) (sym (continue_round S C v (way (begun_in k)) site b test step body ts vs vars2)) (on (as_none S C (Some own) scope v c3 vars2 (settled_at None holds3 refl)))
-              | Breaks ↦ λ can holds3 settled_at off. subst (λ z. G n (kernel_item S c3 (LinesAt at3 guard head)) z) (sym (break_round S C v (way (begun_in k)) site b test step body ts vs vars2)) (off Breaks holds3 refl (λ q. cc) (λ q. cc))
-              | Returns ↦ λ can holds3 settled_at off. subst (λ z. G n (kernel_item S c3 (LinesAt at3 guard head)) z) (sym (return_round S C v (way (begun_in k)) site b test step body ts vs vars2)) (off Returns holds3 refl (λ q. cc) (λ q. can))
-            ])
+                  | Continues ↦ λ can holds3 settled_at off. subst (λ z. G n (kernel_item S c3 (LinesAt at3 guard head)) z) (sym (continue_round S C v (way (begun_in k)) site b test step body ts vs vars2)) (on (as_none S C (Some own) scope v c3 vars2 (settled_at None holds3 refl)))
+                  | Breaks ↦ λ can holds3 settled_at off. subst (λ z. G n (kernel_item S c3 (LinesAt at3 guard head)) z) (sym (break_round S C v (way (begun_in k)) site b test step body ts vs vars2)) (off Breaks holds3 refl (λ q. cc) (λ q. cc))
+                  | Returns ↦ λ can holds3 settled_at off. subst (λ z. G n (kernel_item S c3 (LinesAt at3 guard head)) z) (sym (return_round S C v (way (begun_in k)) site b test step body ts vs vars2)) (off Returns holds3 refl (λ q. cc) (λ q. can))
+                ])
           ]) can holds3 settled_at off))
         where
           exits_t : IsExit S C (Some own) own ct.made

@@ -1,41 +1,38 @@
 -- The lines of a loop as they stand among those of its statement.
-use Rattle.std.proofs.Common.{◌≡◌, ℕ, zero, suc, ◌+◌, ◌<◌, ◌≤◌, ℤ, pos, List, [], ◌∷◌, ◌++◌, Option, Some, None, refl, sym, ap, ◌∙◌, subst, arith, append_assoc, true, false}
+use Rattle.std.proofs.Common.{◌≡◌, ℕ, ◌≤◌, ℤ, pos, List, [], ◌∷◌, ◌++◌, Option, Some, None, refl, sym, ap, ◌∙◌, subst, arith, append_assoc, true, false}
 use Rattle.std.proofs.Common.{Bool as Test}
 use Rattle.std.proofs.lemmas.Option.{none-some, same_Some}
 use Rattle.wg_num.specs.declared.types.IntType.TheVariants.{Int}
-use Rattle.cl_model.specs.Agreement.{Owned, owned_by, HasOwned, IsInScope, IsInScopeOptional, IsInScopeAt, IsInBody, IsScopedAt}
-use Rattle.cl_model.specs.Calls.{calls_in, calls_in_optional, calls_of, function_at}
+use Rattle.cl_model.specs.Agreement.{Owned, owned_by, IsInScope, IsInScopeOptional, IsInScopeAt, IsInBody, IsScopedAt}
+use Rattle.cl_model.specs.Calls.{calls_in_optional, calls_of, function_at}
 use Rattle.cl_model.specs.Steps.{test_tasks}
 use Rattle.cl_model.specs.Task.{Leg, Own, Tested, Body, Step, Turn, Task, Run, InLoop, Item as ProgramItem, Point as ProgramPoint}
 use Rattle.cl_model.specs.Tree.{Expression, Statement, Loop}
-use Rattle.cl_model.specs.Valid.{Scope, Has, scope_after}
-use Rattle.kir.specs.declared.line.Atom.TheVariants.{Cell as CellAtom}
-use Rattle.kir.specs.Tree.{Copy, Lines, NoLine, OfFlag, OfValue, joined_to}
+use Rattle.cl_model.specs.Valid.{Scope}
+use Rattle.kir.specs.Tree.{Copy, Lines, OfFlag, OfValue, joined_to}
 use Rattle.kir.specs.Places.{Behind, IntoTest, Place, Tasks, LinesAt, AnswerAt, begun_in, test_of, answer_of, body_of, first_of, others_of}
 use Rattle.kir.specs.Steps.{Item}
-use Rattle.kir_lower.specs.Made.{Made, next_cell, with_cell, int}
+use Rattle.kir_lower.specs.Made.{Made, next_cell, int}
 use Rattle.kir_lower.specs.Ways.{way_out}
 use Rattle.kir_lower.specs.Actions.{opened}
 use Rattle.kir_lower.specs.Code.{Calls, optional_code, statement_code}
-use Rattle.lowering_laws.specs.Marks.{Way, in_turn, Marks, NoMark, FormThen, marks_then, all_marked, marks_behind, marks_at}
+use Rattle.lowering_laws.specs.Marks.{Way, in_turn, Marks, marks_then, all_marked, marks_behind, marks_at}
 use Rattle.lowering_laws.specs.CodeMarks.{CallMarks, round_marks, statement_marks}
-use Rattle.lowering_laws.proofs.Joined.{join_assoc}
 use Rattle.lowering_laws.proofs.Making.{opened_makes, round_makes, outward_makes}
-use Rattle.matching_laws.specs.Setting.{Setting, Store, updated, kernel_item, Activation, inside, behind_variables}
-use Rattle.matching_laws.specs.Exits.{Exit, pending}
+use Rattle.matching_laws.specs.Setting.{Setting, Store, updated, Activation}
 use Rattle.matching_laws.specs.Held.{Within, IsMade, Kept, IsWithin, At}
 use Rattle.matching_laws.specs.Facts.{Rules}
-use Rattle.matching_laws.specs.Ready.{IsUnderWay, IsSound, AreNext, Adds, ReadyExpression}
+use Rattle.matching_laws.specs.Ready.{IsUnderWay, AreNext, Adds}
 use Rattle.matching_laws.specs.Bodies.{IsBody, IsExit, HasExit, IsSoundOptional, ReadyStatement}
-use Rattle.matching_laws.proofs.Lines.{NoVariable, updated_same, updated_other, Sim, value_line}
+use Rattle.matching_laws.proofs.Lines.{updated_same, updated_other, Sim, value_line}
 use Rattle.matching_laws.proofs.Keeping.{Grows, grows_same, grows_before, grows_with, grows_count, next_with, within_less, flag_made, made_no_variable, kept_refl, kept_set, same_set}
 use Rattle.matching_laws.proofs.Readying.{next_left, next_right, adds_same, adds_before}
-use Rattle.matching_laws.proofs.Expressions.{marks_assoc, at_lines, AreCalls}
+use Rattle.matching_laws.proofs.Expressions.{AreCalls}
 use Rattle.matching_laws.proofs.Leaving.{fewer_none}
 use Rattle.matching_laws.proofs.Containing.{exit_more, optional_grows, optional_adds, statement_grows}
-use Rattle.matching_laws.proofs.Statements.{answer_kept, StatementDone, StatementFollows}
+use Rattle.matching_laws.proofs.Statements.{answer_kept, StatementFollows}
 use Rattle.matching_laws.proofs.Loops.{ReadyOptional, own_cell, made_cell, made_test, made_step, made_body, made_round, made_around, loop_lines, test_marks, step_marks, body_marks, loop_marks, LoopParts}
-use Rattle.matching_laws.proofs.Rounds.{LoopDone, PlainInv, plain_head, plain_enters, ExitInv, exit_head, exit_enters}
+use Rattle.matching_laws.proofs.Rounds.{LoopDone, plain_head, plain_enters, exit_head, exit_enters}
 
 -- ---- the cell of a construct with a way out of its own
 
@@ -197,12 +194,14 @@ module _ (S : Setting) (G : ℕ → Item → ProgramItem → Type 0) (R : Rules 
         let low = P.low in
         value_line S G R C n cells at own (Copy (int (pos 0))) _ k _ (made_no_variable S own Int (P.body_part.exits.made own refl)) (λ v c is. refl)
         (exit_enters S G R C calls marks under is_body all scope inner cell exit way site first test step body m o around P each T tm k (Behind ∷ at) cells ts vs (ap marks_behind e) a.exit_is
-        (λ b cells' vars' d0 inv0. heads T tm k (Behind ∷ at) cells ts vs (ap marks_behind e) a.exit_is d0 b cells' vars' inv0) n new vars d
-        (record {
-          same = same_set S C scope cells vars own (pos 0) inner (omega (arith, le, low)) a.same;
-          exit_is = λ c q. ap new (sym (same_Some own c q)) ∙ updated_same cells own (pos 0);
-          answer_is = answer_kept S C under is_body cells new (λ c x lt. updated_other cells own (pos 0) c (λ r. omega (arith, r, lt, low))) ∙ a.answer_is;
-        }, kept_set C.here.base C.low None (next_cell m) cells own (pos 0) (omega arith)))
+        (λ b cells' vars' d0 inv0. heads T tm k (Behind ∷ at) cells ts vs (ap marks_behind e) a.exit_is d0 b cells' vars' inv0) n new vars d (
+          record {
+            same = same_set S C scope cells vars own (pos 0) inner (omega (arith, le, low)) a.same;
+            exit_is = λ c q. ap new (sym (same_Some own c q)) ∙ updated_same cells own (pos 0);
+            answer_is = answer_kept S C under is_body cells new (λ c x lt. updated_other cells own (pos 0) c (λ r. omega (arith, r, lt, low))) ∙ a.answer_is;
+          },
+          kept_set C.here.base C.low None (next_cell m) cells own (pos 0) (omega arith),
+        ))
 
     -- the loop among statements
     pub loop_follows : ReadyStatement S C calls scope cell exit way (Loop site first test step body) m → BodyFollows (way_out true true body) (way_out false false body) → HeadFollows (way_out true true body) (way_out false false body) 0

@@ -10,7 +10,7 @@ use Rattle.cl_model.specs.Lists.{AllDiffer}
 use Rattle.cl_model.specs.Objects.{kernel_objects}
 use Rattle.cl_model.specs.Steps.{passed_object}
 use Rattle.cl_model.specs.declared.program.Root.{Root}
-use Rattle.cl_model.specs.Task.{Point as ProgramPoint}
+use Rattle.cl_model.specs.Task.{Point as ProgramPoint, Item as ProgramItem, first_point}
 use Rattle.cl_model.specs.Tree.{Array, Expression, Statement, Do, Declare, Fill, Block, If, Loop, Switch, Break, Continue, Return, Barrier, Statements, empty, also, Arms, no_arm, arm, Program, Function}
 use Rattle.cl_model.specs.Valid.{Scope, scope_after, labels_of, defaults_of}
 use Rattle.kir.specs.declared.line.Atom.{Atom}
@@ -21,6 +21,7 @@ use Rattle.kir_lower.specs.Whole.{names_at, way_behind, instance_at, with_instan
 use Rattle.kir_lower.specs.Ways.{way_out, way_out_of_all, way_out_of_arms}
 use Rattle.kir_lower.specs.Code.{Calls, statement_code, list_code, arms_code, result_code}
 use Rattle.lowering_laws.specs.Marks.{Way}
+use Rattle.parting_laws.specs.Nodes.{AreInPlace}
 use Rattle.matching_laws.specs.Setting.{Setting, Store, Activation, frame, inside, behind_variables}
 use Rattle.matching_laws.specs.Held.{Within, IsMade, IsWithin}
 use Rattle.matching_laws.specs.Ready.{HasOwn, IsSound, AreSound, AreNext, LeadsToStatement, LeadsToList, LeadsToArms}
@@ -105,9 +106,10 @@ abbrev mutual
   ends_of_arms no_arm x = 0
   ends_of_arms (arm labels other body rest) x = ends_of_list body x + ends_of_arms rest x
 
--- no point is in the scope of the variable
+-- no item of which the tasks are in place stands in the scope of the variable
 abbrev pub IsNeverScoped : Setting → Activation → ℕ → Type 0
-IsNeverScoped S C x = (point : ProgramPoint) → IsScopedAt S.program point (record { function = C.function; variable = x }) → ⊥
+IsNeverScoped S C x =
+    (j : ProgramItem) (point : ProgramPoint) → AreInPlace S.program j.tasks → first_point j.tasks ≡ Some point → IsScopedAt S.program point (record { function = C.function; variable = x }) → ⊥
 
 -- ---- the body of a function
 

@@ -18,6 +18,7 @@ use Rattle.kir.specs.Homes.{IsCellOf}
 use Rattle.kir.specs.Matching.{StandsAlike, StepsTo, ComesToScope, value_in}
 use Rattle.kir_moves.proofs.Told.{TasksFit}
 use Rattle.lowering_laws.specs.Marks.{point_marked}
+use Rattle.parting_laws.specs.Nodes.{AreInPlace}
 use Rattle.matching_laws.specs.Setting.{Setting, Store, kernel_item, program_item}
 
 -- before a line that reads or sets a variable's cell: where the program's item stands, and what the variable holds
@@ -25,7 +26,8 @@ pub record Facts (S : Setting) (i : Item) (j : ProgramItem) : Type 0 where
   pub reads_alike : (v : Variable) (c : ℕ) → IsCellOf S.kernel v c → tasks_read c i.tasks ≡ true → StandsAlike (point_marked S.marks) i j
   pub reads_value : (v : Variable) (c : ℕ) → IsCellOf S.kernel v c → tasks_read c i.tasks ≡ true → value_in j.frames v ≡ Some (i.cells c)
   pub sets_alike : (v : Variable) (c : ℕ) → IsCellOf S.kernel v c → tasks_set c i.tasks ≡ true → StandsAlike (point_marked S.marks) i j
-  pub sets_value : (v : Variable) (c : ℕ) → IsCellOf S.kernel v c → tasks_set c i.tasks ≡ true
+  -- where its tasks are in place
+  pub sets_value : (v : Variable) (c : ℕ) → IsCellOf S.kernel v c → tasks_set c i.tasks ≡ true → AreInPlace S.program j.tasks
       → (done more : List Deed) (i' : Item) (j' : ProgramItem) → StepsTo (lengths_of (shell_of S.kernel) S.launch S.buffers) (MayBeTold (shell_of S.kernel) S.launch S.buffers) (item_next S.kernel S.launch i) done i'
       → ComesToScope S.program S.launch S.buffers v j (done ++ more) j' → value_in j'.frames v ≡ Some (i'.cells c)
 

@@ -4,3 +4,4 @@ pub mod Facts
 pub mod Held
 pub mod Ready
 pub mod Bodies
+pub mod Sized

@@ -1,11 +1,11 @@
 -- Each step of a program's item leaves its tasks in place.
-use Rattle.std.proofs.Common.{◌≡◌, ℕ, suc, ◌+◌, ℤ, List, [], ◌∷◌, ◌++◌, Option, Some, None, refl, sym, ap, ◌∙◌, subst, arith, ⊎_elim}
+use Rattle.std.proofs.Common.{append_assoc, ◌≡◌, ℕ, suc, ◌+◌, ℤ, List, [], ◌∷◌, ◌++◌, Option, Some, None, refl, sym, ap, ◌∙◌, subst, arith, ⊎_elim}
 use Rattle.std.specs.Prelude.{true, false}
 use Rattle.cl_model.specs.Tree.{Expression, Apply, Update, Choose, Call, Expressions, none, more, Statement, Do, Declare, Fill, Block, If, Loop, Switch, Break, Continue, Return, Barrier, Statements, empty, also, Arms, no_arm, arm, Program}
 use Rattle.cl_model.specs.Task.{Leg, Operand, Own, Tested, Chosen, Other, Nth, Turn, Body, Step, Arm, Into, Point, Task, Run, Evaluate, Finish, Peek, Alter, Decide, Enter, InCall, Discard, Keep, Clear, Initialise, Branch, InLoop, Select, InSwitch, Leave, point_of}
 use Rattle.cl_model.specs.Steps.{each_operand, in_order, test_tasks, step_tasks, iteration, behind_break, behind_continue, initial_tasks, Entry, arm_tasks, entry_of, entry_tasks}
 use Rattle.parting_laws.specs.Coming.{behind_call, EvaluateLeads, RunLeads, TaskLeads, TasksLead, StandsAtBarrier}
-use Rattle.parting_laws.specs.Nodes.{Node, no_node, statement_node, list_node, round_node, expression_node, operand_node, nth_node, arm_node, child, node_from, node_at, IsBarrierNode, IsInPlace, AreInPlace}
+use Rattle.parting_laws.specs.Nodes.{Node, no_node, statement_node, list_node, round_node, expression_node, operand_node, nth_node, arm_node, child, node_from, node_at, IsBarrierNode, IsNode, IsRealFrom, IsReal, IsInPlace, AreInPlace}
 use Rattle.parting_laws.proofs.Entries.{Enters, enters_nowhere, enters_here, enters_later, value_enters}
 
 module _ (program : Program) where
@@ -47,6 +47,63 @@ module _ (program : Program) where
   turn_own_none : (way : Point) (n k : ℕ) → node_at program (way ++ (Turn n ∷ Own k ∷ [])) ≡ no_node
   turn_own_none way n k = node_twice way (Turn n) (Own k) (node_at program way) refl ∙ child_own _ k
 
+  -- where a way leads to a node, each leg of it does
+  none_from : (way : Point) → node_from program no_node way ≡ no_node
+  none_from [] = refl
+  none_from (leg ∷ way) = none_from way
+
+  no_step : (node : Node) (k : ℕ) (way : Point) → IsNode (node_from program (child program node (Own k)) way) → ⊥
+  no_step node k way h = subst IsNode (ap (λ z. node_from program z way) (child_own node k) ∙ none_from way) h
+
+  real_from : (node : Node) (way : Point) → IsNode (node_from program node way) → IsRealFrom program node way
+  real_from node [] h = h
+  real_from node (Own k ∷ way) h = absurd (no_step node k way h)
+  real_from node (Operand k ∷ way) h = real_from (child program node (Operand k)) way h
+  real_from node (Tested ∷ way) h = real_from (child program node Tested) way h
+  real_from node (Chosen ∷ way) h = real_from (child program node Chosen) way h
+  real_from node (Other ∷ way) h = real_from (child program node Other) way h
+  real_from node (Nth k ∷ way) h = real_from (child program node (Nth k)) way h
+  real_from node (Turn k ∷ way) h = real_from (child program node (Turn k)) way h
+  real_from node (Body ∷ way) h = real_from (child program node Body) way h
+  real_from node (Step ∷ way) h = real_from (child program node Step) way h
+  real_from node (Arm k ∷ way) h = real_from (child program node (Arm k)) way h
+  real_from node (Into ∷ way) h = real_from (child program node Into) way h
+
+  real_own_from : (node : Node) (way : Point) (n : ℕ) → IsNode (node_from program node way) → IsRealFrom program node (way ++ Own n ∷ [])
+  real_own_from node [] n h = h
+  real_own_from node (Own k ∷ way) n h = absurd (no_step node k way h)
+  real_own_from node (Operand k ∷ way) n h = real_own_from (child program node (Operand k)) way n h
+  real_own_from node (Tested ∷ way) n h = real_own_from (child program node Tested) way n h
+  real_own_from node (Chosen ∷ way) n h = real_own_from (child program node Chosen) way n h
+  real_own_from node (Other ∷ way) n h = real_own_from (child program node Other) way n h
+  real_own_from node (Nth k ∷ way) n h = real_own_from (child program node (Nth k)) way n h
+  real_own_from node (Turn k ∷ way) n h = real_own_from (child program node (Turn k)) way n h
+  real_own_from node (Body ∷ way) n h = real_own_from (child program node Body) way n h
+  real_own_from node (Step ∷ way) n h = real_own_from (child program node Step) way n h
+  real_own_from node (Arm k ∷ way) n h = real_own_from (child program node (Arm k)) way n h
+  real_own_from node (Into ∷ way) n h = real_own_from (child program node Into) way n h
+
+  real_own : (way : Point) (n : ℕ) → IsNode (node_at program way) → IsReal program (way ++ Own n ∷ [])
+  real_own way n h = real_own_from _ way n h
+
+  real_turn_own : (way : Point) (k n : ℕ) → IsNode (node_at program (way ++ Turn k ∷ [])) → IsReal program (way ++ (Turn k ∷ Own n ∷ []))
+  real_turn_own way k n h = subst (IsReal program) (append_assoc way (Turn k ∷ []) (Own n ∷ [])) (real_own (way ++ Turn k ∷ []) n h)
+
+  -- there is a node where there is one below it
+  node_above : (node : Node) (leg : Leg) → IsNode (child program node leg) → IsNode node
+  node_above no_node leg h = h
+  node_above (statement_node s) leg h = tt
+  node_above (list_node list) leg h = tt
+  node_above (round_node test step body) leg h = tt
+  node_above (expression_node e) leg h = tt
+
+  above : (way : Point) (leg : Leg) → IsNode (node_at program (way ++ leg ∷ [])) → IsNode (node_at program way)
+  above way leg h = node_above (node_at program way) leg (subst IsNode (node_further way leg (node_at program way) refl) h)
+
+  -- a node that is known
+  is_there : (a b : Node) → a ≡ b → IsNode b → IsNode a
+  is_there a b e h = subst IsNode (sym e) h
+
   -- ---- tasks of a node's parts
 
   operands_in_place : (at : Point) (k : ℕ) (list : Expressions) (rest : List Task) → ((i j : ℕ) → j ≡ i + k → node_at program (at ++ Operand j ∷ []) ≡ operand_node i list) → AreInPlace program rest → AreInPlace program (each_operand at k list rest)
@@ -71,9 +128,9 @@ module _ (program : Program) where
   entry_in_place at k arms _ rest enters_here h p = arms_in_place at k arms rest h p
   entry_in_place at k _ e rest (enters_later {rest = arms} enters) h p = entry_in_place at (suc k) arms e rest enters (λ i j same. h (suc i) j (omega (arith, same))) p
 
-  initial_in_place : (at : Point) (site array k : ℕ) (values : List ℤ) (rest : List Task) → AreInPlace program rest → AreInPlace program (initial_tasks at site array k values rest)
-  initial_in_place at site array k [] rest p = p
-  initial_in_place at site array k (v ∷ values) rest p = (tt, initial_in_place at site array (suc k) values rest p)
+  initial_in_place : (at : Point) (site array k : ℕ) (values : List ℤ) (rest : List Task) → IsNode (node_at program at) → AreInPlace program rest → AreInPlace program (initial_tasks at site array k values rest)
+  initial_in_place at site array k [] rest h p = p
+  initial_in_place at site array k (v ∷ values) rest h p = (h, initial_in_place at site array (suc k) values rest h p)
 
   -- ---- loops
 
@@ -91,7 +148,7 @@ module _ (program : Program) where
 
   step_in_place : (at : Point) (k : ℕ) (test step : Option Expression) (body : Statement) (rest : List Task) → HasRounds at test step body → AreInPlace program rest → AreInPlace program (step_tasks at k step rest)
   step_in_place at k test None body rest h p = p
-  step_in_place at k test (Some e) body rest h p = (in_round at k Step test (Some e) body h, (turn_own_none at k 1, p))
+  step_in_place at k test (Some e) body rest h p = (in_round at k Step test (Some e) body h, ((turn_own_none at k 1, real_turn_own at k 1 (is_there _ _ (h k) tt)), p))
 
   round_in_place : (at : Point) (site k : ℕ) (test step : Option Expression) (body : Statement) (rest : List Task) → HasRounds at test step body → AreInPlace program rest → AreInPlace program (iteration at site test step body k rest)
   round_in_place at site k test step body rest h p =
@@ -168,31 +225,31 @@ module _ (program : Program) where
   evaluate_keeps : (at : Point) (e : Expression) (rest u : List Task) → EvaluateLeads at e rest u → node_at program at ≡ expression_node e → AreInPlace program rest → AreInPlace program u
   evaluate_keeps at (Apply action none) rest u l e p = placed_by u _ l p
   evaluate_keeps at (Apply action (more a list)) rest u l e p =
-      placed_by u _ l (operands_in_place at 0 (more a list) _ (λ i j same. node_further at (Operand j) _ e ∙ ap (λ z. operand_node z (more a list)) (omega (arith, same))) (tt, p))
+      placed_by u _ l (operands_in_place at 0 (more a list) _ (λ i j same. node_further at (Operand j) _ e ∙ ap (λ z. operand_node z (more a list)) (omega (arith, same))) (is_there _ _ e tt, p))
   evaluate_keeps at (Update site element root op of back old index value) rest u l e p =
-      placed_by u _ l (node_further at (Operand 0) _ e, (tt, (node_further at (Operand 1) _ e, (tt, p))))
+      placed_by u _ l (node_further at (Operand 0) _ e, (is_there _ _ e tt, (node_further at (Operand 1) _ e, (is_there _ _ e tt, p))))
   evaluate_keeps at (Choose site test chosen other) rest u l e p =
       placed_by u _ l (node_further at Tested _ e, ((node_further at Chosen _ e, node_further at Other _ e), p))
   evaluate_keeps at (Call site function roots arguments) rest u l e p =
       placed_by u _ l (operands_in_place at 0 arguments _ (λ i j same. node_further at (Operand j) _ e ∙ ap (λ z. operand_node z arguments) (omega (arith, same))) (node_further at Into _ e, p))
 
   run_keeps : (at : Point) (s : Statement) (rest u : List Task) → RunLeads at s rest u → node_at program at ≡ statement_node s → AreInPlace program rest → AreInPlace program u
-  run_keeps at (Do a) rest u l e p = placed_by u _ l (node_further at (Operand 0) _ e, (own_none at 0, p))
+  run_keeps at (Do a) rest u l e p = placed_by u _ l (node_further at (Operand 0) _ e, ((own_none at 0, real_own at 0 (is_there _ _ e tt)), p))
   run_keeps at (Declare x None) rest u l e p = placed_by u _ l p
-  run_keeps at (Declare x (Some a)) rest u l e p = placed_by u _ l (node_further at (Operand 0) _ e, (tt, p))
+  run_keeps at (Declare x (Some a)) rest u l e p = placed_by u _ l (node_further at (Operand 0) _ e, (is_there _ _ e tt, p))
   run_keeps at (Fill site array values) rest u l e p =
-      placed_by u _ l (operands_in_place at 0 values _ (λ i j same. node_further at (Operand j) _ e ∙ ap (λ z. operand_node z values) (omega (arith, same))) (tt, p))
+      placed_by u _ l (operands_in_place at 0 values _ (λ i j same. node_further at (Operand j) _ e ∙ ap (λ z. operand_node z values) (omega (arith, same))) (is_there _ _ e tt, p))
   run_keeps at (Block list) rest u l e p = placed_by u _ l (list_in_place at 0 list rest (λ i j same. node_further at (Nth j) _ e ∙ ap (λ z. nth_node z list) (omega (arith, same))) p)
   run_keeps at (If site test chosen other) rest u l e p = placed_by u _ l (node_further at Tested _ e, ((node_further at Chosen _ e, node_further at Other _ e), p))
   run_keeps at (Loop site true test step body) rest u l e p =
       let h : HasRounds at test step body = λ k. node_further at (Turn k) _ e in
       placed_by u _ l (test_in_place at 0 test step body _ h (h, p))
   run_keeps at (Loop site false test step body) rest u l e p = placed_by u _ l (round_in_place at site 1 test step body rest (λ k. node_further at (Turn k) _ e) p)
-  run_keeps at (Switch site value arms) rest u l e p = placed_by u _ l (node_further at Tested _ e, (λ k. node_further at (Arm k) _ e, p))
+  run_keeps at (Switch site value arms) rest u l e p = placed_by u _ l (node_further at Tested _ e, ((is_there _ _ e tt, λ k. node_further at (Arm k) _ e), p))
   run_keeps at (Break site) rest u l e p = placed_by u _ l (break_in_place rest p)
   run_keeps at (Continue site) rest u l e p = placed_by u _ l (continue_in_place rest p)
   run_keeps at (Return site None) rest u l e p = placed_by u _ l (return_in_place rest p)
-  run_keeps at (Return site (Some a)) rest u l e p = placed_by u _ l (node_further at (Operand 0) _ e, (tt, p))
+  run_keeps at (Return site (Some a)) rest u l e p = placed_by u _ l (node_further at (Operand 0) _ e, (is_there _ _ e tt, p))
   run_keeps at (Barrier site) rest u l e p = placed_by u _ l p
 
   task_keeps : (task : Task) (rest u : List Task) → TaskLeads program task rest u → IsInPlace program task → AreInPlace program rest → AreInPlace program u
@@ -202,16 +259,16 @@ module _ (program : Program) where
   task_keeps (Peek at site element root) rest u l e p = placed_by u _ l p
   task_keeps (Alter at site element root op of back old) rest u l e p = placed_by u _ l p
   task_keeps (Decide at chosen other) rest u l e p = ⊎_elim (λ x. placed_by u _ x (e.0, p)) (λ x. placed_by u _ x (e.1, p)) l
-  task_keeps (Enter at site function roots count) rest u l e p = placed_by u _ l (e, (tt, p))
+  task_keeps (Enter at site function roots count) rest u l e p = placed_by u _ l (e, (above at Into (is_there _ _ e tt), p))
   task_keeps (InCall at site) rest u l e p = placed_by u _ l p
   task_keeps (Discard at) rest u l e p = placed_by u _ l p
   task_keeps (Keep at x) rest u l e p = placed_by u _ l p
-  task_keeps (Clear at site array count) rest u l e p = placed_by u _ l.1 (initial_in_place at site array 0 l.0 rest p)
+  task_keeps (Clear at site array count) rest u l e p = placed_by u _ l.1 (initial_in_place at site array 0 l.0 rest e p)
   task_keeps (Initialise at site array index value) rest u l e p = placed_by u _ l p
   task_keeps (Branch at chosen other) rest u l e p = ⊎_elim (λ x. placed_by u _ x (whole_list (at ++ Chosen ∷ []) chosen rest e.0 p)) (λ x. placed_by u _ x (whole_list (at ++ Other ∷ []) other rest e.1 p)) l
   task_keeps (InLoop at site test step body begun) rest u l e p = ⊎_elim (λ x. placed_by u _ x (round_in_place at site (suc begun) test step body rest e p)) (λ x. placed_by u _ x p) l
   task_keeps (Select at site arms) rest u l e p =
-      placed_by u _ l.1 (entry_in_place at 0 arms (entry_of l.0 arms) _ (value_enters l.0 arms) (λ i j same. e j ∙ ap (λ z. arm_node z arms) (omega (arith, same))) (tt, p))
+      placed_by u _ l.1 (entry_in_place at 0 arms (entry_of l.0 arms) _ (value_enters l.0 arms) (λ i j same. e.1 j ∙ ap (λ z. arm_node z arms) (omega (arith, same))) (e.0, p))
   task_keeps (InSwitch at site) rest u l e p = placed_by u _ l p
   task_keeps (Leave at) rest u l e p = placed_by u _ l (return_in_place rest p)
 
@@ -248,7 +305,7 @@ module _ (program : Program) where
   at_barrier (Decide at chosen other) rest e b = absurd (not_none _ (own_none at 0) b)
   at_barrier (Enter at site function roots count) rest e b = absurd (not_none _ (own_none at 0) b)
   at_barrier (InCall at site) rest e b = absurd (not_none _ (own_none at 1) b)
-  at_barrier (Discard at) rest e b = absurd (not_none _ e b)
+  at_barrier (Discard at) rest e b = absurd (not_none _ e.0 b)
   at_barrier (Keep at x) rest e b = absurd (not_none _ (own_none at 0) b)
   at_barrier (Clear at site array count) rest e b = absurd (not_none _ (own_none at 0) b)
   at_barrier (Initialise at site array index value) rest e b = absurd (not_none _ (own_none at (suc index)) b)
@@ -257,3 +314,25 @@ module _ (program : Program) where
   at_barrier (Select at site arms) rest e b = absurd (not_none _ (own_none at 0) b)
   at_barrier (InSwitch at site) rest e b = absurd (not_none _ (own_none at 1) b)
   at_barrier (Leave at) rest e b = absurd (not_none _ (own_none at 0) b)
+
+  -- ---- at its point
+
+  -- the point of a task in place is real
+  pub real_point : (task : Task) → IsInPlace program task → IsReal program (point_of task)
+  real_point (Run at s) e = real_from _ at (is_there _ _ e tt)
+  real_point (Evaluate at a) e = real_from _ at (is_there _ _ e tt)
+  real_point (Finish at action count) e = real_own at 0 e
+  real_point (Peek at site element root) e = real_own at 0 e
+  real_point (Alter at site element root op of back old) e = real_own at 1 e
+  real_point (Decide at chosen other) e = real_own at 0 (above at Chosen (is_there _ _ e.0 tt))
+  real_point (Enter at site function roots count) e = real_own at 0 (above at Into (is_there _ _ e tt))
+  real_point (InCall at site) e = real_own at 1 e
+  real_point (Discard at) e = e.1
+  real_point (Keep at x) e = real_own at 0 e
+  real_point (Clear at site array count) e = real_own at 0 e
+  real_point (Initialise at site array index value) e = real_own at (suc index) e
+  real_point (Branch at chosen other) e = real_own at 0 (above at Chosen (is_there _ _ e.0 tt))
+  real_point (InLoop at site test step body begun) e = real_turn_own at begun 0 (is_there _ _ (e begun) tt)
+  real_point (Select at site arms) e = real_own at 0 e.0
+  real_point (InSwitch at site) e = real_own at 1 e
+  real_point (Leave at) e = real_own at 0 e

@@ -4,7 +4,7 @@ use Rattle.cl_model.specs.Tree.{Expression, Apply, Update, Choose, Call, Express
 use Rattle.cl_model.specs.Calls.{function_at, kernel_of}
 use Rattle.kir.specs.Tree.{Lines, NoLine, SetThen, LoadThen, StoreThen, ClearThen, IfThen, LoopThen, BarrierThen}
 use Rattle.lowering_laws.specs.Marks.{Way, Marks, marks_behind, marks_one, marks_two, first_way}
-use Rattle.cl_model.specs.Task.{Leg, Operand, Tested, Chosen, Other, Nth, Turn, Body, Step, Arm, Into, Point, Task, Run, Evaluate, Finish, Peek, Alter, Decide, Enter, InCall, Discard, Keep, Clear, Initialise, Branch, InLoop, Select, InSwitch, Leave}
+use Rattle.cl_model.specs.Task.{Leg, Operand, Own, Tested, Chosen, Other, Nth, Turn, Body, Step, Arm, Into, Point, Task, Run, Evaluate, Finish, Peek, Alter, Decide, Enter, InCall, Discard, Keep, Clear, Initialise, Branch, InLoop, Select, InSwitch, Leave}
 
 -- a part of a program's text
 pub data Node : Type 0 where
@@ -101,6 +101,21 @@ abbrev pub IsBarrierNode : Node → Type 0
 IsBarrierNode (statement_node (Barrier site)) = Unit {0}
 IsBarrierNode _ = ⊥
 
+-- there is a node
+abbrev pub IsNode : Node → Type 0
+IsNode no_node = ⊥
+IsNode _ = Unit {0}
+
+-- the way leads from the node to another, or to a step of another's own
+abbrev pub IsRealFrom : Program → Node → Point → Type 0
+IsRealFrom program node [] = IsNode node
+IsRealFrom program node (Own k ∷ way) = IsNode node
+IsRealFrom program node (leg ∷ way) = IsRealFrom program (child program node leg) way
+
+-- from the kernel's body
+abbrev pub IsReal : Program → Point → Type 0
+IsReal program way = IsRealFrom program (statement_node (Block (kernel_of program).body)) way
+
 -- ---- tasks
 
 -- the task stands at the way to its node, and what it will do at the ways to theirs
@@ -109,19 +124,19 @@ IsInPlace program (Run at s) = node_at program at ≡ statement_node s
 IsInPlace program (Evaluate at e) = node_at program at ≡ expression_node e
 IsInPlace program (Decide at chosen other) = (node_at program (at ++ Chosen ∷ []) ≡ expression_node chosen) × (node_at program (at ++ Other ∷ []) ≡ expression_node other)
 IsInPlace program (Enter at site function roots count) = node_at program (at ++ Into ∷ []) ≡ statement_node (Block (function_at program function).body)
-IsInPlace program (Discard at) = node_at program at ≡ no_node
+IsInPlace program (Discard at) = (node_at program at ≡ no_node) × IsReal program at
 IsInPlace program (Branch at chosen other) = (node_at program (at ++ Chosen ∷ []) ≡ list_node chosen) × (node_at program (at ++ Other ∷ []) ≡ list_node other)
 IsInPlace program (InLoop at site test step body begun) = (k : ℕ) → node_at program (at ++ Turn k ∷ []) ≡ round_node test step body
-IsInPlace program (Select at site arms) = (k : ℕ) → node_at program (at ++ Arm k ∷ []) ≡ arm_node k arms
-IsInPlace program (Finish at action count) = Unit {0}
-IsInPlace program (Peek at site element root) = Unit {0}
-IsInPlace program (Alter at site element root op of back old) = Unit {0}
-IsInPlace program (InCall at site) = Unit {0}
-IsInPlace program (Keep at x) = Unit {0}
-IsInPlace program (Clear at site array count) = Unit {0}
-IsInPlace program (Initialise at site array index value) = Unit {0}
-IsInPlace program (InSwitch at site) = Unit {0}
-IsInPlace program (Leave at) = Unit {0}
+IsInPlace program (Select at site arms) = IsNode (node_at program at) × ((k : ℕ) → node_at program (at ++ Arm k ∷ []) ≡ arm_node k arms)
+IsInPlace program (Finish at action count) = IsNode (node_at program at)
+IsInPlace program (Peek at site element root) = IsNode (node_at program at)
+IsInPlace program (Alter at site element root op of back old) = IsNode (node_at program at)
+IsInPlace program (InCall at site) = IsNode (node_at program at)
+IsInPlace program (Keep at x) = IsNode (node_at program at)
+IsInPlace program (Clear at site array count) = IsNode (node_at program at)
+IsInPlace program (Initialise at site array index value) = IsNode (node_at program at)
+IsInPlace program (InSwitch at site) = IsNode (node_at program at)
+IsInPlace program (Leave at) = IsNode (node_at program at)
 
 -- each of an item's tasks
 abbrev pub AreInPlace : Program → List Task → Type 0
