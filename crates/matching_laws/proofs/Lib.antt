@@ -20,3 +20,4 @@ pub mod Arming
 pub mod Switches
 pub mod Scoping
 pub mod Starting
+pub mod Selecting
