@@ -80,7 +80,7 @@ type_of_is kernel c = go (slice_get kernel.cells c)
     go (Some cell) = refl
 
 -- a test is a fact
-is_value_is : (t : IntType) (z : ℤ) → is_value t z ≡ true → IsValue t z
+pub is_value_is : (t : IntType) (z : ℤ) → is_value t z ≡ true → IsValue t z
 is_value_is t z e = let p = and_parts (int_le (lowest t) z) (int_le z (highest t)) e in record { low = omega (arith, ints, p.0); high = omega (arith, ints, p.1) }
 
 -- a number of so many bits is a value

@@ -21,3 +21,4 @@ pub mod Starting
 pub mod Arming
 pub mod Switches
 pub mod Calling
+pub mod Selecting
