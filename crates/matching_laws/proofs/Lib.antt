@@ -22,3 +22,4 @@ pub mod Arming
 pub mod Switches
 pub mod Calling
 pub mod Selecting
+pub mod Calls
