@@ -21,3 +21,4 @@ pub mod Switches
 pub mod Scoping
 pub mod Starting
 pub mod Selecting
+pub mod Choosing
