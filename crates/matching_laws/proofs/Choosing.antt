@@ -12,7 +12,7 @@ use Rattle.wg_num.specs.Wrap.{IsValue, half, modulus}
 use Rattle.cl_model.specs.Agreement.{Owned, owned_by, HasOwned, IsInScope, IsInBody, IsScopedAt}
 use Rattle.cl_model.specs.Calls.{calls_in, calls_of_arms, function_at}
 use Rattle.cl_model.specs.Steps.{Entry, nowhere, entry, entry_of, entry_tasks}
-use Rattle.cl_model.specs.Task.{Tested, Own, Task, Run, Evaluate, Select, InSwitch, Item as ProgramItem}
+use Rattle.cl_model.specs.Task.{Nth, Arm, Tested, Own, Task, Run, Evaluate, Select, InSwitch, Item as ProgramItem}
 use Rattle.cl_model.specs.Tree.{Expression, Statement, Switch, Arms, no_arm, arm}
 use Rattle.cl_model.specs.Lists.{AllDiffer}
 use Rattle.cl_model.specs.Valid.{Scope, Has, promoted, labels_of}
@@ -223,17 +223,17 @@ module _ (S : Setting) (G : ℕ → Item → ProgramItem → Type 0) (R : Rules 
     switch_marks = marks_then value_marks (marks_then (all_marked way cell_code.lines) (marks_then (all_marked way chosen_code.lines) (marks_then all_arms_marks (all_marked way aside_code.lines))))
 
     -- what is known of them
-    record SwitchParts : Type 0 where
-      value_part : ReadyExpression S C calls scope (further way Tested) value m
-      arms_part : ReadyArms S C calls scope (own_cell out cell value_code.made) cell_code.exit way site (CellAtom chosen_cell) (int (pos 0)) 0 arms chosen_code.made
-      scoped : (begun : List ℕ) (v : Owned) → HasOwned (owned_by C.function scope) v → IsScopedAt S.program (way begun ++ Own 0 ∷ []) v
-      within : Within S aside_code.made
-      low : C.low ≤ next_cell m
-      exits : IsExit S C cell exit m
-      has_exit : (s : ℕ) → around ≡ Some s → cell ≡ Some exit
-      is_out : way_out_of_arms true true arms ≡ out
-      is_around : way_out_of_arms false true arms ≡ around
-      differ : AllDiffer (labels_of arms)
+    pub record SwitchParts : Type 0 where
+      pub value_part : ReadyExpression S C calls scope (further way Tested) value m
+      pub arms_part : ReadyArms S C calls scope (own_cell out cell value_code.made) cell_code.exit way site (CellAtom chosen_cell) (int (pos 0)) 0 arms chosen_code.made
+      pub scoped : (begun : List ℕ) (v : Owned) → HasOwned (owned_by C.function scope) v → IsScopedAt S.program (way begun ++ Own 0 ∷ []) v
+      pub within : Within S aside_code.made
+      pub low : C.low ≤ next_cell m
+      pub exits : IsExit S C cell exit m
+      pub has_exit : (s : ℕ) → around ≡ Some s → cell ≡ Some exit
+      pub is_out : way_out_of_arms true true arms ≡ out
+      pub is_around : way_out_of_arms false true arms ≡ around
+      pub differ : AllDiffer (labels_of arms)
 
     -- the arms do what they do
     abbrev pub AllArmsFollow : Type 0
@@ -436,3 +436,68 @@ module _ (S : Setting) (G : ℕ → Item → ProgramItem → Type 0) (R : Rules 
 
           fixed_same : IsFixedAtom S C.low (next_cell value_code.made) value_code.value.atom value_code.value.of → (c1 c2 : Store) → ((c : ℕ) → c < next_cell value_code.made → c2 c ≡ c1 c) → atom_value c2 value_code.value.atom ≡ atom_value c1 value_code.value.atom
           fixed_same f c1 c2 same = fixed_kept S 0 0 C.low (next_cell value_code.made) value_code.value c1 c2 (omega arith) f (record { each = λ c l u. same c u })
+
+  -- the switch among statements
+  module _ (calls : Calls) (marks : CallMarks) (all : AreCalls S G R C calls marks) (scope : Scope) (inner : IsWithin S C scope) (cell : Option ℕ) (exit : ℕ) (way : Way) (site : ℕ) (value : Expression) (arms : Arms) (m : Made) where
+    -- its parts
+    pub switch_parts : ReadyStatement S C calls scope cell exit way (Switch site value arms) m → SwitchParts calls marks all scope inner cell exit way site value arms m (way_out_of_arms true true arms) (way_out_of_arms false true arms)
+    unfolding statement_code
+    switch_parts r =
+        let out = way_out_of_arms true true arms in
+        let mv = expression_code calls C.here value m in
+        let mc = opened out exit mv.made in
+        let ms = selected site mv.value arms mc.made in
+        let to = next_cell (with_cell mc.made OfValue (promoted mv.value.of)) in
+        let ma = arms_code calls C.here mc.exit site (CellAtom to) (int (pos 0)) 0 arms ms.made in
+        let around = way_out_of_arms false true arms in
+        let mw = outward around mc.exit exit ma.made in
+        let gv = expression_grows S C calls all.grows all.adds value m in
+        let gc : Grows [] mv.made mc.made = opened_makes Grows grows_same grows_before (grows_with OfValue) (grows_with OfFlag) out exit mv.made in
+        let gs : Grows [] mc.made ms.made = selected_makes Grows grows_same grows_before (grows_with OfValue) (grows_with OfFlag) site mv.value arms mc.made in
+        let ga = arms_grow S C calls all.grows all.adds mc.exit site (CellAtom to) (int (pos 0)) 0 arms ms.made in
+        let gw : Grows [] ma.made mw.made = outward_makes Grows grows_same grows_before (grows_with OfValue) (grows_with OfFlag) around mc.exit exit ma.made in
+        let wa : Within S ma.made = within_less S [] ma.made mw.made gw r.within in
+        let ws : Within S ms.made = within_less S (calls_of_arms arms) ms.made ma.made ga wa in
+        let wc : Within S mc.made = within_less S [] mc.made ms.made gs ws in
+        let wv : Within S mv.made = within_less S [] mv.made mc.made gc wc in
+        let nv = grows_count (calls_in value) m mv.made gv in
+        let nc = grows_count [] mv.made mc.made gc in
+        let ns = grows_count [] mc.made ms.made gs in
+        let low = r.low in
+        let next_v = next_right S C m mv.made (calls_in value) (calls_of_arms arms) r.next (expression_adds S C calls all.grows all.adds value m) in
+        let next_c = next_right S C mv.made mc.made [] (calls_of_arms arms) next_v (opened_makes (Adds S C) (adds_same S C) (adds_before S C) (λ m of. adds_same S C m) (λ m of. adds_same S C m) out exit mv.made) in
+        let next_s = next_right S C mc.made ms.made [] (calls_of_arms arms) next_c (selected_makes (Adds S C) (adds_same S C) (adds_before S C) (λ m of. adds_same S C m) (λ m of. adds_same S C m) site mv.value arms mc.made) in
+        record {
+          value_part = record {
+            sound = r.sound.0;
+            leads = further_leads S way Tested (λ along v. IsInScope (IsInBody S.program C.depth) (owned_by C.function scope) value along v) (λ begun along v h. r.leads begun (Tested ∷ along) v h);
+            next = next_left S C m (calls_in value) (calls_of_arms arms) r.next;
+            within = wv;
+            low = r.low;
+          };
+          arms_part = record {
+            sound = r.sound.3;
+            leads = λ begun n i e l along v h. subst (λ z. IsScopedAt S.program (way begun ++ Arm z ∷ Nth l ∷ along) v) (let same : i ≡ n = omega (arith, e) in same) (r.leads begun (Arm i ∷ Nth l ∷ along) v h);
+            next = next_s;
+            within = wa;
+            low = omega (arith, low, nv, nc, ns);
+            inner = r.inner;
+            ended = r.ended;
+            exits = exit_more S C (own_cell out cell mv.made) mc.exit mc.made ms.made ns (exits_opened S C cell out exit mv.made wc (omega (arith, low, nv)) (exit_more S C cell exit m mv.made nv r.exits));
+            has_exit = has_opened cell out exit mv.made;
+          };
+          scoped = λ begun v h. r.leads begun (Own 0 ∷ []) v h;
+          within = r.within;
+          low = r.low;
+          exits = r.exits;
+          has_exit = r.has_exit;
+          is_out = refl;
+          is_around = refl;
+          differ = r.sound.1;
+        }
+
+    pub switch_follows : ReadyStatement S C calls scope cell exit way (Switch site value arms) m → AllArmsFollow calls marks all scope inner cell exit way site value arms m (way_out_of_arms true true arms) (way_out_of_arms false true arms)
+        → StatementFollows S G R C calls marks scope cell exit way (Switch site value arms) m
+    unfolding statement_code statement_marks
+    switch_follows r follow n T tm k at cells vars ts vs next e a go =
+        switch_any calls marks all scope inner cell exit way site value arms m (way_out_of_arms true true arms) (way_out_of_arms false true arms) (switch_parts r) follow n T tm k cells ts vs go at vars e a
