@@ -501,3 +501,45 @@ module _ (S : Setting) (G : ℕ → Item → ProgramItem → Type 0) (R : Rules 
     unfolding statement_code statement_marks
     switch_follows r follow n T tm k at cells vars ts vs next e a go =
         switch_any calls marks all scope inner cell exit way site value arms m (way_out_of_arms true true arms) (way_out_of_arms false true arms) (switch_parts r) follow n T tm k cells ts vs go at vars e a
+
+    -- the number's cell is fixed, and no cell of a way out
+    pub chosen_fixed : ReadyStatement S C calls scope cell exit way (Switch site value arms) m
+        → IsFixedAtom S C.low (next_cell (chosen_code calls marks all scope inner cell exit way site value arms m (way_out_of_arms true true arms) (way_out_of_arms false true arms)).made)
+            (CellAtom (chosen_cell calls marks all scope inner cell exit way site value arms m (way_out_of_arms true true arms) (way_out_of_arms false true arms))) Int
+    chosen_fixed r =
+        let P = switch_parts r in
+        let mv = expression_code calls C.here value m in
+        let mc = opened (way_out_of_arms true true arms) exit mv.made in
+        let of = promoted mv.value.of in
+        let m1 = with_cell mc.made OfValue of in
+        let m2 = with_cell m1 OfValue Int in
+        let n1 = next_with m1 OfValue Int in
+        let n0 = next_with mc.made OfValue of in
+        let cv : Value = record { atom = CellAtom (next_cell mc.made); of = of } in
+        let ms = selected site mv.value arms mc.made in
+        let g = grows_count [] m2 ms.made (all_labels_grow site cv (next_cell m1) 0 arms m2) in
+        let gv = grows_count (calls_in value) m mv.made (expression_grows S C calls all.grows all.adds value m) in
+        let gc = grows_count [] mv.made mc.made (opened_makes Grows grows_same grows_before (grows_with OfValue) (grows_with OfFlag) (way_out_of_arms true true arms) exit mv.made) in
+        let low = r.low in
+        let ws : Within S ms.made = within_less S (calls_of_arms arms) ms.made _ (arms_grow S C calls all.grows all.adds mc.exit site (CellAtom (next_cell m1)) (int (pos 0)) 0 arms ms.made) P.arms_part.within in
+        (omega (arith, low, gv, gc, n0), omega (arith, g, n1), chosen_made S site mv.value arms mc.made ws)
+
+    apart_high : (o : Option ℕ) (d : ℕ) → ((c : ℕ) → o ≡ Some c → c < d) → Apart o d
+    apart_high None d h = tt
+    apart_high (Some c) d h = λ q. let l = h c refl in omega (arith, l, q)
+
+    pub chosen_apart : ReadyStatement S C calls scope cell exit way (Switch site value arms) m
+        → Apart (own_cell (way_out_of_arms true true arms) cell (expression_code calls C.here value m).made) (chosen_cell calls marks all scope inner cell exit way site value arms m (way_out_of_arms true true arms) (way_out_of_arms false true arms))
+    chosen_apart r =
+        let P = switch_parts r in
+        let mv = expression_code calls C.here value m in
+        let out = way_out_of_arms true true arms in
+        let mc = opened out exit mv.made in
+        let n0 = next_with mc.made OfValue (promoted mv.value.of) in
+        let ms = selected site mv.value arms mc.made in
+        let gv = grows_count (calls_in value) m mv.made (expression_grows S C calls all.grows all.adds value m) in
+        let low = r.low in
+        let ws : Within S ms.made = within_less S (calls_of_arms arms) ms.made _ (arms_grow S C calls all.grows all.adds mc.exit site (CellAtom (next_cell (with_cell mc.made OfValue (promoted mv.value.of)))) (int (pos 0)) 0 arms ms.made) P.arms_part.within in
+        let wc : Within S mc.made = within_less S [] mc.made ms.made (selected_makes Grows grows_same grows_before (grows_with OfValue) (grows_with OfFlag) site mv.value arms mc.made) ws in
+        let exits_c = exits_opened S C cell out exit mv.made wc (omega (arith, low, gv)) (exit_more S C cell exit m mv.made gv r.exits) in
+        apart_high (own_cell out cell mv.made) (next_cell (with_cell mc.made OfValue (promoted mv.value.of))) (λ c e. let h = exits_c.high c e in omega (arith, h, n0))

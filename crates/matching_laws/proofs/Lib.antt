@@ -22,3 +22,4 @@ pub mod Scoping
 pub mod Starting
 pub mod Selecting
 pub mod Choosing
+pub mod Following
