@@ -23,3 +23,5 @@ pub mod Switches
 pub mod Calling
 pub mod Selecting
 pub mod Calls
+pub mod Choosing
+pub mod Following

@@ -209,7 +209,7 @@ labels_grow : (site : ℕ) (value : Value) (chosen k : ℕ) (labels : List ℤ) 
 labels_grow site value chosen k [] m = grows_same m
 labels_grow site value chosen k (label ∷ labels) m = grows_before [] [] m (label_code site value chosen k label m).made (labels_code site value chosen k labels (label_code site value chosen k label m).made).made (grows_with OfValue m Int) (labels_grow site value chosen k labels (label_code site value chosen k label m).made)
 
-all_labels_grow : (site : ℕ) (value : Value) (chosen k : ℕ) (arms : Arms) (m : Made) → Grows [] m (all_labels_code site value chosen k arms m).made
+pub all_labels_grow : (site : ℕ) (value : Value) (chosen k : ℕ) (arms : Arms) (m : Made) → Grows [] m (all_labels_code site value chosen k arms m).made
 all_labels_grow site value chosen k no_arm m = grows_same m
 all_labels_grow site value chosen k (arm labels other body rest) m =
     grows_before [] [] m (labels_code site value chosen k labels m).made (all_labels_code site value chosen (k + 1) rest (labels_code site value chosen k labels m).made).made (labels_grow site value chosen k labels m) (all_labels_grow site value chosen (k + 1) rest (labels_code site value chosen k labels m).made)

@@ -237,7 +237,7 @@ module _ (S : Setting) (G : ℕ → Item → ProgramItem → Type 0) (R : Rules 
     arm_marked A F Q b tm = marks_assoc A (FormThen way b NoMark (marks_then F Q)) tm ∙ ap (λ z. marks_then A (FormThen way b NoMark z)) (marks_assoc F Q tm)
 
     -- what an arm makes
-    arm_made : (fallen : Atom) (first : ℕ) (labels : List ℤ) (other : Test) (body : Statements) (rest : Arms) (m : Made) (r : ReadyArms S C calls scope cell exit way site (CellAtom chosen) fallen first (arm labels other body rest) m)
+    pub arm_made : (fallen : Atom) (first : ℕ) (labels : List ℤ) (other : Test) (body : Statements) (rest : Arms) (m : Made) (r : ReadyArms S C calls scope cell exit way site (CellAtom chosen) fallen first (arm labels other body rest) m)
         (fc : IsFixedAtom S C.low (next_cell m) (CellAtom chosen) Int) (ff : IsFixedAtom S C.low (next_cell m) fallen Int) (apart_ : Apart cell chosen)
         → (next_cell m ≤ next_cell (ca fallen first labels other body rest m r fc ff apart_).made) × IsFixedAtom S C.low (next_cell (ca fallen first labels other body rest m r fc ff apart_).made) (CellAtom chosen) Int
         × IsFixedAtom S C.low (next_cell (ca fallen first labels other body rest m r fc ff apart_).made) (ca fallen first labels other body rest m r fc ff apart_).value.atom Int
