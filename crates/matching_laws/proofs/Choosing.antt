@@ -1,27 +1,25 @@
 -- The lines of a switch do what its run does.
-use Rattle.std.proofs.Common.{◌≡◌, ℕ, zero, suc, ◌+◌, ◌<◌, ◌≤◌, ℤ, pos, negsuc, List, [], ◌∷◌, ◌++◌, Option, Some, None, slice_get, refl, sym, ap, ap₂, ◌∙◌, subst, arith, true, false, if◌then◌else◌, ◌⊎◌, inl, inr, ⊎_elim, eq-eqb}
+use Rattle.std.proofs.Common.{◌≡◌, ℕ, suc, ◌+◌, ◌<◌, ◌≤◌, ℤ, pos, negsuc, List, [], ◌∷◌, ◌++◌, Option, Some, None, slice_get, refl, sym, ap, ◌∙◌, subst, arith, true, false, if◌then◌else◌, ◌⊎◌, inl, inr, ⊎_elim}
 use Rattle.std.proofs.Common.{Bool as Test}
 use Rattle.std.specs.Prelude.{nat_eq}
-use Rattle.std.specs.Ordering.{int_eq}
 use Rattle.std.proofs.lemmas.Int.{ints}
 use Rattle.std.proofs.lemmas.Bool.{and_parts, eqb-true}
 use Rattle.std.proofs.lemmas.Option.{none-some, same_Some}
-use Rattle.work_items.specs.Items.{Goes}
 use Rattle.wg_num.specs.declared.types.IntType.TheVariants.{Int}
 use Rattle.wg_num.specs.Wrap.{IsValue, half, modulus}
 use Rattle.cl_model.specs.Agreement.{Owned, owned_by, HasOwned, IsInScope, IsInBody, IsScopedAt}
-use Rattle.cl_model.specs.Calls.{calls_in, calls_of_arms, function_at}
+use Rattle.cl_model.specs.Calls.{calls_in, calls_of_arms}
 use Rattle.cl_model.specs.Steps.{Entry, nowhere, entry, entry_of, entry_tasks}
-use Rattle.cl_model.specs.Task.{Nth, Arm, Tested, Own, Task, Run, Evaluate, Select, InSwitch, Item as ProgramItem}
-use Rattle.cl_model.specs.Tree.{Expression, Statement, Switch, Arms, no_arm, arm}
+use Rattle.cl_model.specs.Task.{Nth, Arm, Tested, Own, Task, Run, Select, InSwitch, Item as ProgramItem}
+use Rattle.cl_model.specs.Tree.{Expression, Switch, Arms, no_arm, arm}
 use Rattle.cl_model.specs.Lists.{AllDiffer}
-use Rattle.cl_model.specs.Valid.{Scope, Has, promoted, labels_of}
+use Rattle.cl_model.specs.Valid.{Scope, promoted, labels_of}
 use Rattle.kir.specs.declared.line.Atom.{Atom}
-use Rattle.kir.specs.declared.line.Atom.TheVariants.{Const, Cell as CellAtom}
+use Rattle.kir.specs.declared.line.Atom.TheVariants.{Cell as CellAtom}
 use Rattle.kir.specs.Tree.{Copy, Lines, NoLine, SetThen, LoadThen, StoreThen, ClearThen, IfThen, LoopThen, BarrierThen, Cell, Kernel, OfFlag, OfValue, joined_to}
 use Rattle.kir.specs.Places.{Behind, Place, Tasks, LinesAt, begun_in}
 use Rattle.kir.specs.Steps.{Item, atom_value}
-use Rattle.kir.specs.Fits.{is_value, has_type, lines_fit, work_fits, atom_type}
+use Rattle.kir.specs.Fits.{is_value, has_type, lines_fit, atom_type}
 use Rattle.kir_lower.specs.declared.places.Value.{Value}
 use Rattle.kir_lower.specs.Made.{Made, next_cell, with_cell, int}
 use Rattle.kir_lower.specs.Ways.{way_out_of_all, way_out_of_arms}
@@ -32,27 +30,26 @@ use Rattle.lowering_laws.specs.CodeMarks.{CallMarks, expression_marks, statement
 use Rattle.lowering_laws.proofs.Joined.{join_assoc}
 use Rattle.lowering_laws.proofs.Making.{opened_makes, selected_makes, outward_makes}
 use Rattle.matching_laws.specs.Setting.{Setting, Store, updated, kernel_item, Activation, frame, inside, behind_variables}
-use Rattle.matching_laws.specs.Exits.{Exit, Continues, Breaks, Returns, pending, unwound, given_by, arms_leave, Can, ArmsCan}
+use Rattle.matching_laws.specs.Exits.{Exit, Continues, Breaks, Returns, pending, unwound, given_by, Can, ArmsCan}
 use Rattle.matching_laws.specs.Held.{Within, IsMade, IsFixedAtom, Apart, Kept, IsWithin, At}
 use Rattle.matching_laws.specs.Facts.{Rules, HoldsTypes}
 use Rattle.matching_laws.specs.Ready.{IsUnderWay, Adds, ReadyExpression}
 use Rattle.matching_laws.specs.Bodies.{IsBody, IsExit, ReadyStatement, ReadyArms}
 use Rattle.matching_laws.proofs.Lines.{NoVariable, updated_same, updated_other, Sim, value_line}
-use Rattle.matching_laws.proofs.Keeping.{Grows, grows_same, grows_before, grows_with, grows_count, next_with, within_less, value_made, flag_made, made_no_variable, atom_more, fixed_more, fixed_kept, kept_refl, kept_trans, kept_set, kept_weaker, same_set}
+use Rattle.matching_laws.proofs.Keeping.{Grows, grows_same, grows_before, grows_with, grows_count, next_with, within_less, value_made, made_no_variable, fixed_more, fixed_kept, kept_trans, kept_set, kept_weaker, same_set}
 use Rattle.matching_laws.proofs.Actions.{not_equal}
 use Rattle.matching_laws.proofs.Readying.{next_left, next_right, adds_same, adds_before}
 use Rattle.matching_laws.proofs.Fixing.{further_leads, expression_grows, expression_adds, expression_fixed}
 use Rattle.matching_laws.proofs.Expressions.{marks_assoc, at_lines, AreCalls, stays_at, expression_follows}
 use Rattle.matching_laws.proofs.Leaving.{arms_way, arms_fewer_none, all_asked, return_same}
-use Rattle.matching_laws.proofs.Guards.{passed_on, KeptBut, outward_follows}
+use Rattle.matching_laws.proofs.Guards.{passed_on, outward_follows}
 use Rattle.matching_laws.proofs.Containing.{exit_more, arms_grow}
 use Rattle.matching_laws.proofs.Statements.{answer_kept, at_kept, at_set, StatementDone, StatementFollows}
-use Rattle.matching_laws.proofs.Lists.{as_none}
 use Rattle.matching_laws.proofs.Loops.{own_cell, kept_inner}
 use Rattle.matching_laws.proofs.Turning.{exits_opened, has_opened}
 use Rattle.matching_laws.proofs.CellTypes.{is_value_is}
 use Rattle.matching_laws.proofs.Switches.{IsEntry, ArmsFollow, waiting}
-use Rattle.matching_laws.proofs.Selecting.{last_number, chosen_entry, all_labels_grow, selected_follows, marked_joined}
+use Rattle.matching_laws.proofs.Selecting.{last_number, chosen_entry, all_labels_grow, selected_follows}
 
 -- ---- numbers of arms
 
@@ -398,7 +395,7 @@ module _ (S : Setting) (G : ℕ → Item → ProgramItem → Type 0) (R : Rules 
           (at_number c3 vars1 (number_for (entry_of z arms)) a3)
           (kept_trans base C.low None (next_cell m) (next_cell m) start c3 (held z) (omega arith) k3 (kept_set base C.low None (next_cell m) c3 chosen_cell (number_for (entry_of z arms)) (omega (arith, gv, gc, gt))))
           (subst (λ y. IsEntry 0 arms (entry_of z arms) y) (sym (updated_same c3 chosen_cell (number_for (entry_of z arms)))) (entry_there z)))
-          (arms_run a.exit_is c3 vars1 (entry_of v arms) at3 e4 a3 k3 is4)))))))))) 
+          (arms_run a.exit_is c3 vars1 (entry_of v arms) at3 e4 a3 k3 is4))))))))))
         where
           within_chosen : Within S chosen_code.made
           within_chosen = within_less S (calls_of_arms arms) chosen_code.made all_arms.made (arms_grow S C calls all.grows all.adds cell_code.exit site (CellAtom chosen_cell) (int (pos 0)) 0 arms chosen_code.made) P.arms_part.within
@@ -505,7 +502,7 @@ module _ (S : Setting) (G : ℕ → Item → ProgramItem → Type 0) (R : Rules 
     -- the number's cell is fixed, and no cell of a way out
     pub chosen_fixed : ReadyStatement S C calls scope cell exit way (Switch site value arms) m
         → IsFixedAtom S C.low (next_cell (chosen_code calls marks all scope inner cell exit way site value arms m (way_out_of_arms true true arms) (way_out_of_arms false true arms)).made)
-            (CellAtom (chosen_cell calls marks all scope inner cell exit way site value arms m (way_out_of_arms true true arms) (way_out_of_arms false true arms))) Int
+        (CellAtom (chosen_cell calls marks all scope inner cell exit way site value arms m (way_out_of_arms true true arms) (way_out_of_arms false true arms))) Int
     chosen_fixed r =
         let P = switch_parts r in
         let mv = expression_code calls C.here value m in

@@ -1,5 +1,5 @@
 -- The lines of every statement, list and switch do what their runs do, where the heads of loops do for no move.
-use Rattle.std.proofs.Common.{◌≡◌, ℕ, suc, ◌+◌, List, Option, Some, None, refl, true, false}
+use Rattle.std.proofs.Common.{ℕ, suc, ◌+◌, Option, refl, true, false}
 use Rattle.std.proofs.Common.{Bool as Test}
 use Rattle.std.specs.Prelude.{◌&&◌}
 use Rattle.wg_num.specs.declared.types.IntType.TheVariants.{Int}
@@ -10,7 +10,7 @@ use Rattle.kir.specs.declared.line.Atom.{Atom}
 use Rattle.kir.specs.declared.line.Atom.TheVariants.{Cell as CellAtom}
 use Rattle.kir.specs.Steps.{Item}
 use Rattle.kir_lower.specs.Made.{Made, next_cell}
-use Rattle.kir_lower.specs.Ways.{way_out, way_out_of_arms, declares}
+use Rattle.kir_lower.specs.Ways.{way_out, declares}
 use Rattle.kir_lower.specs.Code.{Calls, expression_code, is_guarded, statement_code, list_code}
 use Rattle.lowering_laws.specs.Marks.{Way, further, in_turn}
 use Rattle.lowering_laws.specs.CodeMarks.{CallMarks}

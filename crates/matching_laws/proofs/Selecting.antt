@@ -1,23 +1,22 @@
 -- The lines that compute which arm of a switch is chosen, and that it is the one at which the program's item enters.
-use Rattle.std.proofs.Common.{◌≡◌, ℕ, zero, suc, ◌+◌, ◌<◌, ◌≤◌, ℤ, pos, negsuc, List, [], ◌∷◌, ◌++◌, Option, Some, None, slice_get, refl, sym, ap, ap₂, ◌∙◌, subst, arith, true, false, if◌then◌else◌, ◌⊎◌, inl, inr, ⊎_elim}
+use Rattle.std.proofs.Common.{◌≡◌, ℕ, suc, ◌+◌, ◌<◌, ◌≤◌, ℤ, pos, List, [], ◌∷◌, ◌++◌, Some, None, refl, sym, ap, ◌∙◌, subst, arith, true, false, if◌then◌else◌, inl, inr}
 use Rattle.std.proofs.Common.{Bool as Test}
-use Rattle.std.specs.Prelude.{◌||◌, ◌&&◌}
+use Rattle.std.specs.Prelude.{◌||◌}
 use Rattle.std.specs.Ordering.{int_eq}
 use Rattle.std.proofs.lemmas.Bool.{true≢false, and_parts}
 use Rattle.std.proofs.lemmas.Bool.Decides.{Decides-int_eq}
 use Rattle.std.proofs.lemmas.Int.{ints}
-use Rattle.std.proofs.lemmas.Option.{none-some, same_Some}
 use Rattle.wg_num.specs.declared.types.IntType.{IntType}
 use Rattle.wg_num.specs.declared.types.IntType.TheVariants as types
 use Rattle.wg_num.specs.declared.types.IntType.TheVariants.{Int}
 use Rattle.wg_num.specs.declared.types.Bin.TheVariants.{Eq}
 use Rattle.wg_num.specs.Operators.{binary_of}
-use Rattle.wg_num.specs.Wrap.{IsValue, wrap_of, half, modulus, lowest, highest}
+use Rattle.wg_num.specs.Wrap.{IsValue, wrap_of, half, modulus}
 use Rattle.wg_num.proofs.WrapLaws.{wrap_value}
 use Rattle.cl_model.specs.Lists.{IsOneOf, AllDiffer}
 use Rattle.cl_model.specs.Steps.{has_label, Entry, nowhere, entry, labelled, defaulted, or_else, entry_of}
 use Rattle.cl_model.specs.Task.{Item as ProgramItem}
-use Rattle.cl_model.specs.Tree.{Statements, Arms, no_arm, arm}
+use Rattle.cl_model.specs.Tree.{Arms, no_arm, arm}
 use Rattle.cl_model.specs.Valid.{promoted, labels_of}
 use Rattle.cl_model.specs.Values.{is_zero}
 use Rattle.kir.specs.declared.line.Atom.{Atom}
@@ -30,11 +29,11 @@ use Rattle.kir_lower.specs.Made.{Made, next_cell, with_cell, int}
 use Rattle.kir_lower.specs.Actions.{set_to, default_number, label_code, labels_code, all_labels_code, selected}
 use Rattle.kir.specs.Fits.{is_value, has_some_type, work_fits}
 use Rattle.lowering_laws.specs.Marks.{Way, Marks, MarkThen, FormThen, marks_then, all_marked, marks_behind, marks_at}
-use Rattle.matching_laws.specs.Setting.{Setting, Store, updated, kernel_item, Activation, behind_variables}
-use Rattle.matching_laws.specs.Held.{Within, IsMade, IsFixedAtom, IsFixed, Kept}
+use Rattle.matching_laws.specs.Setting.{Setting, Store, updated, kernel_item, Activation}
+use Rattle.matching_laws.specs.Held.{Within, IsFixedAtom, IsFixed}
 use Rattle.matching_laws.specs.Facts.{Rules, HoldsTypes}
-use Rattle.matching_laws.proofs.Lines.{NoVariable, PlainAtom, updated_same, updated_other, end_line, value_line, if_line}
-use Rattle.matching_laws.proofs.Keeping.{Grows, grows_same, grows_before, grows_with, grows_count, next_with, within_less, value_made, made_no_variable, cell_plain, atom_plain, atom_below, fixed_more}
+use Rattle.matching_laws.proofs.Lines.{NoVariable, updated_same, updated_other, end_line, value_line, if_line}
+use Rattle.matching_laws.proofs.Keeping.{Grows, grows_same, grows_before, grows_with, grows_count, next_with, within_less, value_made, made_no_variable, cell_plain, atom_plain, fixed_more}
 use Rattle.matching_laws.proofs.Actions.{not_equal, equal_value}
 use Rattle.matching_laws.proofs.Expressions.{marks_assoc, at_lines}
 use Rattle.matching_laws.proofs.Guards.{KeptBut}
@@ -97,9 +96,10 @@ none_labelled v k (arm labels other body rest) x h =
   where
     by : (b : Test) → has_label v labels ≡ b → labelled v (suc k) rest ≡ nowhere → last_number v (k + 1) rest x ≡ x → (labelled v k (arm labels other body rest) ≡ nowhere) × (last_number v k (arm labels other body rest) x ≡ x)
     by true e f g = absurd (h (one_left labels (labels_of rest) v (label_in v labels e)))
-    by false e f g =
-        (ap (λ b. if b then entry k (arm labels other body rest) else labelled v (suc k) rest) e ∙ f,
-        ap (λ b. last_number v (k + 1) rest (if b then pos k else x)) e ∙ g)
+    by false e f g = (
+      ap (λ b. if b then entry k (arm labels other body rest) else labelled v (suc k) rest) e ∙ f,
+      ap (λ b. last_number v (k + 1) rest (if b then pos k else x)) e ∙ g,
+    )
 
 -- an entry among the arms from one on has no smaller number
 entry_number : (k : ℕ) (arms : Arms) (i : ℕ) (entered : Arms) (c : ℤ) → IsEntry k arms (entry i entered) c → (c ≡ pos i) × (k ≤ i)
@@ -284,7 +284,6 @@ module _ (S : Setting) (G : ℕ → Item → ProgramItem → Type 0) (R : Rules 
       all_labels_follow rest (k + 1) cl.made T tm at1 c1 (if has_label v labels then pos k else x) (fixed_more S C.low (next_cell m) (next_cell cl.made) value g fixed) (omega (arith, less, g)) within e1
       (atom_but S C.low (next_cell m) to value.atom value.of cells c1 fixed apart_ k1 ∙ holds) h1
       (λ at2 c2 e2 h2 k2. go at2 c2 e2 h2 (λ d q lt. k2 d q (omega (arith, lt, g)) ∙ k1 d q lt))))
-
   -- ---- the whole
 
 module _ (S : Setting) (G : ℕ → Item → ProgramItem → Type 0) (R : Rules S G) (C : Activation) where
@@ -306,7 +305,7 @@ module _ (S : Setting) (G : ℕ → Item → ProgramItem → Type 0) (R : Rules 
       → IsFixed S C.low (next_cell m) value → Within S (selected site value arms m).made → AllDiffer (labels_of arms)
       → marks_at S.marks at ≡ marks_then (all_marked way (selected site value arms m).lines) tm
       → ((at' : Place) (new : Store) → marks_at S.marks at' ≡ tm → ((c : ℕ) → c < next_cell m → new c ≡ cells c) → IsEntry 0 arms (entry_of (atom_value cells value.atom) arms) (atom_value new (selected site value arms m).value.atom)
-          → G n (kernel_item S new (LinesAt at' T t)) j)
+      → G n (kernel_item S new (LinesAt at' T t)) j)
       → G n (kernel_item S cells (LinesAt at (joined_to (selected site value arms m).lines T) t)) j
   selected_follows site value arms m n T way tm t at cells j low fixed within differ e go =
       let of = promoted value.of in
