@@ -199,7 +199,7 @@ answer_same None m old new h = refl
 answer_same (Some of) m old new h = let n = next_with m OfValue of in h (next_cell m) (omega (arith, n))
 
 -- a parameter is in scope in the body
-has_numbers : (n x : ℕ) → x < n → Has (numbers_below n) x
+pub has_numbers : (n x : ℕ) → x < n → Has (numbers_below n) x
 has_numbers zero x h = absurd (omega (arith, h))
 has_numbers (suc n) x h = by_last (nat_lt x n) refl (λ l. has_numbers n x l)
   where
@@ -229,7 +229,7 @@ module _ (S : Setting) (G : ℕ → Item → ProgramItem → Type 0) (R : Rules 
       (next : (m' : Made) → length m'.arrays ≡ length m1.arrays → AreNext S D m' (calls_of_all (function_at S.program D.function).body))
       (leads : LeadsToList S D (numbers_below (function_at S.program D.function).parameters) way 0 (function_at S.program D.function).body)
       (heads : (is_body : IsBody S D) → Heads S G R D calls marks under is_body all 0) where
-    body_follows : (n : ℕ) (T : Lines) (tm : Marks) (k : Tasks) (at : Place) (cells vars : Store) (ts : List Task) (vs : List ℤ) → ((x : ℕ) → x < (function_at S.program D.function).parameters → cells (D.here.base + x) ≡ vars x)
+    pub body_follows : (n : ℕ) (T : Lines) (tm : Marks) (k : Tasks) (at : Place) (cells vars : Store) (ts : List Task) (vs : List ℤ) → ((x : ℕ) → x < (function_at S.program D.function).parameters → cells (D.here.base + x) ≡ vars x)
         → marks_at S.marks at ≡ marks_then (body_marks calls marks D.here way (function_at S.program D.function) m1) tm
         → ((at' : Place) (new vars' : Store) (o : Option Exit) (v : ℤ) → marks_at S.marks at' ≡ tm → ((c : ℕ) → c < D.here.base → new c ≡ cells c) → atom_value new (result_code (function_at S.program D.function).result m1).value.atom ≡ given_by o v
         → G n (kernel_item S new (LinesAt at' T k)) (unwound o v (inside S D ts vs vars')))

@@ -25,3 +25,4 @@ pub mod Selecting
 pub mod Calls
 pub mod Choosing
 pub mod Following
+pub mod Kernels

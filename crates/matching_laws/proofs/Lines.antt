@@ -98,10 +98,11 @@ one_step lengths told next [] a b e s = goes_to a b (sym e ∙ s)
 one_step lengths told next (d ∷ []) a b e s = absurd (subst (λ z. DoesOnce lengths told z d b) e s)
 one_step lengths told next (d ∷ (d' ∷ ds)) a b e s = absurd s
 
--- the item comes to the scope at once, or never
+-- the item comes to the scope at once, or never, or it has ended
 pub data Comes (S : Setting) (v : Variable) (j : ProgramItem) : Type 0 where
   at_once : IsInScope S.program v j → Comes S v j
   never : ((j' : ProgramItem) (point : ProgramPoint) → AreInPlace S.program j'.tasks → first_point j'.tasks ≡ Some point → IsScopedAt S.program point (record { function = v.function; variable = v.number }) → ⊥) → Comes S v j
+  ended : program_next S.program S.launch j ≡ Ends → (IsInScope S.program v j → ⊥) → Comes S v j
 
 -- a step leaves the tasks in place
 step_in_place : (S : Setting) (j j' : ProgramItem) → MayLead GoesOn (program_next S.program S.launch j) j' → AreInPlace S.program j.tasks → AreInPlace S.program j'.tasks
@@ -138,10 +139,21 @@ comes_in_place : (S : Setting) (v : Variable) (j : ProgramItem) (deeds : List De
 comes_in_place S v j _ j' (arrives {deeds = deeds} st h) placed = step_in_place S j j' (steps_lead _ _ _ deeds j' st) placed
 comes_in_place S v j _ j' (passes {mid = mid} deeds more st not_yet c) placed = comes_in_place S v mid more j' c (step_in_place S j mid (steps_lead _ _ _ deeds mid st) placed)
 
+-- an item that has ended takes no step
+no_steps : {X : Type 0} (lengths : ℕ → ℕ) (told : Access → List ℕ → Type 0) (next : Next X) (deeds : List Deed) (to : X) → next ≡ Ends → StepsTo lengths told next deeds to → ⊥
+no_steps lengths told next deeds to e s = subst (λ z. MayLead GoesOn z to) e (steps_lead lengths told next deeds to s)
+
+never_comes : {X : Type 0} (lengths : ℕ → ℕ) (told : Access → List ℕ → Type 0) (next : X → Next X) (Here : X → Type 0) (s t : X) (deeds : List Deed) → next s ≡ Ends → ComesNext lengths told next Here s deeds t → ⊥
+never_comes lengths told next Here s t _ e (arrives {deeds = deeds} st h) = no_steps lengths told (next s) deeds t e st
+never_comes lengths told next Here s t _ e (passes {mid = mid} deeds more st not_yet c) = no_steps lengths told (next s) deeds mid e st
+
 -- so the next value there is that of the next state
 pub next_value : (S : Setting) (v : Variable) (j j1 : ProgramItem) (w : ℤ) → program_next S.program S.launch j ≡ Goes j1 → Comes S v j1 → value_in j1.frames v ≡ Some w
     → AreInPlace S.program j.tasks → (deeds : List Deed) (j' : ProgramItem) → ComesToScope S.program S.launch S.buffers v j deeds j' → value_in j'.frames v ≡ Some w
 next_value S v j j1 w e (never none) here placed deeds j' c = let s = comes_here (IsInScope S.program v) c in absurd (none j' s.point (comes_in_place S v j deeds j' c placed) s.stands s.scoped)
+next_value S v j j1 w e (ended over out) here placed _ j' (arrives {deeds = deeds} st h) = absurd (out (subst (IsInScope S.program v) (sym (one_step _ _ _ deeds j1 j' e st)) h))
+next_value S v j j1 w e (ended over out) here placed _ j' (passes {mid = mid} deeds more st not_yet c) =
+    absurd (never_comes _ _ _ _ mid j' more (subst (λ z. program_next S.program S.launch z ≡ Ends) (one_step _ _ _ deeds j1 mid e st) over) c)
 next_value S v j j1 w e (at_once scoped) here placed _ j' (arrives {deeds = deeds} st h) =
     subst (λ (z : ProgramItem). value_in z.frames v ≡ Some w) (one_step _ _ _ deeds j1 j' e st) here
 next_value S v j j1 w e (at_once scoped) here placed _ j' (passes {mid = mid} deeds more st not_yet c) =
