@@ -23,3 +23,4 @@ pub mod Starting
 pub mod Selecting
 pub mod Choosing
 pub mod Following
+pub mod Stood
