@@ -1,5 +1,5 @@
 -- What is known of the arms of a switch, and the lines that say which of them is entered.
-use Rattle.std.proofs.Common.{◌≡◌, ℕ, zero, suc, ◌+◌, ◌<◌, ◌≤◌, ℤ, pos, List, [], ◌∷◌, ◌++◌, Option, Some, None, refl, sym, ap, ap₂, ◌∙◌, subst, arith, append_assoc, true, false, if◌then◌else◌, ◌⊎◌, inl, inr}
+use Rattle.std.proofs.Common.{◌≡◌, ℕ, suc, ◌+◌, ◌<◌, ◌≤◌, ℤ, pos, List, [], ◌∷◌, ◌++◌, Option, Some, None, refl, sym, ap, ap₂, ◌∙◌, subst, arith, append_assoc, true, false, if◌then◌else◌}
 use Rattle.std.proofs.Common.{Bool as Test}
 use Rattle.std.specs.Prelude.{◌||◌, ◌&&◌}
 use Rattle.std.specs.Ordering.{int_eq}
@@ -9,14 +9,14 @@ use Rattle.wg_num.specs.declared.types.Bin.TheVariants.{And, Or, Eq}
 use Rattle.wg_num.specs.declared.types.Un.TheVariants.{Not}
 use Rattle.wg_num.specs.Operators.{unary_of, binary_of}
 use Rattle.wg_num.specs.Wrap.{wrap_of, half, modulus, bits_of}
-use Rattle.cl_model.specs.Agreement.{Owned, owned_by, IsInScopeList, IsInBody, IsScopedAt}
-use Rattle.cl_model.specs.Calls.{calls_of_all, calls_of_arms, function_at}
-use Rattle.cl_model.specs.Task.{Nth, Arm, Item as ProgramItem, Point as ProgramPoint}
-use Rattle.cl_model.specs.Tree.{Statements, Arms, no_arm, arm}
-use Rattle.cl_model.specs.Valid.{Scope, Has}
+use Rattle.cl_model.specs.Agreement.{IsScopedAt}
+use Rattle.cl_model.specs.Calls.{calls_of_all, calls_of_arms}
+use Rattle.cl_model.specs.Task.{Nth, Arm, Item as ProgramItem}
+use Rattle.cl_model.specs.Tree.{Statements, Arms, arm}
+use Rattle.cl_model.specs.Valid.{Scope}
 use Rattle.kir.specs.declared.line.Atom.{Atom}
-use Rattle.kir.specs.declared.line.Atom.TheVariants.{Const, Cell as CellAtom}
-use Rattle.kir.specs.Tree.{Unary, Binary, Lines, NoLine, SetThen, OfFlag, OfValue, joined_to}
+use Rattle.kir.specs.declared.line.Atom.TheVariants.{Cell as CellAtom}
+use Rattle.kir.specs.Tree.{Unary, Binary, Lines, OfFlag, OfValue, joined_to}
 use Rattle.kir.specs.Places.{Behind, Place, Tasks, LinesAt}
 use Rattle.kir.specs.Steps.{Item, atom_value}
 use Rattle.kir_lower.specs.declared.places.Value.{Value}
@@ -24,16 +24,16 @@ use Rattle.kir_lower.specs.Made.{Made, next_cell, with_cell, int}
 use Rattle.kir_lower.specs.Ways.{way_out_of_all, way_out_of_arms}
 use Rattle.kir_lower.specs.Actions.{fallen_code}
 use Rattle.kir_lower.specs.Code.{Calls, entry_code, around_arm, in_order as code_in_order, list_code, arms_code}
-use Rattle.lowering_laws.specs.Marks.{Way, further, Marks, MarkThen, marks_then, all_marked, marks_behind, marks_at}
+use Rattle.lowering_laws.specs.Marks.{Way, further, Marks, marks_then, all_marked, marks_behind, marks_at}
 use Rattle.lowering_laws.proofs.Making.{call_of, entry_makes, fallen_makes}
 use Rattle.matching_laws.specs.Setting.{Setting, Store, updated, kernel_item, Activation}
 use Rattle.matching_laws.specs.Exits.{Exit, Continues, Breaks, Returns, pending}
-use Rattle.matching_laws.specs.Held.{Within, IsMade, IsFixedAtom, IsWithin}
+use Rattle.matching_laws.specs.Held.{Within, IsFixedAtom}
 use Rattle.matching_laws.specs.Facts.{Rules}
-use Rattle.matching_laws.specs.Ready.{AreNext, Adds}
+use Rattle.matching_laws.specs.Ready.{Adds}
 use Rattle.matching_laws.specs.Bodies.{ReadyList, ReadyArms}
-use Rattle.matching_laws.proofs.Lines.{NoVariable, PlainAtom, updated_same, updated_other, value_line}
-use Rattle.matching_laws.proofs.Keeping.{Grows, grows_same, grows_before, grows_with, grows_count, next_with, within_less, value_made, made_no_variable, cell_plain, atom_plain, atom_more, atom_below, value_fixed}
+use Rattle.matching_laws.proofs.Lines.{NoVariable, updated_same, updated_other, value_line}
+use Rattle.matching_laws.proofs.Keeping.{Grows, grows_same, grows_before, grows_with, grows_count, next_with, within_less, value_made, made_no_variable, cell_plain, atom_plain, atom_below, value_fixed}
 use Rattle.matching_laws.proofs.Actions.{equal_value}
 use Rattle.matching_laws.proofs.Readying.{next_left, next_right, adds_same, adds_before}
 use Rattle.matching_laws.proofs.Containing.{exit_more, exit_first, exit_second, list_grows, list_adds, arms_grow}
@@ -142,8 +142,8 @@ module _ (S : Setting) (C : Activation) (calls : Calls)
 
   pub arm_rest : (k : ℕ) (labels : List ℤ) (other : Test) (body : Statements) (rest : Arms) (m : Made) → ReadyArms S C calls scope cell exit way site chosen fallen k (arm labels other body rest) m
       → ReadyArms S C calls scope cell exit way site chosen
-          (around_arm site exit (way_out_of_all true true body) (entry_code chosen fallen k m) (code_in_order (list_code calls C.here exit false body (entry_code chosen fallen k m).made))).value.atom (k + 1) rest
-          (around_arm site exit (way_out_of_all true true body) (entry_code chosen fallen k m) (code_in_order (list_code calls C.here exit false body (entry_code chosen fallen k m).made))).made
+      (around_arm site exit (way_out_of_all true true body) (entry_code chosen fallen k m) (code_in_order (list_code calls C.here exit false body (entry_code chosen fallen k m).made))).value.atom (k + 1) rest
+      (around_arm site exit (way_out_of_all true true body) (entry_code chosen fallen k m) (code_in_order (list_code calls C.here exit false body (entry_code chosen fallen k m).made))).made
   unfolding arms_code
   arm_rest k labels other body rest m r =
       let ce = entry_code chosen fallen k m in

@@ -16,11 +16,13 @@ pub mod CellTypes
 pub mod Covered
 pub mod Followed
 pub mod Sounding
-pub mod Arming
-pub mod Switches
 pub mod Scoping
 pub mod Starting
+pub mod Arming
+pub mod Switches
+pub mod Calling
 pub mod Selecting
+pub mod Calls
 pub mod Choosing
 pub mod Following
 pub mod Stood

@@ -209,14 +209,14 @@ module _ (S : Setting) (G : ℕ → Item → ProgramItem → Type 0) (R : Rules 
         sets_value = λ v c is r placed done more i' j' s t. absurd (not_both (nat_eq c to) r (apart_cell S to none v c is));
       }) refl g
 
-  -- a variable is set, where the program's item then sets it
-  pub set_line : (n : ℕ) (cells : Store) (at : Place) (work : Work) (rest : Lines) (k : Tasks) (j j1 : ProgramItem) (v : Variable) (to : ℕ) (way : Way) (more : Marks) → PlainWork S work
+  -- a variable is set, where the program's item will set it by its next step
+  pub stay_line : (n : ℕ) (cells : Store) (at : Place) (work : Work) (rest : Lines) (k : Tasks) (j j1 : ProgramItem) (v : Variable) (to : ℕ) (way : Way) (more : Marks) → PlainWork S work
       → IsCellOf S.kernel v to → marks_at S.marks at ≡ MarkThen way more → first_point j.tasks ≡ Some (way (begun_in k))
-      → program_next S.program S.launch j ≡ Goes j1 → is_test j.tasks ≡ false → Comes S v j1
+      → program_next S.program S.launch j ≡ Goes j1 → Comes S v j1
       → value_in j1.frames v ≡ Some (work_value S.launch (kernel_item S cells (LinesAt at (SetThen to work rest) k)) work)
-      → G n (kernel_item S (updated cells to (work_value S.launch (kernel_item S cells (LinesAt at (SetThen to work rest) k)) work)) (LinesAt (Behind ∷ at) rest k)) j1
+      → G n (kernel_item S (updated cells to (work_value S.launch (kernel_item S cells (LinesAt at (SetThen to work rest) k)) work)) (LinesAt (Behind ∷ at) rest k)) j
       → G n (kernel_item S cells (LinesAt at (SetThen to work rest) k)) j
-  set_line n cells at work rest k j j1 v to way more plain own e f goes quiet comes holds g =
+  stay_line n cells at work rest k j j1 v to way more plain own e f goes comes holds g =
       let i = kernel_item S cells (LinesAt at (SetThen to work rest) k) in
       let w = work_value S.launch i work in
       let i1 = kernel_item S (updated cells to w) (LinesAt (Behind ∷ at) rest k) in
@@ -231,4 +231,15 @@ module _ (S : Setting) (G : ℕ → Item → ProgramItem → Type 0) (R : Rules 
             let there : i1 ≡ i' = one_step (lengths_of (shell_of S.kernel) S.launch S.buffers) (MayBeTold (shell_of S.kernel) S.launch S.buffers) (item_next S.kernel S.launch i) done i1 i' refl s in
             let held : i1.cells c ≡ w = ap (λ y. i1.cells y) same ∙ updated_same cells to w in
             next_value S u j j1 (i'.cells c) goes (subst (λ y. Comes S y j1) z comes) (subst (λ y. value_in j1.frames y ≡ Some (i'.cells c)) z (holds ∙ ap (λ y. Some y) (sym held) ∙ ap (λ (y : Item). Some (y.cells c)) there)) placed (done ++ deeds) j' t;
-      }) refl (R.task n i1 j j1 goes quiet g)
+      }) refl g
+
+  -- a variable is set, where the program's item then sets it
+  pub set_line : (n : ℕ) (cells : Store) (at : Place) (work : Work) (rest : Lines) (k : Tasks) (j j1 : ProgramItem) (v : Variable) (to : ℕ) (way : Way) (more : Marks) → PlainWork S work
+      → IsCellOf S.kernel v to → marks_at S.marks at ≡ MarkThen way more → first_point j.tasks ≡ Some (way (begun_in k))
+      → program_next S.program S.launch j ≡ Goes j1 → is_test j.tasks ≡ false → Comes S v j1
+      → value_in j1.frames v ≡ Some (work_value S.launch (kernel_item S cells (LinesAt at (SetThen to work rest) k)) work)
+      → G n (kernel_item S (updated cells to (work_value S.launch (kernel_item S cells (LinesAt at (SetThen to work rest) k)) work)) (LinesAt (Behind ∷ at) rest k)) j1
+      → G n (kernel_item S cells (LinesAt at (SetThen to work rest) k)) j
+  set_line n cells at work rest k j j1 v to way more plain own e f goes quiet comes holds g =
+      stay_line n cells at work rest k j j1 v to way more plain own e f goes comes holds
+      (R.task n (kernel_item S (updated cells to (work_value S.launch (kernel_item S cells (LinesAt at (SetThen to work rest) k)) work)) (LinesAt (Behind ∷ at) rest k)) j j1 goes quiet g)

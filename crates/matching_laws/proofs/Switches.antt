@@ -1,7 +1,7 @@
 -- The lines of the arms of a switch do what the arms from the entry on do.
-use Rattle.std.proofs.Common.{◌≡◌, ℕ, zero, suc, ◌+◌, ◌<◌, ◌≤◌, ℤ, pos, List, [], ◌∷◌, ◌++◌, Option, Some, None, refl, sym, ap, ap₂, ◌∙◌, subst, arith, true, false, if◌then◌else◌, ◌⊎◌, inl, inr, ⊎_elim}
+use Rattle.std.proofs.Common.{◌≡◌, ℕ, suc, ◌+◌, ◌<◌, ◌≤◌, ℤ, pos, List, [], ◌∷◌, ◌++◌, Option, Some, None, refl, sym, ap, ◌∙◌, subst, arith, true, false, ◌⊎◌, inl, inr}
 use Rattle.std.proofs.Common.{Bool as Test}
-use Rattle.std.specs.Prelude.{◌||◌, ◌&&◌}
+use Rattle.std.specs.Prelude.{◌||◌}
 use Rattle.std.specs.Ordering.{int_eq}
 use Rattle.std.proofs.lemmas.Bool.Decides.{Decides-int_eq}
 use Rattle.std.proofs.lemmas.Bool.{true≢false}
@@ -11,7 +11,7 @@ use Rattle.cl_model.specs.Calls.{calls_of_all}
 use Rattle.cl_model.specs.Steps.{in_order, arm_tasks, entry_tasks, Entry, nowhere, entry, behind_break, behind_continue, behind_return}
 use Rattle.cl_model.specs.Task.{Arm, Task, InSwitch, Item as ProgramItem, Point as ProgramPoint}
 use Rattle.cl_model.specs.Tree.{Statements, Arms, no_arm, arm}
-use Rattle.cl_model.specs.Valid.{Scope, Has}
+use Rattle.cl_model.specs.Valid.{Scope}
 use Rattle.cl_model.specs.Values.{is_zero}
 use Rattle.kir.specs.declared.line.Atom.{Atom}
 use Rattle.kir.specs.declared.line.Atom.TheVariants.{Cell as CellAtom}
@@ -19,15 +19,15 @@ use Rattle.kir.specs.Tree.{Lines, NoLine, IfThen, OfValue, joined_to}
 use Rattle.kir.specs.Places.{Behind, IntoChosen, IntoOther, Place, Tasks, LinesAt, begun_in}
 use Rattle.kir.specs.Steps.{Item, atom_value}
 use Rattle.kir_lower.specs.Made.{Made, next_cell, with_cell}
-use Rattle.kir_lower.specs.Ways.{way_out_of_all, way_out_of_arms}
+use Rattle.kir_lower.specs.Ways.{way_out_of_all}
 use Rattle.kir_lower.specs.Actions.{Code, Steps, fallen_code}
 use Rattle.kir_lower.specs.Code.{Calls, entry_code, around_arm, in_order as code_in_order, list_code, arms_code}
 use Rattle.lowering_laws.specs.Marks.{Way, further, Marks, NoMark, FormThen, marks_then, all_marked, marks_behind, marks_one, marks_at}
 use Rattle.lowering_laws.specs.CodeMarks.{CallMarks, marks_in_order, list_marks, arms_marks}
 use Rattle.lowering_laws.proofs.Joined.{join_none}
-use Rattle.matching_laws.specs.Setting.{Setting, Store, kernel_item, Activation, frame, inside, behind_variables}
+use Rattle.matching_laws.specs.Setting.{Setting, Store, kernel_item, Activation, frame, inside}
 use Rattle.matching_laws.specs.Exits.{Exit, Continues, Breaks, Returns, pending, unwound, some_leave, arms_leave, ListCan, ArmsCan}
-use Rattle.matching_laws.specs.Held.{Within, IsFixedAtom, Apart, Kept, Same, At}
+use Rattle.matching_laws.specs.Held.{Within, IsFixedAtom, Apart, Kept, At}
 use Rattle.matching_laws.specs.Facts.{Rules}
 use Rattle.matching_laws.specs.Ready.{IsUnderWay}
 use Rattle.matching_laws.specs.Bodies.{IsBody, ReadyArms}
@@ -177,7 +177,7 @@ module _ (S : Setting) (G : ℕ → Item → ProgramItem → Type 0) (R : Rules 
           → marks_at S.marks at ≡ marks_then (all_marked way ce.lines) (FormThen way body_marked NoMark (marks_then (all_marked way cf.lines) tm)) → At S C cell scope None (pos 0) cells vars
           → atom_value cells fallen ≡ bit a → int_eq (cells chosen) (pos first) ≡ b
           → ((at' : Place) (new vars' : Store) (o : Option Exit) (v : ℤ) → ListCan body o → marks_at S.marks at' ≡ tm → At S C cell scope o v new vars' → Kept C.here.base C.low cell (next_cell m) cells new → atom_value new ca.value.atom ≡ bit (is_calm o)
-              → G n (kernel_item S new (LinesAt at' T k)) (unwound o v (inside S C us vs vars')))
+          → G n (kernel_item S new (LinesAt at' T k)) (unwound o v (inside S C us vs vars')))
           → Sim S G R C n cells (LinesAt at (joined_to ca.lines T) k) (in_order (way (begun_in k) ++ Arm first ∷ []) 0 body us) vs vars
       run_arm list n T tm k at cells vars us vs a b entered e at0 holds is go =
           let out = way_out_of_all true true body in
@@ -243,10 +243,12 @@ module _ (S : Setting) (G : ℕ → Item → ProgramItem → Type 0) (R : Rules 
         × IsFixedAtom S C.low (next_cell (ca fallen first labels other body rest m r fc ff apart_).made) (ca fallen first labels other body rest m r fc ff apart_).value.atom Int
     arm_made fallen first labels other body rest m r fc ff apart_ =
         let g = grown fallen first labels other body rest m r fc ff apart_ in
-        let a = g.entry in let b = g.list in let c = g.all in
-        (omega (arith, a, b, c), atom_more S C.low (next_cell m) _ (CellAtom chosen) Int (omega (arith, a, b, c)) fc,
-        fallen_fixed S G R C (way_out_of_all true true body) exit (ce fallen first labels other body rest m r fc ff apart_).value (cb fallen first labels other body rest m r fc ff apart_).made (low_b fallen first labels other body rest m r fc ff apart_)
-        (fixed_b fallen first labels other body rest m r fc ff apart_) (within_f fallen first labels other body rest m r fc ff apart_))
+        let a = g.entry in let b = g.list in let c = g.all in (
+          omega (arith, a, b, c),
+          atom_more S C.low (next_cell m) _ (CellAtom chosen) Int (omega (arith, a, b, c)) fc,
+          fallen_fixed S G R C (way_out_of_all true true body) exit (ce fallen first labels other body rest m r fc ff apart_).value (cb fallen first labels other body rest m r fc ff apart_).made (low_b fallen first labels other body rest m r fc ff apart_)
+              (fixed_b fallen first labels other body rest m r fc ff apart_) (within_f fallen first labels other body rest m r fc ff apart_),
+        )
 
     arms_off : (arms : Arms) (fallen : Atom) (first : ℕ) (m : Made) → ReadyArms S C calls scope cell exit way site (CellAtom chosen) fallen first arms m → IsFixedAtom S C.low (next_cell m) (CellAtom chosen) Int → IsFixedAtom S C.low (next_cell m) fallen Int → Apart cell chosen
         → ArmsOff fallen first arms m
