@@ -3,6 +3,7 @@ use Rattle.std.proofs.Common.{◌≡◌, ℕ, zero, suc, ◌+◌, ◌<◌, ◌�
 use Rattle.std.proofs.Common.{Bool as Test}
 use Rattle.std.specs.Prelude.{nat_lt}
 use Rattle.std.proofs.lemmas.Bool.{ltb-true, ltb-false}
+use Rattle.std.proofs.lemmas.List.{length-map}
 use Rattle.std.proofs.lemmas.Option.{none-some, same_Some}
 use Rattle.work_items.specs.Items.{Goes}
 use Rattle.wg_num.specs.declared.types.IntType.{IntType}
@@ -33,11 +34,12 @@ use Rattle.lowering_laws.specs.Marks.{Way, further, Marks, MarkThen, NoMark, mar
 use Rattle.lowering_laws.specs.CodeMarks.{CallMarks, list_marks, marks_in_order, body_marks, call_marks}
 use Rattle.lowering_laws.specs.Names.{AreNamed}
 use Rattle.lowering_laws.proofs.Making.{call_of, body_makes, result_makes, opened_makes, list_makes}
+use Rattle.lowering_laws.proofs.Arguments.{length_take}
 use Rattle.lowering_laws.proofs.Below.{valid_any}
 use Rattle.lowering_laws.proofs.Scoped.{argument_count, has_below}
 use Rattle.lowering_laws.proofs.Shapes.{call_shaped}
-use Rattle.lowering_laws.proofs.Variables.{variable_count}
-use Rattle.matching_laws.specs.Setting.{Setting, Store, updated, kernel_item, Activation, frame, inside, behind_variables, own_variable}
+use Rattle.lowering_laws.proofs.Variables.{get_there, variable_count}
+use Rattle.matching_laws.specs.Setting.{Setting, Store, updated, kernel_item, Activation, frame, inside, behind_variables, own_variable, program_item}
 use Rattle.matching_laws.specs.Exits.{Exit, Continues, Breaks, Returns, pending, unwound, given_by, ListCan}
 use Rattle.matching_laws.specs.Held.{Within, IsMade, IsFixedAtom, IsFixed, AreFixed, Holding, Kept, Same, IsWithin, At}
 use Rattle.matching_laws.specs.Facts.{Rules}
@@ -50,6 +52,7 @@ use Rattle.matching_laws.proofs.Expressions.{marks_assoc, pushed, below_pushed, 
 use Rattle.matching_laws.proofs.Loops.{own_cell}
 use Rattle.matching_laws.proofs.Turning.{exits_opened, has_opened}
 use Rattle.matching_laws.proofs.Statements.{StatementDone, ListFollows, in_order_follows}
+use Rattle.matching_laws.proofs.Following.{Heads, list_follows}
 use Rattle.matching_laws.proofs.Sounding.{sound_body}
 use Rattle.matching_laws.proofs.Scoping.{never_scoped}
 use Rattle.matching_laws.proofs.Calling.{calls_grow, calls_add, under_way, next_inside}
@@ -181,3 +184,205 @@ module _ (S : Setting) (G : ℕ → Item → ProgramItem → Type 0) (R : Rules 
       value_line S G R C n cells at (next_cell m) (Copy (int (pos 0))) T k j (made_no_variable S (next_cell m) Int (flag_made S m Int w)) (λ v c is. refl)
       (go (Behind ∷ at) (updated cells (next_cell m) (pos 0)) (ap marks_behind e) (λ c l. updated_other cells (next_cell m) (pos 0) c (λ q. omega (arith, q, l)))
       (λ c q. ap (updated cells (next_cell m) (pos 0)) (sym (same_Some (next_cell m) c q)) ∙ updated_same cells (next_cell m) (pos 0)))
+
+-- neither makes an array
+opened_arrays : (out : Option ℕ) (exit : ℕ) (m : Made) → length (opened out exit m).made.arrays ≡ length m.arrays
+opened_arrays None exit m = refl
+opened_arrays (Some o) exit m = refl
+
+result_arrays : (result : Option IntType) (m : Made) → length (result_code result m).made.arrays ≡ length m.arrays
+result_arrays None m = refl
+result_arrays (Some of) m = refl
+
+-- what the result holds where its cell is left as it is
+answer_same : (result : Option IntType) (m : Made) (old new : Store) → ((c : ℕ) → c < next_cell (result_code result m).made → new c ≡ old c) → atom_value new (result_code result m).value.atom ≡ atom_value old (result_code result m).value.atom
+answer_same None m old new h = refl
+answer_same (Some of) m old new h = let n = next_with m OfValue of in h (next_cell m) (omega (arith, n))
+
+-- a parameter is in scope in the body
+has_numbers : (n x : ℕ) → x < n → Has (numbers_below n) x
+has_numbers zero x h = absurd (omega (arith, h))
+has_numbers (suc n) x h = by_last (nat_lt x n) refl (λ l. has_numbers n x l)
+  where
+    by_last : (b : Test) → nat_lt x n ≡ b → (x < n → Has (numbers_below n) x) → Has (numbers_below (suc n)) x
+    by_last true e before_ = inr (before_ (ltb-true x n e))
+    by_last false e before_ = let l = ltb-false x n e in inl (omega (arith, l, h))
+
+module _ (S : Setting) (G : ℕ → Item → ProgramItem → Type 0) (R : Rules S G) (valid : IsValid S.program) (names : List (List Named)) (named : AreNamed S.program names) (arrays : HasArrays S.program S.kernel) (parts : HasParts S.program S.kernel) where
+  -- ---- the body of a function
+
+  -- where its result is kept
+  made_body : (D : Activation) (m1 : Made) → next_cell m1 ≡ D.here.answer → behind_variables S D ≡ D.here.answer → D.answer ≡ (result_code (function_at S.program D.function).result m1).value.atom → D.low ≡ next_cell (result_code (function_at S.program D.function).result m1).made
+      → Within S (result_code (function_at S.program D.function).result m1).made → IsBody S D
+  made_body D m1 count behind_ answer low w = record { some_result = some; no_result = λ e. answer ∙ ap (λ r. (result_code r m1).value.atom) e }
+    where
+      some : (t : IntType) → (function_at S.program D.function).result ≡ Some t → (D.answer ≡ CellAtom D.here.answer) × IsMade S D.here.answer t × (behind_variables S D ≤ D.here.answer) × (D.here.answer < D.low)
+      some t e =
+          let w' : Within S (with_cell m1 OfValue t) = subst (λ r. Within S (result_code r m1).made) e w in
+          let n = next_with m1 OfValue t in
+          let l = ap (λ r. next_cell (result_code r m1).made) e in
+          (answer ∙ ap (λ r. (result_code r m1).value.atom) e ∙ ap CellAtom count, subst (λ z. IsMade S z t) count (value_made S m1 t w'), omega (arith, behind_), omega (arith, n, l, low, count))
+
+  -- the lines of the body do what it does, from where the parameters are set, and behind it the result is in its atom
+  module _ (D : Activation) (under : IsUnderWay S D) (calls : Calls) (marks : CallMarks) (all : AreCalls S G R D calls marks) (m1 : Made) (way : Way)
+      (count : next_cell m1 ≡ D.here.answer) (behind_ : behind_variables S D ≡ D.here.answer) (answer : D.answer ≡ (result_code (function_at S.program D.function).result m1).value.atom)
+      (low : D.low ≡ next_cell (result_code (function_at S.program D.function).result m1).made) (within : Within S (body_code calls D.here (function_at S.program D.function) m1).made)
+      (next : (m' : Made) → length m'.arrays ≡ length m1.arrays → AreNext S D m' (calls_of_all (function_at S.program D.function).body))
+      (leads : LeadsToList S D (numbers_below (function_at S.program D.function).parameters) way 0 (function_at S.program D.function).body)
+      (heads : (is_body : IsBody S D) → Heads S G R D calls marks under is_body all 0) where
+    pub body_follows : (n : ℕ) (T : Lines) (tm : Marks) (k : Tasks) (at : Place) (cells vars : Store) (ts : List Task) (vs : List ℤ) → ((x : ℕ) → x < (function_at S.program D.function).parameters → cells (D.here.base + x) ≡ vars x)
+        → marks_at S.marks at ≡ marks_then (body_marks calls marks D.here way (function_at S.program D.function) m1) tm
+        → ((at' : Place) (new vars' : Store) (o : Option Exit) (v : ℤ) → marks_at S.marks at' ≡ tm → ((c : ℕ) → c < D.here.base → new c ≡ cells c) → atom_value new (result_code (function_at S.program D.function).result m1).value.atom ≡ given_by o v
+        → G n (kernel_item S new (LinesAt at' T k)) (unwound o v (inside S D ts vs vars')))
+        → Sim S G R D n cells (LinesAt at (joined_to (body_code calls D.here (function_at S.program D.function) m1).lines T) k) (in_order (way (begun_in k)) 0 (function_at S.program D.function).body ts) vs vars
+    body_follows n T tm k at cells vars ts vs holds e go =
+        let f = function_at S.program D.function in
+        let fits = valid_any S.program valid D.function in
+        let cr = result_code f.result m1 in
+        let out = way_out_of_all true true f.body in
+        let co = opened out 0 cr.made in
+        let cl = list_code calls D.here co.exit false f.body co.made in
+        let lm = marks_in_order (list_marks calls marks D.here way 0 co.exit false f.body co.made) in
+        let cb = joined_to cl.inside cl.rest in
+        let scope = numbers_below f.parameters in
+        let cell = own_cell out None cr.made in
+        let grow_open = opened_makes Grows grows_same grows_before (λ m of. grows_with OfValue m of) (λ m of. grows_with OfFlag m of) out 0 cr.made in
+        let grow_all = list_makes Grows grows_same grows_before (λ m of. grows_with OfValue m of) (λ m of. grows_with OfFlag m of) calls D.here (λ site function roots values m. all.grows site function roots values m) co.exit false f.body co.made in
+        let w_co = within_less S (calls_of_all f.body) co.made cl.made grow_all within in
+        let w_cr = within_less S [] cr.made co.made grow_open w_co in
+        let more = grows_count [] cr.made co.made grow_open in
+        let grow_result = result_makes Grows grows_same grows_before (λ m of. grows_with OfValue m of) (λ m of. grows_with OfFlag m of) f.result m1 in
+        let up = grows_count [] m1 cr.made grow_result in
+        let is_body = made_body D m1 count behind_ answer low w_cr in
+        let arrays_same : length co.made.arrays ≡ length m1.arrays = opened_arrays out 0 cr.made ∙ result_arrays f.result m1 in
+        let inner : IsWithin S D scope = λ x has. let a = has_below f.parameters x has in let b = fits.parameters in omega (arith, a, b) in
+        let exits = exits_opened S D None out 0 cr.made w_co (omega (arith, low)) (record { is = λ c q. absurd (none-some c q); made = λ c q. absurd (none-some c q); low = λ c q. absurd (none-some c q); high = λ c q. absurd (none-some c q) }) in
+        let ready : ReadyList S D calls scope cell co.exit way 0 false f.body co.made = record {
+          sound = sound_body S.program valid D.function;
+          leads = leads;
+          next = next co.made arrays_same;
+          within = within;
+          low = omega (arith, low, more);
+          inner = inner;
+          ended = λ x p. never_scoped S valid D x p;
+          exits = exits;
+          has_exit = has_opened None out 0 cr.made;
+        } in
+        at_lines S G R D n cells at cr.lines (joined_to co.lines cb) T k _
+        (result_follows S G R f.result m1 n (joined_to (joined_to co.lines cb) T) way (marks_then (marks_then (all_marked way co.lines) lm) tm) k at cells _ D w_cr (e ∙ marks_assoc (all_marked way cr.lines) (marks_then (all_marked way co.lines) lm) tm)
+        (λ at2 c2 e2 k2 a2.
+        at_lines S G R D n c2 at2 co.lines cb T k _
+        (opened_follows S G R out 0 cr.made n (joined_to cb T) way (marks_then lm tm) k at2 c2 _ D w_co (e2 ∙ marks_assoc (all_marked way co.lines) lm tm)
+        (λ at3 c3 e3 k3 x3.
+        let same : Same S D scope c3 vars = record {
+          each = λ x has.
+              let l = has_below f.parameters x has in
+              let b = inner x has in
+              k3 (D.here.base + x) (omega (arith, b, up, count, behind_)) ∙ k2 (D.here.base + x) (omega (arith, b, count, behind_)) ∙ holds x l;
+        } in
+        in_order_follows S G R D calls marks under is_body all scope cell co.exit way 0 f.body co.made (list_follows S G R D calls marks under is_body all (heads is_body) f.body scope cell co.exit way 0 false co.made ready) n T tm k at3 c3 vars ts vs e3
+        (record { same = same; exit_is = x3; answer_is = ap (atom_value c3) answer ∙ answer_same f.result m1 c2 c3 k3 ∙ a2 })
+        (λ at4 new vars' o v can e4 a4 kept.
+        go at4 new vars' o v e4 (λ c l. kept.each c (inl l) (omega (arith, l, up, more, count, behind_)) ∙ k3 c (omega (arith, l, up, count, behind_)) ∙ k2 c (omega (arith, l, count, behind_)))
+        (ap (atom_value new) (sym answer) ∙ a4.answer_is))))))
+
+  -- ---- a call
+
+  -- the heads of loops, in whatever function is under way
+  abbrev pub AllHeads : Type 0
+  AllHeads =
+      (C : Activation) (under : IsUnderWay S C) (is_body : IsBody S C) (all : AreCalls S G R C (call_code S.program names (suc C.depth)) (call_marks S.program names (suc C.depth)))
+      → Heads S G R C (call_code S.program names (suc C.depth)) (call_marks S.program names (suc C.depth)) under is_body all 0
+
+  -- behind the body of a function that is called
+  leaves_call : (n : ℕ) (C D : Activation) (i : Item) (at : ProgramPoint) (site : ℕ) (ts : List Task) (vs : List ℤ) (vars vars' : Store) (o : Option Exit) (v : ℤ) → D.outer ≡ frame C vars ∷ C.outer
+      → G n i (inside S C ts (given_by o v ∷ vs) vars) → G n i (unwound o v (inside S D (InCall at site ∷ ts) vs vars'))
+  leaves_call n C D i at site ts vs vars vars' o v outer g = by o g
+    where
+      back : (w : ℤ) → program_item S ts (w ∷ vs) D.outer ≡ inside S C ts (w ∷ vs) vars
+      back w = ap (λ fs. program_item S ts (w ∷ vs) fs) outer
+
+      end : G n i (inside S C ts (pos 0 ∷ vs) vars) → G n i (inside S D (InCall at site ∷ ts) vs vars')
+      end g = R.task n i (inside S D (InCall at site ∷ ts) vs vars') (inside S C ts (pos 0 ∷ vs) vars) (ap (λ z. Goes z) (back (pos 0))) refl g
+
+      by : (o : Option Exit) → G n i (inside S C ts (given_by o v ∷ vs) vars) → G n i (unwound o v (inside S D (InCall at site ∷ ts) vs vars'))
+      by None g = end g
+      by (Some Continues) g = end g
+      by (Some Breaks) g = end g
+      by (Some Returns) g = subst (λ z. G n i z) (sym (back v)) g
+
+  module _ (heads : AllHeads) (depth : ℕ) (C : Activation) (deep : C.depth ≡ suc depth) (under : IsUnderWay S C)
+      (inner : (D : Activation) → D.depth ≡ depth → IsUnderWay S D → AreCalls S G R D (call_code S.program names (suc depth)) (call_marks S.program names (suc depth))) where
+    call_follows : CallsFollow S G R C (call_code S.program names (suc (suc depth))) (call_marks S.program names (suc (suc depth)))
+    unfolding call_code call_marks
+    call_follows site g roots values args m way n T tm k at cells vars ts vs sound next scoped low within fixed holding e go =
+        let f = function_at S.program g in
+        let fits = valid_any S.program valid g in
+        let there = way_behind S.program C.here site g (argument_roots C.here roots) in
+        let m1 = with_instance there (names_at names g) f m in
+        let D = entered S names C site g roots depth vars m in
+        let calls = call_code S.program names (suc depth) in
+        let marks = call_marks S.program names (suc depth) in
+        let vars1 : Store = λ x. nth args x in
+        let params = parameter_lines (next_cell m) values in
+        let body = body_code calls D.here f m1 in
+        let bm = body_marks calls marks D.here (further way Into) f m1 in
+        let under' = under_way S valid names named arrays parts C under site g roots (length args) depth vars m values deep sound next (subst (λ z. Within S (call_code S.program names (suc z) C.here site g (argument_roots C.here roots) values m).made) (sym deep) within) in
+        let all = inner D refl under' in
+        let count = with_count S names named C site g roots m in
+        let many : length values ≡ length args = sym (length-map values (λ (v : Value). v.atom)) ∙ sym (length-map (atoms_of values) (atom_value cells)) ∙ ap (λ z. length z) holding in
+        let as_many : length args ≡ f.parameters =
+        sym sound.as_many ∙ argument_count S.program (function_at S.program C.function) (parameter_kinds f) roots sound.types sound.fit ∙ length_take f.parameters f.variables fits.parameters in
+        let block = Run (way (begun_in k) ++ Into ∷ []) (Block f.body) in
+        let call = InCall (way (begun_in k)) site in
+        let j = inside S C (Enter (way (begun_in k)) site g roots (length args) ∷ ts) (pushed args vs) vars in
+        let j1 = inside S D (block ∷ call ∷ ts) vs vars1 in
+        let steps : program_next S.program S.launch j ≡ Goes j1 =
+        ap₂ (λ (ws : List ℤ) (xs : List ℤ). Goes (program_item S (block ∷ call ∷ ts) ws (new_frame S.program S.launch (inside S C [] [] vars) site g roots xs ∷ frame C vars ∷ C.outer)))
+        (below_pushed args vs (length args) refl vs) (taken_pushed args vs (length args) refl) in
+        let in_scope : (x : ℕ) → x < length values → IsScopedAt S.program (way (begun_in k) ++ Into ∷ []) (record { function = g; variable = x }) =
+        λ x l. scoped (begun_in k) [] (record { function = g; variable = x })
+        (subst (λ d. IsInBody S.program d g [] (record { function = g; variable = x })) (sym deep) (has_owned g (numbers_below f.parameters) x (has_numbers f.parameters x (omega (arith, l, many, as_many))))) in
+        at_lines S G R C n cells at params body.lines T k j
+        (parameters_follow S G R C.low D (further way (Own 0)) n (joined_to body.lines T) (marks_then bm tm) k j j1 vars1 (length values) refl steps
+        (λ x l. let b = fits.parameters in let p = get_there f.variables x (omega (arith, l, many, as_many, b)) in under'.own x p.0 p.1)
+        (λ x l. at_once (record { point = way (begun_in k) ++ Into ∷ []; stands = refl; scoped = in_scope x l; value = vars1 x; there = own_value S D vars1 x }))
+        (λ x. own_value S D vars1 x)
+        values 0 (next_cell m) at cells (omega arith) (omega arith) fixed (held_from cells vars1 values args 0 holding (λ y. ap vars1 (omega arith))) (e ∙ marks_assoc (all_marked (further way (Own 0)) params) bm tm)
+        (λ at1 c1 e1 below1 before1 here1.
+        R.task n _ j j1 steps refl
+        (R.task n _ j1 (inside S D (in_order (way (begun_in k) ++ Into ∷ []) 0 f.body (call ∷ ts)) vs vars1) refl refl
+        (body_follows D under' calls marks all m1 (further way Into) count refl refl refl within
+        (λ m' same. next_inside S valid names named arrays parts C under site g roots (length args) depth vars m values deep sound next m' (same ∙ length-append m.arrays f.arrays))
+        (λ begun p i same along v h.
+        subst (λ z. IsScopedAt S.program z v) (sym (append_assoc (way begun) (Into ∷ []) (Nth p ∷ along)))
+        (subst (λ z. IsScopedAt S.program (way begun ++ Into ∷ Nth z ∷ along) v) (let q : i ≡ p = omega (arith, same) in q) (scoped begun (Nth i ∷ along) v (subst (λ d. IsInBody S.program d g (Nth i ∷ along) v) (sym deep) h))))
+        (λ is_body. heads D under' is_body all)
+        n T tm k at1 c1 vars1 (call ∷ ts) vs (λ x l. here1 x (omega arith) (omega (arith, l, many, as_many))) e1
+        (λ at2 new vars2 o v e2 kept holds.
+        leaves_call n C D _ (way (begun_in k)) site ts vs vars vars2 o v refl
+        (go at2 new (given_by o v) e2 (λ c l. kept c l ∙ below1 c l) holds))))))
+
+  -- ---- all calls
+
+  calls_at_depth : (heads : AllHeads) (depth : ℕ) (C : Activation) → C.depth ≡ depth → IsUnderWay S C → AreCalls S G R C (call_code S.program names (suc depth)) (call_marks S.program names (suc depth))
+  calls_at_depth heads zero C deep under = record {
+    shaped = call_shaped S.program names 1;
+    grows = λ site function roots values m. calls_grow S.program names 1 C.here site function roots values m;
+    adds = λ site function roots values m. subst (λ d. Adds S C (call_of site function ∷ []) m (call_code S.program names (suc d) C.here site function roots values m).made) deep (calls_add S C names site function roots values m);
+    fixed = λ site g roots values count m sound next low within. absurd (subst (λ d. CallsEnd S.program d g) deep next.end.0);
+    follow = λ site g roots values args m way n T tm k at cells vars ts vs sound next scoped low within fixed holding e go. absurd (subst (λ d. CallsEnd S.program d g) deep next.end.0);
+  }
+  calls_at_depth heads (suc depth) C deep under = record {
+    shaped = call_shaped S.program names (suc (suc depth));
+    grows = λ site function roots values m. calls_grow S.program names (suc (suc depth)) C.here site function roots values m;
+    adds = λ site function roots values m. subst (λ d. Adds S C (call_of site function ∷ []) m (call_code S.program names (suc d) C.here site function roots values m).made) deep (calls_add S C names site function roots values m);
+    fixed = λ site g roots values count m sound next low within.
+        subst (λ d. IsFixed S C.low (next_cell (call_code S.program names (suc d) C.here site g (argument_roots C.here roots) values m).made) (call_code S.program names (suc d) C.here site g (argument_roots C.here roots) values m).value) deep
+        (call_fixed S names named C site g roots values count m low (subst (λ d. Within S (call_code S.program names (suc d) C.here site g (argument_roots C.here roots) values m).made) (sym deep) within));
+    follow = call_follows heads depth C deep under (λ D e u. calls_at_depth heads depth D e u);
+  }
+
+  -- the lines of the calls in a function that is under way do what the calls do
+  pub calls_all : AllHeads → (C : Activation) → IsUnderWay S C → AreCalls S G R C (call_code S.program names (suc C.depth)) (call_marks S.program names (suc C.depth))
+  calls_all heads C under = calls_at_depth heads C.depth C refl under
