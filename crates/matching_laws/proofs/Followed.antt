@@ -61,7 +61,7 @@ module _ (S : Setting) (names : List (List Named)) (lowered : S.kernel ≡ lower
 
   -- ---- standing behind steps
 
-  kernel_on : (i i' : Item) (j : ProgramItem) → MayLead GoesOn (item_next S.kernel S.launch i) i' → Standing i j → Standing i' j
+  pub kernel_on : (i i' : Item) (j : ProgramItem) → MayLead GoesOn (item_next S.kernel S.launch i) i' → Standing i j → Standing i' j
   kernel_on i i' j h s = record {
     types = types_on S fits sizes i i' h s.fit s.types;
     fit = fits_on S fits sizes i i' h s.fit;
@@ -69,18 +69,18 @@ module _ (S : Setting) (names : List (List Named)) (lowered : S.kernel ≡ lower
     in_place = s.in_place;
   }
 
-  program_on : (i : Item) (j j' : ProgramItem) → MayLead GoesOn (program_next S.program S.launch j) j' → Standing i j → Standing i j'
+  pub program_on : (i : Item) (j j' : ProgramItem) → MayLead GoesOn (program_next S.program S.launch j) j' → Standing i j → Standing i j'
   program_on i j j' h s = record { types = s.types; fit = s.fit; placed = s.placed; in_place = lead_keeps S.program j.tasks j'.tasks (program_leads S.program S.launch GoesOn j' j j.tasks h) s.in_place }
 
   -- a test leaves the cells
   lead_on : (cells : Store) (k k' : Tasks) (j : ProgramItem) → Leads k k' → Standing (kernel_item S cells k) j → Standing (kernel_item S cells k') j
   lead_on cells k k' j l s = record { types = s.types; fit = fits_keep S.kernel k k' l s.fit; placed = lead_placed S.kernel.body k k' l s.placed; in_place = s.in_place }
 
-  may_step : (j j' : ProgramItem) → program_next S.program S.launch j ≡ Goes j' → MayLead GoesOn (program_next S.program S.launch j) j'
+  pub may_step : (j j' : ProgramItem) → program_next S.program S.launch j ≡ Goes j' → MayLead GoesOn (program_next S.program S.launch j) j'
   may_step j j' e = subst (λ z. MayLead GoesOn z j') (sym e) refl
 
   -- with another value to be tested
-  value_on : (i : Item) (ts : List Task) (v z : ℤ) (vs : List ℤ) (fs : List Frame) → Standing i (program_item S ts (v ∷ vs) fs) → Standing i (program_item S ts (z ∷ vs) fs)
+  pub value_on : (i : Item) (ts : List Task) (v z : ℤ) (vs : List ℤ) (fs : List Frame) → Standing i (program_item S ts (v ∷ vs) fs) → Standing i (program_item S ts (z ∷ vs) fs)
   value_on i ts v z vs fs s = record { types = s.types; fit = s.fit; placed = s.placed; in_place = s.in_place }
 
   -- ---- they stand alike
@@ -129,7 +129,7 @@ module _ (S : Setting) (names : List (List Named)) (lowered : S.kernel ≡ lower
       record { covers = λ m. task_covers S m j j' i.tasks e none (r.covers m); follows = second_goes e r.follows }
 
   -- at a test, behind which each value leads
-  standing_at : (cells : Store) (k k' : Tasks) (ts : List Task) (v z : ℤ) (vs : List ℤ) (fs : List Frame) (next : ProgramItem) → Leads k k' → MayLead GoesOn (program_next S.program S.launch (program_item S ts (z ∷ vs) fs)) next
+  pub standing_at : (cells : Store) (k k' : Tasks) (ts : List Task) (v z : ℤ) (vs : List ℤ) (fs : List Frame) (next : ProgramItem) → Leads k k' → MayLead GoesOn (program_next S.program S.launch (program_item S ts (z ∷ vs) fs)) next
       → Standing (kernel_item S cells k) (program_item S ts (v ∷ vs) fs) → Standing (kernel_item S cells k') next
   standing_at cells k k' ts v z vs fs next l h s = program_on (kernel_item S cells k') (program_item S ts (z ∷ vs) fs) next h (value_on (kernel_item S cells k') ts v z vs fs (lead_on cells k k' (program_item S ts (v ∷ vs) fs) l s))
 
@@ -178,7 +178,7 @@ module _ (S : Setting) (names : List (List Named)) (lowered : S.kernel ≡ lower
       by_value false same = begins (alike_both _ _ _ _ s facts c (kernel_step false same) (program_step false same) tt (λ w. absurd w)) (kernel_step false same) (program_step false same) ra.follows
 
   -- behind steps of both
-  both_on : (i i' : Item) (j j' : ProgramItem) → MayLead GoesOn (item_next S.kernel S.launch i) i' → MayLead GoesOn (program_next S.program S.launch j) j' → Standing i j → Standing i' j'
+  pub both_on : (i i' : Item) (j j' : ProgramItem) → MayLead GoesOn (item_next S.kernel S.launch i) i' → MayLead GoesOn (program_next S.program S.launch j) j' → Standing i j → Standing i' j'
   both_on i i' j j' h h' s = program_on i' j j' h' (kernel_on i i' j h s)
 
   begins_less_both : (n : ℕ) (i i' : Item) (j j' : ProgramItem) → Facts S i j → item_next S.kernel S.launch i ≡ Begins i' → program_next S.program S.launch j ≡ Begins j' → is_test j.tasks ≡ false → G_follow n i' j' → G_follow (suc n) i j

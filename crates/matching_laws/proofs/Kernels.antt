@@ -3,7 +3,6 @@ use Rattle.std.proofs.Common.{◌≡◌, ℕ, suc, ◌+◌, ◌<◌, ◌≤◌, 
 use Rattle.std.proofs.Common.{Bool as Test}
 use Rattle.std.specs.Prelude.{nat_lt}
 use Rattle.std.proofs.lemmas.Bool.{ltb-true, ltb-false}
-use Rattle.std.proofs.lemmas.Option.{none-some}
 use Rattle.work_items.specs.Items.{Goes, Ends}
 use Rattle.cl_model.specs.declared.program.VarKind.{VarKind}
 use Rattle.cl_model.specs.Tree.{Block, Statements, empty, also}
@@ -35,7 +34,7 @@ use Rattle.matching_laws.specs.Setting.{Setting, Store, updated, kernel_item, Ac
 use Rattle.matching_laws.specs.Exits.{Exit, Continues, Breaks, Returns, unwound}
 use Rattle.matching_laws.specs.Facts.{Rules}
 use Rattle.matching_laws.specs.Bodies.{own_activation}
-use Rattle.matching_laws.proofs.Lines.{plain_facts, Comes, at_once, ended, own_value, updated_same, updated_other, end_line, stay_line}
+use Rattle.matching_laws.proofs.Lines.{plain_facts, Comes, at_once, over, own_value, updated_same, updated_other, end_line, stay_line}
 use Rattle.matching_laws.proofs.Fixing.{has_owned}
 use Rattle.matching_laws.proofs.Containing.{here_in_statement}
 use Rattle.matching_laws.proofs.Expressions.{at_lines}
@@ -77,13 +76,13 @@ module _ (S : Setting) (G : ℕ → Item → ProgramItem → Type 0) (R : Rules 
 
   -- behind the last line both have ended
   both_end : (n : ℕ) (C : Activation) (at : Place) (cells vars : Store) (o : Option Exit) (v : ℤ) → G n (kernel_item S cells (LinesAt at NoLine NoTask)) (unwound o v (inside S C [] [] vars))
-  both_end n C at cells vars o v = end_line S G R C n cells at NoTask (unwound o v (inside S C [] [] vars)) (R.ends n (kernel_item S cells NoTask) (unwound o v (inside S C [] [] vars)) (plain_facts S _ _ (record { reads_none = λ v c is. refl; sets_none = λ v c is. refl })) refl (over o))
+  both_end n C at cells vars o v = end_line S G R C n cells at NoTask (unwound o v (inside S C [] [] vars)) (R.ends n (kernel_item S cells NoTask) (unwound o v (inside S C [] [] vars)) (plain_facts S _ _ (record { reads_none = λ v c is. refl; sets_none = λ v c is. refl })) refl (last o))
     where
-      over : (o : Option Exit) → program_next S.program S.launch (unwound o v (inside S C [] [] vars)) ≡ Ends
-      over None = refl
-      over (Some Continues) = refl
-      over (Some Breaks) = refl
-      over (Some Returns) = refl
+      last : (o : Option Exit) → program_next S.program S.launch (unwound o v (inside S C [] [] vars)) ≡ Ends
+      last None = refl
+      last (Some Continues) = refl
+      last (Some Breaks) = refl
+      last (Some Returns) = refl
 
   module _ (valid : IsValid S.program) (names : List (List Named)) (named : AreNamed S.program names) (arrays : HasArrays S.program S.kernel) (parts : HasParts S.program S.kernel)
       (lowered : S.kernel ≡ lowered_of S.program names) (marked : S.marks ≡ kernel_marks S.program names) (heads : AllHeads S G R valid names named arrays parts)
@@ -91,7 +90,7 @@ module _ (S : Setting) (G : ℕ → Item → ProgramItem → Type 0) (R : Rules 
     -- a parameter is in scope where the body begins
     first_in_scope : (list : Statements) (vars : Store) (x : ℕ) → ((along : ProgramPoint) (v : Owned) → IsInScopeList (IsInBody S.program depth) S.program.kernel (owned_by S.program.kernel (numbers_below (kernel_of S.program).parameters)) list 0 along v → IsScopedAt S.program (Nth 0 ∷ along) v)
         → x < (kernel_of S.program).parameters → Comes S (own_variable (own_activation S names depth) x) (inside S (own_activation S names depth) (in_order [] 0 list []) [] vars)
-    first_in_scope empty vars x scoped l = ended refl (λ s. none-some s.point s.stands)
+    first_in_scope empty vars x scoped l = over refl
     first_in_scope (also s rest) vars x scoped l =
         at_once (record {
           point = Nth 0 ∷ [];

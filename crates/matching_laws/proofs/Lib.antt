@@ -26,3 +26,4 @@ pub mod Calls
 pub mod Choosing
 pub mod Following
 pub mod Kernels
+pub mod Stood

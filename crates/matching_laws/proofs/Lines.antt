@@ -3,7 +3,7 @@ use Rattle.std.proofs.Common.{◌≡◌, ℕ, ◌+◌, ℤ, List, [], ◌∷◌,
 use Rattle.std.proofs.Common.{Bool as Test}
 use Rattle.std.specs.Prelude.{nat_eq, ◌&&◌}
 use Rattle.std.proofs.lemmas.Bool.{eqb-true, true≢false}
-use Rattle.std.proofs.lemmas.Option.{same_Some}
+use Rattle.std.proofs.lemmas.Option.{none-some, same_Some}
 use Rattle.work_items.specs.Memory.{Access}
 use Rattle.work_items.specs.Items.{Next, Ends, Waits, Goes, Begins, Loads, Stores}
 use Rattle.work_items.specs.Histories.{Deed, Passed, Turned, Read, Wrote, DoesOnce}
@@ -13,7 +13,7 @@ use Rattle.cl_model.specs.Meaning.{is_test, lengths_of, MayBeTold}
 use Rattle.cl_model.specs.Objects.{same_path}
 use Rattle.cl_model.specs.Task.{Task, Item as ProgramItem, Point as ProgramPoint, first_point}
 use Rattle.cl_model.specs.Values.{is_zero}
-use Rattle.cl_model.specs.Steps.{item_next as program_next}
+use Rattle.cl_model.specs.Steps.{item_next as program_next, first_next}
 use Rattle.kir.specs.declared.line.Atom.{Atom}
 use Rattle.kir.specs.declared.line.Atom.TheVariants.{Cell as CellAtom}
 use Rattle.kir.specs.Tree.{Variable, Work, Copy, Lines, NoLine, SetThen, IfThen, OfVariable, OfFlag, OfValue, CellKind, Cell}
@@ -98,11 +98,12 @@ one_step lengths told next [] a b e s = goes_to a b (sym e ∙ s)
 one_step lengths told next (d ∷ []) a b e s = absurd (subst (λ z. DoesOnce lengths told z d b) e s)
 one_step lengths told next (d ∷ (d' ∷ ds)) a b e s = absurd s
 
--- the item comes to the scope at once, or never, or it has ended
+-- the item comes to the scope at once, or never, or has ended
 pub data Comes (S : Setting) (v : Variable) (j : ProgramItem) : Type 0 where
   at_once : IsInScope S.program v j → Comes S v j
   never : ((j' : ProgramItem) (point : ProgramPoint) → AreInPlace S.program j'.tasks → first_point j'.tasks ≡ Some point → IsScopedAt S.program point (record { function = v.function; variable = v.number }) → ⊥) → Comes S v j
-  ended : program_next S.program S.launch j ≡ Ends → (IsInScope S.program v j → ⊥) → Comes S v j
+  -- it has nothing to do there
+  over : j.tasks ≡ [] → Comes S v j
 
 -- a step leaves the tasks in place
 step_in_place : (S : Setting) (j j' : ProgramItem) → MayLead GoesOn (program_next S.program S.launch j) j' → AreInPlace S.program j.tasks → AreInPlace S.program j'.tasks
@@ -139,21 +140,32 @@ comes_in_place : (S : Setting) (v : Variable) (j : ProgramItem) (deeds : List De
 comes_in_place S v j _ j' (arrives {deeds = deeds} st h) placed = step_in_place S j j' (steps_lead _ _ _ deeds j' st) placed
 comes_in_place S v j _ j' (passes {mid = mid} deeds more st not_yet c) placed = comes_in_place S v mid more j' c (step_in_place S j mid (steps_lead _ _ _ deeds mid st) placed)
 
--- an item that has ended takes no step
-no_steps : {X : Type 0} (lengths : ℕ → ℕ) (told : Access → List ℕ → Type 0) (next : Next X) (deeds : List Deed) (to : X) → next ≡ Ends → StepsTo lengths told next deeds to → ⊥
-no_steps lengths told next deeds to e s = subst (λ z. MayLead GoesOn z to) e (steps_lead lengths told next deeds to s)
+-- a step that ends leads nowhere
+no_step : {X : Type 0} (lengths : ℕ → ℕ) (told : Access → List ℕ → Type 0) (next : Next X) (deeds : List Deed) (to : X) → next ≡ Ends → StepsTo lengths told next deeds to → ⊥
+no_step lengths told next [] to e s = ends_not_goes to (sym e ∙ s)
+  where
+    ends_not_goes : {X : Type 0} (to : X) → Ends ≡ Goes to → ⊥
+    ends_not_goes to e = cc
+no_step lengths told next (d ∷ []) to e s = subst (λ z. DoesOnce lengths told z d to) e s
+no_step lengths told next (d ∷ (d' ∷ ds)) to e s = s
 
-never_comes : {X : Type 0} (lengths : ℕ → ℕ) (told : Access → List ℕ → Type 0) (next : X → Next X) (Here : X → Type 0) (s t : X) (deeds : List Deed) → next s ≡ Ends → ComesNext lengths told next Here s deeds t → ⊥
-never_comes lengths told next Here s t _ e (arrives {deeds = deeds} st h) = no_steps lengths told (next s) deeds t e st
-never_comes lengths told next Here s t _ e (passes {mid = mid} deeds more st not_yet c) = no_steps lengths told (next s) deeds mid e st
+-- an item that has ended comes to no scope
+ended_comes : (S : Setting) (v : Variable) (j : ProgramItem) (deeds : List Deed) (j' : ProgramItem) → program_next S.program S.launch j ≡ Ends → ComesToScope S.program S.launch S.buffers v j deeds j' → ⊥
+ended_comes S v j _ j' e (arrives {deeds = deeds} st h) = no_step _ _ _ deeds j' e st
+ended_comes S v j _ j' e (passes {mid = mid} deeds more st not_yet c) = no_step _ _ _ deeds mid e st
+
+-- and stands nowhere
+over_scope : (S : Setting) (v : Variable) (j : ProgramItem) → j.tasks ≡ [] → IsInScope S.program v j → ⊥
+over_scope S v j e s = none-some s.point (ap first_point (sym e) ∙ s.stands)
 
 -- so the next value there is that of the next state
 pub next_value : (S : Setting) (v : Variable) (j j1 : ProgramItem) (w : ℤ) → program_next S.program S.launch j ≡ Goes j1 → Comes S v j1 → value_in j1.frames v ≡ Some w
     → AreInPlace S.program j.tasks → (deeds : List Deed) (j' : ProgramItem) → ComesToScope S.program S.launch S.buffers v j deeds j' → value_in j'.frames v ≡ Some w
 next_value S v j j1 w e (never none) here placed deeds j' c = let s = comes_here (IsInScope S.program v) c in absurd (none j' s.point (comes_in_place S v j deeds j' c placed) s.stands s.scoped)
-next_value S v j j1 w e (ended over out) here placed _ j' (arrives {deeds = deeds} st h) = absurd (out (subst (IsInScope S.program v) (sym (one_step _ _ _ deeds j1 j' e st)) h))
-next_value S v j j1 w e (ended over out) here placed _ j' (passes {mid = mid} deeds more st not_yet c) =
-    absurd (never_comes _ _ _ _ mid j' more (subst (λ z. program_next S.program S.launch z ≡ Ends) (one_step _ _ _ deeds j1 mid e st) over) c)
+next_value S v j j1 w e (over none) here placed _ j' (arrives {deeds = deeds} st h) =
+    absurd (over_scope S v j' (ap (λ (z : ProgramItem). z.tasks) (sym (one_step _ _ _ deeds j1 j' e st)) ∙ none) h)
+next_value S v j j1 w e (over none) here placed _ j' (passes {mid = mid} deeds more st not_yet c) =
+    absurd (ended_comes S v mid more j' (ap (λ ts. first_next S.program S.launch mid ts) (ap (λ (z : ProgramItem). z.tasks) (sym (one_step _ _ _ deeds j1 mid e st)) ∙ none)) c)
 next_value S v j j1 w e (at_once scoped) here placed _ j' (arrives {deeds = deeds} st h) =
     subst (λ (z : ProgramItem). value_in z.frames v ≡ Some w) (one_step _ _ _ deeds j1 j' e st) here
 next_value S v j j1 w e (at_once scoped) here placed _ j' (passes {mid = mid} deeds more st not_yet c) =
