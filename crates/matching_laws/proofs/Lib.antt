@@ -27,3 +27,4 @@ pub mod Choosing
 pub mod Following
 pub mod Kernels
 pub mod Stood
+pub mod Wholes
