@@ -27,8 +27,11 @@ use Rattle.lowering_laws.proofs.Quiet.{or_parts, true_false}
 use Rattle.lowering_laws.proofs.Cutless.{Cutless, action_cutless, initial_cutless, opened_cutless, outward_cutless, selected_cutless, fallen_cutless, result_cutless, parameters_cutless}
 use Rattle.lowering_laws.proofs.Shapes.{shaped_all, expression_shaped, operands_shaped, optional_shaped, statement_shaped, list_shaped, round_shaped, arms_shaped, call_shaped}
 use Rattle.parting_laws.specs.Nodes.{Node, statement_node, list_node, round_node, expression_node, optional_node, operand_node, nth_node, arm_node, child, node_at, IsBarrierNode, WayLeads, BarriersMarked, AreMarked}
-use Rattle.parting_laws.proofs.Expressions.{CallsShaped}
 use Rattle.parting_laws.proofs.Standing.{node_further, node_twice}
+
+-- the lines of calls have marks
+abbrev CallsShaped : Calls → CallMarks → Type 0
+CallsShaped calls marks = (here : Instance) (way : Way) (site function : ℕ) (roots : List Root) (values : List Value) (m : Made) → Shaped (calls here site function roots values m).lines (marks here way site function roots values m)
 
 module _ (program : Program) where
   abbrev Marked : Lines → Marks → Type 0

@@ -1,11 +1,4 @@
-pub mod Passing
-pub mod Rules
-pub mod Expressions
-pub mod Rounds
-pub mod Guards
 pub mod Entries
-pub mod Bodies
-pub mod Whole
 pub mod Standing
 pub mod Barriers
 pub mod Parting

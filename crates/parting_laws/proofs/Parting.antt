@@ -1,5 +1,5 @@
--- Where the program's item is covered by the kernel's, it comes to the point of a barrier line only where the kernel's comes to the line.
-use Rattle.std.proofs.Common.{◌≡◌, ℕ, suc, ℤ, pos, List, [], ◌∷◌, Option, Some, None, refl, sym, ap, ◌∙◌, subst, ◌⊎◌, inl, inr, arith, true, false, if◌then◌else◌}
+-- The steps of both items as steps of what they have left to do, and the point of a barrier line to which the kernel's item comes.
+use Rattle.std.proofs.Common.{◌≡◌, suc, ℤ, pos, List, [], ◌∷◌, Some, None, refl, sym, ap, ◌∙◌, subst, ◌⊎◌, inl, inr, true, false, if◌then◌else◌}
 use Rattle.std.proofs.Common.{Bool as Test}
 use Rattle.std.proofs.lemmas.Option.{none-some, same_Some}
 use Rattle.work_items.specs.Memory.{Access}
@@ -10,8 +10,8 @@ use Rattle.cl_model.specs.Tree as tree
 use Rattle.cl_model.specs.Sizes.{Launch}
 use Rattle.cl_model.specs.Values.{is_zero}
 use Rattle.cl_model.specs.Task.{Point as ProgramPoint, Task, Run, Evaluate, Finish, Peek, Alter, Decide, Enter, InCall, Discard, Keep, Clear, Initialise, Branch, InLoop, Select, InSwitch, Leave, point_of as task_point, first_point, Item as ProgramItem}
-use Rattle.cl_model.specs.Steps.{last, before, taken, with_values, behind_return, action_next, evaluate_next, run_next, task_next, first_next}
-use Rattle.cl_model.specs.Meaning.{LeadsTo, IsWithin, ItemCanCome as ProgramCanCome}
+use Rattle.cl_model.specs.Steps.{last, taken, with_values, behind_return, action_next, evaluate_next, run_next, task_next, first_next}
+use Rattle.cl_model.specs.Meaning.{LeadsTo}
 use Rattle.kir.specs.Tree.{Lines, BarrierThen, Kernel}
 use Rattle.kir.specs.Places.{Point, Tasks, NoTask, LinesAt, AnswerAt, begun_in, point_of, past, in_chosen, in_other, at_answer, in_test, in_body, behind, chosen_of, other_of, test_of, body_of}
 use Rattle.kir.specs.Cuts.{is_barrier}
@@ -25,11 +25,10 @@ use Rattle.kir_lower.specs.Whole.{lowered_of}
 use Rattle.lowering_laws.specs.Marks.{Marks, point_marked}
 use Rattle.lowering_laws.specs.CodeMarks.{kernel_marks}
 use Rattle.lowering_laws.proofs.OneToOne.{points_differ}
-use Rattle.parting_laws.specs.Coming.{behind_call, RunLeads, EvaluateLeads, TaskLeads, TasksLead, StandsAtBarrier, ComesToBarrier}
-use Rattle.parting_laws.specs.Covering.{StandsAtLine, ComesToLine, Covers}
+use Rattle.parting_laws.specs.Coming.{behind_call, RunLeads, EvaluateLeads, TaskLeads, TasksLead, StandsAtBarrier}
+use Rattle.parting_laws.specs.Covering.{StandsAtLine, ComesToLine}
 use Rattle.parting_laws.specs.Nodes.{IsBarrierNode, node_at, AreInPlace}
-use Rattle.parting_laws.proofs.Standing.{lead_keeps, at_barrier}
-use Rattle.parting_laws.proofs.Barriers.{kernel_marked, point_is_barrier}
+use Rattle.parting_laws.proofs.Standing.{at_barrier}
 
 -- ---- steps of the program's item
 
@@ -157,19 +156,6 @@ stands_there program p b (task ∷ rest) e placed =
     let same = same_Some (task_point task) p e in
     subst (λ z. StandsAtBarrier z (task ∷ rest)) same (at_barrier program task rest placed.0 (subst (λ z. IsBarrierNode (node_at program z)) (sym same) b))
 
--- an item that can come to the point of a barrier comes to the barrier
-pub comes_to_barrier : (program : Program) (launch : Launch) (buffers : List (List ℕ)) (j : ProgramItem) (q : Option ProgramPoint) (p : ProgramPoint) → q ≡ Some p → ProgramCanCome program launch buffers j q → AreInPlace program j.tasks → IsBarrierNode (node_at program p)
-    → (n : ℕ) × ComesToBarrier program n p j.tasks
-comes_to_barrier program launch buffers j q p e arrived placed b = (0, stands_there program p b j.tasks e placed)
-comes_to_barrier program launch buffers j q p e (by_step {after = t} m c) placed b =
-    let lead = step_leads program launch (IsWithin program launch buffers) t j j.tasks m in
-    let more = comes_to_barrier program launch buffers t q p e c (lead_keeps program j.tasks t.tasks lead placed) b in
-    (suc more.0, (t.tasks, lead, more.1))
-comes_to_barrier program launch buffers j q p e (by_test {after = t} m c) placed b =
-    let lead = answer_leads program launch (IsWithin program launch buffers) t (record j { values = m.1.0 ∷ before j.values }) j.tasks m.1.1 in
-    let more = comes_to_barrier program launch buffers t q p e c (lead_keeps program j.tasks t.tasks lead placed) b in
-    (suc more.0, (t.tasks, lead, more.1))
-
 -- ---- steps of the kernel's item
 
 module _ (kernel : Kernel) (launch : Launch) where
@@ -254,14 +240,3 @@ comes_to_line program names launch i placed point is r =
     let there' = line_point text marks (point_marked marks point) r.there r.stands (come_placed text r.there i.tasks r.comes placed) in
     let same : there'.at ≡ point = points_differ program names there'.at point there'.barrier is there'.marked in
     subst (λ z. ItemCanCome (lowered_of program names) launch i z) (there'.stands ∙ ap (λ (z : Point). Some z) same) (kernel_comes (lowered_of program names) launch r.there i i.tasks refl r.comes)
-
--- what the covering of the two items' tasks gives
-pub parting : (program : Program) (names : List (List Named)) (launch : Launch) (buffers : List (List ℕ)) (i : Item) (j : ProgramItem) → Placed (lowered_of program names).body i.tasks → AreInPlace program j.tasks
-    → Covers program (kernel_marks program names) j.tasks i.tasks
-    → (point : Point) → IsBarrierPoint (lowered_of program names).body point → (ItemCanCome (lowered_of program names) launch i (Some point) → ⊥) → ProgramCanCome program launch buffers j (Some (point_marked (kernel_marks program names) point)) → ⊥
-parting program names launch buffers i j placed in_place covers point is never can =
-    let text = (lowered_of program names).body in
-    let marks = kernel_marks program names in
-    let b = point_is_barrier program text marks (kernel_marked program names) point is.barrier in
-    let c = comes_to_barrier program launch buffers j _ (point_marked marks point) refl can in_place b in
-    never (comes_to_line program names launch i placed point is ((covers c.0).reach (point_marked marks point) c.0 (omega arith) c.1))

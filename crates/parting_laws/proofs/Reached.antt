@@ -24,7 +24,7 @@ use Rattle.parting_laws.specs.Coming.{StandsAtBarrier}
 use Rattle.parting_laws.specs.Covering.{ComesToLine}
 use Rattle.parting_laws.specs.Nodes.{IsBarrierNode, node_at, AreInPlace}
 use Rattle.parting_laws.specs.Reaching.{PassesTo, TurnsTo, Answers, as_is, answered, Reaches, here, goes, turns, CoversFewer}
-use Rattle.parting_laws.proofs.Passing.{come_on}
+use Rattle.kir_moves.proofs.Coming.{come_trans}
 use Rattle.parting_laws.proofs.Standing.{lead_keeps}
 use Rattle.parting_laws.proofs.Barriers.{kernel_marked, point_is_barrier}
 use Rattle.parting_laws.proofs.Parting.{step_leads, answer_leads, stands_there, comes_to_line}
@@ -82,7 +82,7 @@ module _ (program : Program) (marks : Marks) (launch : Launch) (buffers : List (
 
   -- a step of the kernel's item
   pub covers_lead : (n : ℕ) (j : ProgramItem) (from next : Tasks) → Leads from next → Cov n j next → Cov n j from
-  covers_lead n j from next lead c = record { reach = λ point r. let d = c.reach point r in record { there = d.there; stands = d.stands; comes = come_on d.there next from (by_leg lead there) d.comes } }
+  covers_lead n j from next lead c = record { reach = λ point r. let d = c.reach point r in record { there = d.there; stands = d.stands; comes = come_trans d.there next from (by_leg lead there) d.comes } }
 
   -- ---- the program's item can come to a barrier: it reaches it
 

@@ -1,5 +1,5 @@
 -- What an item of a program may have left to do after some steps, whatever its loads give and its tests answer.
-use Rattle.std.specs.Prelude.{◌≡◌, ℕ, zero, suc, ℤ, List, [], ◌∷◌, ◌++◌, Option, Some, None, ◌⊎◌}
+use Rattle.std.specs.Prelude.{◌≡◌, suc, ℤ, List, [], ◌∷◌, ◌++◌, Some, None, ◌⊎◌}
 use Rattle.std.specs.Prelude.{true, false}
 use Rattle.cl_model.specs.Tree.{Expression, Apply, Update, Choose, Call, none, more, Statement, Do, Declare, Fill, Block, If, Loop, Switch, Break, Continue, Return, Barrier, Program}
 use Rattle.cl_model.specs.Calls.{function_at}
@@ -8,24 +8,11 @@ use Rattle.cl_model.specs.Steps.{each_operand, count_of, in_order, test_tasks, i
 
 -- ---- ways out
 
--- a way out of a statement but at its end
-pub data Exit : Type 0 where
-  Continues : Exit
-  Breaks : Exit
-  Returns : Exit
-
 -- `return`: the tasks behind the nearest call, or none in the kernel
 abbrev pub behind_call : List Task → List Task
 behind_call [] = []
 behind_call (InCall at site ∷ tasks) = tasks
 behind_call (_ ∷ tasks) = behind_call tasks
-
--- where the item goes on that has left a statement before these tasks: at its end, or by a way out
-abbrev pub unwind : Option Exit → List Task → List Task
-unwind None tasks = tasks
-unwind (Some Continues) tasks = behind_continue tasks
-unwind (Some Breaks) tasks = behind_break tasks
-unwind (Some Returns) tasks = behind_call tasks
 
 -- ---- steps
 
@@ -86,8 +73,3 @@ TasksLead program (task ∷ rest) to = TaskLeads program task rest to
 abbrev pub StandsAtBarrier : Point → List Task → Type 0
 StandsAtBarrier point (Run at (Barrier site) ∷ rest) = at ≡ point
 StandsAtBarrier point _ = ⊥
-
--- so many steps may lead to a barrier at this point
-abbrev pub ComesToBarrier : Program → ℕ → Point → List Task → Type 0
-ComesToBarrier program zero point tasks = StandsAtBarrier point tasks
-ComesToBarrier program (suc n) point tasks = (next : List Task) × TasksLead program tasks next × ComesToBarrier program n point next
