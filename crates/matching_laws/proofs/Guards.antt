@@ -68,10 +68,6 @@ some_pending Continues = refl
 some_pending Breaks = refl
 some_pending Returns = refl
 
--- whether it is the one that is asked for
-is_it : ℕ → Option Exit → Test
-is_it n o = int_eq (pending o) (pos n)
-
 module _ (S : Setting) (G : ℕ → Item → ProgramItem → Type 0) (R : Rules S G) (C : Activation) where
   -- an equality with a constant, into a new cell, then an if on it
   asks : (exit : ℕ) (m : Made) (number : ℕ) (site n : ℕ) (chosen other T : Lines) (k : Tasks) (at : Place) (cells : Store) (j : ProgramItem) (o : Option Exit) (b : Test) → NoVariable S exit → Within S (with_cell m OfValue Int) → cells exit ≡ pending o

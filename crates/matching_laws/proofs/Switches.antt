@@ -90,10 +90,6 @@ pub data Entering (first : ℕ) (arms : Arms) (fallen : Atom) (chosen : ℕ) (ce
   falling : atom_value cells fallen ≡ bit true → IsPassed (cells chosen) first → Entering first arms fallen chosen cells at ts (arm_tasks at first arms ts)
   waiting : (e : Entry) → atom_value cells fallen ≡ bit false → IsEntry first arms e (cells chosen) → Entering first arms fallen chosen cells at ts (entry_tasks at e ts)
 
--- it is no cell of a way out
-apart_exit : (cell : Option ℕ) (c exit : ℕ) → Apart cell c → cell ≡ Some exit → c ≡ exit → ⊥
-apart_exit cell c exit a e = subst (λ z. Apart z c) e a
-
 module _ (S : Setting) (G : ℕ → Item → ProgramItem → Type 0) (R : Rules S G) (C : Activation) (calls : Calls) (marks : CallMarks) where
   -- the lines of arms do what the arms do
   abbrev pub ArmsFollow : Scope → Option ℕ → ℕ → Way → ℕ → ℕ → Atom → ℕ → Arms → Made → Type 0
