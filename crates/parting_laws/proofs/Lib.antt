@@ -1,0 +1,5 @@
+pub mod Entries
+pub mod Standing
+pub mod Barriers
+pub mod Parting
+pub mod Reached

@@ -1,0 +1,4 @@
+pub mod Coming
+pub mod Covering
+pub mod Nodes
+pub mod Reaching
