@@ -1,7 +1,6 @@
 -- A cell of a variable that the lines of an expression name across a cut is that of a variable that crosses in its text.
-use Rattle.std.proofs.Common.{◌≡◌, ℕ, suc, ◌+◌, ◌<◌, ◌≤◌, List, [], ◌∷◌, ◌++◌, length, Option, Some, None, refl, ap, ◌∙◌, subst, arith, true, false, ◌⊎◌, inl, inr}
+use Rattle.std.proofs.Common.{◌≡◌, ℕ, suc, ◌<◌, ◌≤◌, List, [], ◌∷◌, ◌++◌, length, Option, Some, None, refl, ap, ◌∙◌, subst, arith, false, inl, inr}
 use Rattle.std.proofs.Common.{Bool as Test}
-use Rattle.std.specs.Prelude.{nat_eq}
 use Rattle.std.proofs.lemmas.Option.{none-some, same_Some}
 use Rattle.wg_num.specs.declared.types.IntType.{IntType}
 use Rattle.cl_model.specs.declared.program.Root.{Root}
@@ -16,7 +15,7 @@ use Rattle.kir.specs.Live.{reads, some_reads}
 use Rattle.kir.specs.Inlined.{Text, BlockThen, Inlining, expression_before, expressions_before, optional_before, function_text}
 use Rattle.kir_lower.specs.declared.places.Value.{Value}
 use Rattle.kir_lower.specs.Made.{Made, Instance, with_cell, next_cell, argument_roots}
-use Rattle.kir_lower.specs.Actions.{atoms_of, changed, action_code}
+use Rattle.kir_lower.specs.Actions.{atoms_of, changed}
 use Rattle.kir_lower.specs.Code.{Calls, expression_code, operands_code, optional_code}
 use Rattle.lowering_laws.proofs.Quiet.{or_false}
 use Rattle.lowering_laws.proofs.Steps.{IsApart, either_quiet}
@@ -24,11 +23,11 @@ use Rattle.lowering_laws.proofs.Scoped.{argument_count}
 use Rattle.lowering_laws.proofs.Making as making
 use Rattle.lowering_laws.proofs.Making.{call_of}
 use Rattle.lowering_laws.proofs.Below.{inlining_at}
-use Rattle.lowering_laws.proofs.Absent.{absent_none, absent_set, absent_load, absent_store, next_more, IsOut}
+use Rattle.lowering_laws.proofs.Absent.{absent_none, absent_set, absent_load, absent_store, next_more}
 use Rattle.lowering_laws.proofs.AbsentSteps.{action_uses, three_out, changed_absent, action_absent}
 use Rattle.lowering_laws.proofs.AbsentCode.{CallsUp, expression_up, operands_up, Up}
 use Rattle.cut_laws.proofs.Keeping.{found, found_cut, found_declared, found_rest, expression_keeps, operands_keep}
-use Rattle.cut_laws.proofs.Spots.{IsIts, Earlier, earlier_same, earlier_before, earlier_value, earlier_flag, Fresh, fresh_same, fresh_before, fresh_value, fresh_flag, fresh_three, up_same, up_before, up_value, up_flag, Says, Tells, Part, part_same, part_left, part_right, part_then, part_if}
+use Rattle.cut_laws.proofs.Spots.{IsIts, Earlier, earlier_same, earlier_before, earlier_value, earlier_flag, Fresh, fresh_same, fresh_before, fresh_value, fresh_flag, fresh_three, up_same, up_before, up_value, up_flag, Part, part_left, part_right, part_then, part_if}
 
 -- the cell is one of those from one on to another
 abbrev pub Range : ℕ → ℕ → ℕ → Type 0

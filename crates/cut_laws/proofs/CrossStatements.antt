@@ -1,41 +1,38 @@
 -- A cell of a variable that the lines of statements name across a cut is that of a variable that crosses in their text.
-use Rattle.std.proofs.Common.{◌≡◌, ℕ, suc, ◌+◌, ◌-◌, ◌<◌, ◌≤◌, pos, List, [], ◌∷◌, ◌++◌, length, Option, Some, None, refl, sym, ap, ◌∙◌, subst, arith, true, false, ◌⊎◌, inl, inr, ⊎_elim, eq-eqb, if◌then◌else◌}
+use Rattle.std.proofs.Common.{◌≡◌, ℕ, ◌+◌, ◌-◌, ◌<◌, ◌≤◌, pos, List, length, Option, Some, None, refl, sym, ap, ◌∙◌, subst, arith, true, false, ◌⊎◌, inl, inr, eq-eqb, if◌then◌else◌}
 use Rattle.std.proofs.Common.{Bool as Test}
-use Rattle.std.specs.Prelude.{nat_eq, ◌&&◌}
+use Rattle.std.specs.Prelude.{◌&&◌}
 use Rattle.std.proofs.lemmas.Bool.{eqb-true}
 use Rattle.std.proofs.lemmas.Option.{slice_get_within}
-use Rattle.wg_num.specs.declared.types.IntType.{IntType}
 use Rattle.cl_model.specs.declared.program.Root.{Root}
-use Rattle.cl_model.specs.Tree.{Expression, Expressions, Statement, Do, Declare, Fill, Block, If, Loop, Switch, Break, Continue, Return, Barrier, Statements, empty, also, Arms, no_arm, arm, Function, Program}
+use Rattle.cl_model.specs.Tree.{Expression, Statement, Do, Declare, Fill, Block, If, Loop, Switch, Break, Continue, Return, Barrier, Statements, empty, also, Arms, no_arm, arm, Function, Program}
 use Rattle.cl_model.specs.Lists.{IsOneOf}
 use Rattle.cl_model.specs.Calls.{function_at}
 use Rattle.cl_model.specs.Valid.{Scope, StatementFits, AllFit, ArmsFit, IsScoped, IsScopedList, AreScopedArms, scope_after, declarations, all_declarations, arms_declarations}
 use Rattle.kir.specs.declared.line.Atom.{Atom}
-use Rattle.kir.specs.declared.line.Atom.TheVariants.{Cell as CellAtom}
 use Rattle.kir.specs.Tree.{Variable, Lines, NoLine, SetThen, IfThen, Copy, joined_to}
 use Rattle.kir.specs.Live.{reads}
-use Rattle.kir.specs.Inlined.{holds, some_holds, body_holds, Text, NoText, DeclaredThen, cut_if, expression_before, expressions_before, optional_before, Inlining, variable_of, statement_before, statements_before, arms_before}
+use Rattle.kir.specs.Inlined.{holds, some_holds, body_holds, Text, NoText, DeclaredThen, cut_if, expression_before, optional_before, Inlining, variable_of, statement_before, statements_before, arms_before}
 use Rattle.kir_lower.specs.declared.places.Value.{Value}
 use Rattle.kir_lower.specs.Made.{Made, Instance, next_cell, int, constant, type_at}
 use Rattle.kir_lower.specs.Ways.{way_out, way_out_of_all, way_out_of_arms, declares}
 use Rattle.kir_lower.specs.Actions.{opened, round_code, outward, selected, fallen_code, set_to}
 use Rattle.kir_lower.specs.Code.{Calls, expression_code, operands_code, optional_code, Guarded, is_guarded, before_rest, in_order, entry_code, around_arm, statement_code, list_code, arms_code}
 use Rattle.lowering_laws.proofs.Joined.{join_assoc}
-use Rattle.lowering_laws.proofs.Quiet.{or_parts}
 use Rattle.lowering_laws.proofs.Steps.{IsApart, IsFree}
-use Rattle.lowering_laws.proofs.Scoped.{FirstScoped, as_first, scoped_parts, as_list, sets, sets_nothing, apart_after, free_first, free_second, fewer_ways, fewer_of_arms, all_have, return_type}
+use Rattle.lowering_laws.proofs.Scoped.{FirstScoped, as_first, scoped_parts, as_list, sets, apart_after, free_first, free_second, fewer_ways, fewer_of_arms, all_have, return_type}
 use Rattle.lowering_laws.proofs.Members.{once}
 use Rattle.lowering_laws.proofs.Making as making
 use Rattle.lowering_laws.proofs.Below.{inlining_at}
-use Rattle.lowering_laws.proofs.Absent.{Absent, absent_none, absent_then, absent_set, absent_clear, absent_barrier, IsOut}
+use Rattle.lowering_laws.proofs.Absent.{Absent, absent_none, absent_set, absent_clear, absent_barrier}
 use Rattle.lowering_laws.proofs.AbsentSteps.{opened_exit, initial_absent, outward_absent, selected_absent, entry_absent, fallen_absent}
-use Rattle.lowering_laws.proofs.AbsentCode.{CallsUp, before_rest_same, opened_up, outward_up, expression_up, operands_up, optional_up, statement_up, list_up, arms_up, Up}
+use Rattle.lowering_laws.proofs.AbsentCode.{CallsUp, before_rest_same, opened_up, outward_up, expression_up, optional_up, statement_up, list_up, arms_up, Up}
 use Rattle.lowering_laws.proofs.Cutless.{Cutless, cutless_then, list_cutless}
 use Rattle.lowering_laws.proofs.Across.{across, across_cutless, across_right}
-use Rattle.cut_laws.proofs.Keeping.{held_cut, found, found_cut, found_declared, found_rest, found_inside, found_here, cut_keeps, expression_keeps, operands_keep, optional_keeps, statement_keeps, list_keeps, arms_keep}
-use Rattle.cut_laws.proofs.Spots.{IsIts, Earlier, earlier_same, earlier_before, earlier_value, earlier_flag, Fresh, fresh_same, fresh_before, fresh_value, fresh_flag, up_same, up_before, up_value, up_flag, Says, Tells, Holds, Part, part_absent, part_same, part_left, part_right, part_then, part_if}
+use Rattle.cut_laws.proofs.Keeping.{held_cut, found, found_cut, found_declared, found_rest, found_inside, found_here, cut_keeps, expression_keeps, optional_keeps, statement_keeps, list_keeps}
+use Rattle.cut_laws.proofs.Spots.{IsIts, Earlier, earlier_same, earlier_before, earlier_value, earlier_flag, Fresh, fresh_same, fresh_before, fresh_value, fresh_flag, up_same, up_before, up_value, up_flag, Says, Tells, Part, part_absent, part_same, part_left, part_right, part_then, part_if}
 use Rattle.cut_laws.proofs.ListParts.{ListPart, list_joined, declared_list, before_part, round_part}
-use Rattle.cut_laws.proofs.CrossExpressions.{Range, CallsEarlier, CallsPart, expression_earlier, operands_earlier, expression_part, operands_part, optional_part, do_part}
+use Rattle.cut_laws.proofs.CrossExpressions.{Range, CallsEarlier, CallsPart, expression_earlier, expression_part, operands_part, optional_part, do_part}
 
 -- ---- spots
 

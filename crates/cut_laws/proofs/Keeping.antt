@@ -1,13 +1,12 @@
 -- What holds of a text still holds where more text stands before it; and the text of what holds a barrier has a cut.
-use Rattle.std.proofs.Common.{◌≡◌, ℕ, zero, suc, List, [], ◌∷◌, ◌++◌, Option, Some, None, length, refl, ap, ◌∙◌, true, false, ◌⊎◌, inl, inr, ⊎_elim, if◌then◌else◌}
+use Rattle.std.proofs.Common.{◌≡◌, ℕ, zero, suc, List, [], ◌∷◌, ◌++◌, Option, Some, None, refl, ap, true, false, ◌⊎◌, inl, inr, ⊎_elim, if◌then◌else◌}
 use Rattle.std.proofs.Common.{Bool as Test}
 use Rattle.std.specs.Prelude.{◌||◌}
 use Rattle.cl_model.specs.Tree.{Expression, Apply, Update, Choose, Call, Expressions, none, more, Statement, Do, Declare, Fill, Block, If, Loop, Switch, Break, Continue, Return, Barrier, Statements, empty, also, Arms, no_arm, arm, Program}
 use Rattle.cl_model.specs.Lists.{IsOneOf}
 use Rattle.cl_model.specs.Calls.{function_at}
 use Rattle.kir.specs.Tree.{Variable}
-use Rattle.kir.specs.Inlined.{holds_in, holds_among, holds_in_optional, holds, some_holds, arms_hold, body_holds, Text, NoText, DeclaredThen, CutThen, BlockThen, cut_if, expression_before, expressions_before, optional_before, Inlining, variable_of, statement_before, statements_before, arms_before, parameters_before, function_text, variables_in, has_cut, crossing_in}
-use Rattle.lowering_laws.proofs.Quiet.{true_false}
+use Rattle.kir.specs.Inlined.{holds_in, holds_among, holds_in_optional, holds, some_holds, body_holds, Text, NoText, DeclaredThen, CutThen, BlockThen, cut_if, expression_before, expressions_before, optional_before, Inlining, variable_of, statement_before, statements_before, arms_before, parameters_before, function_text, variables_in, has_cut, crossing_in}
 use Rattle.lowering_laws.proofs.Members.{one_left, one_right}
 use Rattle.lowering_laws.proofs.Below.{inlining_at}
 

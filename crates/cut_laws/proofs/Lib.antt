@@ -3,3 +3,5 @@ pub mod Spots
 pub mod CrossExpressions
 pub mod ListParts
 pub mod CrossStatements
+pub mod DeepTexts
+pub mod CrossCalls

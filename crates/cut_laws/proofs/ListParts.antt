@@ -1,15 +1,14 @@
 -- Statements in order, loops and arms as parts of a program that declare the variable of a cell.
-use Rattle.std.proofs.Common.{◌≡◌, ℕ, ◌+◌, List, [], ◌∷◌, Option, Some, None, refl, sym, ap, ◌∙◌, subst, pos, true, false, ◌⊎◌, inl, inr, ⊎_elim, if◌then◌else◌}
+use Rattle.std.proofs.Common.{◌≡◌, ℕ, Option, Some, None, refl, sym, subst, true, false, ◌⊎◌, inl, inr, ⊎_elim}
 use Rattle.std.proofs.Common.{Bool as Test}
 use Rattle.std.specs.Prelude.{nat_eq, ◌&&◌}
 use Rattle.wg_num.specs.declared.types.IntType.TheVariants.{Int}
-use Rattle.kir.specs.declared.line.Atom.{Atom}
 use Rattle.kir.specs.declared.line.Atom.TheVariants.{Cell as CellAtom}
 use Rattle.kir.specs.Tree.{Variable, Lines, NoLine, SetThen, IfThen, joined_to, OfValue}
 use Rattle.kir.specs.Live.{reads}
 use Rattle.kir.specs.Inlined.{Text}
 use Rattle.kir_lower.specs.declared.places.Value.{Value}
-use Rattle.kir_lower.specs.Made.{Made, with_cell, next_cell, int}
+use Rattle.kir_lower.specs.Made.{Made, with_cell, next_cell}
 use Rattle.kir_lower.specs.Actions.{guarded_before, settled, round_code, set_to}
 use Rattle.kir_lower.specs.Code.{Guarded, is_guarded, before_rest}
 use Rattle.lowering_laws.proofs.Joined.{join_assoc}
@@ -18,7 +17,7 @@ use Rattle.lowering_laws.proofs.Steps.{IsFree}
 use Rattle.lowering_laws.proofs.Absent.{Absent, absent_none, absent_then, absent_set, absent_if, IsOut}
 use Rattle.lowering_laws.proofs.AbsentSteps.{guarded_absent, two_out}
 use Rattle.lowering_laws.proofs.Across.{across, across_left, across_right}
-use Rattle.cut_laws.proofs.Spots.{Says, Tells, Holds, Part, part_same, part_left, part_right, part_then, part_if, part_loop, part_guarded}
+use Rattle.cut_laws.proofs.Spots.{Says, Tells, Part, part_left, part_right, part_then, part_if, part_loop, part_guarded}
 
 -- ---- lines and the guarded ones behind them
 
