@@ -5,3 +5,4 @@ pub mod ListParts
 pub mod CrossStatements
 pub mod DeepTexts
 pub mod CrossCalls
+pub mod Alone
