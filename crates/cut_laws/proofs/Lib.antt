@@ -6,3 +6,4 @@ pub mod CrossStatements
 pub mod DeepTexts
 pub mod CrossCalls
 pub mod Alone
+pub mod Separate

@@ -109,7 +109,7 @@ module _ (v : Variable) (c : ℕ) where
 
   -- ---- a loop
 
-  settled_absent : (way exit : ℕ) (m : Made) → nat_eq c exit ≡ false → nat_eq c (next_cell m) ≡ false → Absent c (settled way exit m).lines
+  pub settled_absent : (way exit : ℕ) (m : Made) → nat_eq c exit ≡ false → nat_eq c (next_cell m) ≡ false → Absent c (settled way exit m).lines
   settled_absent way exit m e n = absent_set c _ _ _ (or_false _ _ e refl) n (absent_if c way _ _ NoLine NoLine n (absent_set c _ _ NoLine refl e (absent_none c)) (absent_none c) (absent_none c))
 
   pub round_part : (site : ℕ) (test_first : Test) (way : Option ℕ) (exit : ℕ) (test : Lines) (answer : Value) (step body : Lines) (m : Made) (S T U W : Type 0) (a b d whole : Text → Text) → IsFree c exit way
