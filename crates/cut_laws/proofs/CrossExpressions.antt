@@ -70,7 +70,7 @@ module _ (program : Program) (depth : ℕ) (v : Variable) (c : ℕ) (calls : Cal
   abbrev there : Inlining
   there = inlining_at program depth here.calls g
 
-  operand_count : (list : Expressions) (ts : List IntType) → HaveTypes program f list ts → (m : Made) → length (operands_code calls here list m).values ≡ length ts
+  pub operand_count : (list : Expressions) (ts : List IntType) → HaveTypes program f list ts → (m : Made) → length (operands_code calls here list m).values ≡ length ts
   unfolding expression_code
   operand_count none [] h m = refl
   operand_count none (t ∷ ts) h m = absurd h

@@ -7,3 +7,5 @@ pub mod DeepTexts
 pub mod CrossCalls
 pub mod Alone
 pub mod Separate
+pub mod AloneSteps
+pub mod AloneExpressions

@@ -63,7 +63,7 @@ module _ (v : Variable) (c : ℕ) where
   out_one : (m : Made) (b : ℕ) → b ≡ suc (next_cell m) → nat_eq c (next_cell m) ≡ false → IsOut c (next_cell m) b
   out_one m b size e k low high = let same : next_cell m ≡ k = omega (arith, low, high, size) in subst (λ z. nat_eq c z ≡ false) same e
 
-  out_two : (a b d : ℕ) → IsOut c a b → IsOut c b d → IsOut c a d
+  pub out_two : (a b d : ℕ) → IsOut c a b → IsOut c b d → IsOut c a d
   out_two a b d h g k low high = by_test (nat_lt k b) refl
     where
       by_test : (t : Test) → nat_lt k b ≡ t → nat_eq c k ≡ false
