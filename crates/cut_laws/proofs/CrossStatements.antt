@@ -63,7 +63,7 @@ module _ (c base size : ℕ) where
   span_apart a b n d e k l u w o (inr h) (inr i) = omega (arith, o, h.2, i.2)
 
 -- a branch declares nothing itself
-scoped_sets : (c : ℕ) (here : Instance) (scope : Scope) (s : Statement) → IsScoped scope s → sets c here s ≡ false
+pub scoped_sets : (c : ℕ) (here : Instance) (scope : Scope) (s : Statement) → IsScoped scope s → sets c here s ≡ false
 scoped_sets c here scope (Declare x value) h = absurd h
 scoped_sets c here scope (Do e) h = refl
 scoped_sets c here scope (Fill site array values) h = refl
@@ -104,14 +104,14 @@ module _ (program : Program) (depth : ℕ) (v : Variable) (c : ℕ) (calls : Cal
   pub list_earlier : (exit : ℕ) (guarded : Test) (list : Statements) (m : Made) → IsIts v c (list_code calls here exit guarded list m).made → IsIts v c m
   list_earlier exit guarded list m = making.list_makes (Earlier v c) (earlier_same v c) (earlier_before v c) (earlier_value v c) (earlier_flag v c) calls here (λ site function roots values m. calls_earlier here site function roots values m) exit guarded list m
 
-  arms_earlier : (exit site : ℕ) (chosen fallen : Atom) (k : ℕ) (arms : Arms) (m : Made) → IsIts v c (arms_code calls here exit site chosen fallen k arms m).made → IsIts v c m
+  pub arms_earlier : (exit site : ℕ) (chosen fallen : Atom) (k : ℕ) (arms : Arms) (m : Made) → IsIts v c (arms_code calls here exit site chosen fallen k arms m).made → IsIts v c m
   arms_earlier exit site chosen fallen k arms m = making.arms_make (Earlier v c) (earlier_same v c) (earlier_before v c) (earlier_value v c) (earlier_flag v c) calls here (λ site function roots values m. calls_earlier here site function roots values m) exit site chosen fallen k arms m
 
   optional_earlier : (e : Option Expression) (m : Made) → IsIts v c (optional_code calls here e m).made → IsIts v c m
   optional_earlier None m i = i
   optional_earlier (Some e) m i = expression_earlier program depth v c calls calls_up calls_earlier call g here e m i
 
-  before_rest_its : (exit : ℕ) (declared : Test) (way : Option ℕ) (lines : Lines) (r : Guarded) → IsIts v c (before_rest exit declared way lines r).made → IsIts v c r.made
+  pub before_rest_its : (exit : ℕ) (declared : Test) (way : Option ℕ) (lines : Lines) (r : Guarded) → IsIts v c (before_rest exit declared way lines r).made → IsIts v c r.made
   before_rest_its exit true way lines r i = i
   before_rest_its exit false None lines r i = i
   before_rest_its exit false (Some site) lines r i = i

@@ -9,3 +9,4 @@ pub mod Alone
 pub mod Separate
 pub mod AloneSteps
 pub mod AloneExpressions
+pub mod AloneStatements
