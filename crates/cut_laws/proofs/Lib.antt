@@ -1,0 +1,12 @@
+pub mod Keeping
+pub mod Spots
+pub mod CrossExpressions
+pub mod ListParts
+pub mod CrossStatements
+pub mod DeepTexts
+pub mod CrossCalls
+pub mod Alone
+pub mod Separate
+pub mod AloneSteps
+pub mod AloneExpressions
+pub mod AloneStatements
