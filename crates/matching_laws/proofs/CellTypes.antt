@@ -40,9 +40,9 @@ use Rattle.kir.specs.Steps.{shell_of, Item, with_tasks, with_cell, atom_value, w
 use Rattle.kir_moves.specs.Leads.{Leads, past_end, past_set, past_load, past_store, past_clear, past_barrier, into_chosen, into_other, into_test, into_body, past_loop, to_body}
 use Rattle.kir.specs.Meaning.{GoesOn}
 use Rattle.kir.specs.Fits.{same_type, has_type, is_value, atom_type, type_of_cell, work_fits, work_type, cell_takes, type_of_parameter}
+use Rattle.kir.specs.Lowering.{HasGlobalSizes}
 use Rattle.kir_moves.proofs.Told.{TasksFit}
 use Rattle.matching_laws.specs.Setting.{Setting}
-use Rattle.matching_laws.specs.Sized.{HasGlobalSizes}
 use Rattle.matching_laws.specs.Facts.{HoldsTypes}
 
 -- the type of a cell

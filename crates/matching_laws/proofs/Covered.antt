@@ -19,6 +19,7 @@ use Rattle.kir.specs.Places.{Behind, IntoChosen, IntoOther, point_of, Place, Poi
 use Rattle.kir.specs.Steps.{shell_of, Item, branched, item_next}
 use Rattle.kir.specs.Meaning.{GoesOn}
 use Rattle.kir.specs.Matching.{StandsAlike}
+use Rattle.kir.specs.Lowering.{HasGlobalSizes}
 use Rattle.kir_moves.specs.Leads.{Leads, into_chosen, into_other, past_loop, to_body, ComesTo, there}
 use Rattle.kir_moves.proofs.Told.{TasksFit}
 use Rattle.kir_moves.proofs.Own.{own_leads, waits_where}
@@ -28,7 +29,6 @@ use Rattle.parting_laws.specs.Covering.{ComesToLine}
 use Rattle.parting_laws.specs.Reaching.{PassesTo, TurnsTo, Answers, as_is, answered, CoversFewer}
 use Rattle.parting_laws.proofs.Reached.{stands_waits, IsOwnStep, test_steps, covers_less, covers_by, covers_lead}
 use Rattle.matching_laws.specs.Setting.{Setting, program_item}
-use Rattle.matching_laws.specs.Sized.{HasGlobalSizes}
 use Rattle.matching_laws.specs.Facts.{HoldsTypes, Rules}
 use Rattle.matching_laws.proofs.CellTypes.{fits_keep, types_keep}
 

@@ -17,7 +17,7 @@ use Rattle.kir.specs.Steps.{shell_of, Item, atom_value, branched, item_next}
 use Rattle.kir.specs.Fits.{lines_fit}
 use Rattle.kir.specs.Meaning.{machine_of, start_item, GoesOn, ItemCanCome}
 use Rattle.kir.specs.Matching.{SameNext, StandsAlike, IsBarrierPoint, AreAlike}
-use Rattle.kir.specs.Lowering.{Named}
+use Rattle.kir.specs.Lowering.{Named, HasGlobalSizes}
 use Rattle.kir.proofs.Placed.{Placed}
 use Rattle.kir_moves.specs.Leads.{Leads, past_loop, to_body}
 use Rattle.kir_moves.proofs.Told.{TasksFit}
@@ -32,7 +32,6 @@ use Rattle.parting_laws.proofs.Standing.{lead_keeps}
 use Rattle.parting_laws.proofs.Parting.{lead_placed, step_leads as program_leads}
 use Rattle.parting_laws.proofs.Reached.{parting_alike}
 use Rattle.matching_laws.specs.Setting.{Setting, Store, kernel_item, program_item}
-use Rattle.matching_laws.specs.Sized.{HasGlobalSizes}
 use Rattle.matching_laws.specs.Facts.{HoldsTypes, Facts, Rules}
 use Rattle.matching_laws.proofs.CellTypes.{fits_keep, types_start}
 use Rattle.matching_laws.proofs.Covered.{step_leads, may_go, may_begin, may_wait, may_load, may_store, fewer_covers, task_covers, line_covers, branch_leads, test_covers, round_covers, begins_covers, loads_cover, stores_cover, waits_cover, ends_cover, select_covers, types_on, fits_on}

@@ -17,7 +17,6 @@ pub mod Covered
 pub mod Followed
 pub mod Sounding
 pub mod Scoping
-pub mod Starting
 pub mod Arming
 pub mod Switches
 pub mod Calling

@@ -6,7 +6,7 @@ use Rattle.cl_model.specs.Task.{Item as ProgramItem, Point as ProgramPoint}
 use Rattle.kir.specs.Places.{AnswerAt, iteration}
 use Rattle.kir.specs.Steps.{shell_of, Item}
 use Rattle.kir.specs.Meaning.{GoesOn}
-use Rattle.kir.specs.Lowering.{Named}
+use Rattle.kir.specs.Lowering.{Named, HasGlobalSizes}
 use Rattle.kir_moves.specs.Leads.{past_loop, to_body}
 use Rattle.kir_lower.specs.Code.{Calls}
 use Rattle.kir_lower.specs.Whole.{lowered_of}
@@ -14,7 +14,6 @@ use Rattle.lowering_laws.specs.CodeMarks.{CallMarks, kernel_marks}
 use Rattle.lowering_laws.proofs.Follow.{spent}
 use Rattle.parting_laws.specs.Reaching.{Reaches, here, goes, turns, CoversFewer}
 use Rattle.matching_laws.specs.Setting.{Setting, kernel_item, program_item, Activation}
-use Rattle.matching_laws.specs.Sized.{HasGlobalSizes}
 use Rattle.matching_laws.specs.Facts.{Rules}
 use Rattle.matching_laws.specs.Ready.{IsUnderWay}
 use Rattle.matching_laws.specs.Bodies.{IsBody}

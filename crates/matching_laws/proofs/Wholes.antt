@@ -8,11 +8,12 @@ use Rattle.cl_model.specs.Sizes.{Launch}
 use Rattle.cl_model.specs.Tree.{Program}
 use Rattle.cl_model.specs.Valid.{IsValid}
 use Rattle.kir.specs.Fits.{is_kernel, lines_fit, roots_are_own}
-use Rattle.kir.specs.Lowering.{Named, HasArrays, HasParts}
+use Rattle.kir.specs.Lowering.{Named, HasArrays, HasParts, HasGlobalSizes, HasMatching}
 use Rattle.kir.specs.Meaning.{start_item}
 use Rattle.kir.specs.Steps.{shell_of}
 use Rattle.kir.specs.Tree.{Kernel}
 use Rattle.kir.proofs.Shells.{shares_launches}
+use Rattle.kir.proofs.FromSteps.{from_steps}
 use Rattle.kir_lower.specs.Whole.{lowered_of}
 use Rattle.lowering_laws.specs.CodeMarks.{kernel_marks}
 use Rattle.lowering_laws.specs.Marks.{point_marked}
@@ -21,11 +22,9 @@ use Rattle.lowering_laws.proofs.Arrays.{has_arrays}
 use Rattle.lowering_laws.proofs.Parts.{has_parts}
 use Rattle.lowering_laws.proofs.Steady.{Follows_on, has_steps}
 use Rattle.matching_laws.specs.Setting.{Setting}
-use Rattle.matching_laws.specs.Sized.{HasGlobalSizes, HasSizedMatching}
 use Rattle.matching_laws.proofs.Calls.{AllHeads, calls_all}
 use Rattle.matching_laws.proofs.Followed.{G_follow, followed, standing_start}
 use Rattle.matching_laws.proofs.Kernels.{kernel_follows}
-use Rattle.matching_laws.proofs.Starting.{from_steps_sized}
 use Rattle.matching_laws.proofs.Stood.{G_stood, stood, stood_heads, followed_heads}
 
 -- there is a function, the kernel
@@ -69,7 +68,7 @@ module _ (program : Program) (names : List (List Named)) (valid : IsValid progra
         (standing_start (at_item item) names refl refl fits_shell sizes (body_fits (lowered_of program names) fit) item)).follows
 
   -- histories and runs match
-  pub has_sized_matching : HasSizedMatching program (lowered_of program names)
-  has_sized_matching =
-      from_steps_sized program (lowered_of program names) valid fit arrays parts (point_marked (kernel_marks program names))
+  pub has_matching : HasMatching program (lowered_of program names)
+  has_matching =
+      from_steps program (lowered_of program names) valid fit arrays parts (point_marked (kernel_marks program names))
       (λ launch fits sizes buffers there. has_steps program (lowered_of program names) (point_marked (kernel_marks program names)) launch buffers (item_follows launch fits sizes buffers))

@@ -4,4 +4,3 @@ pub mod Facts
 pub mod Held
 pub mod Ready
 pub mod Bodies
-pub mod Sized
