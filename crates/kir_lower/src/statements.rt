@@ -12,12 +12,12 @@ ghost use Rattle.kir_lower.specs.View.{made_of, instance_of, calls_in, optional_
 
 use crate::actions::{Part, put_assigned, put_exit, put_filled};
 use crate::arms::put_chosen;
-use crate::emit::{put_barrier, put_copy};
+use crate::emit::{put_barrier, put_copy, put_if};
 use crate::exits::{declares, way_out, way_out_of_all, way_out_of_arms};
 use crate::expressions::{put_expression, put_expressions};
 use crate::places::{Instance, Made, Value, behind, constant, element_at, int, type_at};
-use crate::steps::{Entered, step_arm, step_closed, step_entry, step_if, step_result, step_round};
-use crate::ways::{BREAKS, CONTINUES, RETURNS, Round, put_opened, put_outward};
+use crate::steps::{Entered, step_arm, step_closed, step_entry, step_result};
+use crate::ways::{BREAKS, CONTINUES, RETURNS, Round, put_opened, put_outward, put_round};
 use cl_model::{Expr, Function, Stmt, SwitchArm};
 use kir::Line;
 use std::alloc::Global;
@@ -191,12 +191,12 @@ fn put_branches(
             no,
         } => {
             put_expression(alloc, here, made, lines, test, value)?;
-            let test = *value;
+            let test = value.atom;
             let mut first = Vec::new(alloc);
             put_statement(alloc, here, made, &mut first, exit, yes, value)?;
             let mut second = Vec::new(alloc);
             put_other(alloc, here, made, &mut second, exit, no, value)?;
-            step_if(alloc, lines, *site, &test, &mut first, &mut second)
+            put_if(lines, *site, test, first, second)
         }
         _ => Err(Memory),
     }
@@ -275,12 +275,12 @@ fn put_loop(
         } => {
             let way = way_out(body, true, true);
             let inner = put_opened(made, lines, way, exit)?;
-            let mut tests = Part {
-                lines: Vec::new(alloc),
+            let mut tests = Vec::new(alloc);
+            put_optional(alloc, here, made, &mut tests, test, value)?;
+            let tests = Part {
+                lines: tests,
                 value: *value,
             };
-            put_optional(alloc, here, made, &mut tests.lines, test, value)?;
-            tests.value = *value;
             let mut steps = Vec::new(alloc);
             put_optional(alloc, here, made, &mut steps, step, value)?;
             let mut inside = Vec::new(alloc);
@@ -291,15 +291,7 @@ fn put_loop(
                 way,
                 exit: inner,
             };
-            step_round(
-                alloc,
-                made,
-                lines,
-                round,
-                &mut tests,
-                &mut steps,
-                &mut inside,
-            )?;
+            put_round(alloc, made, lines, round, tests, steps, inside)?;
             put_outward(alloc, made, lines, way_out(body, false, false), inner, exit)
         }
         _ => Err(Memory),

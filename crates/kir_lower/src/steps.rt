@@ -19,7 +19,7 @@ use crate::actions::{
 use crate::emit::put_if;
 use crate::entering::put_result;
 use crate::places::{Instance, Made, Value, constant, int};
-use crate::ways::{Round, put_closed, put_fallen, put_round};
+use crate::ways::{put_closed, put_fallen};
 use cl_model::Query;
 use kir::{Atom, Line};
 use std::alloc::Global;
@@ -350,46 +350,6 @@ pub fn step_arm(
     put_if(lines, entered.site, value.atom, taken, Vec::new(alloc))?;
     *value = put_fallen(made, lines, way, entered.exit, *value)?;
     Ok(())
-}
-
-/// A choice between lines, which are taken out of their lists.
-#[inline(never)]
-pub fn step_if(
-    alloc: Global,
-    lines: &mut Vec<Line>,
-    site: u32,
-    test: &Value,
-    yes: &mut Vec<Line>,
-    no: &mut Vec<Line>,
-) -> Result<(), Memory>
-    ensures { OnOk result (lines_of lines.new.items ≡ joined_to (lines_of lines.old.items) (IfThen site test.now.atom (lines_of yes.old.items) (lines_of no.old.items) NoLine)) }
-{
-    let first = replace(yes, Vec::new(alloc));
-    let second = replace(no, Vec::new(alloc));
-    put_if(lines, site, test.atom, first, second)
-}
-
-/// A loop, from the lines of its parts, which are taken out of their lists.
-#[inline(never)]
-pub fn step_round(
-    alloc: Global,
-    made: &mut Made,
-    lines: &mut Vec<Line>,
-    round: Round,
-    tests: &mut Part,
-    steps: &mut Vec<Line>,
-    inside: &mut Vec<Line>,
-) -> Result<(), Memory>
-    ensures lines { OnOk result (lines_of lines.new.items ≡ joined_to (lines_of lines.old.items) (spec.round_code round.site round.test_first round.way round.exit (lines_of tests.old.lines.items) tests.old.value (lines_of steps.old.items) (lines_of inside.old.items) (made_of made.old)).lines) }
-    ensures made { OnOk result (made_of made.new ≡ (spec.round_code round.site round.test_first round.way round.exit (lines_of tests.old.lines.items) tests.old.value (lines_of steps.old.items) (lines_of inside.old.items) (made_of made.old)).made) }
-{
-    let test = Part {
-        lines: replace(&mut tests.lines, Vec::new(alloc)),
-        value: tests.value,
-    };
-    let step = replace(steps, Vec::new(alloc));
-    let body = replace(inside, Vec::new(alloc));
-    put_round(alloc, made, lines, round, test, step, body)
 }
 
 /// Lines in order, or guarded ones, which are taken out of their list.
