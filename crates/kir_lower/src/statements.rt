@@ -1,7 +1,7 @@
 //! Statements as lines, each call in place. Each is given a value in whose place those of its
 //! expressions stand.
 
-ghost use Rattle.std.specs.Prelude.{◌≡◌, false, IfOk, OnOk};
+ghost use Rattle.std.specs.Prelude.{◌≡◌, false, OnOk};
 ghost use Rattle.cl_model.specs.Tree.{Declare, Return};
 ghost use Rattle.cl_model.specs.View.{optional_expression, statement_of, listed_statements, function_of};
 ghost use Rattle.kir.specs.Listed.{lines_of};
@@ -16,12 +16,10 @@ use crate::emit::{put_barrier, put_copy, put_if};
 use crate::exits::{declares, way_out, way_out_of_all, way_out_of_arms};
 use crate::expressions::{put_expression, put_expressions};
 use crate::places::{Instance, Made, Value, behind, constant, element_at, int, type_at};
-use crate::steps::{Entered, step_entry, step_result};
-use crate::ways::{
-    BREAKS, CONTINUES, RETURNS, Round, put_closed, put_fallen, put_opened, put_outward, put_round,
-};
+use crate::steps::{Entered, step_arm, step_closed, step_entry, step_result};
+use crate::ways::{BREAKS, CONTINUES, RETURNS, Round, put_opened, put_outward, put_round};
 use cl_model::{Expr, Function, Stmt, SwitchArm};
-use kir::{Atom, Line};
+use kir::Line;
 use std::alloc::Global;
 use wg_num::{IntType, Memory};
 
@@ -361,7 +359,7 @@ fn put_cases(
     put_outward(alloc, made, lines, way, inner, exit)
 }
 
-/// The lines of an arm, which say whether the next one is fallen into.
+/// The lines of an arm; whether the next one is fallen into takes the place of the value before.
 #[cycle(lowering)]
 #[tactic(auto, using(crate::proofs::Lists::join_assoc, crate::proofs::Lists::join_none), unfolding(crate::specs::Code::statement_code))]
 #[inline(never)]
@@ -373,23 +371,18 @@ fn put_arm(
     entered: &Entered,
     body: &[Stmt],
     value: &mut Value,
-) -> Result<Atom, Memory>
+) -> Result<(), Memory>
     ensures lines { OnOk result (lines_of lines.new.items ≡ joined_to (lines_of lines.old.items) (arm_code (calls_in here.now) (instance_of here.now) entered.now.exit entered.now.site entered.now.chosen entered.now.fallen entered.now.number (listed_statements body.now) (made_of made.old)).lines) }
-    ensures value { IfOk result (λ v. v ≡ (arm_code (calls_in here.now) (instance_of here.now) entered.now.exit entered.now.site entered.now.chosen entered.now.fallen entered.now.number (listed_statements body.now) (made_of made.old)).value.atom) }
+    ensures value { OnOk result (value.new ≡ (arm_code (calls_in here.now) (instance_of here.now) entered.now.exit entered.now.site entered.now.chosen entered.now.fallen entered.now.number (listed_statements body.now) (made_of made.old)).value) }
     ensures made { OnOk result (made_of made.new ≡ (arm_code (calls_in here.now) (instance_of here.now) entered.now.exit entered.now.site entered.now.chosen entered.now.fallen entered.now.number (listed_statements body.now) (made_of made.old)).made) }
 {
     step_entry(made, lines, entered, value)?;
     let entry = *value;
     let mut inside = Vec::new(alloc);
     put_statements(alloc, here, made, &mut inside, entered.exit, body, value)?;
-    put_if(lines, entered.site, entry.atom, inside, Vec::new(alloc))?;
-    put_fallen(
-        made,
-        lines,
-        way_out_of_all(body, true, true),
-        entered.exit,
-        entry,
-    )
+    *value = entry;
+    let way = way_out_of_all(body, true, true);
+    step_arm(alloc, made, lines, entered, way, &mut inside, value)
 }
 
 /// The lines of the arms of a `switch`.
@@ -411,7 +404,8 @@ fn put_arms(
     let mut entered = entered;
     let mut rest = arms;
     while let Some((arm, others)) = rest.split_first() {
-        entered.fallen = put_arm(alloc, here, made, lines, &entered, &arm.body, value)?;
+        put_arm(alloc, here, made, lines, &entered, &arm.body, value)?;
+        entered.fallen = value.atom;
         entered.number = behind(entered.number, 1)?;
         rest = others;
     }
@@ -442,14 +436,13 @@ fn put_statements(
         put_statement(alloc, here, made, &mut inside, exit, s, value)?;
         if guard.is_some() && declares(s) {
             put_statements(alloc, here, made, &mut inside, exit, others, value)?;
-            return put_closed(alloc, lines, guard, exit, inside);
+            return step_closed(alloc, lines, guard, exit, &mut inside);
         }
         if let Some(site) = way_out(s, true, true) {
-            put_closed(alloc, lines, guard, exit, inside)?;
-            inside = Vec::new(alloc);
+            step_closed(alloc, lines, guard, exit, &mut inside)?;
             guard = Some(site);
         }
         rest = others;
     }
-    put_closed(alloc, lines, guard, exit, inside)
+    step_closed(alloc, lines, guard, exit, &mut inside)
 }

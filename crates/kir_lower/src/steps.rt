@@ -6,7 +6,7 @@ ghost use Rattle.wg_num.specs.Builtins as builtins;
 ghost use Rattle.cl_model.specs.Tree as tree;
 ghost use Rattle.cl_model.specs.Valid as valid;
 ghost use Rattle.kir.specs.Listed.{lines_of};
-ghost use Rattle.kir.specs.Tree.{NoLine, Unary, Builtin, Ask, joined_to};
+ghost use Rattle.kir.specs.Tree.{NoLine, IfThen, Unary, Builtin, Ask, joined_to};
 ghost use Rattle.kir_lower.specs.Made as made_spec;
 ghost use Rattle.kir_lower.specs.Actions as spec;
 ghost use Rattle.kir_lower.specs.Code as code;
@@ -16,11 +16,14 @@ use crate::actions::{
     Change, Element, Part, put_answer, put_assigned, put_binary, put_builtin, put_changed,
     put_choice, put_converted, put_loaded, put_stored, put_truth, put_unary, put_variable,
 };
+use crate::emit::put_if;
 use crate::entering::put_result;
 use crate::places::{Instance, Made, Value, constant, int};
+use crate::ways::{put_closed, put_fallen};
 use cl_model::Query;
 use kir::{Atom, Line};
 use std::alloc::Global;
+use std::mem::replace;
 use wg_num::{Bin, Fun, IntType, Memory, Un};
 
 /// An arm of a `switch`: its site, the cell of what is pending around it, the number of the arm that
@@ -324,4 +327,43 @@ pub fn step_entry(
         chosen.atom,
     )?;
     Ok(())
+}
+
+/// An arm around its lines, which are taken out of their list; whether the next one is fallen into
+/// takes the place of whether this one is entered.
+#[tactic(auto, using(crate::proofs::Lists::join_assoc))]
+#[inline(never)]
+pub fn step_arm(
+    alloc: Global,
+    made: &mut Made,
+    lines: &mut Vec<Line>,
+    entered: &Entered,
+    way: Option<u32>,
+    inside: &mut Vec<Line>,
+    value: &mut Value,
+) -> Result<(), Memory>
+    ensures lines { OnOk result (lines_of lines.new.items ≡ joined_to (lines_of lines.old.items) (IfThen entered.now.site value.old.atom (lines_of inside.old.items) NoLine (spec.fallen_code way entered.now.exit value.old (made_of made.old)).lines)) }
+    ensures value { OnOk result (value.new ≡ (spec.fallen_code way entered.now.exit value.old (made_of made.old)).value) }
+    ensures made { OnOk result (made_of made.new ≡ (spec.fallen_code way entered.now.exit value.old (made_of made.old)).made) }
+{
+    let taken = replace(inside, Vec::new(alloc));
+    put_if(lines, entered.site, value.atom, taken, Vec::new(alloc))?;
+    *value = put_fallen(made, lines, way, entered.exit, *value)?;
+    Ok(())
+}
+
+/// Lines in order, or guarded ones, which are taken out of their list.
+#[inline(never)]
+pub fn step_closed(
+    alloc: Global,
+    lines: &mut Vec<Line>,
+    guard: Option<u32>,
+    exit: u32,
+    inside: &mut Vec<Line>,
+) -> Result<(), Memory>
+    ensures lines { OnOk result (lines_of lines.new.items ≡ joined_to (lines_of lines.old.items) (spec.closed guard exit (lines_of inside.old.items) NoLine)) }
+    ensures inside { OnOk result (inside.new.items ≡ []) }
+{
+    let taken = replace(inside, Vec::new(alloc));
+    put_closed(alloc, lines, guard, exit, taken)
 }

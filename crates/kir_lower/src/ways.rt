@@ -187,13 +187,13 @@ pub fn put_fallen(
     way: Option<u32>,
     exit: u32,
     entered: Value,
-) -> Result<Atom, Memory>
+) -> Result<Value, Memory>
     ensures lines { OnOk result (lines_of lines.new.items ≡ joined_to (lines_of lines.old.items) (spec.fallen_code way exit entered (made_of made.old)).lines) }
-    ensures value { IfOk result (λ a. a ≡ (spec.fallen_code way exit entered (made_of made.old)).value.atom) }
+    ensures value { IfOk result (λ v. v ≡ (spec.fallen_code way exit entered (made_of made.old)).value) }
     ensures made { OnOk result (made_of made.new ≡ (spec.fallen_code way exit entered (made_of made.old)).made) }
 {
     match way {
-        None => Ok(entered.atom),
+        None => Ok(entered),
         Some(_) => {
             let work = Work::Unary {
                 op: Un::Not,
@@ -201,15 +201,14 @@ pub fn put_fallen(
                 a: Atom::Cell(exit),
             };
             let clear = put_computed(made, lines, work, IntType::Int)?;
-            let fallen = put_binary(
+            put_binary(
                 made,
                 lines,
                 Bin::And,
                 IntType::Int,
                 entered.atom,
                 clear.atom,
-            )?;
-            Ok(fallen.atom)
+            )
         }
     }
 }

@@ -80,11 +80,11 @@ statements::put_statements-returns-clause-lines t c =
     let lines = lines_of c.loop-s.lines.items in
     let inside = lines_of c.loop-s.inside.items in
     let left : List Stmt → Guarded = λ z. list_code (calls_in c.args.here.now) (instance_of c.args.here.now) c.args.exit (is_some c.loop-s.guard) (listed_statements z) (made_of c.loop-s.made) in
-    subst (λ z. OnOk c.put_closed-2.result (lines_of c.put_closed-2.new.lines.items ≡ z))
+    subst (λ z. OnOk c.step_closed-2.result (lines_of c.step_closed-2.new.lines.items ≡ z))
     (sym (c.loop-s.invariant.0
     ∙ ap (λ z. joined_to lines (closed c.loop-s.guard c.args.exit (joined_to inside (left z).inside) (left z).rest)) (empty_list c.loop-s.rest.now c.in_default.ensures.cases)
     ∙ ap (λ z. joined_to lines (closed c.loop-s.guard c.args.exit z NoLine)) (join_none inside)))
-    c.put_closed-2.ensures
+    c.step_closed-2.ensures.lines
 
 pub statements::put_statement-returns-in-Block-clause-lines : goal.statements::put_statement-returns-in-Block-clause-lines
 unfolding statement_code
