@@ -21,3 +21,4 @@ pub mod Statements
 pub mod Bodies
 pub mod Wholes
 pub mod Fine
+pub mod FineRules
