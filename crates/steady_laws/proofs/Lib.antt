@@ -22,3 +22,4 @@ pub mod Bodies
 pub mod Wholes
 pub mod Fine
 pub mod FineRules
+pub mod FineCode
