@@ -106,6 +106,10 @@ module _ (program : Program) (kernel : Kernel) where
     pub back : CallsBack nothing kernel calls
     pub fresh : CallsFresh nothing kernel calls here
     pub own : (y : ℕ) (v : Variable) → y < length (function_at program fn).variables → IsCellOf kernel v (here.base + y) → v ≡ variable_of at y
+    pub own_cell : (y : ℕ) → y < length (function_at program fn).variables → IsCellOf kernel (variable_of at y) (here.base + y)
+    pub one : (v : Variable) (c d : ℕ) → IsCellOf kernel v c → IsCellOf kernel v d → c ≡ d
+    pub cut_keeps : (site g : ℕ) (t : Text) → has_cut t ≡ true → has_cut (at.called site g t) ≡ true
+    pub cut_there : (site g : ℕ) (t : Text) → at.inside g ≡ true → has_cut (at.called site g t) ≡ true
     pub tail : (S : List Variable) (site g : ℕ) (t : Text) → Ok program kernel S (at.called site g t) → Ok program kernel S t
     pub cutless : (there : Instance) (site g : ℕ) (roots : List Root) (values : List Value) (m : Made) → at.inside g ≡ false → Cutless (calls there site g roots values m).lines
     pub call : CallsFine at calls here
@@ -145,7 +149,7 @@ module _ (program : Program) (kernel : Kernel) where
     pub in_atom : (scope : Scope) (a b : ℕ) (x : Atom) → AtomIn nothing kernel a b x → InLive (X scope) (λ c. reads c x)
     in_atom scope a b x h v c i e = absurd (let f = atom_not_read nothing kernel a b x c h (cell_is_variable v c i) in let z : true ≡ false = sym e ∙ f in cc)
 
-    in_values : (scope : Scope) (a b : ℕ) (values : List Value) → AllIn nothing kernel a b values → InLive (X scope) (λ c. some_reads c (atoms_of values))
+    pub in_values : (scope : Scope) (a b : ℕ) (values : List Value) → AllIn nothing kernel a b values → InLive (X scope) (λ c. some_reads c (atoms_of values))
     in_values scope a b values h v c i e = absurd (let f = values_not_read nothing kernel a b values c h (cell_is_variable v c i) in let z : true ≡ false = sym e ∙ f in cc)
 
     pub in_cell : (scope : Scope) (n : ℕ) → (Var n → ⊥) → InLive (X scope) (λ c. reads c (CellAtom n))
@@ -168,7 +172,7 @@ module _ (program : Program) (kernel : Kernel) where
     changed_value : (op : _) (of bk : IntType) (was by : Atom) (m : Made) → Grown nothing kernel (changed op of bk was by m).made → Var (next_cell (with_cell (with_cell m OfValue of) OfValue (binary_type op of))) → ⊥
     changed_value op of bk was by m g = value_not_even nothing kernel (with_cell (with_cell m OfValue of) OfValue (binary_type op of)) bk g
 
-    reads_joined : (scope : Scope) (a b : Lines) → ReadsIn program kernel (X scope) a → ReadsIn program kernel (X scope) b → ReadsIn program kernel (X scope) (joined_to a b)
+    pub reads_joined : (scope : Scope) (a b : Lines) → ReadsIn program kernel (X scope) a → ReadsIn program kernel (X scope) b → ReadsIn program kernel (X scope) (joined_to a b)
     reads_joined scope NoLine b h k = k
     reads_joined scope (SetThen to work rest) b h k = (h.0, reads_joined scope rest b h.1 k)
     reads_joined scope (LoadThen site to element root index rest) b h k = (h.0, reads_joined scope rest b h.1 k)
@@ -202,7 +206,7 @@ module _ (program : Program) (kernel : Kernel) where
         (in_two scope (λ c. reads c (first values).atom) (λ c. reads c (second values).atom) (in_atom scope a (next_cell m) (first values).atom (first_in nothing kernel a (next_cell m) values h)) (in_atom scope a (next_cell m) (second values).atom (second_in nothing kernel a (next_cell m) values h)), tt)
 
     -- a barrier in a branch is one in the expression
-    held_by : (b : Test) (y n : Lines) → (b ≡ false → Cutless y × Cutless n) → (holds_barrier y || holds_barrier n) ≡ true → b ≡ true
+    pub held_by : (b : Test) (y n : Lines) → (b ≡ false → Cutless y × Cutless n) → (holds_barrier y || holds_barrier n) ≡ true → b ≡ true
     held_by b y n h e =
         elim (true_or_false b) [
           | inl t ↦ t

@@ -23,3 +23,4 @@ pub mod Wholes
 pub mod Fine
 pub mod FineRules
 pub mod FineCode
+pub mod FineStatements
