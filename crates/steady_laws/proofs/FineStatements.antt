@@ -158,7 +158,7 @@ module _ (program : Program) (kernel : Kernel) (at : Inlining) (fn : ℕ) (calls
 
   -- ---- plain lines
 
-  opened_reads : (scope : Scope) (way : Option ℕ) (exit : ℕ) (m : Made) → R scope (opened way exit m).lines
+  pub opened_reads : (scope : Scope) (way : Option ℕ) (exit : ℕ) (m : Made) → R scope (opened way exit m).lines
   opened_reads scope None exit m = tt
   opened_reads scope (Some site) exit m = (in_none program kernel at fn calls here set X0 scope, tt)
 
@@ -341,10 +341,10 @@ module _ (program : Program) (kernel : Kernel) (at : Inlining) (fn : ℕ) (calls
   rest_grown exit false None lines g h = h
   rest_grown exit false (Some site) lines g h = h
 
-  not_cell : (c d : ℕ) → (Var d → ⊥) → Var c → nat_eq c d ≡ false
+  pub not_cell : (c d : ℕ) → (Var d → ⊥) → Var c → nat_eq c d ≡ false
   not_cell c d h v = elim (true_or_false (nat_eq c d)) [ inl t ↦ absurd (h (subst Var (same_number c d t) v)) | inr t ↦ t ]
 
-  opened_not : (way : Option ℕ) (exit : ℕ) (m : Made) → Grown nothing kernel (opened way exit m).made → (k : ℕ) → way ≡ Some k → Var (opened way exit m).exit → ⊥
+  pub opened_not : (way : Option ℕ) (exit : ℕ) (m : Made) → Grown nothing kernel (opened way exit m).made → (k : ℕ) → way ≡ Some k → Var (opened way exit m).exit → ⊥
   opened_not None exit m g k e = absurd (none-some k e)
   opened_not (Some s) exit m g k e = flag_not_even nothing kernel m Int g
 

@@ -24,3 +24,4 @@ pub mod Fine
 pub mod FineRules
 pub mod FineCode
 pub mod FineStatements
+pub mod TextSame
