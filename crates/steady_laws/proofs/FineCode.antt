@@ -1,44 +1,41 @@
 -- The code of expressions and statements is fine.
-use Rattle.std.proofs.Common.{◌≡◌, ℕ, zero, suc, ◌+◌, ◌<◌, ◌≤◌, ℤ, pos, length, List, [], ◌∷◌, Option, Some, None, refl, sym, ap, ◌∙◌, subst, arith, ◌⊎◌, inl, inr, if◌then◌else◌}
+use Rattle.std.proofs.Common.{◌≡◌, ℕ, ◌+◌, ◌<◌, length, List, [], ◌∷◌, refl, sym, ◌∙◌, subst, ◌⊎◌, inl, inr}
 use Rattle.std.proofs.Common.{Bool as Test, true, false}
-use Rattle.std.specs.Prelude.{nat_eq, not, ◌&&◌, ◌||◌}
-use Rattle.std.proofs.lemmas.Bool.{or_left, or_right, and_parts}
-use Rattle.std.proofs.lemmas.Option.{none-some, slice_get_within}
+use Rattle.std.specs.Prelude.{◌||◌}
+use Rattle.std.proofs.lemmas.Bool.{or_left, or_right}
 use Rattle.wg_num.specs.declared.types.IntType.{IntType}
-use Rattle.wg_num.specs.declared.types.IntType.TheVariants.{Int}
 use Rattle.cl_model.specs.declared.program.Root.{Root}
 use Rattle.cl_model.specs.Tree as tree
 use Rattle.cl_model.specs.Tree.{Action, Expression, Apply, Update, Choose, Call, Expressions, none, more, Statement, Do, Declare, Fill, Block, If, Loop, Switch, Break, Continue, Return, Barrier, Statements, empty, also, Arms, no_arm, arm, Program, Function}
 use Rattle.cl_model.specs.Lists.{IsOneOf}
 use Rattle.cl_model.specs.Calls.{function_at}
-use Rattle.cl_model.specs.Valid.{Scope, Has, ActionNames, HasType, HaveTypes, OptionalFits, IsPlainCall, NamesIn, NamesAmong, NamesInOptional, StatementFits, AllFit, ArmsFit, IsScopedList, AreScopedArms, scope_after, parameter_kinds, binary_type, promoted}
+use Rattle.cl_model.specs.Valid.{Scope, Has, ActionNames, HasType, HaveTypes, NamesIn, NamesAmong, parameter_kinds, binary_type}
 use Rattle.cl_model.specs.Varying.{Subject, AVariable, AResult, AnExpression, Varies, own_id, loaded, named, operand, stored, updated, tested, chosen, otherwise, called, passed, returning, return_under, return_beside, assigned, assigned_under, exit_under}
 use Rattle.kir.specs.declared.line.Atom.{Atom}
-use Rattle.kir.specs.declared.line.Atom.TheVariants.{Const, Cell as CellAtom}
-use Rattle.kir.specs.Tree.{Variable, Copy, Lines, NoLine, SetThen, LoadThen, StoreThen, ClearThen, IfThen, LoopThen, BarrierThen, joined_to, OfValue, OfFlag, Kernel}
+use Rattle.kir.specs.declared.line.Atom.TheVariants.{Cell as CellAtom}
+use Rattle.kir.specs.Tree.{Variable, Lines, NoLine, SetThen, LoadThen, StoreThen, ClearThen, IfThen, LoopThen, BarrierThen, joined_to, OfValue, Kernel}
 use Rattle.kir.specs.Live.{reads, some_reads, live_in}
 use Rattle.kir.specs.Cuts.{holds_barrier}
 use Rattle.kir.specs.Homes.{IsCellOf}
-use Rattle.kir.specs.Inlined.{Text, NoText, DeclaredThen, Inlining, variable_of, expression_before, expressions_before, optional_before, statement_before, statements_before, arms_before, holds_in, holds_among, holds_in_optional, holds, some_holds, arms_hold, has_cut, scopes_of, Crosses, AreDisjoint}
+use Rattle.kir.specs.Inlined.{Text, Inlining, variable_of, expression_before, expressions_before, holds_in, holds_among, has_cut, scopes_of, Crosses}
 use Rattle.kir_lower.specs.declared.places.Value.{Value}
-use Rattle.kir_lower.specs.Made.{Made, Instance, next_cell, with_cell, int, root_in, argument_roots}
-use Rattle.kir_lower.specs.Actions.{first, second, atoms_of, changed, set_to, stored as stored_line, action_code, initial_lines}
-use Rattle.kir_lower.specs.Code.{Calls, expression_code, operands_code, optional_code}
+use Rattle.kir_lower.specs.Made.{Made, Instance, next_cell, with_cell, root_in, argument_roots}
+use Rattle.kir_lower.specs.Actions.{first, second, atoms_of, changed, set_to, stored as stored_line, action_code}
+use Rattle.kir_lower.specs.Code.{Calls, expression_code, operands_code}
 use Rattle.even_laws.proofs.Living.{true_or_false, or_either, live_behind_or}
 use Rattle.even_laws.proofs.Alike.{same_number}
 use Rattle.lowering_laws.proofs.Quiet.{Quiet, or_parts, or_false, quiet_less, live_joined}
 use Rattle.lowering_laws.proofs.Steps.{IsApart}
 use Rattle.lowering_laws.proofs.Scoped.{argument_count}
-use Rattle.lowering_laws.proofs.Absent.{next_more}
-use Rattle.lowering_laws.proofs.AbsentCode.{CallsUp, expression_up, operands_up}
+use Rattle.lowering_laws.proofs.AbsentCode.{CallsUp}
 use Rattle.lowering_laws.proofs.Anew.{CallsQuiet, expression_quiet, operands_quiet}
-use Rattle.lowering_laws.proofs.Cutless.{Cutless, cutless_then, expression_cutless, operands_cutless}
+use Rattle.lowering_laws.proofs.Cutless.{Cutless, cutless_then, expression_cutless}
 use Rattle.steady_laws.proofs.UnsetCode.{operand_count}
 use Rattle.steady_laws.proofs.Ground.{Even, Grown, value_not_even, back_value, action_back, CallsBack, expression_back, operands_back}
 use Rattle.steady_laws.proofs.Fresh.{AtomIn, AllIn, CallsFresh, atom_not_read, values_not_read, first_in, second_in, expression_in, operands_in}
 use Rattle.steady_laws.proofs.Setting.{ScopeWithin, in_scope_or_apart}
-use Rattle.steady_laws.proofs.Fine.{Meeting, Fine}
-use Rattle.steady_laws.proofs.FineRules.{In, Good, ReadsIn, in_before, fine_reads, fine_if, fine_joined, Ok, ok_expression, ok_expressions, ok_optional}
+use Rattle.steady_laws.proofs.Fine.{Fine}
+use Rattle.steady_laws.proofs.FineRules.{In, Good, ReadsIn, in_before, fine_reads, fine_if, fine_joined, Ok, ok_expression, ok_expressions}
 
 -- a program in which nothing varies, so that the cells of all variables are those of variables that do not vary
 abbrev pub nothing : Program

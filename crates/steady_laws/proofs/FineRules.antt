@@ -1,17 +1,16 @@
 -- Lines are fine where the variables' cells that are live there are of some variables, any two of which have one scope, and which cross where the lines hold a barrier.
-use Rattle.std.proofs.Common.{◌≡◌, ℕ, zero, suc, List, [], ◌∷◌, ◌++◌, Option, Some, None, refl, sym, ap, ◌∙◌, subst, ◌⊎◌, inl, inr, if◌then◌else◌}
+use Rattle.std.proofs.Common.{◌≡◌, ℕ, List, ◌∷◌, ◌++◌, Option, Some, None, refl, sym, ap, ◌∙◌, subst, inl, inr, if◌then◌else◌}
 use Rattle.std.specs.Prelude.{◌&&◌, ◌||◌, not, nat_eq}
 use Rattle.std.specs.Prelude.{Bool as Test, true, false}
 use Rattle.std.proofs.lemmas.Bool.{or_left, or_right, and_parts}
 use Rattle.cl_model.specs.Tree.{Expression, Apply, Update, Choose, Call, Expressions, none, more, Statement, Do, Declare, Fill, Block, If, Loop, Switch, Break, Continue, Return, Barrier, Statements, empty, also, Arms, no_arm, arm, Program}
 use Rattle.cl_model.specs.Lists.{IsOneOf}
-use Rattle.cl_model.specs.Calls.{function_at}
 use Rattle.kir.specs.declared.line.Atom.{Atom}
-use Rattle.kir.specs.Tree.{Variable, Work, Lines, NoLine, SetThen, LoadThen, StoreThen, ClearThen, IfThen, LoopThen, BarrierThen, joined_to, Kernel}
+use Rattle.kir.specs.Tree.{Variable, Lines, NoLine, SetThen, LoadThen, StoreThen, ClearThen, IfThen, LoopThen, BarrierThen, joined_to, Kernel}
 use Rattle.kir.specs.Live.{reads, work_reads, live_in}
 use Rattle.kir.specs.Cuts.{holds_barrier}
 use Rattle.kir.specs.Homes.{IsCellOf}
-use Rattle.kir.specs.Inlined.{Text, NoText, DeclaredThen, CutThen, BlockThen, cut_if, Inlining, variable_of, expression_before, expressions_before, optional_before, statement_before, statements_before, arms_before, parameters_before, function_text, body_holds, holds_in, holds_among, holds_in_optional, holds, some_holds, arms_hold, has_cut, declared_in, crossing_in, scopes_in, scopes_of, Crosses, AreDisjoint}
+use Rattle.kir.specs.Inlined.{Text, NoText, DeclaredThen, CutThen, BlockThen, cut_if, Inlining, expression_before, expressions_before, optional_before, statement_before, statements_before, arms_before, holds_in, holds_among, holds_in_optional, holds, some_holds, has_cut, declared_in, crossing_in, scopes_in, scopes_of, Crosses, AreDisjoint}
 use Rattle.even_laws.specs.Steady.{tested}
 use Rattle.even_laws.proofs.Living.{or_either, live_more}
 use Rattle.lowering_laws.proofs.Quiet.{or_false, live_joined}

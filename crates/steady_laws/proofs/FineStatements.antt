@@ -1,46 +1,44 @@
 -- The code of statements is fine.
-use Rattle.std.proofs.Common.{◌≡◌, ℕ, zero, suc, ◌+◌, ◌<◌, ◌≤◌, ℤ, pos, length, List, [], ◌∷◌, ◌++◌, Option, Some, None, refl, sym, ap, ◌∙◌, subst, arith, ◌⊎◌, inl, inr, if◌then◌else◌}
+use Rattle.std.proofs.Common.{◌≡◌, ℕ, ◌+◌, ◌<◌, ℤ, pos, length, List, [], ◌∷◌, ◌++◌, Option, Some, None, refl, sym, ap, ◌∙◌, subst, inl, inr, if◌then◌else◌}
 use Rattle.std.proofs.Common.{Bool as Test, true, false}
 use Rattle.std.specs.Prelude.{nat_eq, not, ◌&&◌, ◌||◌}
 use Rattle.std.proofs.lemmas.Bool.{or_left, or_right, and_parts}
 use Rattle.std.proofs.lemmas.Option.{none-some, slice_get_within}
 use Rattle.wg_num.specs.declared.types.IntType.{IntType}
 use Rattle.wg_num.specs.declared.types.IntType.TheVariants.{Int}
-use Rattle.cl_model.specs.Tree.{Expression, Expressions, Call, Apply, Update, Choose, Statement, Do, Declare, Fill, Block, If, Loop, Switch, Break, Continue, Return, Barrier, Statements, empty, also, Arms, no_arm, arm, Program, Function}
+use Rattle.cl_model.specs.Tree.{Expression, Call, Apply, Update, Choose, Statement, Do, Declare, Fill, Block, If, Loop, Switch, Break, Continue, Return, Barrier, Statements, empty, also, Arms, no_arm, arm, Program, Function}
 use Rattle.cl_model.specs.Lists.{IsOneOf}
 use Rattle.cl_model.specs.Calls.{function_at}
-use Rattle.cl_model.specs.Valid.{Scope, Has, HasType, OptionalFits, IsPlainCall, NamesIn, NamesInOptional, StatementFits, AllFit, ArmsFit, IsScopedList, AreScopedArms, scope_after, parameter_kinds, promoted}
+use Rattle.cl_model.specs.Valid.{Scope, OptionalFits, NamesIn, NamesInOptional, StatementFits, AllFit, ArmsFit, IsScopedList, AreScopedArms, scope_after, parameter_kinds, promoted}
 use Rattle.kir.specs.declared.line.Atom.{Atom}
 use Rattle.kir.specs.declared.line.Atom.TheVariants.{Const, Cell as CellAtom}
-use Rattle.kir.specs.Tree.{Variable, Copy, Lines, NoLine, SetThen, ClearThen, IfThen, LoopThen, BarrierThen, joined_to, OfValue, OfFlag, Kernel}
+use Rattle.kir.specs.Tree.{Variable, Copy, Lines, NoLine, SetThen, ClearThen, IfThen, joined_to, OfValue, Kernel}
 use Rattle.kir.specs.Live.{reads, some_reads, live_in}
 use Rattle.kir.specs.Cuts.{holds_barrier}
 use Rattle.kir.specs.Homes.{IsCellOf}
-use Rattle.kir.specs.Inlined.{Text, NoText, DeclaredThen, Inlining, variable_of, cut_if, expression_before, optional_before, statement_before, statements_before, arms_before, holds_in, holds_among, holds_in_optional, holds, some_holds, arms_hold, has_cut, declared_in, Crosses}
+use Rattle.kir.specs.Inlined.{Text, NoText, DeclaredThen, Inlining, variable_of, expression_before, optional_before, statement_before, statements_before, arms_before, holds_in, holds_among, holds_in_optional, holds, some_holds, arms_hold, declared_in, Crosses}
 use Rattle.kir_lower.specs.declared.places.Value.{Value}
 use Rattle.kir_lower.specs.Made.{Made, Instance, next_cell, with_cell, int, constant, type_at, element_at, argument_roots}
 use Rattle.kir_lower.specs.Ways.{way_out, way_out_of_all, way_out_of_arms, declares}
-use Rattle.kir_lower.specs.Actions.{atoms_of, set_to, initial_lines, opened, outward, is_none, guarded_before, settled, round_code, label_code, labels_code, all_labels_code, selected, fallen_code}
-use Rattle.kir_lower.specs.Code.{Calls, expression_code, operands_code, optional_code, Guarded, is_guarded, before_rest, in_order, set_exit, entry_code, around_arm, statement_code, list_code, arms_code}
+use Rattle.kir_lower.specs.Actions.{atoms_of, set_to, initial_lines, opened, outward, is_none, guarded_before, settled, round_code, labels_code, all_labels_code, selected, fallen_code}
+use Rattle.kir_lower.specs.Code.{Calls, expression_code, operands_code, optional_code, Guarded, is_guarded, before_rest, set_exit, entry_code, statement_code, list_code, arms_code}
 use Rattle.even_laws.proofs.Living.{true_or_false, or_either}
 use Rattle.even_laws.proofs.Alike.{same_self, same_number}
 use Rattle.cl_agreement.proofs.Keeps.{Sound, sound_list, body_sound, branch_scoped}
-use Rattle.lowering_laws.proofs.Quiet.{Quiet, or_parts, or_false, quiet_less, quiet_none, quiet_then, live_joined}
+use Rattle.lowering_laws.proofs.Quiet.{Quiet, or_parts, or_false, quiet_less, quiet_none, live_joined}
 use Rattle.cl_agreement.proofs.Parts.{in_right}
 use Rattle.lowering_laws.proofs.Steps.{round_quiet, IsApart, IsFree, ListQuiet, guarded_quiet, list_joined}
-use Rattle.lowering_laws.proofs.Scoped.{as_first, all_have, argument_count, return_type, free_first, free_second}
-use Rattle.lowering_laws.proofs.AbsentCode.{list_up}
+use Rattle.lowering_laws.proofs.Scoped.{as_first, all_have, argument_count, return_type}
 use Rattle.lowering_laws.proofs.Anew.{expression_quiet, statement_quiet, list_quiet, arms_quiet}
-use Rattle.lowering_laws.proofs.Cutless.{Cutless, cutless_then, expression_cutless, optional_cutless, statement_cutless, list_cutless, list_joined_cutless, arms_cutless}
+use Rattle.lowering_laws.proofs.Cutless.{Cutless, cutless_then, optional_cutless, statement_cutless, list_cutless, list_joined_cutless}
 use Rattle.steady_laws.proofs.UnsetCode.{operand_count}
-use Rattle.steady_laws.proofs.Ground.{Even, Grown, value_not_even, flag_not_even, back_value, opened_back, outward_back, round_back, selected_back, fallen_back, expression_back, optional_back, statement_back, list_back, arms_back}
-use Rattle.steady_laws.proofs.Fresh.{AtomIn, AllIn, atom_not_read, values_not_read, expression_in, optional_in, operands_in}
+use Rattle.steady_laws.proofs.Ground.{Even, Grown, value_not_even, flag_not_even, back_value, opened_back, outward_back, round_back, selected_back, fallen_back, optional_back, statement_back, list_back, arms_back}
+use Rattle.steady_laws.proofs.Fresh.{values_not_read, expression_in, optional_in, operands_in}
 use Rattle.steady_laws.proofs.Setting.{ScopeWithin}
 use Rattle.steady_laws.proofs.Parts.{inner_true, list_parts, declared_declares}
 use Rattle.steady_laws.proofs.Scopes.{declares_none, way_first, way_second, more_ways, more_ways_arms}
-use Rattle.steady_laws.proofs.Exits.{IsSome}
 use Rattle.steady_laws.proofs.FineRules.{In, Good, ReadsIn, in_before, fine_reads, fine_if, fine_loop, fine_joined, Ok, ok_cut, ok_expression, ok_expressions, ok_optional, ok_statement, ok_statements, held_statements}
-use Rattle.steady_laws.proofs.FineCode.{nothing, cell_is_variable, FineLines, InLive, Around, around_good, around_less, Standing, in_joined, X, in_quiet, in_atom, in_values, in_cell, in_two, in_none, reads_joined, held_by, expression_fine, operands_fine}
+use Rattle.steady_laws.proofs.FineCode.{nothing, FineLines, Around, around_good, around_less, Standing, in_joined, X, in_quiet, in_atom, in_values, in_cell, in_two, in_none, reads_joined, held_by, expression_fine, operands_fine}
 
 module _ (program : Program) (kernel : Kernel) (at : Inlining) (fn : ℕ) (calls : Calls) (here : Instance) (set : Standing program kernel at fn calls here) (X0 : Variable → Type 0) where
   abbrev F : Function

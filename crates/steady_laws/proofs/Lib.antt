@@ -25,3 +25,4 @@ pub mod FineRules
 pub mod FineCode
 pub mod FineStatements
 pub mod TextSame
+pub mod FineWhole

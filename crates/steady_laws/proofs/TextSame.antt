@@ -1,12 +1,12 @@
 -- The text of a function is the same with calls nested less deep than one more, where they nest less deep than the depth.
-use Rattle.std.proofs.Common.{◌≡◌, ℕ, zero, suc, List, [], ◌∷◌, ◌++◌, Option, Some, None, refl, sym, ap, ap₂, ◌∙◌, inl, inr}
+use Rattle.std.proofs.Common.{◌≡◌, ℕ, zero, suc, List, [], ◌∷◌, ◌++◌, Option, Some, None, refl, ap, ap₂, ◌∙◌, inl}
 use Rattle.std.proofs.Common.{Bool as Test, true, false}
 use Rattle.std.specs.Prelude.{◌||◌}
 use Rattle.cl_model.specs.Tree.{Expression, Apply, Update, Choose, Call, Expressions, none, more, Statement, Do, Declare, Fill, Block, If, Loop, Switch, Break, Continue, Return, Barrier, Statements, empty, also, Arms, no_arm, arm, Program}
 use Rattle.cl_model.specs.Lists.{IsOneOf}
 use Rattle.cl_model.specs.Calls.{CallSite, calls_in, calls_among, calls_in_optional, calls_of, calls_of_all, calls_of_arms, function_at}
 use Rattle.cl_model.specs.Valid.{CallsEnd}
-use Rattle.kir.specs.Inlined.{Text, NoText, DeclaredThen, CutThen, BlockThen, cut_if, Inlining, variable_of, expression_before, expressions_before, optional_before, statement_before, statements_before, arms_before, parameters_before, function_text, body_holds, holds_in, holds_among, holds_in_optional, holds, some_holds, arms_hold}
+use Rattle.kir.specs.Inlined.{Text, NoText, DeclaredThen, CutThen, BlockThen, cut_if, Inlining, expression_before, expressions_before, optional_before, statement_before, statements_before, arms_before, parameters_before, function_text, body_holds, holds_in, holds_among, holds_in_optional, holds, some_holds, arms_hold}
 use Rattle.cl_agreement.proofs.Nesting.{each_one}
 use Rattle.cl_agreement.proofs.Parts.{in_left, in_right}
 
