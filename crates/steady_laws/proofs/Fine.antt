@@ -1,23 +1,19 @@
 -- Which variables' cells are live at the places of a text: those at a cut cross, and no two at one place have disjoint scopes.
-use Rattle.std.proofs.Common.{◌≡◌, ℕ, zero, suc, List, [], ◌∷◌, refl, sym, ap, ◌∙◌, subst, ◌⊎◌, inl, inr}
-use Rattle.std.specs.Prelude.{◌&&◌, ◌||◌, not, nat_eq}
+use Rattle.std.proofs.Common.{◌≡◌, ℕ, [], ◌∷◌, refl, inl, inr}
+use Rattle.std.specs.Prelude.{◌||◌}
 use Rattle.std.specs.Prelude.{Bool as Test, true, false}
-use Rattle.std.proofs.lemmas.Bool.{or_left, or_right, and_parts}
 use Rattle.cl_model.specs.Tree.{Program}
-use Rattle.kir.specs.declared.line.Atom.{Atom}
-use Rattle.kir.specs.Tree.{Variable, Work, Lines, NoLine, SetThen, LoadThen, StoreThen, ClearThen, IfThen, LoopThen, BarrierThen, joined_to, Kernel}
+use Rattle.kir.specs.Tree.{Variable, Lines, NoLine, SetThen, LoadThen, StoreThen, ClearThen, IfThen, LoopThen, BarrierThen, Kernel}
 use Rattle.kir.specs.Places.{Behind, IntoChosen, IntoOther, IntoTest, ToAnswer, IntoBody, Place, lines_at, behind, chosen_of, other_of, test_of, body_of, answer_of}
-use Rattle.kir.specs.Live.{reads, work_reads, live_in, live_at}
+use Rattle.kir.specs.Live.{live_in}
 use Rattle.kir.specs.Cuts.{holds_barrier, is_barrier, is_choice, is_round, ends_part, is_cut}
 use Rattle.kir.specs.Homes.{IsCellOf}
 use Rattle.kir.specs.Inlined.{Crosses, AreDisjoint}
 use Rattle.kir.specs.Lowering.{HasCuts}
 use Rattle.even_laws.specs.Steady.{tested}
 use Rattle.even_laws.specs.Path.{after_at}
-use Rattle.even_laws.proofs.Living.{or_either, live_more, live_behind_or}
+use Rattle.even_laws.proofs.Living.{or_either}
 use Rattle.even_laws.proofs.Even.{at_place, place_live}
-use Rattle.lowering_laws.proofs.Quiet.{Quiet, live_joined}
-use Rattle.lowering_laws.proofs.Cutless.{holds_joined}
 
 module _ (program : Program) (kernel : Kernel) where
   -- a variable's cell that is live crosses
@@ -42,7 +38,7 @@ module _ (program : Program) (kernel : Kernel) where
   Fine out (LoopThen site first test answer body rest) =
       Meeting (λ c. live_in c (LoopThen site first test answer body rest) (out c))
       × ((holds_barrier test || holds_barrier body) ≡ true → Crossing (λ c. live_in c test (tested test answer body (λ d. live_in d rest (out d)) c)) × Crossing (tested test answer body (λ d. live_in d rest (out d)))
-          × Crossing (λ c. live_in c body (live_in c test (tested test answer body (λ d. live_in d rest (out d)) c))))
+      × Crossing (λ c. live_in c body (live_in c test (tested test answer body (λ d. live_in d rest (out d)) c))))
       × Meeting (tested test answer body (λ d. live_in d rest (out d)))
       × Fine (tested test answer body (λ d. live_in d rest (out d))) test × Fine (λ c. live_in c test (tested test answer body (λ d. live_in d rest (out d)) c)) body × Fine out rest
   Fine out (BarrierThen site rest) = Meeting (λ c. live_in c (BarrierThen site rest) (out c)) × Crossing (λ c. live_in c (BarrierThen site rest) (out c)) × Fine out rest

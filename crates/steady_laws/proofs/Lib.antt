@@ -21,3 +21,8 @@ pub mod Statements
 pub mod Bodies
 pub mod Wholes
 pub mod Fine
+pub mod FineRules
+pub mod FineCode
+pub mod FineStatements
+pub mod TextSame
+pub mod FineWhole

@@ -67,7 +67,7 @@ module _ (program : Program) (kernel : Kernel) (here : Instance) where
   abbrev pub Bound : Scope → (ℕ → Test) → Type 0
   Bound scope out = (c : ℕ) → Even program kernel c → out c ≡ true → Known scope c
 
-  in_scope_or_apart : (c : ℕ) (scope : Scope) → ((x : ℕ) × Has scope x × (c ≡ here.base + x)) ⊎ IsApart c here scope
+  pub in_scope_or_apart : (c : ℕ) (scope : Scope) → ((x : ℕ) × Has scope x × (c ≡ here.base + x)) ⊎ IsApart c here scope
   in_scope_or_apart c [] = inr (λ x h. absurd h)
   in_scope_or_apart c (y ∷ scope) =
       elim (true_or_false (nat_eq c (here.base + y))) [

@@ -56,7 +56,7 @@ module _ (program : Program) (names : List (List Named)) (kernel : Kernel) (vali
   -- ---- the cells of an instance
 
   module _ (way : Way) (g : ℕ) (m : Made) (grown : Grown program kernel (with_instance way (names_at names g) (function_at program g) m)) (path : way.function ≡ g) where
-    there : (x : ℕ) → x < length (function_at program g).variables → (name : Named) × (kind : VarKind) × (slice_get kernel.cells (next_cell m + x) ≡ Some (cell_named way.calls way.places way.function x name kind))
+    pub there : (x : ℕ) → x < length (function_at program g).variables → (name : Named) × (kind : VarKind) × (slice_get kernel.cells (next_cell m + x) ≡ Some (cell_named way.calls way.places way.function x name kind))
     there x less =
         let same = named g in
         let name = get_there (names_at names g) x (omega (arith, less, same)) in
