@@ -22,7 +22,7 @@ use Rattle.wg_top.specs.Units.{AreCompiled, bind_refusal}
 use Rattle.wg_top.specs.Launches.{launches_in, LaunchesRan, EndsSo}
 use Rattle.wg_top.specs.Stages.{BackCause, IsRun}
 use Rattle.wg_top.specs.Causes.{Standing, Stands, Cause, BuffersLoaded, RunRead, RunStopped, RunStops, IsDone, IsTaken, Accepted, AcceptedClean, LeavesClean, HasLoops, LacksName, IsSourceFault}
-use Rattle.wg_top.specs.Outcomes.{AreLowered, AreMade, models_in, AreDone, IsOutcomeOf}
+use Rattle.wg_top.specs.Outcomes.{AreMade, models_in, AreDone, IsOutcomeOf}
 use Rattle.wg_top.specs.Lines.{status_of}
 use Rattle.wg_top.specs.Ends.{Outside, Ends, EndsClean}
 use Rattle.wg_front.proofs.FrontLemmas.{refused_or_unit}
@@ -113,8 +113,7 @@ none_unclean files ask text s e all x =
     let same = same_read files ask text x.text s x.units all.taken x.read in
     let before = x.stops.stopped.before in
     let loaded : BuffersLoaded files text before = subst (λ (t : Text). BuffersLoaded files t before) same.0 x.stops.stopped.loaded in
-    let lowered : AreLowered x.units = subst (λ (us : List Unit'). AreLowered us) (sym same.1) all.lowered in
-    let outcome : IsOutcomeOf (models_in s) (launches_in text) before e = subst (λ (us : List Unit'). IsOutcomeOf (models_in us) (launches_in text) before e) same.1 (subst (λ (t : Text). IsOutcomeOf (models_in x.units) (launches_in t) before e) same.0 (x.stops.outcome lowered)) in
+    let outcome : IsOutcomeOf (models_in s) (launches_in text) before e = subst (λ (us : List Unit'). IsOutcomeOf (models_in us) (launches_in text) before e) same.1 (subst (λ (t : Text). IsOutcomeOf (models_in x.units) (launches_in t) before e) same.0 x.stops.outcome) in
     never_stops s (launches_in text) before e (subst (λ (us : List Unit'). AreMade us) same.1 x.stops.made) (all.clean before loaded) outcome
 
 complete : (old new : Standing) (ask : Files) (text : Text) (s : List Unit') (e : RunError) (n : ℕ) → IsTaken old.files ask text s → ((d : RunError) → RunStops old.files ask d → ⊥) → (Rose old.faults new.faults → ⊥) → n ≡ status_of e → Cause old new ask e → (n ≡ 0) ⊎ (n ≡ 8)
@@ -157,8 +156,7 @@ done_clean old new ask text s summary all done =
     let same = same_read old ask text done.text s done.units all.taken done.read.read in
     let before = done.run.before in
     let loaded : BuffersLoaded old text before = subst (λ (t : Text). BuffersLoaded old t before) same.0 done.run.loaded in
-    let lowered : AreLowered done.units = subst (λ (us : List Unit'). AreLowered us) (sym same.1) all.lowered in
-    let ran : AreDone (models_in s) (launches_in text) before done.after = subst (λ (us : List Unit'). AreDone (models_in us) (launches_in text) before done.after) same.1 (subst (λ (t : Text). AreDone (models_in done.units) (launches_in t) before done.after) same.0 (done.run.outcome lowered)) in
+    let ran : AreDone (models_in s) (launches_in text) before done.after = subst (λ (us : List Unit'). AreDone (models_in us) (launches_in text) before done.after) same.1 (subst (λ (t : Text). AreDone (models_in done.units) (launches_in t) before done.after) same.0 done.run.outcome) in
     record {
       before = before;
       loaded = loaded;
@@ -219,7 +217,7 @@ has_loops files ask number several x = record {
   text = x.text;
   units = x.units;
   read = x.read;
-  loops = λ lowered free. no_turns_of x.units (launches_in x.text) x.stops.stopped.before number several x.stops.made free (x.stops.outcome lowered);
+  loops = λ free. no_turns_of x.units (launches_in x.text) x.stops.stopped.before number several x.stops.made free x.stops.outcome;
 }
 
 refused_loops : (old new : Standing) (ask : Files) (e : RunError) (n : ℕ) → n ≡ status_of e → Cause old new ask e → n ≡ 7 → HasLoops old.files ask

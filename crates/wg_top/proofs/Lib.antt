@@ -29,3 +29,4 @@ pub mod Follow
 pub mod DescribedLemmas
 pub mod PlanLemmas
 pub mod CompiledLemmas
+pub mod LoweredLemmas

@@ -47,7 +47,7 @@ use Rattle.diverge.specs.Rounds.{varying_of}
 use Rattle.wg_top.specs.Compiled.{IsCompiledFrom}
 use Rattle.wg_top.specs.Described.{IsCompiledAt}
 use Rattle.wg_top.specs.Outcome.{IsOutcome, EndsInOutcomes}
-use Rattle.wg_top.specs.Outcomes.{AreLowered, AreMade, IsCompiledTo, AreCompiledTo, models_in, AreDone, EndBehind, IsOutcomeOf}
+use Rattle.wg_top.specs.Outcomes.{AreMade, IsCompiledTo, AreCompiledTo, models_in, AreDone, EndBehind, IsOutcomeOf}
 use Rattle.wg_top.specs.Launches.{launch_end, launches_in, LaunchRan, LaunchesRan, EndsBehind, EndsSo, site_place, start_place}
 use Rattle.wg_top.proofs.MeaningLemmas.{end_like}
 use Rattle.wg_top.proofs.SumLemmas.{sum-append}
@@ -145,7 +145,7 @@ all_at P (c ∷ cs) all = (all 0 c (omega arith), all_at P cs (λ k d lt. all (s
 -- what is kept once is equal
 made_each : (width : ℕ) (cs : List Compiled) → AllAt (IsCompiledAt width) cs → AllAt (λ c. IsValid (program_of (unit_of c.program))) cs → AreMade (map (λ c. unit_of c.program) cs)
 made_each width [] passes valid = tt
-made_each width (c ∷ cs) passes valid = (record { valid = valid.0; once = passes.0.once valid.0 }, made_each width cs passes.1 valid.1)
+made_each width (c ∷ cs) passes valid = (record { valid = valid.0; lowered = passes.0.lowered valid.0; once = passes.0.once valid.0 }, made_each width cs passes.1 valid.1)
 
 pub all_made : (width : ℕ) (cs : List Compiled) → All (IsCompiledAt width) cs → All (λ c. IsValid (program_of (unit_of c.program))) cs → AreMade (map (λ c. unit_of c.program) cs)
 all_made width cs passes valid = made_each width cs (all_at (IsCompiledAt width) cs passes) (all_at (λ c. IsValid (program_of (unit_of c.program))) cs valid)
@@ -157,8 +157,8 @@ compiled_to width c name passes valid named = record {
   like = passes.group;
   lanes = passes.lanes;
   lanes_are = passes.lanes_are;
-  compiled = λ lowered.
-      subst (λ (n : List ℕ). IsCompiledFrom (program_of (unit_of c.program)) n (varying_of (program_of (unit_of c.program))) (kernel_in (unit_of c.program)) (plan_in (unit_of c.program)) passes.lanes n (plain_of c.group)) named (passes.whole lowered valid);
+  compiled =
+      subst (λ (n : List ℕ). IsCompiledFrom (program_of (unit_of c.program)) n (varying_of (program_of (unit_of c.program))) (kernel_in (unit_of c.program)) (plan_in (unit_of c.program)) passes.lanes n (plain_of c.group)) named (passes.whole valid);
 }
 
 compiled_each : (width : ℕ) (cs : List Compiled) (parts : List Part) → AllAt (IsCompiledAt width) cs → AllAt (λ c. IsValid (program_of (unit_of c.program))) cs → map (λ c. c.group.kernel) cs ≡ map (λ p. p.kernel) parts → AreCompiledTo width parts (map (λ c. unit_of c.program) cs)
@@ -178,23 +178,23 @@ pub prepared : (all : List Launcher) → All (λ q. LaunchFits (plain_of q.progr
 prepared [] fit = tt
 prepared (q ∷ all) fit = (fit 0 q (omega arith), prepared all (λ k d lt. fit (suc k) d (omega arith)))
 
-promise : (width turns : ℕ) (buffers : List BufferText) (c : Compiled) (part : Part) → IsCompiledAt width c → IsValid (program_of (unit_of c.program)) → IsLoweringOf (program_of (unit_of c.program)) (names_in (unit_of c.program)) (kernel_in (unit_of c.program))
+promise : (width turns : ℕ) (buffers : List BufferText) (c : Compiled) (part : Part) → IsCompiledAt width c → IsValid (program_of (unit_of c.program))
     → LaunchFits (plain_of c.group).params (sum (plain_of c.group).locals) (launch_in turns buffers part) → Promise (program_of (unit_of c.program)) (group_in width (unit_of c.program)) (launch_in turns buffers part)
-promise width turns buffers c part passes valid lowered fits = record {
-  sites = places_are width (unit_of c.program) lowered;
-  ends = ends_like (program_of (unit_of c.program)) (group_in width (unit_of c.program)) (plain_of c.group) (launch_in turns buffers part) passes.group (passes.whole lowered valid).outcomes
-      (passes.fits lowered (launch_in turns buffers part) fits) (has_sizes turns buffers part fits.dimensions);
+promise width turns buffers c part passes valid fits = record {
+  sites = places_are width (unit_of c.program) (passes.lowered valid);
+  ends = ends_like (program_of (unit_of c.program)) (group_in width (unit_of c.program)) (plain_of c.group) (launch_in turns buffers part) passes.group (passes.whole valid).outcomes
+      (passes.fits valid (launch_in turns buffers part) fits) (has_sizes turns buffers part fits.dimensions);
   keeps = keeps_lengths (group_in width (unit_of c.program)) (launch_in turns buffers part);
 }
 
 promises : (width turns : ℕ) (buffers : List BufferText) (cs : List Compiled) (parts : List Part) → AllAt (IsCompiledAt width) cs → AllAt (λ c. IsValid (program_of (unit_of c.program))) cs
-    → AllPrepared (map (λ c. plain_of c.group) cs) (map (launch_in turns buffers) parts) → AreLowered (map (λ c. unit_of c.program) cs)
+    → AllPrepared (map (λ c. plain_of c.group) cs) (map (launch_in turns buffers) parts)
     → AllPromise (map program_of (map (λ c. unit_of c.program) cs)) (map (group_in width) (map (λ c. unit_of c.program) cs)) (map (launch_in turns buffers) parts)
-promises width turns buffers [] [] passes valid fit lowered = tt
-promises width turns buffers (c ∷ cs) (part ∷ parts) passes valid fit lowered =
-    (promise width turns buffers c part passes.0 valid.0 lowered.0 fit.0, promises width turns buffers cs parts passes.1 valid.1 fit.1 lowered.1)
-promises width turns buffers [] (part ∷ parts) passes valid fit lowered = absurd fit
-promises width turns buffers (c ∷ cs) [] passes valid fit lowered = absurd fit
+promises width turns buffers [] [] passes valid fit = tt
+promises width turns buffers (c ∷ cs) (part ∷ parts) passes valid fit =
+    (promise width turns buffers c part passes.0 valid.0 fit.0, promises width turns buffers cs parts passes.1 valid.1 fit.1)
+promises width turns buffers [] (part ∷ parts) passes valid fit = absurd fit
+promises width turns buffers (c ∷ cs) [] passes valid fit = absurd fit
 
 -- ---- launches one after the other
 
@@ -293,13 +293,13 @@ so_outcome several sizes gs ps launches before _ known over fit ends = absurd en
 
 module _ (text : Text) (cs : List Compiled) (passes : All (IsCompiledAt text.lanes) cs) (valid : All (λ c. IsValid (program_of (unit_of c.program))) cs)
     (fit : AllPrepared (map (λ c. plain_of c.group) cs) (launches_in text)) (before : List (List ℕ)) (sizes : map (λ (b : List ℕ). length b) before ≡ lengths_of text.buffers) where
-  known : AreLowered (map (λ c. unit_of c.program) cs) → AllPromise (models_in (map (λ c. unit_of c.program) cs)) (programs_in text (map (λ c. unit_of c.program) cs)) (launches_in text)
+  known : AllPromise (models_in (map (λ c. unit_of c.program) cs)) (programs_in text (map (λ c. unit_of c.program) cs)) (launches_in text)
   known = promises text.lanes text.turns text.buffers cs text.list (all_at (IsCompiledAt text.lanes) cs passes) (all_at (λ c. IsValid (program_of (unit_of c.program))) cs valid) fit
 
-  pub ran_outcome : (after : List (List ℕ)) → LaunchesRan (programs_in text (map (λ c. unit_of c.program) cs)) (launches_in text) before after → AreLowered (map (λ c. unit_of c.program) cs) → AreDone (models_in (map (λ c. unit_of c.program) cs)) (launches_in text) before after
-  ran_outcome after ran lowered =
-      all_done (lengths_of text.buffers) _ _ (launches_in text) before after (known lowered) (all_over text.turns text.buffers text.list) sizes ran
+  pub ran_outcome : (after : List (List ℕ)) → LaunchesRan (programs_in text (map (λ c. unit_of c.program) cs)) (launches_in text) before after → AreDone (models_in (map (λ c. unit_of c.program) cs)) (launches_in text) before after
+  ran_outcome after ran =
+      all_done (lengths_of text.buffers) _ _ (launches_in text) before after known (all_over text.turns text.buffers text.list) sizes ran
 
-  pub stop_outcome : (e : RunError) → EndsSo text.several (programs_in text (map (λ c. unit_of c.program) cs)) (launches_in text) before e → AreLowered (map (λ c. unit_of c.program) cs) → IsOutcomeOf (models_in (map (λ c. unit_of c.program) cs)) (launches_in text) before e
-  stop_outcome e ends lowered =
-      so_outcome text.several (lengths_of text.buffers) _ _ (launches_in text) before e (known lowered) (all_over text.turns text.buffers text.list) sizes ends
+  pub stop_outcome : (e : RunError) → EndsSo text.several (programs_in text (map (λ c. unit_of c.program) cs)) (launches_in text) before e → IsOutcomeOf (models_in (map (λ c. unit_of c.program) cs)) (launches_in text) before e
+  stop_outcome e ends =
+      so_outcome text.several (lengths_of text.buffers) _ _ (launches_in text) before e known (all_over text.turns text.buffers text.list) sizes ends

@@ -38,7 +38,7 @@ use Rattle.wg_top.specs.Middle.{group_in, programs_in}
 use Rattle.wg_top.specs.Described.{IsCompiledAt}
 use Rattle.wg_top.specs.Units.{AreCompiled, bind_refusal}
 use Rattle.wg_top.specs.Causes.{Standing, BuffersLoaded, StopsIn, HasRun}
-use Rattle.wg_top.specs.Outcomes.{AreLowered, AreMade, AreCompiledTo, models_in, AreDone, IsOutcomeOf}
+use Rattle.wg_top.specs.Outcomes.{AreMade, AreCompiledTo, models_in, AreDone, IsOutcomeOf}
 use Rattle.wg_top.specs.Stages.{BackCause, LeavesOthers, SaveStopped, IsRun}
 use Rattle.wg_top.proofs.MeaningLemmas.{AreLike, ran_like, so_like}
 use Rattle.wg_top.specs.Launches.{IsReady, HasLimits, launches_in, LaunchesRan, EndsSo, all_groups, all_items}
@@ -116,13 +116,13 @@ programs_are width (c ∷ kernels) all = ((all 0 c (omega arith)).group, program
 
 -- a launch that is not done, which is an outcome of it
 stops_in : (files : Option FileMap) (text : Text) (units : List Unit') (before : List (List ℕ)) (programs : List Plain) (launches : List Launch) (e : RunError) → bind_refusal text units ≡ None → BuffersLoaded files text before → AreLike (programs_in text units) programs → launches ≡ launches_in text
-    → EndsSo text.several programs launches before e → AreMade units → AreCompiledTo text.lanes text.list units → (EndsSo text.several (programs_in text units) (launches_in text) before e → AreLowered units → IsOutcomeOf (models_in units) (launches_in text) before e) → StopsIn files text units e
+    → EndsSo text.several programs launches before e → AreMade units → AreCompiledTo text.lanes text.list units → (EndsSo text.several (programs_in text units) (launches_in text) before e → IsOutcomeOf (models_in units) (launches_in text) before e) → StopsIn files text units e
 stops_in files text units before programs launches e accepted loaded same are ends made compiled outcome =
     let mine : EndsSo text.several (programs_in text units) (launches_in text) before e = so_like text.several (programs_in text units) programs (launches_in text) before e same (subst (λ (ls : List Launch). EndsSo text.several programs ls before e) are ends) in
     record { stopped = record { accepted = accepted; before = before; loaded = loaded; ends = mine }; made = made; compiled = compiled; outcome = outcome mine }
 
 pub is_stopped : (old new : Standing) (text : Text) (units : List Unit') (before : List (List ℕ)) (programs : List Plain) (launches : List Launch) (e : RunError) → bind_refusal text units ≡ None → BuffersLoaded old.files text before → AreLike (programs_in text units) programs → launches ≡ launches_in text
-    → EndsSo text.several programs launches before e → AreMade units → AreCompiledTo text.lanes text.list units → ((x : RunError) → EndsSo text.several (programs_in text units) (launches_in text) before x → AreLowered units → IsOutcomeOf (models_in units) (launches_in text) before x) → BackCause old new text units e
+    → EndsSo text.several programs launches before e → AreMade units → AreCompiledTo text.lanes text.list units → ((x : RunError) → EndsSo text.several (programs_in text units) (launches_in text) before x → IsOutcomeOf (models_in units) (launches_in text) before x) → BackCause old new text units e
 is_stopped old new text units before programs launches (Range number several group item place) accepted loaded same are ends made compiled outcome =
     let e = Range number several group item place in stops_in old.files text units before programs launches e accepted loaded same are ends made compiled (outcome e)
 is_stopped old new text units before programs launches (Parted number several group item place) accepted loaded same are ends made compiled outcome =
@@ -140,7 +140,7 @@ stopped_leaves old new text units several before programs launches _ same ends =
 
 -- the launches ran
 pub has_run : (files : Option FileMap) (text : Text) (units : List Unit') (before after : List (List ℕ)) (programs : List Plain) (launches : List Launch) → BuffersLoaded files text before → AreLike (programs_in text units) programs → launches ≡ launches_in text → LaunchesRan programs launches before after
-    → AreMade units → AreCompiledTo text.lanes text.list units → (LaunchesRan (programs_in text units) (launches_in text) before after → AreLowered units → AreDone (models_in units) (launches_in text) before after) → HasRun files text units after
+    → AreMade units → AreCompiledTo text.lanes text.list units → (LaunchesRan (programs_in text units) (launches_in text) before after → AreDone (models_in units) (launches_in text) before after) → HasRun files text units after
 has_run files text units before after programs launches loaded same are ran made compiled outcome =
     let mine : LaunchesRan (programs_in text units) (launches_in text) before after = ran_like (programs_in text units) programs (launches_in text) before after same (subst (λ (ls : List Launch). LaunchesRan programs ls before after) are ran) in
     record { before = before; loaded = loaded; ran = mine; made = made; compiled = compiled; outcome = outcome mine }

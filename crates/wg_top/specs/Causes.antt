@@ -18,7 +18,7 @@ use Rattle.wg_top.specs.Units.{AreCompiled, IsFirstRefused, bind_refusal}
 use Rattle.wg_top.specs.Launches.{launches_in, LaunchesRan, EndsSo, all_groups, all_items}
 use Rattle.wg_top.specs.Middle.{programs_in}
 use Rattle.wg_top.specs.Loops.{HaveNoLoop}
-use Rattle.wg_top.specs.Outcomes.{AreLowered, AreMade, AreCompiledTo, models_in, AreDone, IsOutcomeOf, AreClean, AllLeave}
+use Rattle.wg_top.specs.Outcomes.{AreMade, AreCompiledTo, models_in, AreDone, IsOutcomeOf, AreClean, AllLeave}
 
 -- a store at one moment
 pub record Standing : Type 0 where
@@ -115,12 +115,12 @@ pub record RunStopped (files : Option FileMap) (ask : Files) (error : RunError) 
   pub read : RunRead files ask text units
   pub stopped : IsStopped files text units error
 
--- besides, what is kept once is equal; and where the kernels come from their programs, that end is an outcome of the launch, on buffers that those before it may leave
+-- besides, what is kept once is equal; and that end is an outcome of the launch, on buffers that those before it may leave
 pub record StopsIn (files : Option FileMap) (text : Text) (units : List Unit') (error : RunError) : Type 0 where
   pub stopped : IsStopped files text units error
   pub made : AreMade units
   pub compiled : AreCompiledTo text.lanes text.list units
-  pub outcome : AreLowered units → IsOutcomeOf (models_in units) (launches_in text) stopped.before error
+  pub outcome : IsOutcomeOf (models_in units) (launches_in text) stopped.before error
 
 -- all was read, and that holds of what was read
 pub record RunStops (files : Option FileMap) (ask : Files) (error : RunError) : Type 0 where
@@ -160,14 +160,14 @@ ReadingCause old new ask (Launch number) = TextRefused old.files ask number
 ReadingCause old new ask Memory = ⊤
 ReadingCause old new ask _ = ⊥
 
--- the buffers were loaded, and the launches are done; what is kept once is equal; and where the kernels come from their programs, those ends are outcomes of the launches
+-- the buffers were loaded, and the launches are done; what is kept once is equal; and those ends are outcomes of the launches
 pub record HasRun (files : Option FileMap) (text : Text) (units : List Unit') (after : List (List ℕ)) : Type 0 where
   pub before : List (List ℕ)
   pub loaded : BuffersLoaded files text before
   pub ran : LaunchesRan (programs_in text units) (launches_in text) before after
   pub made : AreMade units
   pub compiled : AreCompiledTo text.lanes text.list units
-  pub outcome : AreLowered units → AreDone (models_in units) (launches_in text) before after
+  pub outcome : AreDone (models_in units) (launches_in text) before after
 
 -- saving had begun: the launches ran, the buffers before one are saved, and those behind it and all other names are as before
 pub record SaveFailed (old new : Option FileMap) (ask : Files) : Type 0 where
@@ -213,10 +213,9 @@ pub record Accepted (files : Option FileMap) (ask : Files) (text : Text) (units 
   pub taken : IsTaken files ask text units
   pub done : (before : List (List ℕ)) → BuffersLoaded files text before → (after : List (List ℕ)) × LaunchesRan (programs_in text units) (launches_in text) before after
 
--- and of launches of which no run races, faults, parts or begins too many iterations: each is clean on the buffers that those before it leave, and the kernels come from their programs
+-- and of launches of which no run races, faults, parts or begins too many iterations: each is clean on the buffers that those before it leave
 pub record AcceptedClean (files : Option FileMap) (ask : Files) (text : Text) (units : List Unit') : Type 0 where
   pub taken : IsTaken files ask text units
-  pub lowered : AreLowered units
   pub clean : (before : List (List ℕ)) → BuffersLoaded files text before → AreClean (models_in units) (launches_in text) before
 
 -- every interleaving of the launches leaves these buffers, which are saved, each whole; all names that are not saved are as before
@@ -228,9 +227,9 @@ pub record LeavesClean (old new : Option FileMap) (text : Text) (units : List Un
   pub saved : AllSavedAs old new (saves_of text.buffers) after
   pub others : KeepsAllBut old new (saves_of text.buffers)
 
--- all was read, and where the kernels come from their programs, the kernel of some launch has a loop, or a function that it calls
+-- all was read, and the kernel of some launch has a loop, or a function that it calls
 pub record HasLoops (files : Option FileMap) (ask : Files) : Type 0 where
   pub text : Text
   pub units : List Unit'
   pub read : RunRead files ask text units
-  pub loops : AreLowered units → HaveNoLoop (models_in units) → ⊥
+  pub loops : HaveNoLoop (models_in units) → ⊥

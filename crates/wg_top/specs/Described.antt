@@ -55,14 +55,15 @@ abbrev pub IsCompiledAs : Width → List ℕ → Compiled → Type 0
 IsCompiledAs width name c =
     IsCompiledFrom (program_of (unit_of c.program)) name (varying_of (program_of (unit_of c.program))) (kernel_in (unit_of c.program)) (plan_in (unit_of c.program)) width c.group.kernel (plain_of c.group)
 
--- the kernel of a unit as the passes leave it, at so many lanes: it, its plan and its group program are those of the unit; of a valid program, what is kept once is equal; and where its
--- kernel comes from the program, a launch that fits the group program fits the program, and for a valid one it has its plan, its ends and its shape
+-- the kernel of a unit as the passes leave it, at so many lanes: it, its plan and its group program are those of the unit; of a valid program, its
+-- kernel comes from it, what is kept once is equal, a launch that fits the group program fits the program, and it has its plan, its ends and its shape
 pub record IsCompiledAt (width : ℕ) (c : Compiled) : Type 0 where
   pub kernel : kernel_of c.kernel ≡ kernel_in (unit_of c.program)
   pub plan : planned_of c.plan ≡ plan_in (unit_of c.program)
   pub group : IsLike (group_in width (unit_of c.program)) (plain_of c.group)
   pub once : IsValid (program_of (unit_of c.program)) → KeepsOnce c
-  pub fits : IsLowered c → (launch : Launch) → LaunchFits (plain_of c.group).params (sum (plain_of c.group).locals) launch → FitsProgram (program_of (unit_of c.program)) launch
+  pub lowered : IsValid (program_of (unit_of c.program)) → IsLowered c
+  pub fits : IsValid (program_of (unit_of c.program)) → (launch : Launch) → LaunchFits (plain_of c.group).params (sum (plain_of c.group).locals) launch → FitsProgram (program_of (unit_of c.program)) launch
   pub lanes : Width
   pub lanes_are : lanes_of lanes ≡ width
-  pub whole : IsLowered c → IsValid (program_of (unit_of c.program)) → IsCompiledAs lanes c.group.kernel c
+  pub whole : IsValid (program_of (unit_of c.program)) → IsCompiledAs lanes c.group.kernel c

@@ -22,14 +22,11 @@ use Rattle.wg_top.specs.Described.{KeepsOnceWhatIsEqual}
 
 -- ---- units
 
--- the kernel without calls of each unit comes from its program: the one premise of what is said of outcomes, which is not proved yet
-abbrev pub AreLowered : List Unit' → Type 0
-AreLowered [] = ⊤
-AreLowered (u ∷ units) = IsLoweringOf (program_of u) (names_in u) (kernel_in u) × AreLowered units
-
--- the program of a unit is valid, and what is kept once for a group has equal values in all its work-items at the same point, in each launch that fits
+-- the program of a unit is valid, its kernel without calls comes from it, and what is kept once for a group has equal values in all its work-items at the same point, in each
+-- launch that fits
 pub record IsMade (u : Unit') : Type 0 where
   pub valid : IsValid (program_of u)
+  pub lowered : IsLoweringOf (program_of u) (names_in u) (kernel_in u)
   pub once : KeepsOnceWhatIsEqual (program_of u) (kernel_in u) (plan_in u)
 
 -- the same of each unit
@@ -37,14 +34,14 @@ abbrev pub AreMade : List Unit' → Type 0
 AreMade [] = ⊤
 AreMade (u ∷ units) = IsMade u × AreMade units
 
--- the group program of a unit under a name, at so many lanes: it does what `group_in` does, in the same order; and where the kernel without calls comes from the program, it
--- has its plan, it ends in outcomes of the program in each launch that fits, and it accesses no more than is written
+-- the group program of a unit under a name, at so many lanes: it does what `group_in` does, in the same order; it has its plan, it ends in outcomes of the program in each
+-- launch that fits, and it accesses no more than is written
 pub record IsCompiledTo (width : ℕ) (name : List ℕ) (u : Unit') : Type 0 where
   pub group : Plain
   pub like : IsLike (group_in width u) group
   pub lanes : Width
   pub lanes_are : lanes_of lanes ≡ width
-  pub compiled : IsLoweringOf (program_of u) (names_in u) (kernel_in u) → IsCompiledFrom (program_of u) name (varying_of (program_of u)) (kernel_in u) (plan_in u) lanes name group
+  pub compiled : IsCompiledFrom (program_of u) name (varying_of (program_of u)) (kernel_in u) (plan_in u) lanes name group
 
 -- the same of each launch's unit, under the name of its kernel
 abbrev pub AreCompiledTo : (width : ℕ) → List Part → List Unit' → Type 0

@@ -57,9 +57,10 @@ fn group_of(
 /// program of a group has the kernel's name and parameters, is one code where no barrier stands, and
 /// has in no code more loads and stores of a site than are written; it is known which variables
 /// vary, and each cell has its home, columns shared by variables of disjoint scopes alone; and what
-/// is kept once for a group has equal values in all its work-items at the same point. Where its kernel
-/// without calls comes from the program, the group program ends in outcomes of the program, in each
-/// launch that fits. `Memory` also where a number of a pass has no room.
+/// is kept once for a group has equal values in all its work-items at the same point. Its kernel
+/// without calls comes from the program: each history and run of its work-items is matched by one of
+/// the program's. So the group program ends in outcomes of the program, in each launch that fits.
+/// `Memory` also where a number of a pass has no room.
 pub fn compile_program(
     alloc: Global,
     program: Program,
@@ -72,7 +73,8 @@ pub fn compile_program(
     ensures shaped { IfOk result (λ c. IsValid (program_of (unit_of c.program)) → IsShapedAs name.now c) }
     ensures planned { IfOk result (λ c. IsValid (program_of (unit_of c.program)) → IsPlannedAt width c) }
     ensures once { IfOk result (λ c. IsValid (program_of (unit_of c.program)) → KeepsOnce c) }
-    ensures compiled { IfOk result (λ c. IsValid (program_of (unit_of c.program)) → IsLowered c → IsCompiledAs width name.now c) }
+    ensures lowered { IfOk result (λ c. IsValid (program_of (unit_of c.program)) → IsLowered c) }
+    ensures compiled { IfOk result (λ c. IsValid (program_of (unit_of c.program)) → IsCompiledAs width name.now c) }
 {
     let kernel = lower(alloc, &program)?;
     let varying = analyse(alloc, &program)?;

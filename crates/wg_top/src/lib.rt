@@ -252,7 +252,7 @@ pub fn wgcc<S: Store, O: Sink, E: Sink>(
         (Rose (S.faults store.old) (S.faults store.new) → ⊥) → (result ≡ status_of error) ⊎ (result ≡ 8) }
 
     // Where no interleaving of any launch races, faults, parts or begins more iterations than the
-    // turns, and the kernels come from their programs: what every interleaving leaves is saved.
+    // turns: what every interleaving leaves is saved.
     ensures clean { (ask : Files) (text : Text) (units : List Unit') → AreWords (map string_bytes words.now) (run ask) →
         AcceptedClean (S.files store.old) ask text units →
         (Rose (S.faults store.old) (S.faults store.new) → ⊥) → (Rose (O.faults out.old) (O.faults out.new) → ⊥) →

@@ -90,8 +90,8 @@ fn run_given<S: Store>(alloc: Global, store: &mut S, given: Given) -> Result<Sum
 /// launch file, then the buffers in order; the first step that is refused ends the call. The
 /// launches run in order, each on the buffers that the one before it left. No file is saved before
 /// each work-item has ended. Where no interleaving of any launch races, faults, parts or begins too
-/// many iterations, the files are there and no fault rises, and the kernels come from their programs,
-/// the saved buffers are what every interleaving leaves, and the one refusal is want of memory.
+/// many iterations, the files are there and no fault rises, the saved buffers are what every
+/// interleaving leaves, and the one refusal is want of memory.
 pub fn run_source<S: Store>(
     alloc: Global,
     store: &mut S,
