@@ -1,5 +1,5 @@
 -- The first line of lines.
-use Rattle.std.proofs.Common.{◌≡◌, ℕ, suc, ◌+◌, ◌<◌, List, [], ◌∷◌, ◌++◌, append_assoc, length, get_or, drop, Global, refl, ap, ap₂, sym, ◌∙◌, arith, drop-cons}
+use Rattle.std.proofs.Common.{◌≡◌, ℕ, suc, ◌+◌, ◌<◌, List, [], ◌∷◌, ◌++◌, length, get_or, drop, Global, refl, ap, ap₂, sym, ◌∙◌, arith, drop-cons}
 use Rattle.std.specs.Prelude.{◌||◌}
 use Rattle.std.specs.Prelude.{Bool as Test, true, false}
 use Rattle.std.specs.declared.vec.Vec.{Vec}
@@ -9,7 +9,7 @@ use Rattle.kir.specs.declared.line.Line.TheVariants as line
 use Rattle.kir.specs.Tree.{Lines, NoLine, IfThen, LoopThen, joined_to}
 use Rattle.kir.specs.Listed.{line_before, lines_in, lines_of}
 use Rattle.kir.specs.Cuts.{holds_barrier}
-use Rattle.kir.proofs.Rows.{if_listed, loop_listed, lines_of-append}
+use Rattle.kir.proofs.Rows.{if_listed, loop_listed, line_joined}
 
 -- what is left of a list, from its first item on
 pub first_left : {A : Type 0} (xs : List A) (i : ℕ) (x : A) → i < length xs → x ≡ get_or xs i x → drop i xs ≡ x ∷ drop (i + 1) xs
@@ -68,12 +68,18 @@ either_first a b h e t = sym (e ∙ ap (λ x. x || b) t)
 pub either_second : (a b : Test) (h : Test) → h ≡ (a || b) → a ≡ false → b ≡ h
 either_second a b h e f = sym (e ∙ ap (λ x. x || b) f)
 
+-- a list with one line more
+one_more : (copied : List Line) (m : Line) (rest : Lines) → joined_to (lines_of (copied ++ m ∷ [])) rest ≡ joined_to (lines_of copied) (line_before m rest)
+one_more [] m rest = line_joined m NoLine rest
+one_more (l ∷ ls) m rest = line_joined l (lines_of (ls ++ m ∷ [])) rest ∙ ap (line_before l) (one_more ls m rest) ∙ sym (line_joined l (lines_of ls) (line_before m rest))
+
+pub added : (copied longer : List Line) (m : Line) → longer ≡ copied ++ m ∷ [] → (rest : Lines) → joined_to (lines_of longer) rest ≡ joined_to (lines_of copied) (line_before m rest)
+added copied longer m e rest = ap (λ xs. joined_to (lines_of xs) rest) e ∙ one_more copied m rest
+
 -- copies of lines, one more
-pub copied_step : (copied : List Line) (ls : List Line) (i : ℕ) (l m : Line) → i < length ls → l ≡ get_or ls i l → ((rest : Lines) → line_before m rest ≡ line_before l rest)
-    → joined_to (lines_of copied) (lines_of (drop i ls)) ≡ lines_of ls → joined_to (lines_of (copied ++ m ∷ [])) (lines_of (drop (i + 1) ls)) ≡ lines_of ls
-copied_step copied ls i l m lt is alike same =
-    sym (lines_of-append (copied ++ m ∷ []) (drop (i + 1) ls)) ∙ ap lines_of (append_assoc copied (m ∷ []) (drop (i + 1) ls)) ∙ lines_of-append copied (m ∷ drop (i + 1) ls)
-    ∙ ap (joined_to (lines_of copied)) (alike (lines_of (drop (i + 1) ls)) ∙ ap lines_of (sym (first_left ls i l lt is))) ∙ same
+pub copied_step : (copied longer : Lines) (ls : List Line) (i : ℕ) (l : Line) → i < length ls → l ≡ get_or ls i l → ((rest : Lines) → joined_to longer rest ≡ joined_to copied (line_before l rest))
+    → joined_to copied (lines_of (drop i ls)) ≡ lines_of ls → joined_to longer (lines_of (drop (i + 1) ls)) ≡ lines_of ls
+copied_step copied longer ls i l lt is onto same = onto (lines_of (drop (i + 1) ls)) ∙ ap (joined_to copied) (ap lines_of (sym (first_left ls i l lt is))) ∙ same
 
 -- an if and a loop with copies of their parts
 pub if_alike : (l : Line) (site : ℕ) (test : Atom) (chosen other chosen' other' : Vec Line Global) → l ≡ line.If site test chosen other → lines_of chosen'.items ≡ lines_of chosen.items → lines_of other'.items ≡ lines_of other.items

@@ -1,7 +1,7 @@
 //! Copies of lines.
 
 ghost use Rattle.std.specs.Prelude.{◌≡◌, ◌∷◌, [], ◌++◌, IfOk, OnOk};
-ghost use Rattle.kir.specs.Tree.{Lines};
+ghost use Rattle.kir.specs.Tree.{Lines, IfThen, LoopThen, joined_to};
 ghost use Rattle.kir.specs.Listed.{line_before, lines_of, work_of};
 
 use kir::{Atom, Line, Work};
@@ -62,22 +62,52 @@ pub(crate) fn add_line(lines: &mut Vec<Line>, line: Line) -> Result<(), Memory>
     }
 }
 
-/// The same lines.
-#[cycle(copy)]
-pub(crate) fn copy_lines(alloc: Global, lines: &[Line]) -> Result<Vec<Line>, Memory>
-    ensures { IfOk result (λ copied. lines_of copied.items ≡ lines_of lines.now) }
+/// The list with an `if` more.
+#[inline(never)]
+fn add_if(
+    copied: &mut Vec<Line>,
+    site: u32,
+    test: Atom,
+    yes: Vec<Line>,
+    no: Vec<Line>,
+) -> Result<(), Memory>
+    ensures { OnOk result ((rest : Lines) → joined_to (lines_of copied.new.items) rest ≡ joined_to (lines_of copied.old.items) (IfThen site test (lines_of yes.items) (lines_of no.items) rest)) }
 {
-    let mut copied = Vec::new(alloc);
-    for line in lines {
-        let line = copy_line(alloc, line)?;
-        add_line(&mut copied, line)?;
-    }
-    Ok(copied)
+    let line = Line::If {
+        site,
+        test,
+        yes,
+        no,
+    };
+    add_line(copied, line)?;
+    Ok(())
 }
 
-/// The same line.
-#[cycle(copy)]
-pub(crate) fn copy_line(alloc: Global, line: &Line) -> Result<Line, Memory>
+/// The list with a loop more.
+#[inline(never)]
+fn add_loop(
+    copied: &mut Vec<Line>,
+    site: u32,
+    test_first: bool,
+    test: Vec<Line>,
+    answer: Atom,
+    body: Vec<Line>,
+) -> Result<(), Memory>
+    ensures { OnOk result ((rest : Lines) → joined_to (lines_of copied.new.items) rest ≡ joined_to (lines_of copied.old.items) (LoopThen site test_first (lines_of test.items) answer (lines_of body.items) rest)) }
+{
+    let line = Line::Loop {
+        site,
+        test_first,
+        test,
+        answer,
+        body,
+    };
+    add_line(copied, line)?;
+    Ok(())
+}
+
+/// The same line, of a line without lines.
+fn copy_plain(alloc: Global, line: &Line) -> Result<Line, Memory>
     ensures { IfOk result (λ copied. (rest : Lines) → line_before copied rest ≡ line_before line.now rest) }
 {
     match line {
@@ -112,6 +142,76 @@ pub(crate) fn copy_line(alloc: Global, line: &Line) -> Result<Line, Memory>
             from: *from,
         }),
         Line::Clear { array } => Ok(Line::Clear { array: *array }),
+        Line::Barrier { site } => Ok(Line::Barrier { site: *site }),
+        Line::If { .. } | Line::Loop { .. } => Err(Memory),
+    }
+}
+
+/// The list with the same line more, of a line without lines.
+#[inline(never)]
+fn add_plain(alloc: Global, copied: &mut Vec<Line>, line: &Line) -> Result<(), Memory>
+    ensures { OnOk result ((rest : Lines) → joined_to (lines_of copied.new.items) rest ≡ joined_to (lines_of copied.old.items) (line_before line.now rest)) }
+{
+    let line = copy_plain(alloc, line)?;
+    add_line(copied, line)?;
+    Ok(())
+}
+
+/// The same lines.
+#[cycle(copy)]
+#[inline(never)]
+pub(crate) fn copy_lines(alloc: Global, lines: &[Line]) -> Result<Vec<Line>, Memory>
+    ensures { IfOk result (λ copied. lines_of copied.items ≡ lines_of lines.now) }
+{
+    let mut copied = Vec::new(alloc);
+    for line in lines {
+        copy_onto(alloc, line, &mut copied)?;
+    }
+    Ok(copied)
+}
+
+/// The list with the same line more.
+#[cycle(copy)]
+#[inline(never)]
+fn copy_onto(alloc: Global, line: &Line, copied: &mut Vec<Line>) -> Result<(), Memory>
+    ensures { OnOk result ((rest : Lines) → joined_to (lines_of copied.new.items) rest ≡ joined_to (lines_of copied.old.items) (line_before line.now rest)) }
+{
+    match line {
+        Line::If {
+            site,
+            test,
+            yes,
+            no,
+        } => {
+            let yes = copy_lines(alloc, yes)?;
+            let no = copy_lines(alloc, no)?;
+            add_if(copied, *site, *test, yes, no)?;
+            Ok(())
+        }
+        Line::Loop {
+            site,
+            test_first,
+            test,
+            answer,
+            body,
+        } => {
+            let test = copy_lines(alloc, test)?;
+            let body = copy_lines(alloc, body)?;
+            add_loop(copied, *site, *test_first, test, *answer, body)?;
+            Ok(())
+        }
+        _ => {
+            add_plain(alloc, copied, line)?;
+            Ok(())
+        }
+    }
+}
+
+/// The same line.
+pub(crate) fn copy_line(alloc: Global, line: &Line) -> Result<Line, Memory>
+    ensures { IfOk result (λ copied. (rest : Lines) → line_before copied rest ≡ line_before line.now rest) }
+{
+    match line {
         Line::If {
             site,
             test,
@@ -144,6 +244,6 @@ pub(crate) fn copy_line(alloc: Global, line: &Line) -> Result<Line, Memory>
                 body,
             })
         }
-        Line::Barrier { site } => Ok(Line::Barrier { site: *site }),
+        _ => copy_plain(alloc, line),
     }
 }
