@@ -1,0 +1,4 @@
+__kernel void k(__global int *a) {
+  { int x = get_local_id(0); a[x] = x; }
+  barrier(CLK_LOCAL_MEM_FENCE);
+}
