@@ -9,5 +9,6 @@ pub mod ItemHistories
 pub mod Aligned
 pub mod FromSteps
 pub mod EvenRuns
+pub mod Across
 pub mod Kept
 pub mod FirstLines
