@@ -1,4 +1,5 @@
 pub mod Rows
+pub mod Firsts
 pub mod Alike
 pub mod Placed
 pub mod Outcomes

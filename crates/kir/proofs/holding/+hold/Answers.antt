@@ -1,8 +1,8 @@
 use Rattle.std.proofs.Common.{ap, ◌∙◌, sym}
 use Rattle.kir.specs.Listed.{lines_of}
 use Rattle.kir.specs.Cuts.{holds_barrier}
-use Rattle.regions.proofs.Firsts.{holds_step, holds_found, if_holds, loop_holds, either_first, either_second}
-use Rattle.regions.proofs.holding.+hold.Goals as goal
+use Rattle.kir.proofs.Firsts.{holds_step, holds_found, if_holds, loop_holds, either_first, either_second}
+use Rattle.kir.proofs.holding.+hold.Goals as goal
 
 pub line_holds-returns-then-lines_hold : goal.line_holds-returns-then-lines_hold
 line_holds-returns-then-lines_hold t c =

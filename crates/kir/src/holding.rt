@@ -5,11 +5,11 @@ ghost use Rattle.kir.specs.Tree.{NoLine};
 ghost use Rattle.kir.specs.Listed.{line_before, lines_of};
 ghost use Rattle.kir.specs.Cuts.{holds_barrier};
 
-use kir::Line;
+use crate::line::Line;
 
 /// Whether a barrier stands among the lines.
 #[cycle(hold)]
-pub(crate) fn lines_hold(lines: &[Line]) -> bool
+pub fn lines_hold(lines: &[Line]) -> bool
     ensures { result ≡ holds_barrier (lines_of lines.now) }
 {
     for line in lines {
@@ -22,7 +22,7 @@ pub(crate) fn lines_hold(lines: &[Line]) -> bool
 
 /// Whether the line is a barrier or holds one.
 #[cycle(hold)]
-pub(crate) fn line_holds(line: &Line) -> bool
+pub fn line_holds(line: &Line) -> bool
     ensures { result ≡ holds_barrier (line_before line.now NoLine) }
 {
     match line {
