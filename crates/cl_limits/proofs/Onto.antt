@@ -4,8 +4,8 @@ use Rattle.std.specs.Str.{bytes_eq}
 use Rattle.cl_tree.specs.declared.tree.Tree.{Tree}
 use Rattle.cl_tree.specs.declared.tree.Tree.TheViews.{out-Tree}
 use Rattle.cl_tree.specs.Syntax.{Syntax, Forest, more, view, views}
-use Rattle.cl_spelling.proofs.Views.{view_out}
-use Rattle.cl_spelling.specs.Spelling.{name_in}
+use Rattle.cl_meaning.proofs.Views.{view_out}
+use Rattle.cl_meaning.specs.Spelling.{name_in}
 use Rattle.cl_limits.specs.declared.points.Point.{Point}
 use Rattle.cl_limits.specs.Heights.{is_function, functions_among, functions_in, number_from}
 use Rattle.cl_limits.specs.Points.{functions_onto, onto}

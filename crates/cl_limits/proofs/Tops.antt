@@ -5,7 +5,7 @@ use Rattle.std.proofs.lemmas.Bool.Decides.{nat_tests}
 use Rattle.cl_tree.specs.declared.tree.Form.{Form}
 use Rattle.cl_tree.specs.declared.tree.Form.TheVariants as forms
 use Rattle.cl_tree.specs.Syntax.{Syntax, node, Forest, none, more}
-use Rattle.cl_spelling.specs.Spelling.{name_in, intrinsic_in}
+use Rattle.cl_meaning.specs.Spelling.{name_in, intrinsic_in}
 use Rattle.cl_limits.specs.declared.points.Point.{Point}
 use Rattle.cl_limits.specs.declared.points.Spot.{Spot}
 use Rattle.cl_limits.specs.Heights.{lifted, is_barrier, number_from, number_height, called_height, is_branch, inside, own_height, height_of, height_of_all, function_height}

@@ -6,9 +6,9 @@ use Rattle.std.specs.Str.{bytes_eq}
 use Rattle.cl_tree.specs.declared.tree.Form.{Form}
 use Rattle.cl_tree.specs.declared.tree.Form.TheVariants as forms
 use Rattle.cl_tree.specs.Syntax.{Syntax, node, Forest, none, more}
-use Rattle.cl_spelling.specs.declared.names.Intrinsic.{Intrinsic}
-use Rattle.cl_spelling.specs.declared.names.Intrinsic.TheVariants as intrinsics
-use Rattle.cl_spelling.specs.Spelling.{name_in, intrinsic_in}
+use Rattle.cl_meaning.specs.declared.names.Intrinsic.{Intrinsic}
+use Rattle.cl_meaning.specs.declared.names.Intrinsic.TheVariants as intrinsics
+use Rattle.cl_meaning.specs.Spelling.{name_in, intrinsic_in}
 
 -- the functions that some trees define, in order
 abbrev pub is_function : Form → Bool

@@ -4,7 +4,7 @@ use Rattle.std.specs.Prelude.{ℕ, ◌+◌, Bool, true, false, nat_lt, List, [],
 use Rattle.cl_tree.specs.declared.tree.Form.{Form}
 use Rattle.cl_tree.specs.declared.tree.Form.TheVariants as forms
 use Rattle.cl_tree.specs.Syntax.{Syntax, node, Forest, none, more}
-use Rattle.cl_spelling.specs.Spelling.{name_in, intrinsic_in}
+use Rattle.cl_meaning.specs.Spelling.{name_in, intrinsic_in}
 use Rattle.cl_limits.specs.Heights.{is_barrier, number_from, is_branch}
 use Rattle.cl_limits.specs.declared.points.Point.{Point}
 use Rattle.cl_limits.specs.declared.points.Spot.{Spot}

@@ -2,12 +2,12 @@
 
 ghost use Rattle.std.specs.Prelude.{◌≡◌, ◌++◌, ◌∷◌, [], IfOk, OnOk, length};
 ghost use Rattle.cl_tree.specs.Syntax.{view, views};
-ghost use Rattle.cl_spelling.specs.Spelling.{intrinsic_in};
+ghost use Rattle.cl_meaning.specs.Spelling.{intrinsic_in};
 ghost use Rattle.cl_meaning.specs.Declarations.{form_of, word_of};
 ghost use Rattle.cl_limits.specs.Heights as heights;
 ghost use Rattle.cl_limits.specs.Points as spec;
 
-use cl_spelling::{Intrinsic, intrinsic_of, name_of};
+use cl_meaning::{Intrinsic, intrinsic_of, name_of};
 use cl_tree::{Form, Tree};
 use std::alloc::Global;
 use wg_num::Memory;
