@@ -124,7 +124,7 @@ fn put(points: &mut Vec<Point>, at: Spot, called: Option<usize>) -> Result<(), M
 }
 
 /// Puts the point of a call of that name behind the points; `unit` are the trees of the unit.
-fn put_call(points: &mut Vec<Point>, at: Spot, unit: &[Tree], name: &[u8]) -> Result<(), Memory>
+fn put_call(points: &mut Vec<Point>, at: Spot, name: &[u8], unit: &[Tree]) -> Result<(), Memory>
     ensures { OnOk result (points.new.items ≡ spec.call_onto (heights.functions_among (views unit.now)) at name.now points.old.items) }
 {
     if is_barrier(name) {
@@ -137,11 +137,11 @@ fn put_call(points: &mut Vec<Point>, at: Spot, unit: &[Tree], name: &[u8]) -> Re
 }
 
 /// Puts the point of a node without its parts behind the points.
-fn put_own(points: &mut Vec<Point>, at: Spot, unit: &[Tree], tree: &Tree) -> Result<(), Memory>
+fn put_own(points: &mut Vec<Point>, at: Spot, tree: &Tree, unit: &[Tree]) -> Result<(), Memory>
     ensures { OnOk result (points.new.items ≡ spec.own_onto (heights.functions_among (views unit.now)) at (form_of (view tree.now)) (word_of (view tree.now)) points.old.items) }
 {
     match tree.form {
-        Form::CallNode => put_call(points, at, unit, name_of(tree.word.bytes())),
+        Form::CallNode => put_call(points, at, name_of(tree.word.bytes()), unit),
         _ => Ok(()),
     }
 }
@@ -150,25 +150,25 @@ fn put_own(points: &mut Vec<Point>, at: Spot, unit: &[Tree], tree: &Tree) -> Res
 fn put_trees(
     points: &mut Vec<Point>,
     at: Spot,
-    unit: &[Tree],
     trees: &[Tree],
+    unit: &[Tree],
 ) -> Result<(), Memory>
     ensures { OnOk result (points.new.items ≡ spec.all_onto (heights.functions_among (views unit.now)) at (views trees.now) points.old.items) }
 {
     for tree in trees {
-        put_tree(points, at, unit, tree)?;
+        put_tree(points, at, tree, unit)?;
     }
     Ok(())
 }
 
 /// Puts the points of a tree behind the points.
 #[cycle(points)]
-fn put_tree(points: &mut Vec<Point>, at: Spot, unit: &[Tree], tree: &Tree) -> Result<(), Memory>
+fn put_tree(points: &mut Vec<Point>, at: Spot, tree: &Tree, unit: &[Tree]) -> Result<(), Memory>
     ensures { OnOk result (points.new.items ≡ spec.onto (heights.functions_among (views unit.now)) at (view tree.now) points.old.items) }
 {
     let at = entered(at, tree.form);
-    put_own(points, at, unit, tree)?;
-    put_trees(points, at, unit, &tree.parts)
+    put_own(points, at, tree, unit)?;
+    put_trees(points, at, &tree.parts, unit)
 }
 
 /// The points of the functions that some trees define, in the order of the text; the statements around each are
@@ -185,7 +185,7 @@ pub fn points_of(alloc: Global, cap: u32, trees: &[Tree]) -> Result<Vec<Point>, 
                 around: 0,
                 cap,
             };
-            put_tree(&mut points, at, trees, tree)?;
+            put_tree(&mut points, at, tree, trees)?;
             caller += 1;
         }
     }
