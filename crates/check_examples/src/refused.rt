@@ -4,7 +4,7 @@ use crate::verdicts::differing;
 use std::test::Fail;
 
 // E401 and E402.
-const NAMES: [&str; 32] = [
+const NAMES: [&str; 38] = [
     "k E401 1:43 | __kernel void k(__global int *a) { a[0] = f(1); }",
     "k E401 1:73 | __kernel void g(__global int *a) { } __kernel void k(__global int *a) { g(a); }",
     "k E401 1:81 | int g(int x) { return x; } __kernel void k(__global int *a) { int g = 1; a[0] = g(1); }",
@@ -37,6 +37,12 @@ const NAMES: [&str; 32] = [
     "k E402 1:43 | int c(int x) { return x; } __constant int c = 1; __kernel void k(__global int *a) { }",
     "k E402 1:53 | __kernel void k(__global int *a) { } __constant int k = 1;",
     "clz E402 1:1 | __kernel void clz(__global int *a) { }",
+    "k E402 1:23 | __constant int s = 1; int s(int i) { return s; } __kernel void k(__global int *a) { }",
+    "k E402 1:23 | __constant int k = 1; __kernel void k(__global int *a) { a[0] = k; }",
+    "k E402 1:1 | int min(int x, int y) { return min(x, y); } __kernel void k(__global int *a) { }",
+    "k E401 1:45 | __constant int s = 1; int s(int i) { return s(i); } __kernel void k(__global int *a) { }",
+    "k E401 1:23 | int s(int i) { return s; } __kernel void k(__global int *a) { }",
+    "k E401 1:36 | __kernel void k(__global int *a) { k(a); }",
 ];
 
 #[test]
@@ -99,7 +105,7 @@ fn operands_that_do_not_fit_are_refused(rt: HostRuntime) -> Result<(), Fail> {
 }
 
 // E404, E405, E412, E418 and E424.
-const CALLS: [&str; 25] = [
+const CALLS: [&str; 28] = [
     "k E404 1:43 | __kernel void k(__global int *a) { a[0] = get_global_id(); }",
     "k E404 1:43 | __kernel void k(__global int *a) { a[0] = get_work_dim(0); }",
     "k E404 1:43 | __kernel void k(__global int *a) { a[0] = clamp(1, 2); }",
@@ -111,6 +117,9 @@ const CALLS: [&str; 25] = [
     "k E405 1:65 | void g(__global uint *p) { } __kernel void k(__global int *a) { g(a); }",
     "k E405 1:82 | void g(__global int *p) { } __kernel void k(__global int *a) { __local int t[2]; g(t); }",
     "k E405 1:68 | void g(int *p) { } __kernel void k(__global int *a) { int t[2][2]; g(t); }",
+    "k E405 1:36 | __kernel void k(__global int *a) { barrier(a); }",
+    "k E405 1:36 | __kernel void k(__global int *a) { mem_fence(a); }",
+    "k E405 1:49 | __kernel void k(__global int *a) { int t[2][2]; barrier(t); }",
     "k E412 1:23 | int g(int x) { return g(x); } __kernel void k(__global int *a) { }",
     "k E412 1:22 | void f(); void g() { f(); } void h() { f(); } void f() { h(); g(); } __kernel void k(__global int *a) { }",
     "k E418 1:36 | __kernel void k(__global int *a) { barrier(CLK_LOCAL_MEM_FENCE | CLK_LOCAL_MEM_FENCE); }",
@@ -244,7 +253,7 @@ fn misplaced_statements_and_labels_are_refused(rt: HostRuntime) -> Result<(), Fa
 }
 
 // E419 to E423, and sources that stay within the limits.
-const LIMITS: [&str; 18] = [
+const LIMITS: [&str; 22] = [
     "k accepted | int f0() { return 1; } int f1() { return f0() + f0(); } int f2() { return f1() + f1(); } int f3() { return f2() + f2(); } int f4() { return f3() + f3(); } int f5() { return f4() + f4(); } int f6() { return f5() + f5(); } int f7() { return f6() + f6(); } int f8() { return f7() + f7(); } int f9() { return f8() + f8(); } int f10() { return f9() + f9(); } int f11() { return f10() + f10(); } __kernel void k() { f11();;; }",
     "k accepted | __kernel void k(__global int *a) { int t[4094]; }",
     "k accepted | __kernel void k(__global int *a) { __local int x; int t[4094]; }",
@@ -258,6 +267,10 @@ const LIMITS: [&str; 18] = [
     "k E420 1:36 | __kernel void g() { int t[5000]; } __kernel void k() { int t[5000]; }",
     "k E421 1:100 | void g() { if (1) if (1) if (1) if (1) if (1) if (1) if (1) if (1) barrier(CLK_LOCAL_MEM_FENCE); } __kernel void k(__global int *a) { while (1) do { for (;;) switch (1) { case 1: if (1) if (1) if (1) if (1) if (1) g(); } } while (1); }",
     "k E421 1:53 | int g() { barrier(CLK_LOCAL_MEM_FENCE); return 1; } __kernel void k(__global int *a) { if (1) if (1) if (1) if (1) if (1) if (1) if (1) if (1) if (1) if (1) if (1) if (1) if (1) if (1) if (1) if (1) if (g()) ; }",
+    "k E421 1:1 | __kernel void k(__global int *a) { for (;;) for (;;) for (;;) for (;;) for (;;) for (;;) for (;;) for (;;) for (;;) for (;;) for (;;) for (;;) for (;;) for (;;) for (;;) for (;;) for (barrier(CLK_LOCAL_MEM_FENCE);;) ; }",
+    "k accepted | __kernel void k(__global int *a) { for (;;) for (;;) for (;;) for (;;) for (;;) for (;;) for (;;) for (;;) for (;;) for (;;) for (;;) for (;;) for (;;) for (;;) for (;;) for (barrier(CLK_LOCAL_MEM_FENCE);;) ; }",
+    "k E421 1:53 | int g() { barrier(CLK_LOCAL_MEM_FENCE); return 1; } __kernel void k(__global int *a) { for (;;) for (;;) for (;;) for (;;) for (;;) for (;;) for (;;) for (;;) for (;;) for (;;) for (;;) for (;;) for (;;) for (;;) for (;;) for (;;) for (int i = g();;) ; }",
+    "k accepted | int g() { barrier(CLK_LOCAL_MEM_FENCE); return 1; } __kernel void k(__global int *a) { for (;;) for (;;) for (;;) for (;;) for (;;) for (;;) for (;;) for (;;) for (;;) for (;;) for (;;) for (;;) for (;;) for (;;) for (;;) { int i = g(); for (;;) ; } }",
     "k E422 2:1 | __kernel void g(__global int *a) { }\n",
     "k E422 1:14 | void k() { } ",
     "k E422 1:19 | __kernel void k();",

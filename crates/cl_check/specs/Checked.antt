@@ -9,7 +9,8 @@ use Rattle.cl_meaning.specs.Declarations.{parts_of}
 use Rattle.cl_meaning.specs.Visible.{Node, in_order}
 use Rattle.cl_meaning.specs.Faults.{Asked, AllSound, FirstFault, calls_of, missing_of}
 use Rattle.cl_meaning.specs.Meant.{start_of, unit_meant}
-use Rattle.cl_limits.specs.Kernel.{Sized, weights_of, is_function, limit_of}
+use Rattle.cl_limits.specs.Heights.{is_function, functions_in}
+use Rattle.cl_limits.specs.Kernel.{Sized, weights_of, limit_of}
 
 -- the nodes of a unit in order, parts before the whole
 abbrev pub nodes_of : List Place → Syntax → List Node
@@ -27,6 +28,7 @@ IsSound places kernel unit = AllSound (asked_in places kernel unit) (nodes_of pl
 abbrev pub sized_in : List Place → (kernel : List ℕ) → Syntax → Sized
 sized_in places kernel unit = record {
   weights = weights_of unit;
+  trees = functions_in unit;
   calls = calls_of (nodes_of places unit);
   functions = (unit_meant places kernel unit).functions;
   kernel = (unit_meant places kernel unit).kernel;

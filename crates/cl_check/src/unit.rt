@@ -8,7 +8,7 @@ ghost use Rattle.cl_meaning.specs.Meant as meant;
 ghost use Rattle.cl_scope.specs.View.{signature_of, table_of};
 ghost use Rattle.cl_faults.specs.View.{asked_of};
 ghost use Rattle.cl_piece.specs.View.{function_of, what_of, unit_of};
-ghost use Rattle.cl_limits.specs.Kernel as limits;
+ghost use Rattle.cl_limits.specs.Heights as limits;
 ghost use Rattle.cl_check.specs.Walk.{IfFault};
 ghost use Rattle.cl_check.specs.Checked.{nodes_of, asked_in, starts_in, IsAccepted, IsRefused};
 

@@ -7,8 +7,7 @@ ghost use Rattle.cl_kinds.specs.Known.{known};
 ghost use Rattle.cl_scope.specs.Callees.{callee_view};
 
 use cl_kinds::{
-    are_known, arguments_fit, intrinsic_arity, intrinsic_fits, intrinsic_result, is_fence,
-    result_kind,
+    all_numbers, are_known, arguments_fit, intrinsic_arity, intrinsic_result, is_fence, result_kind,
 };
 use cl_meaning::{Kind, Yield};
 use cl_scope::Callee;
@@ -31,7 +30,7 @@ pub fn call_fits(callee: Callee, kinds: &[Option<Kind>]) -> bool
     match callee {
         Callee::Defined { signature, .. } => arguments_fit(&signature.parameters, kinds),
         Callee::Undefined => true,
-        Callee::Known(intrinsic) => intrinsic_fits(intrinsic, kinds),
+        Callee::Known(_) => all_numbers(kinds),
     }
 }
 

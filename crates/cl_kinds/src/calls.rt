@@ -199,16 +199,6 @@ pub fn intrinsic_arity(intrinsic: Intrinsic) -> usize
     }
 }
 
-/// Whether a name that is known without a declaration takes the arguments whose kinds are known.
-pub fn intrinsic_fits(intrinsic: Intrinsic, kinds: &[Option<Kind>]) -> bool
-    ensures { result ≡ spec.intrinsic_fits intrinsic (known kinds.now) }
-{
-    match intrinsic {
-        Intrinsic::Function(_) | Intrinsic::Query(_) => all_numbers(kinds),
-        Intrinsic::Barrier | Intrinsic::Fence => true,
-    }
-}
-
 /// The kind of a call of a name that is known without a declaration, with the arguments whose kinds are known.
 pub fn intrinsic_result(intrinsic: Intrinsic, kinds: &[Option<Kind>]) -> Kind
     ensures { result ≡ spec.intrinsic_result intrinsic (known kinds.now) }

@@ -11,7 +11,7 @@ pub mod settings;
 
 pub use calls::{
     all_numbers, are_known, argument_fits, arguments_fit, builtin_type, intrinsic_arity,
-    intrinsic_fits, intrinsic_result, is_fence, list_kind, result_kind,
+    intrinsic_result, is_fence, list_kind, result_kind,
 };
 pub use flags::{are_flags, are_flags_alone, named_flag};
 pub use kinds::{

@@ -1,14 +1,13 @@
 -- The first limit that stands.
-use Rattle.std.proofs.Common.{◌≡◌, ℕ, Bool, true, false, nat_lt, List, [], ◌∷◌, map, Option, Some, None, refl, ap, ◌∙◌, if◌then◌else◌}
+use Rattle.std.proofs.Common.{◌≡◌, ℕ, Bool, true, false, nat_lt, List, map, Option, Some, None, refl, ap, ◌∙◌, if◌then◌else◌}
 use Rattle.std.specs.Prelude.{slice_get}
 use Rattle.cl_model.specs.declared.program.Function as rust_function
 use Rattle.cl_meaning.specs.declared.fault.Fault.{Fault}
 use Rattle.cl_meaning.specs.declared.fault.Fault.TheVariants as faults
 use Rattle.cl_meaning.specs.Faults.{Call}
 use Rattle.cl_limits.specs.Limits.{whole, private_bytes}
-use Rattle.cl_limits.specs.Heights.{full_height}
 use Rattle.cl_limits.specs.Kernel.{Sized, at_limit, limit_of, local_bytes_at}
-use Rattle.cl_limits.specs.View.{function_of, body_of}
+use Rattle.cl_limits.specs.View.{function_of}
 
 abbrev by_tests : Bool → Bool → Bool → Bool → Option Fault
 by_tests large private deep local =
@@ -44,17 +43,9 @@ module _ (u : Sized) where
       → (if b then Some faults.LocalMemory else None) ≡ limit_of u
   chosen_fourth b h k l m = ap (λ z. by_tests false false false z) m ∙ (ap (λ z. by_tests false false z local) l ∙ (ap (λ z. by_tests false z deep local) k ∙ ap (λ z. by_tests z private deep local) h))
 
-bodies_are : (fs : List rust_function.Function) → map body_of fs ≡ map (λ g. g.body) (map function_of fs)
-bodies_are [] = refl
-bodies_are (f ∷ fs) = ap (λ bs. body_of f ∷ bs) (bodies_are fs)
-
 pub private_test : (b : Bool) (fs gs : List rust_function.Function) (calls : List Call) (kernel : ℕ) → fs ≡ gs → b ≡ nat_lt 16384 (whole (map private_bytes (map function_of fs)) calls kernel)
     → b ≡ nat_lt 16384 (whole (map private_bytes (map function_of gs)) calls kernel)
 private_test b fs gs calls kernel e h = h ∙ ap (λ l. nat_lt 16384 (whole (map private_bytes (map function_of l)) calls kernel)) e
-
-pub deep_test : (b : Bool) (fs gs : List rust_function.Function) (kernel : ℕ) → fs ≡ gs → b ≡ nat_lt 17 (full_height (map body_of fs) kernel)
-    → b ≡ nat_lt 17 (full_height (map (λ g. g.body) (map function_of gs)) kernel)
-deep_test b fs gs kernel e h = h ∙ (ap (λ l. nat_lt 17 (full_height (map body_of l) kernel)) e ∙ ap (λ l. nat_lt 17 (full_height l kernel)) (bodies_are gs))
 
 pub local_test : (b : Bool) (fs gs : List rust_function.Function) (kernel : ℕ) → fs ≡ gs → b ≡ nat_lt 65536 (local_bytes_at (slice_get (map function_of fs) kernel))
     → b ≡ nat_lt 65536 (local_bytes_at (slice_get (map function_of gs) kernel))

@@ -2,14 +2,14 @@
 use Rattle.std.proofs.Common.{◌≡◌, ℕ, zero, suc, ◌≤◌, ◌<◌, min, max, Bool, true, false, nat_eq, nat_lt, List, [], ◌∷◌, length, get_or, replicate, Option, Some, None, refl, ap, sym, subst, ◌∙◌, inl, inr, arith, if◌then◌else◌}
 use Rattle.std.specs.Prelude.{slice_get}
 use Rattle.std.proofs.lemmas.Bool.{cases_lt, cases_eq}
-use Rattle.cl_model.specs.Tree.{Statements}
+use Rattle.cl_tree.specs.Syntax.{Syntax}
 use Rattle.cl_limits.specs.declared.points.Point.{Point}
-use Rattle.cl_limits.specs.Heights.{lifted, body_height, height, full_height}
-use Rattle.cl_limits.specs.Points.{bodies_onto}
+use Rattle.cl_limits.specs.Heights.{lifted, called_height, function_height, height, full_height}
+use Rattle.cl_limits.specs.Points.{functions_onto}
 use Rattle.cl_limits.specs.Rounds.{point_height, with_point, with_points, next_heights, heights_after}
 use Rattle.cl_limits.proofs.Lists.{chosen, not_chosen, zeros_at, zeros_length, beyond, set_length, set_here, set_elsewhere, capped_zero}
 use Rattle.cl_limits.proofs.Summing.{is_below, is_same, is_other}
-use Rattle.cl_limits.proofs.Tops.{height_at, points_top, points_of_bodies}
+use Rattle.cl_limits.proofs.Tops.{height_at, points_top, points_of_functions}
 
 joined_here : (a b s k g r cap : ℕ) → a ≡ min (max k g) cap → k ≡ s → b ≡ g → min (max a r) cap ≡ min (max s (max b r)) cap
 joined_here a b s k g r cap e f h = omega arith
@@ -89,36 +89,36 @@ tops_cap cap heights g h (p ∷ ps) f =
 next_length : (cap count : ℕ) (ps : List Point) (heights : List ℕ) → length (next_heights cap count ps heights) ≡ count
 next_length cap count ps heights = points_length cap heights ps (replicate count 0) ∙ zeros_length count
 
-absent : (g : ℕ → ℕ) (bodies : List Statements) (f : ℕ) → length bodies ≤ f → body_height g (slice_get bodies f) ≡ 0
+absent : (g : List ℕ → ℕ) (functions : List Syntax) (f : ℕ) → length functions ≤ f → function_height g (slice_get functions f) ≡ 0
 absent g [] f h = refl
-absent g (b ∷ bodies) zero h = absurd (omega arith)
-absent g (b ∷ bodies) (suc f) h = absent g bodies f (omega arith)
+absent g (b ∷ functions) zero h = absurd (omega arith)
+absent g (b ∷ functions) (suc f) h = absent g functions f (omega arith)
 
 there : (z t p b cap : ℕ) → z ≡ 0 → min t cap ≡ min p cap → min p cap ≡ min b cap → min (max z t) cap ≡ min b cap
 there z t p b cap e h k = omega arith
 
-abbrev all_points : ℕ → List Statements → List Point
-all_points cap bodies = bodies_onto cap 0 bodies []
+abbrev all_points : ℕ → List Syntax → List Point
+all_points cap functions = functions_onto functions cap 0 functions []
 
-next_at : (cap : ℕ) (bodies : List Statements) (heights : List ℕ) (g : ℕ → ℕ) → ((k : ℕ) → get_or heights k 0 ≡ min (g k) cap) → (f : ℕ)
-    → get_or (next_heights cap (length bodies) (all_points cap bodies) heights) f 0 ≡ min (body_height g (slice_get bodies f)) cap
-next_at cap bodies heights g h f = elim (cases_lt f (length bodies)) [
-  | inl l ↦ (let z : get_or (replicate (length bodies) 0) f 0 ≡ zero = zeros_at (length bodies) f in
-      tops_at cap heights (all_points cap bodies) (replicate (length bodies) 0) f (subst (λ n. f < n) (sym (zeros_length (length bodies))) l) (subst (λ n. n ≤ cap) (sym z) (omega arith))
-      ∙ there (get_or (replicate (length bodies) 0) f 0) (tops_of heights (all_points cap bodies) f) (points_top g (all_points cap bodies) f) (body_height g (slice_get bodies f)) cap
-      z (tops_cap cap heights g h (all_points cap bodies) f) (points_of_bodies cap g bodies f))
-  | inr l ↦ capped_zero (get_or (next_heights cap (length bodies) (all_points cap bodies) heights) f 0) cap (beyond (next_heights cap (length bodies) (all_points cap bodies) heights) f (subst (λ n. n ≤ f) (sym (next_length cap (length bodies) (all_points cap bodies) heights)) l))
-      ∙ sym (ap (λ n. min n cap) (absent g bodies f l))
+next_at : (cap : ℕ) (functions : List Syntax) (heights : List ℕ) (g : ℕ → ℕ) → ((k : ℕ) → get_or heights k 0 ≡ min (g k) cap) → (f : ℕ)
+    → get_or (next_heights cap (length functions) (all_points cap functions) heights) f 0 ≡ min (function_height (called_height g functions) (slice_get functions f)) cap
+next_at cap functions heights g h f = elim (cases_lt f (length functions)) [
+  | inl l ↦ (let z : get_or (replicate (length functions) 0) f 0 ≡ zero = zeros_at (length functions) f in
+      tops_at cap heights (all_points cap functions) (replicate (length functions) 0) f (subst (λ n. f < n) (sym (zeros_length (length functions))) l) (subst (λ n. n ≤ cap) (sym z) (omega arith))
+      ∙ there (get_or (replicate (length functions) 0) f 0) (tops_of heights (all_points cap functions) f) (points_top g (all_points cap functions) f) (function_height (called_height g functions) (slice_get functions f)) cap
+      z (tops_cap cap heights g h (all_points cap functions) f) (points_of_functions g functions cap functions f))
+  | inr l ↦ capped_zero (get_or (next_heights cap (length functions) (all_points cap functions) heights) f 0) cap (beyond (next_heights cap (length functions) (all_points cap functions) heights) f (subst (λ n. n ≤ f) (sym (next_length cap (length functions) (all_points cap functions) heights)) l))
+      ∙ sym (ap (λ n. min n cap) (absent (called_height g functions) functions f l))
 ]
 
 heights_length : (n cap count : ℕ) (ps : List Point) → length (heights_after n cap count ps) ≡ count
 heights_length zero cap count ps = zeros_length count
 heights_length (suc n) cap count ps = next_length cap count ps (heights_after n cap count ps)
 
-heights_at : (n cap : ℕ) (bodies : List Statements) (f : ℕ) → get_or (heights_after n cap (length bodies) (all_points cap bodies)) f 0 ≡ min (height n bodies f) cap
+heights_at : (n cap : ℕ) (functions : List Syntax) (f : ℕ) → get_or (heights_after n cap (length functions) (all_points cap functions)) f 0 ≡ min (height n functions f) cap
 unfolding height
-heights_at zero cap bodies f = capped_zero (get_or (heights_after zero cap (length bodies) (all_points cap bodies)) f 0) cap (zeros_at (length bodies) f)
-heights_at (suc n) cap bodies f = next_at cap bodies (heights_after n cap (length bodies) (all_points cap bodies)) (height n bodies) (heights_at n cap bodies) f
+heights_at zero cap functions f = capped_zero (get_or (heights_after zero cap (length functions) (all_points cap functions)) f 0) cap (zeros_at (length functions) f)
+heights_at (suc n) cap functions f = next_at cap functions (heights_after n cap (length functions) (all_points cap functions)) (height n functions) (heights_at n cap functions) f
 
 pub steady : (m n cap count : ℕ) (ps : List Point) (xs : List ℕ) → n ≤ m → xs ≡ heights_after n cap count ps → next_heights cap count ps xs ≡ xs → xs ≡ heights_after m cap count ps
 steady zero n cap count ps xs h e k = let z : n ≡ zero = omega arith in e ∙ ap (λ i. heights_after i cap count ps) z
@@ -127,11 +127,11 @@ steady (suc m) n cap count ps xs h e k = elim (cases_lt n (suc m)) [
   | inr l ↦ (let z : n ≡ suc m = omega arith in e ∙ ap (λ i. heights_after i cap count ps) z)
 ]
 
-pub heights_are : (cap count : ℕ) (bodies : List Statements) (ps : List Point) (xs : List ℕ) → count ≡ length bodies → ps ≡ bodies_onto cap 0 bodies [] → xs ≡ heights_after count cap count ps
-    → (f : ℕ) → get_or xs f 0 ≡ min (full_height bodies f) cap
-heights_are cap count bodies ps xs a b e f =
-    ap (λ ys. get_or ys f 0) (e ∙ (ap (λ q. heights_after count cap count q) b ∙ ap (λ n. heights_after n cap n (bodies_onto cap 0 bodies [])) a))
-    ∙ heights_at (length bodies) cap bodies f
+pub heights_are : (cap count : ℕ) (functions : List Syntax) (ps : List Point) (xs : List ℕ) → count ≡ length functions → ps ≡ functions_onto functions cap 0 functions [] → xs ≡ heights_after count cap count ps
+    → (f : ℕ) → get_or xs f 0 ≡ min (full_height functions f) cap
+heights_are cap count functions ps xs a b e f =
+    ap (λ ys. get_or ys f 0) (e ∙ (ap (λ q. heights_after count cap count q) b ∙ ap (λ n. heights_after n cap n (functions_onto functions cap 0 functions [])) a))
+    ∙ heights_at (length functions) cap functions f
 
 pub heights_size : (cap count : ℕ) (ps : List Point) (xs : List ℕ) → xs ≡ heights_after count cap count ps → length xs ≡ count
 heights_size cap count ps xs e = ap length e ∙ heights_length count cap count ps

@@ -1,5 +1,5 @@
 -- What a capped count says of a limit.
-use Rattle.std.proofs.Common.{◌≡◌, ℕ, zero, suc, ◌+◌, ◌≤◌, ◌<◌, min, Bool, true, false, nat_eq, nat_lt, List, [], ◌∷◌, ◌++◌, length, map, get_or, drop, drop-cons, append_assoc, refl, ap, sym, subst, ◌∙◌, ◌⊎◌, inl, inr, arith, if◌then◌else◌}
+use Rattle.std.proofs.Common.{◌≡◌, ℕ, zero, suc, ◌+◌, ◌≤◌, ◌<◌, min, Bool, true, false, nat_eq, nat_lt, List, [], ◌∷◌, ◌++◌, length, map, get_or, drop, append_assoc, refl, ap, sym, subst, ◌∙◌, ◌⊎◌, inl, inr, arith, if◌then◌else◌}
 use Rattle.std.specs.Prelude.{slice_get}
 use Rattle.std.proofs.lemmas.Bool.{cases_lt}
 use Rattle.std.proofs.lemmas.Bool.Decides.{nat_tests}
@@ -9,8 +9,10 @@ use Rattle.cl_tree.specs.Syntax.{Syntax, Forest, more, view, views}
 use Rattle.cl_meaning.proofs.Views.{view_out}
 use Rattle.cl_meaning.specs.Faults.{Call}
 use Rattle.cl_limits.specs.Limits.{count_nodes, called_sum, with_called, total, whole}
-use Rattle.cl_limits.specs.Kernel.{block_nodes, is_function, blocks_in, weights_of}
+use Rattle.cl_limits.specs.Heights.{is_function}
+use Rattle.cl_limits.specs.Kernel.{block_nodes, blocks_in, weights_of}
 use Rattle.cl_limits.proofs.Lists.{chosen, not_chosen, capped_at, capped_length}
+use Rattle.cl_limits.proofs.Onto.{views_dropped}
 use Rattle.cl_limits.proofs.Summing.{own_there, own_absent}
 
 pub above : (n x y cap : ℕ) → cap ≡ n + 1 → y ≡ min x cap → nat_lt n y ≡ nat_lt n x
@@ -67,11 +69,6 @@ last_block (x ∷ []) zero t h e = ap (λ u. count_nodes (view u)) (sym e)
 last_block (x ∷ []) (suc n) t h e = absurd (omega (arith, h))
 last_block (x ∷ (y ∷ ts)) zero t h e = absurd (omega (arith, h))
 last_block (x ∷ (y ∷ ts)) (suc n) t h e = last_block (y ∷ ts) n t (omega (arith, h)) e
-
-views_dropped : (ts : List Tree) (i : ℕ) (t : Tree) → i < length ts → t ≡ get_or ts i t → views (drop i ts) ≡ more (view t) (views (drop (i + 1) ts))
-views_dropped ts i t h e =
-    let one : suc i ≡ i + 1 = omega arith in
-    ap views (drop-cons ts i t h) ∙ ap (λ (u : Tree). more (view u) (views (drop (suc i) ts))) (sym e) ∙ ap (λ j. more (view t) (views (drop j ts))) one
 
 abbrev capped : ℕ → List ℕ → List ℕ
 capped most ns = map (λ n. min n most) ns

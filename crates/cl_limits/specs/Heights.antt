@@ -1,52 +1,93 @@
--- How deep barriers stand in statements. A height is 0 where there is no barrier, and else one more than the number of
--- `if`, loop and `switch` statements around the deepest one. A call stands for the body of the function that it calls.
-use Rattle.std.specs.Prelude.{ℕ, zero, suc, ◌+◌, max, List, [], ◌∷◌, length, Option, None, Some, slice_get}
-use Rattle.cl_model.specs.Tree.{Statement, Do, Declare, Fill, Block, If, Loop, Switch, Break, Continue, Return, Barrier, Statements, empty, also, Arms, no_arm, arm}
-use Rattle.cl_model.specs.Calls.{CallSite, calls_in, calls_among, calls_in_optional}
+-- How deep barriers stand in functions. A height is 0 where there is no barrier, and else one more than the number of `if`,
+-- loop and `switch` statements around the deepest one. A statement is around all of its parts: a `for` around its first
+-- part, its test and its step as around its body. A call stands for the function of that name.
+use Rattle.std.specs.Prelude.{ℕ, zero, suc, ◌+◌, max, Bool, true, false, List, [], ◌∷◌, length, Option, None, Some, slice_get, if◌then◌else◌}
+use Rattle.std.specs.Str.{bytes_eq}
+use Rattle.cl_tree.specs.declared.tree.Form.{Form}
+use Rattle.cl_tree.specs.declared.tree.Form.TheVariants as forms
+use Rattle.cl_tree.specs.Syntax.{Syntax, node, Forest, none, more}
+use Rattle.cl_meaning.specs.declared.names.Intrinsic.{Intrinsic}
+use Rattle.cl_meaning.specs.declared.names.Intrinsic.TheVariants as intrinsics
+use Rattle.cl_meaning.specs.Spelling.{name_in, intrinsic_in}
+
+-- the functions that some trees define, in order
+abbrev pub is_function : Form → Bool
+is_function forms.FunctionNode = true
+is_function form = false
+
+abbrev pub functions_among : Forest → List Syntax
+functions_among none = []
+functions_among (more (node form word first last parts) ts) = if is_function form then node form word first last parts ∷ functions_among ts else functions_among ts
+
+abbrev pub functions_in : Syntax → List Syntax
+functions_in (node form word first last parts) = functions_among parts
+
+-- ---- what a call calls
+
+abbrev pub is_barrier : Option Intrinsic → Bool
+is_barrier (Some intrinsics.Barrier) = true
+is_barrier i = false
+
+abbrev pub is_named : List ℕ → Syntax → Bool
+is_named name (node form word first last parts) = bytes_eq (name_in word) name
+
+-- the number of the first function of that name
+abbrev pub number_from : List ℕ → ℕ → List Syntax → Option ℕ
+number_from name n [] = None
+number_from name n (t ∷ ts) = if is_named name t then Some n else number_from name (suc n) ts
+
+-- the height of a function, where there is one
+abbrev pub number_height : (ℕ → ℕ) → Option ℕ → ℕ
+number_height g None = 0
+number_height g (Some f) = g f
+
+-- the height of what a name calls among some functions, where `g` is that of the function of each number
+abbrev pub called_height : (ℕ → ℕ) → List Syntax → List ℕ → ℕ
+called_height g functions name = if is_barrier (intrinsic_in name) then 1 else number_height g (number_from name 0 functions)
+
+-- ---- heights
 
 -- the height with so many statements more around it
 abbrev pub lifted : ℕ → ℕ → ℕ
 lifted n zero = 0
 lifted n (suc h) = suc h + n
 
--- the greatest height of some functions that are called
-abbrev pub highest : (ℕ → ℕ) → List CallSite → ℕ
-highest g [] = 0
-highest g (c ∷ cs) = max (g c.function) (highest g cs)
+abbrev pub is_branch : Form → Bool
+is_branch forms.IfNode = true
+is_branch forms.WhileNode = true
+is_branch forms.DoNode = true
+is_branch forms.ForNode = true
+is_branch forms.SwitchNode = true
+is_branch form = false
 
--- the height of statements, where `g` is that of the function of each number
+-- the height with a node around it
+abbrev pub inside : Bool → ℕ → ℕ
+inside true h = lifted 1 h
+inside false h = h
+
+-- the height of a node of a production without its parts, where `g` is that of what each name calls
+abbrev pub own_height : (List ℕ → ℕ) → Form → List ℕ → ℕ
+own_height g forms.CallNode word = g (name_in word)
+own_height g form word = 0
+
 abbrev mutual
-  pub height_of : (ℕ → ℕ) → Statement → ℕ
-  height_of g (Do e) = highest g (calls_in e)
-  height_of g (Declare x value) = highest g (calls_in_optional value)
-  height_of g (Fill site array values) = highest g (calls_among values)
-  height_of g (Block list) = height_of_all g list
-  height_of g (If site test chosen other) = lifted 1 (max (highest g (calls_in test)) (max (height_of_all g chosen) (height_of_all g other)))
-  height_of g (Loop site test_first test step body) = lifted 1 (max (highest g (calls_in_optional test)) (max (highest g (calls_in_optional step)) (height_of g body)))
-  height_of g (Switch site value arms) = lifted 1 (max (highest g (calls_in value)) (height_of_arms g arms))
-  height_of g (Break site) = 0
-  height_of g (Continue site) = 0
-  height_of g (Return site value) = highest g (calls_in_optional value)
-  height_of g (Barrier site) = 1
+  pub height_of : (List ℕ → ℕ) → Syntax → ℕ
+  height_of g (node form word first last parts) = inside (is_branch form) (max (own_height g form word) (height_of_all g parts))
 
-  pub height_of_all : (ℕ → ℕ) → Statements → ℕ
-  height_of_all g empty = 0
-  height_of_all g (also s rest) = max (height_of g s) (height_of_all g rest)
+  pub height_of_all : (List ℕ → ℕ) → Forest → ℕ
+  height_of_all g none = 0
+  height_of_all g (more t ts) = max (height_of g t) (height_of_all g ts)
 
-  pub height_of_arms : (ℕ → ℕ) → Arms → ℕ
-  height_of_arms g no_arm = 0
-  height_of_arms g (arm labels other body rest) = max (height_of_all g body) (height_of_arms g rest)
+-- of a function that may not be there
+abbrev pub function_height : (List ℕ → ℕ) → Option Syntax → ℕ
+function_height g None = 0
+function_height g (Some t) = height_of g t
 
--- of a body that may not be there
-abbrev pub body_height : (ℕ → ℕ) → Option Statements → ℕ
-body_height g None = 0
-body_height g (Some body) = height_of_all g body
-
--- the height of a function of these bodies, where calls nest less deep than the first number
-unfoldable pub height : ℕ → List Statements → ℕ → ℕ
-height zero bodies f = 0
-height (suc n) bodies f = body_height (height n bodies) (slice_get bodies f)
+-- the height of the function of a number among some, where calls nest less deep than the first number
+unfoldable pub height : ℕ → List Syntax → ℕ → ℕ
+height zero functions f = 0
+height (suc n) functions f = function_height (called_height (height n functions) functions) (slice_get functions f)
 
 -- in a unit without recursion calls nest less deep than there are functions
-abbrev pub full_height : List Statements → ℕ → ℕ
-full_height bodies f = height (length bodies) bodies f
+abbrev pub full_height : List Syntax → ℕ → ℕ
+full_height functions f = height (length functions) functions f

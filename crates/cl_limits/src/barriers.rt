@@ -1,13 +1,13 @@
 //! How deep barriers stand in functions with all that they call.
 
-ghost use Rattle.std.specs.Prelude.{◌≡◌, ◌+◌, ℕ, IfOk, min, max, map, length, slice_index};
-ghost use Rattle.cl_limits.specs.Heights.{lifted, full_height};
+ghost use Rattle.std.specs.Prelude.{◌≡◌, ◌+◌, ℕ, IfOk, min, max, length, slice_index};
+ghost use Rattle.cl_tree.specs.Syntax.{views};
+ghost use Rattle.cl_limits.specs.Heights.{lifted, functions_among, full_height};
 ghost use Rattle.cl_limits.specs.Rounds as rounds;
-ghost use Rattle.cl_limits.specs.View.{body_of};
 
-use crate::points::{Point, points_of};
-use crate::sums::{same_values, value_at, zeros};
-use cl_model::Function;
+use crate::points::{Point, count_functions, points_of};
+use crate::sums::{same_values, zeros};
+use cl_tree::Tree;
 use std::alloc::Global;
 use wg_num::Memory;
 
@@ -22,13 +22,23 @@ fn capped_lifted(cap: u64, around: u32, height: u64) -> u64
     }
 }
 
+/// The height of a function; 0 for one that is not there.
+fn height_at(heights: &[u64], function: usize) -> u64
+    ensures { result ≡ slice_index heights.now function }
+{
+    match heights.get(function) {
+        Some(height) => *height,
+        None => 0,
+    }
+}
+
 /// The height of what stands at a point: a barrier, or a call.
-fn point_height(heights: &[u64], called: Option<u32>) -> u64
+fn point_height(heights: &[u64], called: Option<usize>) -> u64
     ensures { result ≡ rounds.point_height heights.now called }
 {
     match called {
         None => 1,
-        Some(function) => value_at(heights, function),
+        Some(function) => height_at(heights, function),
     }
 }
 
@@ -59,16 +69,18 @@ fn next_heights(
     Ok(tops)
 }
 
-/// How deep barriers stand in each function with all that it calls, at most the cap: 0 where there is no barrier,
-/// and else one more than the number of `if`, loop and `switch` statements around the deepest one.
-pub fn heights(alloc: Global, cap: u32, functions: &[Function]) -> Result<Vec<u64>, Memory>
-    ensures size { IfOk result (λ v. length v.items ≡ length functions.now) }
-    ensures each { IfOk result (λ v. (f : ℕ) → slice_index v.items f ≡ min (full_height (map body_of functions.now) f) cap) }
+/// How deep barriers stand in each function that some trees define with all that it calls, at most the cap: 0 where
+/// there is no barrier, and else one more than the number of `if`, loop and `switch` statements around the deepest
+/// one. A barrier in any part of a statement has it around itself, the first part of a `for` too.
+pub fn heights(alloc: Global, cap: u32, trees: &[Tree]) -> Result<Vec<u64>, Memory>
+    ensures size { IfOk result (λ v. length v.items ≡ length (functions_among (views trees.now))) }
+    ensures each { IfOk result (λ v. (f : ℕ) → slice_index v.items f ≡ min (full_height (functions_among (views trees.now)) f) cap) }
 {
-    let points = points_of(alloc, cap, functions)?;
-    let mut heights = zeros(alloc, functions.len())?;
-    for _round in 0..functions.len() {
-        let next = next_heights(alloc, u64::from(cap), functions.len(), &points, &heights)?;
+    let points = points_of(alloc, cap, trees)?;
+    let count = count_functions(trees);
+    let mut heights = zeros(alloc, count)?;
+    for _round in 0..count {
+        let next = next_heights(alloc, u64::from(cap), count, &points, &heights)?;
         if same_values(&next, &heights) {
             return Ok(heights);
         }

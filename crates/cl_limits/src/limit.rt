@@ -3,18 +3,19 @@
 ghost use Rattle.std.specs.Prelude.{◌≡◌, IfOk, map, min, nat_lt, slice_get};
 ghost use Rattle.cl_tree.specs.Syntax.{view, views};
 ghost use Rattle.cl_limits.specs.Limits.{whole, private_bytes as private_bytes_of};
-ghost use Rattle.cl_limits.specs.Heights.{full_height};
+ghost use Rattle.cl_limits.specs.Heights.{functions_in, full_height};
 ghost use Rattle.cl_limits.specs.Kernel as spec;
 ghost use Rattle.cl_meaning.specs.Calls.{call_of};
-ghost use Rattle.cl_limits.specs.View.{function_of, body_of};
+ghost use Rattle.cl_limits.specs.View.{function_of};
 
 use crate::barriers::heights;
 use crate::memory::{local_bytes, private_bytes};
 use crate::nodes::count_nodes;
+use crate::points::is_function;
 use crate::sums::{totals, value_at};
 use cl_meaning::{Call, Fault};
 use cl_model::{Function, Program};
-use cl_tree::{Form, Tree};
+use cl_tree::Tree;
 use std::alloc::Global;
 use wg_num::Memory;
 
@@ -25,15 +26,6 @@ fn block_nodes(parts: &[Tree]) -> u64
     match parts {
         [] => 0,
         [.., last] => count_nodes(last),
-    }
-}
-
-fn is_function(form: Form) -> bool
-    ensures { result ≡ spec.is_function form }
-{
-    match form {
-        Form::FunctionNode => true,
-        _ => false,
     }
 }
 
@@ -91,10 +83,10 @@ fn is_private_over(
 }
 
 /// Whether more than 16 `if`, loop and `switch` statements are around a barrier of the kernel.
-fn is_too_deep(alloc: Global, functions: &[Function], kernel: u32) -> Result<bool, Memory>
-    ensures { IfOk result (λ b. b ≡ nat_lt 17 (full_height (map body_of functions.now) kernel)) }
+fn is_too_deep(alloc: Global, unit: &Tree, kernel: u32) -> Result<bool, Memory>
+    ensures { IfOk result (λ b. b ≡ nat_lt 17 (full_height (functions_in (view unit.now)) kernel)) }
 {
-    let heights = heights(alloc, 18, functions)?;
+    let heights = heights(alloc, 18, &unit.parts)?;
     Ok(17 < value_at(&heights, kernel))
 }
 
@@ -124,7 +116,7 @@ pub fn limit_of(
     if is_private_over(alloc, &program.functions, calls, program.kernel)? {
         return Ok(Some(Fault::PrivateMemory));
     }
-    if is_too_deep(alloc, &program.functions, program.kernel)? {
+    if is_too_deep(alloc, unit, program.kernel)? {
         return Ok(Some(Fault::BarriersTooDeep));
     }
     if is_local_over(&program.functions, program.kernel) {

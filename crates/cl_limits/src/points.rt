@@ -1,12 +1,14 @@
 //! Where barriers and calls stand in functions.
 
-ghost use Rattle.std.specs.Prelude.{◌≡◌, ◌++◌, ◌∷◌, [], IfOk, OnOk, map};
-ghost use Rattle.cl_model.specs.Calls.{calls_in, calls_among, calls_in_optional};
-ghost use Rattle.cl_model.specs.View.{expression_of, argument_of, listed_expressions, optional_expression, statement_of, listed_statements};
+ghost use Rattle.std.specs.Prelude.{◌≡◌, ◌++◌, ◌∷◌, [], IfOk, OnOk, length};
+ghost use Rattle.cl_tree.specs.Syntax.{view, views};
+ghost use Rattle.cl_meaning.specs.Spelling.{intrinsic_in};
+ghost use Rattle.cl_meaning.specs.Declarations.{form_of, word_of};
+ghost use Rattle.cl_limits.specs.Heights as heights;
 ghost use Rattle.cl_limits.specs.Points as spec;
-ghost use Rattle.cl_limits.specs.View.{listed_arguments, listed_arms, body_of};
 
-use cl_model::{Arg, Expr, Function, Stmt, SwitchArm, Target};
+use cl_meaning::{Intrinsic, intrinsic_of, name_of};
+use cl_tree::{Form, Tree};
 use std::alloc::Global;
 use wg_num::Memory;
 
@@ -16,7 +18,7 @@ use wg_num::Memory;
 pub struct Point {
     pub caller: usize,
     pub around: u32,
-    pub called: Option<u32>,
+    pub called: Option<usize>,
 }
 
 /// Where a walk is: in the function `caller`, with so many statements around, which are counted as far as the cap.
@@ -28,8 +30,8 @@ pub struct Spot {
 }
 
 /// The spot with one statement more around.
-fn inner(at: Spot) -> Spot
-    ensures { result ≡ spec.inner at }
+fn deeper(at: Spot) -> Spot
+    ensures { result ≡ spec.deeper at }
 {
     let around = if at.around < at.cap {
         at.around + 1
@@ -43,7 +45,71 @@ fn inner(at: Spot) -> Spot
     }
 }
 
-fn put(points: &mut Vec<Point>, at: Spot, called: Option<u32>) -> Result<(), Memory>
+/// Whether a node of that production is an `if`, a loop or a `switch`.
+fn is_branch(form: Form) -> bool
+    ensures { result ≡ heights.is_branch form }
+{
+    match form {
+        Form::IfNode | Form::WhileNode | Form::DoNode | Form::ForNode | Form::SwitchNode => true,
+        _ => false,
+    }
+}
+
+/// The spot of the parts of a node of that production.
+fn entered(at: Spot, form: Form) -> Spot
+    ensures { result ≡ spec.entered at (heights.is_branch form) }
+{
+    if is_branch(form) { deeper(at) } else { at }
+}
+
+pub fn is_function(form: Form) -> bool
+    ensures { result ≡ heights.is_function form }
+{
+    match form {
+        Form::FunctionNode => true,
+        _ => false,
+    }
+}
+
+/// How many functions some trees define.
+pub(crate) fn count_functions(trees: &[Tree]) -> usize
+    ensures { result ≡ length (heights.functions_among (views trees.now)) }
+{
+    let mut count = 0usize;
+    for tree in trees {
+        if is_function(tree.form) {
+            count += 1;
+        }
+    }
+    count
+}
+
+/// The number of the first function of that name among those that some trees define.
+fn number_of(trees: &[Tree], name: &[u8]) -> Option<usize>
+    ensures { result ≡ heights.number_from name.now 0 (heights.functions_among (views trees.now)) }
+{
+    let mut number = 0usize;
+    for tree in trees {
+        if is_function(tree.form) {
+            if name_of(tree.word.bytes()) == name {
+                return Some(number);
+            }
+            number += 1;
+        }
+    }
+    None
+}
+
+fn is_barrier(name: &[u8]) -> bool
+    ensures { result ≡ heights.is_barrier (intrinsic_in name.now) }
+{
+    match intrinsic_of(name) {
+        Some(Intrinsic::Barrier) => true,
+        _ => false,
+    }
+}
+
+fn put(points: &mut Vec<Point>, at: Spot, called: Option<usize>) -> Result<(), Memory>
     ensures { OnOk result (points.new.items ≡ points.old.items ++ spec.point_at at called ∷ []) }
 {
     let point = Point {
@@ -57,159 +123,71 @@ fn put(points: &mut Vec<Point>, at: Spot, called: Option<u32>) -> Result<(), Mem
     }
 }
 
-#[cycle(calls)]
-fn put_expressions(points: &mut Vec<Point>, at: Spot, list: &[Expr]) -> Result<(), Memory>
-    ensures { OnOk result (points.new.items ≡ spec.calls_onto at (calls_among (listed_expressions list.now)) points.old.items) }
+/// Puts the point of a call of that name behind the points; `unit` are the trees of the unit.
+fn put_call(points: &mut Vec<Point>, at: Spot, name: &[u8], unit: &[Tree]) -> Result<(), Memory>
+    ensures { OnOk result (points.new.items ≡ spec.call_onto (heights.functions_among (views unit.now)) at name.now points.old.items) }
 {
-    for e in list {
-        put_expression(points, at, e)?;
+    if is_barrier(name) {
+        return put(points, at, None);
     }
-    Ok(())
-}
-
-#[cycle(calls)]
-fn put_argument(points: &mut Vec<Point>, at: Spot, argument: &Arg) -> Result<(), Memory>
-    ensures { OnOk result (points.new.items ≡ spec.calls_onto at (calls_in (argument_of argument.now)) points.old.items) }
-{
-    match argument {
-        Arg::Value(e) => put_expression(points, at, e),
-        Arg::Offset { index, .. } => put_expression(points, at, index),
-    }
-}
-
-#[cycle(calls)]
-fn put_arguments(points: &mut Vec<Point>, at: Spot, list: &[Arg]) -> Result<(), Memory>
-    ensures { OnOk result (points.new.items ≡ spec.calls_onto at (calls_among (listed_arguments list.now)) points.old.items) }
-{
-    for argument in list {
-        put_argument(points, at, argument)?;
-    }
-    Ok(())
-}
-
-/// Puts the calls of an expression behind the points.
-#[cycle(calls)]
-#[tactic(auto, using(crate::proofs::Onto::calls_onto_both))]
-fn put_expression(points: &mut Vec<Point>, at: Spot, e: &Expr) -> Result<(), Memory>
-    ensures { OnOk result (points.new.items ≡ spec.calls_onto at (calls_in (expression_of e.now)) points.old.items) }
-{
-    match e {
-        Expr::Literal { .. } | Expr::Variable(_) => Ok(()),
-        Expr::Unary { a, .. } | Expr::Convert { a, .. } => put_expression(points, at, a),
-        Expr::Load { index, .. } => put_expression(points, at, index),
-        Expr::Ask { dim, .. } => put_expression(points, at, dim),
-        Expr::Binary { a, b, .. }
-        | Expr::Both { a, b, .. }
-        | Expr::Either { a, b, .. }
-        | Expr::Then { a, b } => {
-            put_expression(points, at, a)?;
-            put_expression(points, at, b)
-        }
-        Expr::Choose { test, yes, no, .. } => {
-            put_expression(points, at, test)?;
-            put_expression(points, at, yes)?;
-            put_expression(points, at, no)
-        }
-        Expr::Assign { target, value } | Expr::Update { target, value, .. } => {
-            if let Target::Element { index, .. } = target {
-                put_expression(points, at, index)?;
-            }
-            put_expression(points, at, value)
-        }
-        Expr::Call { function, args, .. } => {
-            put_arguments(points, at, args)?;
-            put(points, at, Some(*function))
-        }
-        Expr::Builtin { args, .. } => put_expressions(points, at, args),
-    }
-}
-
-fn put_optional(points: &mut Vec<Point>, at: Spot, e: &Option<Expr>) -> Result<(), Memory>
-    ensures { OnOk result (points.new.items ≡ spec.calls_onto at (calls_in_optional (optional_expression e.now)) points.old.items) }
-{
-    match e {
+    match number_of(unit, name) {
+        Some(number) => put(points, at, Some(number)),
         None => Ok(()),
-        Some(e) => put_expression(points, at, e),
     }
 }
 
-#[cycle(statements)]
-fn put_statements(points: &mut Vec<Point>, at: Spot, list: &[Stmt]) -> Result<(), Memory>
-    ensures { OnOk result (points.new.items ≡ spec.all_onto at (listed_statements list.now) points.old.items) }
+/// Puts the point of a node without its parts behind the points.
+fn put_own(points: &mut Vec<Point>, at: Spot, tree: &Tree, unit: &[Tree]) -> Result<(), Memory>
+    ensures { OnOk result (points.new.items ≡ spec.own_onto (heights.functions_among (views unit.now)) at (form_of (view tree.now)) (word_of (view tree.now)) points.old.items) }
 {
-    for s in list {
-        put_statement(points, at, s)?;
+    match tree.form {
+        Form::CallNode => put_call(points, at, name_of(tree.word.bytes()), unit),
+        _ => Ok(()),
+    }
+}
+
+#[cycle(points)]
+fn put_trees(
+    points: &mut Vec<Point>,
+    at: Spot,
+    trees: &[Tree],
+    unit: &[Tree],
+) -> Result<(), Memory>
+    ensures { OnOk result (points.new.items ≡ spec.all_onto (heights.functions_among (views unit.now)) at (views trees.now) points.old.items) }
+{
+    for tree in trees {
+        put_tree(points, at, tree, unit)?;
     }
     Ok(())
 }
 
-#[cycle(statements)]
-fn put_arms(points: &mut Vec<Point>, at: Spot, arms: &[SwitchArm]) -> Result<(), Memory>
-    ensures { OnOk result (points.new.items ≡ spec.arms_onto at (listed_arms arms.now) points.old.items) }
+/// Puts the points of a tree behind the points.
+#[cycle(points)]
+fn put_tree(points: &mut Vec<Point>, at: Spot, tree: &Tree, unit: &[Tree]) -> Result<(), Memory>
+    ensures { OnOk result (points.new.items ≡ spec.onto (heights.functions_among (views unit.now)) at (view tree.now) points.old.items) }
 {
-    for arm in arms {
-        put_statements(points, at, &arm.body)?;
-    }
-    Ok(())
+    let at = entered(at, tree.form);
+    put_own(points, at, tree, unit)?;
+    put_trees(points, at, &tree.parts, unit)
 }
 
-/// Puts the points of a statement behind the points.
-#[cycle(statements)]
-#[tactic(auto, using(crate::proofs::Rows::block_listed))]
-fn put_statement(points: &mut Vec<Point>, at: Spot, s: &Stmt) -> Result<(), Memory>
-    ensures { OnOk result (points.new.items ≡ spec.onto at (statement_of s.now) points.old.items) }
-{
-    match s {
-        Stmt::Do(e) => put_expression(points, at, e),
-        Stmt::Declare { value, .. } | Stmt::Return { value, .. } => {
-            put_optional(points, at, value)
-        }
-        Stmt::Fill { values, .. } => put_expressions(points, at, values),
-        Stmt::Block(list) => put_statements(points, at, list),
-        Stmt::If { test, yes, no, .. } => {
-            let at = inner(at);
-            put_expression(points, at, test)?;
-            put_statement(points, at, yes)?;
-            match no {
-                None => Ok(()),
-                Some(no) => put_statement(points, at, no),
-            }
-        }
-        Stmt::Loop {
-            test,
-            step,
-            body,
-            ..
-        } => {
-            let at = inner(at);
-            put_optional(points, at, test)?;
-            put_optional(points, at, step)?;
-            put_statement(points, at, body)
-        }
-        Stmt::Switch { value, arms, .. } => {
-            let at = inner(at);
-            put_expression(points, at, value)?;
-            put_arms(points, at, arms)
-        }
-        Stmt::Break { .. } | Stmt::Continue { .. } => Ok(()),
-        Stmt::Barrier { .. } => put(points, at, None),
-    }
-}
-
-/// The points of functions, in the order of the text; the statements around each are counted as far as the cap.
-pub fn points_of(alloc: Global, cap: u32, functions: &[Function]) -> Result<Vec<Point>, Memory>
-    ensures { IfOk result (λ v. v.items ≡ spec.bodies_onto cap 0 (map body_of functions.now) []) }
+/// The points of the functions that some trees define, in the order of the text; the statements around each are
+/// counted as far as the cap.
+pub fn points_of(alloc: Global, cap: u32, trees: &[Tree]) -> Result<Vec<Point>, Memory>
+    ensures { IfOk result (λ v. v.items ≡ spec.functions_onto (heights.functions_among (views trees.now)) cap 0 (heights.functions_among (views trees.now)) []) }
 {
     let mut points = Vec::new(alloc);
     let mut caller = 0usize;
-    for function in functions {
-        let at = Spot {
-            caller,
-            around: 0,
-            cap,
-        };
-        put_statements(&mut points, at, &function.body)?;
-        caller += 1;
+    for tree in trees {
+        if is_function(tree.form) {
+            let at = Spot {
+                caller,
+                around: 0,
+                cap,
+            };
+            put_tree(&mut points, at, tree, trees)?;
+            caller += 1;
+        }
     }
     Ok(points)
 }

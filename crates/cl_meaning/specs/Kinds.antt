@@ -320,13 +320,6 @@ abbrev pub are_flags_alone : Forest → Bool
 are_flags_alone (more e none) = are_flags e
 are_flags_alone parts = false
 
--- arguments of a name that is known without a declaration
-abbrev pub intrinsic_fits : Intrinsic → List Kind → Bool
-intrinsic_fits (intrinsics.Function f) as' = all_numbers as'
-intrinsic_fits (intrinsics.Query q) as' = all_numbers as'
-intrinsic_fits intrinsics.Barrier as' = true
-intrinsic_fits intrinsics.Fence as' = true
-
 abbrev pub intrinsic_result : Intrinsic → List Kind → Kind
 intrinsic_result (intrinsics.Function f) as' = number (result_type f (builtin_type (counted_types as')))
 intrinsic_result (intrinsics.Query q) as' = number (query_type q)
@@ -368,10 +361,11 @@ arity_fits (defined n g) count = nat_eq (length g.parameters) count
 arity_fits undefined count = true
 arity_fits (known i) count = nat_eq (intrinsic_arity i) count
 
+-- a name that is known without a declaration takes numbers, also where it is a barrier or fence
 abbrev pub call_fits : Callee → List Kind → Bool
 call_fits (defined n g) as' = arguments_fit g.parameters as'
 call_fits undefined as' = true
-call_fits (known i) as' = intrinsic_fits i as'
+call_fits (known i) as' = all_numbers as'
 
 abbrev pub call_result : Callee → List Kind → Option Kind
 call_result (defined n g) as' = result_kind g.result

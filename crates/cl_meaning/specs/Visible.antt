@@ -139,16 +139,17 @@ behind_head env p = in_owner env (record env.owner { kernel = env.owner.kernel |
 abbrev pub behind_result : Env → Syntax → Env
 behind_result env p = in_owner env (record env.owner { result = yield_of (parts_of p) })
 
--- the scope of a function's own name, where that number is one's
-abbrev pub own_scope : ℕ → Option Signature → Scope
-own_scope number None = empty_scope
-own_scope number (Some g) = with_entry empty_scope g.name (firm (function_meaning g.kernel number))
+-- The own name of a function, where that number is one's. It hides nothing: what stands for it already, as a name of the unit or
+-- one that is known without a declaration, does so in the function too.
+abbrev pub own_scope : Env → ℕ → Option Signature → Scope
+own_scope env number None = empty_scope
+own_scope env number (Some g) = if announced env g.name then with_entry empty_scope g.name (firm (function_meaning g.kernel number)) else empty_scope
 
 abbrev pub with_own : Env → Env
-with_own env = record env { scopes = env.scopes ++ own_scope env.owner.number (slice_get env.functions env.owner.number) ∷ [] }
+with_own env = record env { scopes = env.scopes ++ own_scope env env.owner.number (slice_get env.functions env.owner.number) ∷ [] }
 
--- A function is visible from its name on, which stands behind its result: in a scope of its own, around the one that its
--- parameters and its block share.
+-- A function is visible from its name on, which stands behind its result, where a prototype of it would declare it there; its
+-- parameters and its block share the scope inside.
 abbrev pub named : Env → Env
 named env = opened (with_own env)
 

@@ -7,10 +7,10 @@ ghost use Rattle.cl_meaning.specs.Declarations.{form_of};
 ghost use Rattle.cl_meaning.specs.Environment as environments;
 ghost use Rattle.cl_meaning.specs.Kinds as kinds;
 ghost use Rattle.cl_meaning.specs.Visible as spec;
-ghost use Rattle.cl_scope.specs.View.{env_of, scope_of, signature_of, labels_of, owner_of};
+ghost use Rattle.cl_scope.specs.View.{env_of, visible_in, scope_of, signature_of, labels_of, owner_of};
 
-use crate::environment::{Environment, Labels, Names, Owner};
-use crate::lookup::function_meaning;
+use crate::environment::{Environment, Labels, Names, Owner, Signature};
+use crate::lookup::{function_meaning, is_announced};
 use crate::scopes::{insert, open};
 use crate::signature::{head_sizes, is_kernel_head, yield_of};
 use cl_meaning::{Constant, Entry, Kind, constant_of, declared_of, promoted};
@@ -87,20 +87,35 @@ fn one_name(alloc: Global, name: &[u8], entry: Entry) -> Result<Names, Memory>
     Ok(scope)
 }
 
+/// The scope of the name of that function, whose number this is; it is empty where the name stands for something
+/// already.
+fn named_scope(
+    alloc: Global,
+    environment: &Environment,
+    own: &Signature,
+    number: u32,
+) -> Result<Names, Memory>
+    ensures { IfOk result (λ s. scope_of s ≡ spec.own_scope (visible_in environment.now) number (Some (signature_of own.now))) }
+{
+    let name = own.name.bytes();
+    if !is_announced(environment, name) {
+        return Ok(no_names(alloc));
+    }
+    let meaning = function_meaning(own.kernel, number);
+    let entry = Entry {
+        meaning,
+        firm: true,
+    };
+    one_name(alloc, name, entry)
+}
+
 /// The scope of the own name of the function that is around.
 fn own_scope(alloc: Global, environment: &Environment) -> Result<Names, Memory>
-    ensures { IfOk result (λ s. scope_of s ≡ spec.own_scope environment.now.owner.number (slice_get (map signature_of environment.now.functions.items) environment.now.owner.number)) }
+    ensures { IfOk result (λ s. scope_of s ≡ spec.own_scope (visible_in environment.now) environment.now.owner.number (slice_get (map signature_of environment.now.functions.items) environment.now.owner.number)) }
 {
     let number = environment.owner.number;
     match environment.functions.get(number as usize) {
-        Some(own) => {
-            let meaning = function_meaning(own.kernel, number);
-            let entry = Entry {
-                meaning,
-                firm: true,
-            };
-            one_name(alloc, own.name.bytes(), entry)
-        }
+        Some(own) => named_scope(alloc, environment, own, number),
         None => Ok(no_names(alloc)),
     }
 }
@@ -122,8 +137,8 @@ fn add_own(alloc: Global, environment: &mut Environment) -> Result<(), Memory>
     push_scope(environment, scope)
 }
 
-/// Behind the name of a function, which is visible from there on, in a scope around the one that its
-/// parameters and its block share (C99, section 6.2.1).
+/// Behind the name of a function, which is visible from there on, and hides nothing that its name stands for already;
+/// its parameters and its block share the scope inside (C99, section 6.2.1).
 fn behind_name(alloc: Global, environment: &mut Environment) -> Result<(), Memory>
     ensures { OnOk result ((places : List Place) → env_of places environment.new ≡ spec.named (env_of places environment.old)) }
 {

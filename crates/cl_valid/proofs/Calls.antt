@@ -32,7 +32,7 @@ use Rattle.cl_meaning.specs.declared.kind.Parameter.TheVariants as parameters
 use Rattle.cl_meaning.specs.declared.kind.Yield.{Yield}
 use Rattle.cl_meaning.specs.declared.kind.Yield.TheVariants as yields
 use Rattle.cl_meaning.specs.Environment.{Env, Signature, meaning_of}
-use Rattle.cl_meaning.specs.Kinds.{same_type, same_space, number, kind_of_meaning, is_number, argument_fits, arguments_fit, result_kind, all_numbers, counted, counted_types, type_of, builtin_type, intrinsic_arity, intrinsic_fits, intrinsic_result, Callee, defined, undefined, known, callee_of, callee_by, defined_at, known_as, arity_fits, call_fits, call_result, call_kind}
+use Rattle.cl_meaning.specs.Kinds.{same_type, same_space, number, kind_of_meaning, is_number, argument_fits, arguments_fit, result_kind, all_numbers, counted, counted_types, type_of, builtin_type, intrinsic_arity, intrinsic_result, Callee, defined, undefined, known, callee_of, callee_by, defined_at, known_as, arity_fits, call_fits, call_result, call_kind}
 use Rattle.cl_meaning.specs.Faults.{is_called}
 use Rattle.cl_meaning.specs.Statements.{result_of}
 use Rattle.cl_meaning.specs.Typed.{value, target, offset, variable, element, Piece}
@@ -165,7 +165,7 @@ dimension_typed P f (p ∷ ps) (k ∷ ks) h a = number_parts P f p k types.Uint 
 dimension_typed P f [] (k ∷ ks) h a = absurd h
 dimension_typed P f (p ∷ ps) [] h a = absurd h
 
-known_fits : (P : Program) (f : Function) (place : Place) (sites : List Place) (i : Intrinsic) (ps : List Piece) (ks : List Kind) → AllFit P f ps ks → nat_eq (intrinsic_arity i) (length ks) ≡ true → intrinsic_fits i ks ≡ true → KindFits P f (intrinsic_result i ks) (known_made place sites ps i).what
+known_fits : (P : Program) (f : Function) (place : Place) (sites : List Place) (i : Intrinsic) (ps : List Piece) (ks : List Kind) → AllFit P f ps ks → nat_eq (intrinsic_arity i) (length ks) ≡ true → all_numbers ks ≡ true → KindFits P f (intrinsic_result i ks) (known_made place sites ps i).what
 known_fits P f place sites (intrinsics.Function g) ps ks h n a = (builtin_fits P f g ps ks h a n, tt)
 known_fits P f place sites (intrinsics.Query q) ps ks h n a = ((types.Uint ∷ [], (dimension_typed P f ps ks h a, tt), (refl, refl)), tt)
 known_fits P f place sites intrinsics.Barrier ps ks h n a = tt

@@ -200,7 +200,7 @@ entered_by : (asked : Asked) (e : Env) (r p : Syntax) (name : List ℕ) (kernel 
 entered_by asked e r p name kernel hr hp sr sp =
     let e1 = result_env e r in
     let e2 = named_env e r in
-    let own = own_scope e1.owner.number (slice_get e1.functions e1.owner.number) in
+    let own = own_scope e1 e1.owner.number (slice_get e1.functions e1.owner.number) in
     let deep2 : is_deep e2.scopes ≡ true = deep_twice e.scopes own empty_scope in
     let x = params_made asked e2 roles.Other p hp sp in
     record {

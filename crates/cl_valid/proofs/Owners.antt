@@ -9,7 +9,7 @@ use Rattle.cl_meaning.specs.declared.kind.Entry.{Entry}
 use Rattle.cl_meaning.specs.Environment as environment
 use Rattle.cl_meaning.specs.Environment.{Env, Signature, empty_scope, with_entry, into_last}
 use Rattle.cl_meaning.specs.Declarations.{firm}
-use Rattle.cl_meaning.specs.Visible.{opened, with_own, own_scope, named, function_meaning, definition_from, defined_meaning, number_in}
+use Rattle.cl_meaning.specs.Visible.{opened, with_own, own_scope, announced, named, function_meaning, definition_from, defined_meaning, number_in}
 use Rattle.cl_valid.specs.Fits.{MeaningFits}
 use Rattle.cl_valid.proofs.Grown.{SameOuter, outer_closed, is_deep}
 use Rattle.cl_valid.proofs.Naming.{MeaningScoped}
@@ -90,9 +90,17 @@ function_scoped scope false n = tt
 pub at_own : (P : Program) (f : Function) (ms : List (List ℕ)) (scope : Scope) (env : Env) → is_deep (opened env).scopes ≡ true → OwnFits P f ms env → At P f ms scope env → At P f ms scope (named env)
 at_own P f ms scope env d own a = at_opened P f ms scope (with_own env) (named env) refl refl refl (by (slice_get env.functions env.owner.number) refl)
   where
-    by : (o : Option Signature) → slice_get env.functions env.owner.number ≡ o → At P f ms scope (record env { scopes = env.scopes ++ own_scope env.owner.number o ∷ [] })
-    by None e = at_opened P f ms scope env (record env { scopes = env.scopes ++ empty_scope ∷ [] }) refl refl refl a
-    by (Some g) e =
+    nothing : At P f ms scope (record env { scopes = env.scopes ++ empty_scope ∷ [] })
+    nothing = at_opened P f ms scope env (record env { scopes = env.scopes ++ empty_scope ∷ [] }) refl refl refl a
+
+    -- where the name stands for nothing yet, and where it does
+    by_free : (g : Signature) → slice_get env.functions env.owner.number ≡ Some g → (b : Bool) → At P f ms scope (record env { scopes = env.scopes ++ (if b then with_entry empty_scope g.name (firm (function_meaning g.kernel env.owner.number)) else empty_scope) ∷ [] })
+    by_free g e true =
         let m = function_meaning g.kernel env.owner.number in
         at_named P f ms scope (opened env) (record env { scopes = env.scopes ++ with_entry empty_scope g.name (firm m) ∷ [] }) g.name m d (sym (last_entry env.scopes g.name (firm m))) refl refl (own g e) (function_scoped scope g.kernel env.owner.number)
         (at_opened P f ms scope env (opened env) refl refl refl a)
+    by_free g e false = nothing
+
+    by : (o : Option Signature) → slice_get env.functions env.owner.number ≡ o → At P f ms scope (record env { scopes = env.scopes ++ own_scope env env.owner.number o ∷ [] })
+    by None e = nothing
+    by (Some g) e = by_free g e (announced env g.name)

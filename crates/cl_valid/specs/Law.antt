@@ -11,6 +11,7 @@ use Rattle.cl_model.specs.Lists.{Each}
 use Rattle.cl_model.specs.Valid.{IsValid}
 use Rattle.cl_tree.specs.Syntax.{Syntax}
 use Rattle.cl_tree.specs.Grammar.{SpellsUnit}
+use Rattle.cl_limits.specs.Heights.{functions_in}
 use Rattle.cl_limits.specs.Kernel.{Sized, weights_of, at_limit}
 use Rattle.cl_meaning.specs.declared.fault.Fault.{Fault}
 use Rattle.cl_meaning.specs.declared.kind.Role.{Role}
@@ -43,6 +44,7 @@ asked_of places kernel unit = record { kernel = kernel; calls = calls_of (nodes_
 abbrev pub sized_of : List Place → List ℕ → Syntax → Sized
 sized_of places kernel unit = record {
   weights = weights_of unit;
+  trees = functions_in unit;
   calls = calls_of (nodes_of places unit);
   functions = (unit_meant places kernel unit).functions;
   kernel = (unit_meant places kernel unit).kernel;

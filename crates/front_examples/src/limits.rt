@@ -1,6 +1,6 @@
 use cl_meaning::{Call, Fault};
 use cl_limits::{heights, limit_of, local_bytes, private_bytes, totals};
-use cl_model::{Array, Expr, Function, Program, Space, Stmt, Var, VarKind};
+use cl_model::{Array, Function, Program, Space, Var, VarKind};
 use cl_tree::{Form, Tree};
 use std::alloc::Global;
 use std::test::Fail;
@@ -31,93 +31,75 @@ fn array(
     })
 }
 
-fn function(heap: Global, body: Stmt) -> Result<Function, Fail> {
-    let mut list = Vec::new(heap);
-    list.push(body)?;
+fn function(heap: Global) -> Result<Function, Fail> {
     Ok(Function {
         name: word(heap, "f")?,
         params: 0,
         result: None,
         vars: Vec::new(heap),
         arrays: Vec::new(heap),
-        body: list,
+        body: Vec::new(heap),
         sizes: None,
     })
 }
 
-fn one() -> Expr {
-    Expr::Literal {
-        value: 1,
-        of: IntType::Int,
-    }
-}
-
-// A value behind a box, with what is kept beside it.
-fn boxed_beside<T: Drop, K: Drop>(heap: Global, value: T, kept: K) -> Result<(Box<T>, K), Fail> {
-    let value = Box::new(heap, value)?;
-    Ok((value, kept))
-}
-
-fn when(heap: Global, test: Expr, yes: Stmt) -> Result<Stmt, Fail> {
-    let (yes, test) = boxed_beside(heap, yes, test)?;
-    Ok(Stmt::If {
-        site: 0,
-        test,
-        yes,
-        no: None,
-    })
-}
-
-fn again(heap: Global, body: Stmt) -> Result<Stmt, Fail> {
-    let (body, _) = boxed_beside(heap, body, ())?;
-    Ok(Stmt::Loop {
-        site: 0,
-        test_first: true,
-        test: None,
-        step: None,
-        body,
-    })
-}
-
-fn call(heap: Global, function: u32) -> Expr {
-    Expr::Call {
-        site: 0,
-        function,
-        args: Vec::new(heap),
-    }
-}
-
-// A barrier with so many `if` statements around it.
-fn under(heap: Global, count: u32) -> Result<Stmt, Fail> {
-    let mut s = Stmt::Barrier { site: 0 };
-    for _ in 0..count {
-        s = when(heap, one(), s)?;
-    }
-    Ok(s)
-}
-
-fn node(heap: Global, form: Form, parts: Vec<Tree>) -> Result<Tree, Fail> {
+fn node(heap: Global, form: Form, name: &str, parts: Vec<Tree>) -> Result<Tree, Fail> {
+    let word = word(heap, name)?;
     Ok(Tree {
         form,
-        word: word(heap, "")?,
+        word,
         first: 0,
         last: 0,
         parts,
     })
 }
 
-// A unit of one function, whose block has so many nodes.
-fn unit(heap: Global, nodes: u32) -> Result<Tree, Fail> {
+fn leaf(heap: Global, form: Form, name: &str) -> Result<Tree, Fail> {
+    node(heap, form, name, Vec::new(heap))
+}
+
+fn around(heap: Global, form: Form, part: Tree) -> Result<Tree, Fail> {
     let mut parts = Vec::new(heap);
-    for _ in 1..nodes {
-        parts.push(node(heap, Form::SimpleNode, Vec::new(heap))?)?;
+    parts.push(part)?;
+    node(heap, form, "", parts)
+}
+
+fn list(heap: Global, a: Tree, b: Tree) -> Result<Vec<Tree>, Fail> {
+    let mut parts = Vec::new(heap);
+    parts.push(a)?;
+    parts.push(b)?;
+    Ok(parts)
+}
+
+fn barrier(heap: Global) -> Result<Tree, Fail> {
+    leaf(heap, Form::CallNode, "barrier ( )")
+}
+
+// A barrier with so many `if` statements around it.
+fn under(heap: Global, count: u32) -> Result<Tree, Fail> {
+    let mut tree = barrier(heap)?;
+    for _ in 0..count {
+        tree = around(heap, Form::IfNode, tree)?;
     }
-    let mut own = Vec::new(heap);
-    own.push(node(heap, Form::ParamsNode, Vec::new(heap))?)?;
-    own.push(node(heap, Form::BlockNode, parts)?)?;
-    let mut functions = Vec::new(heap);
-    functions.push(node(heap, Form::FunctionNode, own)?)?;
-    node(heap, Form::UnitNode, functions)
+    Ok(tree)
+}
+
+// A function with that block.
+fn defined(heap: Global, name: &str, block: Tree) -> Result<Tree, Fail> {
+    let parameters = leaf(heap, Form::ParamsNode, "( )")?;
+    let parts = list(heap, parameters, block)?;
+    node(heap, Form::FunctionNode, name, parts)
+}
+
+// A unit of one function, whose block has so many nodes, among them a barrier with so many `if` statements around it.
+fn unit(heap: Global, nodes: u32, count: u32) -> Result<Tree, Fail> {
+    let mut parts = Vec::new(heap);
+    parts.push(under(heap, count)?)?;
+    for _ in count + 2..nodes {
+        parts.push(leaf(heap, Form::SimpleNode, ";")?)?;
+    }
+    let block = node(heap, Form::BlockNode, "{ }", parts)?;
+    around(heap, Form::UnitNode, defined(heap, "f ( )", block)?)
 }
 
 fn program(heap: Global, function: Function) -> Result<Program, Fail> {
@@ -156,35 +138,28 @@ fn totals_count_each_call(rt: HostRuntime) -> Result<(), Fail> {
     Ok(())
 }
 
-// A function with so many `if` statements around a barrier.
-fn nested(heap: Global, count: u32) -> Result<Function, Fail> {
-    let body = under(heap, count)?;
-    function(heap, body)
-}
-
 // A function with an array of so many rows of 1,024 long values.
-fn with_array(heap: Global, count: u32, space: Space, rows: u64) -> Result<Function, Fail> {
-    let mut f = nested(heap, count)?;
+fn with_array(heap: Global, space: Space, rows: u64) -> Result<Function, Fail> {
+    let mut f = function(heap)?;
     f.arrays
         .push(array(heap, space, IntType::Long, rows, 1024)?)?;
     Ok(f)
 }
 
-// The limit that a kernel is above whose block has so many nodes.
-fn limit(heap: Global, nodes: u32, kernel: Function) -> Result<Option<Fault>, Fail> {
-    let tree = unit(heap, nodes)?;
+// The limit that a kernel is above whose block has so many nodes, with so many `if` statements around its barrier.
+fn limit(heap: Global, nodes: u32, count: u32, kernel: Function) -> Result<Option<Fault>, Fail> {
     let whole = program(heap, kernel)?;
+    let tree = unit(heap, nodes, count)?;
     Ok(limit_of(heap, &tree, &[], &whole)?)
 }
 
-// A loop around an `if` that calls function 1 in its test, and that function.
-fn calling(heap: Global) -> Result<Vec<Function>, Fail> {
-    let mut functions = Vec::new(heap);
-    let inside = when(heap, call(heap, 1), Stmt::Do(one()))?;
-    let outside = again(heap, inside)?;
-    functions.push(function(heap, outside)?)?;
-    functions.push(nested(heap, 2)?)?;
-    Ok(functions)
+// A loop around an `if` that calls `g` in its test, and `g`, whose barrier has two `if` statements around it.
+fn calling(heap: Global) -> Result<Vec<Tree>, Fail> {
+    let inside = around(heap, Form::IfNode, leaf(heap, Form::CallNode, "g ( )")?)?;
+    let outside = around(heap, Form::WhileNode, inside)?;
+    let first = defined(heap, "f ( )", outside)?;
+    let second = defined(heap, "g ( )", under(heap, 2)?)?;
+    list(heap, first, second)
 }
 
 #[test]
@@ -203,10 +178,24 @@ fn heights_stop_at_the_cap(rt: HostRuntime) -> Result<(), Fail> {
     Ok(())
 }
 
+// A `for` is around its first part; a block is not around its lines.
+#[test]
+fn heights_count_each_part_of_a_for(rt: HostRuntime) -> Result<(), Fail> {
+    let heap = rt.alloc();
+    let first = around(heap, Form::SimpleNode, barrier(heap)?)?;
+    let loop_ = node(heap, Form::ForNode, "for ( ; )", list(heap, first, leaf(heap, Form::SimpleNode, ";")?)?)?;
+    let before = around(heap, Form::SimpleNode, barrier(heap)?)?;
+    let block = node(heap, Form::BlockNode, "{ }", list(heap, before, leaf(heap, Form::ForNode, "for ( ; )")?)?)?;
+    let functions = list(heap, defined(heap, "f ( )", loop_)?, defined(heap, "g ( )", block)?)?;
+    let found = heights(heap, 18, &functions)?;
+    assert!(rt; found.as_slice() == [2, 1].as_slice());
+    Ok(())
+}
+
 #[test]
 fn memory_is_by_space(rt: HostRuntime) -> Result<(), Fail> {
     let heap = rt.alloc();
-    let mut f = with_array(heap, 0, Space::Local, 3)?;
+    let mut f = with_array(heap, Space::Local, 3)?;
     assert!(rt; local_bytes(&f) == 24576);
     assert!(rt; private_bytes(&f) == 0);
     f.vars.push(Var {
@@ -221,12 +210,12 @@ fn memory_is_by_space(rt: HostRuntime) -> Result<(), Fail> {
 // Kernels by the nodes of their block, the `if` statements around their barrier and the rows of their array, each with
 // the limit that it is above.
 const LIMITS: [(u32, u32, Option<(Space, u64)>, Option<Fault>); 8] = [
-    (3, 16, None, None),
-    (3, 17, None, Some(Fault::BarriersTooDeep)),
+    (20, 16, None, None),
+    (20, 17, None, Some(Fault::BarriersTooDeep)),
     (16384, 0, None, None),
     (16385, 17, None, Some(Fault::KernelTooLarge)),
     (3, 0, Some((Space::Private, 2)), None),
-    (3, 17, Some((Space::Private, 3)), Some(Fault::PrivateMemory)),
+    (20, 17, Some((Space::Private, 3)), Some(Fault::PrivateMemory)),
     (3, 0, Some((Space::Local, 8)), None),
     (3, 0, Some((Space::Local, 9)), Some(Fault::LocalMemory)),
 ];
@@ -236,10 +225,10 @@ fn kernels_are_limited(rt: HostRuntime) -> Result<(), Fail> {
     let heap = rt.alloc();
     for (nodes, count, array, wanted) in LIMITS {
         let kernel = match array {
-            None => nested(heap, count)?,
-            Some((space, rows)) => with_array(heap, count, space, rows)?,
+            None => function(heap)?,
+            Some((space, rows)) => with_array(heap, space, rows)?,
         };
-        assert!(rt; limit(heap, nodes, kernel)? == wanted, "at {nodes} {count}");
+        assert!(rt; limit(heap, nodes, count, kernel)? == wanted, "at {nodes} {count}");
     }
     Ok(())
 }

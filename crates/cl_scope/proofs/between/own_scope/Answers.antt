@@ -2,11 +2,9 @@ use Rattle.std.proofs.Common.{◌≡◌, Option, Some, option_map, map, slice_ge
 use Rattle.std.proofs.lemmas.Bool.Decides.{nat_tests}
 use Rattle.std.proofs.lemmas.Option.{slice_get-map, slice_get-get_or, slice_get_past}
 use Rattle.std.proofs.lemmas.Result.{IfOk-weaker}
-use Rattle.cl_meaning.specs.Environment.{Signature, with_entry, empty_scope}
-use Rattle.cl_meaning.specs.declared.kind.Meaning.{Meaning}
-use Rattle.cl_meaning.specs.Declarations.{firm}
+use Rattle.cl_meaning.specs.Environment.{Signature}
 use Rattle.cl_meaning.specs.Visible.{own_scope}
-use Rattle.cl_scope.specs.View.{signature_of}
+use Rattle.cl_scope.specs.View.{signature_of, visible_in}
 use Rattle.cl_scope.proofs.between.own_scope.Goals as goal
 
 pub returns-in-Some : goal.returns-in-Some
@@ -15,12 +13,9 @@ returns-in-Some c =
     let there : slice_get c.deref.result.now number ≡ Some c.in-Some.own.now = slice_get-get_or c.deref.result.now number c.in-Some.own.now c.in-Some.ensures.lookup.3.0 ∙ ap Some (sym (c.in-Some.ensures.lookup.3.1 c.in-Some.own.now)) in
     let own : slice_get (map signature_of c.args.environment.now.functions.items) number ≡ Some (signature_of c.in-Some.own.now) =
     ap (λ gs. slice_get (map signature_of gs) number) (sym c.deref.ensures.value) ∙ (slice_get-map signature_of c.deref.result.now number ∙ ap (λ o. option_map signature_of o) there) in
-    IfOk-weaker c.one_name.result _ _
-    (λ s h. h
-    ∙ ap (λ name. with_entry empty_scope name (firm c.function_meaning-meaning.result)) c.bytes.ensures
-    ∙ ap (λ (m : Meaning). with_entry empty_scope c.in-Some.own.now.name (firm m)) c.function_meaning-meaning.ensures
-    ∙ ap (λ (o : Option Signature). own_scope number o) (sym own))
-    c.one_name.ensures
+    IfOk-weaker c.named_scope.result _ _
+    (λ s h. h ∙ ap (λ (o : Option Signature). own_scope (visible_in c.args.environment.now) number o) (sym own))
+    c.named_scope.ensures
 
 pub returns-in-None : goal.returns-in-None
 returns-in-None c =
@@ -28,4 +23,4 @@ returns-in-None c =
     let no = c.in-None.ensures.lookup.0 in
     let past = slice_get_past c.deref.result.now number (grind (arith, nat_tests)) in
     c.no_names.ensures
-    ∙ ap (λ (o : Option Signature). own_scope number o) (sym (ap (λ gs. slice_get (map signature_of gs) number) (sym c.deref.ensures.value) ∙ (slice_get-map signature_of c.deref.result.now number ∙ ap (λ o. option_map signature_of o) past)))
+    ∙ ap (λ (o : Option Signature). own_scope (visible_in c.args.environment.now) number o) (sym (ap (λ gs. slice_get (map signature_of gs) number) (sym c.deref.ensures.value) ∙ (slice_get-map signature_of c.deref.result.now number ∙ ap (λ o. option_map signature_of o) past)))
