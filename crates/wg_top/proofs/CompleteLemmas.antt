@@ -21,14 +21,14 @@ use Rattle.wg_top.specs.Middle.{programs_in}
 use Rattle.wg_top.specs.Units.{AreCompiled, bind_refusal}
 use Rattle.wg_top.specs.Launches.{launches_in, LaunchesRan, EndsSo}
 use Rattle.wg_top.specs.Stages.{BackCause, IsRun}
-use Rattle.wg_top.specs.Causes.{Standing, Stands, Cause, BuffersLoaded, RunRead, RunStopped, RunStops, IsDone, IsTaken, Accepted, AcceptedClean, LeavesClean, HasLoops, LacksName, IsSourceFault}
+use Rattle.wg_top.specs.Causes.{Standing, Stands, ReadingFinds, Cause, BuffersLoaded, RunRead, RunStopped, RunStops, IsDone, IsReadable, IsTaken, Accepted, AcceptedClean, AcceptedRun, LeavesClean, HasLoops, LacksText, LacksName, IsSourceFault}
 use Rattle.wg_top.specs.Outcomes.{AreMade, models_in, AreDone, IsOutcomeOf}
 use Rattle.wg_top.specs.Lines.{status_of}
 use Rattle.wg_top.specs.Ends.{Outside, Ends, EndsClean}
 use Rattle.wg_front.proofs.FrontLemmas.{refused_or_unit}
 use Rattle.wg_top.specs.declared.Summary.{Summary}
 use Rattle.wg_top.proofs.LaunchLemmas.{done_only}
-use Rattle.wg_top.proofs.EndLemmas.{status_above, leaves_all}
+use Rattle.wg_top.proofs.EndLemmas.{leaves_all}
 use Rattle.wg_top.proofs.CauseLemmas.{is_done, back_cause}
 use Rattle.wg_top.proofs.CleanLemmas.{leaves_clean, never_stops}
 use Rattle.wg_top.proofs.LoopLemmas.{no_turns_of}
@@ -69,25 +69,40 @@ none_refused several ps launches before after (Turns number s) ran ends = let e 
 none_refused several ps launches before after _ ran ends = ends
 
 -- the launch file that was loaded is the one that is there
-read_text : (files : Option FileMap) (ask : Files) (text read : Text) (s : List Unit') (bytes : List ℕ) → IsTaken files ask text s → HasFileStart files ask.launch 1048577 bytes → Reads bytes ask.lanes ask.turns read → read ≡ text
+read_text : (files : Option FileMap) (ask : Files) (text read : Text) (s : List Unit') (bytes : List ℕ) → IsReadable files ask text s → HasFileStart files ask.launch 1048577 bytes → Reads bytes ask.lanes ask.turns read → read ≡ text
 read_text files ask text read s bytes all loaded is =
     same_text bytes (take 1048577 all.launch_bytes) ask read text (start_is files ask.launch 1048577 bytes all.launch_bytes all.launch_told loaded) is all.reads
 
+-- what is read is not refused while it is read
+none_unread : (files : Option FileMap) (ask : Files) (text : Text) (s : List Unit') → IsReadable files ask text s → LacksText files ask → ⊥
+none_unread files ask text s all lacks = elim lacks [
+  | inl first ↦ not_lacked files ask.source all.source_bytes all.source_told first
+  | inr second ↦ not_lacked files ask.launch all.launch_bytes all.launch_told second.2
+]
+
+pub none_found : (files : Option FileMap) (ask : Files) (text : Text) (s : List Unit') (e : RunError) → IsReadable files ask text s → ReadingFinds files ask e → ⊥
+none_found files ask text s Absent all finds = none_unread files ask text s all finds
+none_found files ask text s (Source number place) all finds =
+    let same = read_text files ask text finds.text s finds.launch_bytes all finds.launch_loaded finds.reads in
+    let bytes : finds.source_bytes ≡ take 262145 all.source_bytes = start_is files ask.source 262145 finds.source_bytes all.source_bytes all.source_told finds.source_loaded in
+    no_fault finds.source_bytes (take 262145 all.source_bytes) finds.text text s number place bytes same finds.fault all.unit all.compiled
+none_found files ask text s (Launch number) all finds =
+    let bytes : take 1048577 all.launch_bytes ≡ finds.launch_bytes = sym (start_is files ask.launch 1048577 finds.launch_bytes all.launch_bytes all.launch_told finds.launch_loaded) in
+    read_or_refused finds.launch_bytes ask.lanes ask.turns text number (subst (λ (b : List ℕ). Reads b ask.lanes ask.turns text) bytes all.reads) finds.refused
+none_found files ask text s _ all finds = finds
+
 none_lacked : (files : Option FileMap) (ask : Files) (text : Text) (s : List Unit') → IsTaken files ask text s → LacksName files ask → ⊥
 none_lacked files ask text s all lacks = elim lacks [
-  | inl texts ↦ elim texts [
-    | inl first ↦ not_lacked files ask.source all.source_bytes all.source_told first
-    | inr second ↦ not_lacked files ask.launch all.launch_bytes all.launch_told second.2
-  ]
+  | inl texts ↦ none_unread files ask text s all.readable texts
   | inr third ↦
-      let same : third.0 ≡ text = read_text files ask text third.0 s third.2.read.launch_bytes all third.2.read.launch_loaded third.2.read.reads in
+      let same : third.0 ≡ text = read_text files ask text third.0 s third.2.read.launch_bytes all.readable third.2.read.launch_loaded third.2.read.reads in
       let one : LacksOneFile files (loads_of text.buffers) = subst (λ (t : Text). LacksOneFile files (loads_of t.buffers)) same third.3 in
       let told = all.buffers_told one.name one.is_load in
       not_lacked files one.name told.0 told.1 one.lacks
 ]
 
 -- what was read is what is there
-same_read : (files : Option FileMap) (ask : Files) (text other : Text) (s t : List Unit') → IsTaken files ask text s → RunRead files ask other t → (other ≡ text) × (t ≡ s)
+same_read : (files : Option FileMap) (ask : Files) (text other : Text) (s t : List Unit') → IsReadable files ask text s → RunRead files ask other t → (other ≡ text) × (t ≡ s)
 same_read files ask text other s t all read =
     let same : other ≡ text = read_text files ask text other s read.launch_bytes all read.launch_loaded read.reads in
     let bytes : read.source_bytes ≡ take 262145 all.source_bytes = start_is files ask.source 262145 read.source_bytes all.source_bytes all.source_told read.source_loaded in
@@ -100,7 +115,7 @@ stopped_of files ask e x = record { text = x.text; units = x.units; read = x.rea
 -- no launch of theirs is refused
 none_stopped : (files : Option FileMap) (ask : Files) (text : Text) (s : List Unit') (e : RunError) → Accepted files ask text s → RunStops files ask e → ⊥
 none_stopped files ask text s e all x =
-    let same = same_read files ask text x.text s x.units all.taken x.read in
+    let same = same_read files ask text x.text s x.units all.taken.readable x.read in
     let before = x.stops.stopped.before in
     let loaded : BuffersLoaded files text before = subst (λ (t : Text). BuffersLoaded files t before) same.0 x.stops.stopped.loaded in
     let ends : EndsSo text.several (programs_in text s) (launches_in text) before e = subst (λ (us : List Unit'). EndsSo text.several (programs_in text us) (launches_in text) before e) same.1 (subst (λ (t : Text). EndsSo t.several (programs_in t x.units) (launches_in t) before e) same.0 x.stops.stopped.ends) in
@@ -110,41 +125,45 @@ none_stopped files ask text s e all x =
 -- and none of clean launches
 none_unclean : (files : Option FileMap) (ask : Files) (text : Text) (s : List Unit') (e : RunError) → AcceptedClean files ask text s → RunStops files ask e → ⊥
 none_unclean files ask text s e all x =
-    let same = same_read files ask text x.text s x.units all.taken x.read in
+    let same = same_read files ask text x.text s x.units all.taken.readable x.read in
     let before = x.stops.stopped.before in
     let loaded : BuffersLoaded files text before = subst (λ (t : Text). BuffersLoaded files t before) same.0 x.stops.stopped.loaded in
     let outcome : IsOutcomeOf (models_in s) (launches_in text) before e = subst (λ (us : List Unit'). IsOutcomeOf (models_in us) (launches_in text) before e) same.1 (subst (λ (t : Text). IsOutcomeOf (models_in x.units) (launches_in t) before e) same.0 x.stops.outcome) in
     never_stops s (launches_in text) before e (subst (λ (us : List Unit'). AreMade us) same.1 x.stops.made) (all.clean before loaded) outcome
 
-complete : (old new : Standing) (ask : Files) (text : Text) (s : List Unit') (e : RunError) (n : ℕ) → IsTaken old.files ask text s → ((d : RunError) → RunStops old.files ask d → ⊥) → (Rose old.faults new.faults → ⊥) → n ≡ status_of e → Cause old new ask e → (n ≡ 0) ⊎ (n ≡ 8)
-complete old new ask text s Failed n all never quiet is cause = absurd (quiet cause)
-complete old new ask text s Absent n all never quiet is cause = absurd (none_lacked old.files ask text s all cause.1)
-complete old new ask text s (Source number place) n all never quiet is cause =
-    let same = read_text old.files ask text cause.text s cause.launch_bytes all cause.launch_loaded cause.reads in
-    let bytes : cause.source_bytes ≡ take 262145 all.source_bytes = start_is old.files ask.source 262145 cause.source_bytes all.source_bytes all.source_told cause.source_loaded in
-    absurd (no_fault cause.source_bytes (take 262145 all.source_bytes) cause.text text s number place bytes same cause.fault all.unit all.compiled)
-complete old new ask text s (Launch number) n all never quiet is cause = absurd (elim cause [
-  | inl unread ↦
-      let bytes : take 1048577 all.launch_bytes ≡ unread.launch_bytes = sym (start_is old.files ask.launch 1048577 unread.launch_bytes all.launch_bytes all.launch_told unread.launch_loaded) in
-      read_or_refused unread.launch_bytes ask.lanes ask.turns text number (subst (λ (b : List ℕ). Reads b ask.lanes ask.turns text) bytes all.reads) unread.refused
+-- a refusal without a fault of the store is another than that
+pub not_failed : (old new : Standing) (ask : Files) (e : RunError) → (Rose old.faults new.faults → ⊥) → Cause old new ask e → e ≡ Failed → ⊥
+not_failed old new ask e quiet cause is = quiet (subst (λ (x : RunError). Cause old new ask x) is cause)
+
+complete : (old new : Standing) (ask : Files) (text : Text) (s : List Unit') (e : RunError) (n : ℕ) → IsTaken old.files ask text s → ((d : RunError) → RunStops old.files ask d → ⊥) → (e ≡ Failed → ⊥) → n ≡ status_of e → Cause old new ask e → n ≡ 8
+complete old new ask text s Failed n all never other is cause = absurd (other refl)
+complete old new ask text s Absent n all never other is cause = absurd (none_lacked old.files ask text s all cause.1)
+complete old new ask text s (Source number place) n all never other is cause = absurd (none_found old.files ask text s (Source number place) all.readable cause)
+complete old new ask text s (Launch number) n all never other is cause = absurd (elim cause [
+  | inl unread ↦ none_found old.files ask text s (Launch number) all.readable unread
   | inr unbound ↦
-      let same = read_text old.files ask text unbound.text s unbound.read.launch_bytes all unbound.read.launch_loaded unbound.read.reads in
-      let bytes : unbound.read.source_bytes ≡ take 262145 all.source_bytes = start_is old.files ask.source 262145 unbound.read.source_bytes all.source_bytes all.source_told unbound.read.source_loaded in
-      let units : unbound.units ≡ s = same_units unbound.read.source_bytes (take 262145 all.source_bytes) unbound.text text unbound.units s bytes same unbound.read.compiled all.compiled in
-      let e : Some number ≡ None = sym unbound.refused ∙ (ap₂ bind_refusal same units ∙ all.accepted) in
+      let same = same_read old.files ask text unbound.text s unbound.units all.readable unbound.read in
+      let e : Some number ≡ None = sym unbound.refused ∙ (ap₂ bind_refusal same.0 same.1 ∙ all.accepted) in
       let never : ⊥ = cc e in never
 ])
-complete old new ask text s (Range launch several group item place) n all never quiet is cause = absurd (never (Range launch several group item place) cause)
-complete old new ask text s (Parted launch several group item place) n all never quiet is cause = absurd (never (Parted launch several group item place) cause)
-complete old new ask text s (Turns launch several) n all never quiet is cause = absurd (never (Turns launch several) cause)
-complete old new ask text s Memory n all never quiet is cause = inr is
+complete old new ask text s (Range launch several group item place) n all never other is cause = absurd (never (Range launch several group item place) cause)
+complete old new ask text s (Parted launch several group item place) n all never other is cause = absurd (never (Parted launch several group item place) cause)
+complete old new ask text s (Turns launch several) n all never other is cause = absurd (never (Turns launch several) cause)
+complete old new ask text s Memory n all never other is cause = is
 
-pub ends_complete : (old new : Outside) (ask : Files) (text : Text) (s : List Unit') (n : ℕ) → Ends old new ask n → Accepted old.store.files ask text s → (Rose old.store.faults new.store.faults → ⊥) → (Rose old.out.faults new.out.faults → ⊥) → (n ≡ 0) ⊎ (n ≡ 8)
-ends_complete old new ask text s n ends all quiet out_quiet = elim ends [
+-- of a run that is accepted
+pub run_complete : (old new : Standing) (ask : Files) (e : RunError) (n : ℕ) → AcceptedRun old.files ask → (e ≡ Failed → ⊥) → n ≡ status_of e → Cause old new ask e → n ≡ 8
+run_complete old new ask e n all other is cause = elim (all.2) [
+  | inl done ↦ complete old new ask all.0 all.1 e n done.taken (λ d stops. none_stopped old.files ask all.0 all.1 d done stops) other is cause
+  | inr clean ↦ complete old new ask all.0 all.1 e n clean.taken (λ d stops. none_unclean old.files ask all.0 all.1 d clean stops) other is cause
+]
+
+pub ends_complete : (old new : Outside) (ask : Files) (n : ℕ) → Ends old new ask n → AcceptedRun old.store.files ask → (Rose old.store.faults new.store.faults → ⊥) → (Rose old.out.faults new.out.faults → ⊥) → (n ≡ 0) ⊎ (n ≡ 8)
+ends_complete old new ask n ends all quiet out_quiet = elim ends [
   | inl done ↦ inl done.status_is
   | inr more ↦ elim more [
     | inl unsaid ↦ absurd (out_quiet unsaid.failed)
-    | inr refused ↦ complete old.store new.store ask text s refused.error n all.taken (λ e stops. none_stopped old.store.files ask text s e all stops) quiet refused.status_is refused.cause
+    | inr refused ↦ inr (run_complete old.store new.store ask refused.error n all (not_failed old.store new.store ask refused.error quiet refused.cause) refused.status_is refused.cause)
   ]
 ]
 
@@ -153,7 +172,7 @@ ends_complete old new ask text s n ends all quiet out_quiet = elim ends [
 -- what a run of clean launches leaves
 done_clean : (old new : Option FileMap) (ask : Files) (text : Text) (s : List Unit') (summary : Summary) → AcceptedClean old ask text s → IsDone old new ask summary → LeavesClean old new text s
 done_clean old new ask text s summary all done =
-    let same = same_read old ask text done.text s done.units all.taken done.read.read in
+    let same = same_read old ask text done.text s done.units all.taken.readable done.read.read in
     let before = done.run.before in
     let loaded : BuffersLoaded old text before = subst (λ (t : Text). BuffersLoaded old t before) same.0 done.run.loaded in
     let ran : AreDone (models_in s) (launches_in text) before done.after = subst (λ (us : List Unit'). AreDone (models_in us) (launches_in text) before done.after) same.1 (subst (λ (t : Text). AreDone (models_in done.units) (launches_in t) before done.after) same.0 done.run.outcome) in
@@ -168,10 +187,7 @@ done_clean old new ask text s summary all done =
 
 -- a refusal of clean launches is want of memory
 refused_clean : (old new : Standing) (ask : Files) (text : Text) (s : List Unit') (e : RunError) (n : ℕ) → AcceptedClean old.files ask text s → (Rose old.faults new.faults → ⊥) → n ≡ status_of e → Cause old new ask e → n ≡ 8
-refused_clean old new ask text s e n all quiet is cause = elim (complete old new ask text s e n all.taken (λ d stops. none_unclean old.files ask text s d all stops) quiet is cause) [
-  | inl zero ↦ absurd ((status_above e n is).0 zero)
-  | inr eight ↦ eight
-]
+refused_clean old new ask text s e n all quiet is cause = complete old new ask text s e n all.taken (λ d stops. none_unclean old.files ask text s d all stops) (not_failed old new ask e quiet cause) is cause
 
 -- a status says which
 is_memory : (e : RunError) → status_of e ≡ 8 → e ≡ Memory

@@ -24,7 +24,7 @@ use Rattle.wg_top.specs.Launches.{launches_in, LaunchesRan, EndsBehind, EndsSo}
 use Rattle.wg_top.specs.Causes.{Standing, SourceLoaded, LaunchLoaded, RunRead, RunBound, BuffersLoaded, TextRefused, BindRefused, SourceRefused, RunStopped, Finds, Cause, IsDone}
 use Rattle.wg_top.specs.Lines.{status_of}
 use Rattle.wg_top.specs.Ends.{Outside, Ends}
-use Rattle.wg_top.proofs.CompleteLemmas.{same_text, same_units, no_fault, none_refused, stopped_of}
+use Rattle.wg_top.proofs.CompleteLemmas.{same_text, same_units, no_fault, none_refused, stopped_of, not_failed}
 use Rattle.wg_top.proofs.LaunchLemmas.{one_end}
 use Rattle.wg_top.proofs.EndLemmas.{status_above}
 
@@ -51,19 +51,19 @@ status_at files ask (stopped xe x) = status_of xe
 status_at files ask (fits xt xs xr xb xa xl x) = 0
 
 -- a name that is absent was not loaded
-lacks_loaded : (fs : FileMap) (name : List ℕ) (most : ℕ) (bytes : List ℕ) → LacksFile (Some fs) name → HasFileStart (Some fs) name most bytes → ⊥
+pub lacks_loaded : (fs : FileMap) (name : List ℕ) (most : ℕ) (bytes : List ℕ) → LacksFile (Some fs) name → HasFileStart (Some fs) name most bytes → ⊥
 lacks_loaded fs name most bytes lacks loaded = let e : option_map (take most) None ≡ Some bytes = subst (λ (o : Option (List ℕ)). option_map (take most) o ≡ Some bytes) lacks loaded in cc
 
 -- what is loaded of one file is the same
 same_start : (fs : FileMap) (name : List ℕ) (most : ℕ) (bytes others : List ℕ) → HasFileStart (Some fs) name most bytes → HasFileStart (Some fs) name most others → bytes ≡ others
 same_start fs name most bytes others a b = let e : Some bytes ≡ Some others = sym a ∙ b in cc
 
-launch_differs : (fs : FileMap) (ask : Files) (number : ℕ) (bytes : List ℕ) (text : Text) → TextRefused (Some fs) ask number → LaunchLoaded (Some fs) ask.launch bytes → Reads bytes ask.lanes ask.turns text → ⊥
+pub launch_differs : (fs : FileMap) (ask : Files) (number : ℕ) (bytes : List ℕ) (text : Text) → TextRefused (Some fs) ask number → LaunchLoaded (Some fs) ask.launch bytes → Reads bytes ask.lanes ask.turns text → ⊥
 launch_differs fs ask number bytes text refused loaded reads =
     let same : bytes ≡ refused.launch_bytes = same_start fs ask.launch 1048577 bytes refused.launch_bytes loaded refused.launch_loaded in
     read_or_refused refused.launch_bytes ask.lanes ask.turns text number (subst (λ (b : List ℕ). Reads b ask.lanes ask.turns text) same reads) refused.refused
 
-source_differs : (fs : FileMap) (ask : Files) (number : ℕ) (place : Place) (text : Text) (s : List Unit') → SourceRefused (Some fs) ask number place → RunRead (Some fs) ask text s → ⊥
+pub source_differs : (fs : FileMap) (ask : Files) (number : ℕ) (place : Place) (text : Text) (s : List Unit') → SourceRefused (Some fs) ask number place → RunRead (Some fs) ask text s → ⊥
 source_differs fs ask number place text s refused read =
     let same = same_text refused.launch_bytes read.launch_bytes ask refused.text text (same_start fs ask.launch 1048577 refused.launch_bytes read.launch_bytes refused.launch_loaded read.launch_loaded) refused.reads read.reads in
     let bytes = same_start fs ask.source 262145 refused.source_bytes read.source_bytes refused.source_loaded read.source_loaded in
@@ -268,29 +268,30 @@ one_status fs ask e d a b =
     sym x.1 ∙ (agree_on fs ask x.0 y.0 ∙ y.1)
 
 -- a run that is done is not refused
-no_status : (fs : FileMap) (new : Option FileMap) (ask : Files) (summary : Summary) (e : RunError) → IsDone (Some fs) new ask summary → Finds (Some fs) ask e → ⊥
+pub no_status : (fs : FileMap) (new : Option FileMap) (ask : Files) (summary : Summary) (e : RunError) → IsDone (Some fs) new ask summary → Finds (Some fs) ask e → ⊥
 no_status fs new ask summary e done finds =
     let x = found_done (Some fs) new ask summary done in
     let y = found (Some fs) ask e finds in
     let zero : 0 ≡ status_of e = sym x.1 ∙ (agree_on fs ask x.0 y.0 ∙ y.1) in
     (status_above e (status_of e) refl).0 (sym zero)
 
-refusal : (fs : FileMap) (old new : Standing) (ask : Files) (e d : RunError) (n : ℕ) → old.files ≡ Some fs → Finds (Some fs) ask e → (Rose old.faults new.faults → ⊥) → n ≡ status_of d → Cause old new ask d → (n ≡ status_of e) ⊎ (n ≡ 8)
-refusal fs old new ask e Failed n told finds quiet is cause = absurd (quiet cause)
-refusal fs old new ask e Absent n told finds quiet is cause = inl (is ∙ one_status fs ask Absent e (subst (λ (f : Option FileMap). Finds f ask Absent) told cause.1) finds)
-refusal fs old new ask e (Source number place) n told finds quiet is cause = inl (is ∙ one_status fs ask (Source number place) e (subst (λ (f : Option FileMap). Finds f ask (Source number place)) told cause) finds)
-refusal fs old new ask e (Launch number) n told finds quiet is cause = inl (is ∙ one_status fs ask (Launch number) e (subst (λ (f : Option FileMap). Finds f ask (Launch number)) told cause) finds)
-refusal fs old new ask e (Range launch several group item place) n told finds quiet is cause = inl (is ∙ one_status fs ask (Range launch several group item place) e (subst (λ (f : Option FileMap). Finds f ask (Range launch several group item place)) told (stopped_of old.files ask (Range launch several group item place) cause)) finds)
-refusal fs old new ask e (Parted launch several group item place) n told finds quiet is cause = inl (is ∙ one_status fs ask (Parted launch several group item place) e (subst (λ (f : Option FileMap). Finds f ask (Parted launch several group item place)) told (stopped_of old.files ask (Parted launch several group item place) cause)) finds)
-refusal fs old new ask e (Turns launch several) n told finds quiet is cause = inl (is ∙ one_status fs ask (Turns launch several) e (subst (λ (f : Option FileMap). Finds f ask (Turns launch several)) told (stopped_of old.files ask (Turns launch several) cause)) finds)
-refusal fs old new ask e Memory n told finds quiet is cause = inr is
+-- a refusal has the status of what is found, or is want of memory
+pub refusal : (fs : FileMap) (old new : Standing) (ask : Files) (e d : RunError) (n : ℕ) → old.files ≡ Some fs → Finds (Some fs) ask e → (d ≡ Failed → ⊥) → n ≡ status_of d → Cause old new ask d → (n ≡ status_of e) ⊎ (n ≡ 8)
+refusal fs old new ask e Failed n told finds other is cause = absurd (other refl)
+refusal fs old new ask e Absent n told finds other is cause = inl (is ∙ one_status fs ask Absent e (subst (λ (f : Option FileMap). Finds f ask Absent) told cause.1) finds)
+refusal fs old new ask e (Source number place) n told finds other is cause = inl (is ∙ one_status fs ask (Source number place) e (subst (λ (f : Option FileMap). Finds f ask (Source number place)) told cause) finds)
+refusal fs old new ask e (Launch number) n told finds other is cause = inl (is ∙ one_status fs ask (Launch number) e (subst (λ (f : Option FileMap). Finds f ask (Launch number)) told cause) finds)
+refusal fs old new ask e (Range launch several group item place) n told finds other is cause = inl (is ∙ one_status fs ask (Range launch several group item place) e (subst (λ (f : Option FileMap). Finds f ask (Range launch several group item place)) told (stopped_of old.files ask (Range launch several group item place) cause)) finds)
+refusal fs old new ask e (Parted launch several group item place) n told finds other is cause = inl (is ∙ one_status fs ask (Parted launch several group item place) e (subst (λ (f : Option FileMap). Finds f ask (Parted launch several group item place)) told (stopped_of old.files ask (Parted launch several group item place) cause)) finds)
+refusal fs old new ask e (Turns launch several) n told finds other is cause = inl (is ∙ one_status fs ask (Turns launch several) e (subst (λ (f : Option FileMap). Finds f ask (Turns launch several)) told (stopped_of old.files ask (Turns launch several) cause)) finds)
+refusal fs old new ask e Memory n told finds other is cause = inr is
 
 told_exact : (fs : FileMap) (old new : Outside) (ask : Files) (e : RunError) (n : ℕ) → old.store.files ≡ Some fs → Ends old new ask n → Finds (Some fs) ask e → (Rose old.store.faults new.store.faults → ⊥) → (n ≡ status_of e) ⊎ (n ≡ 8)
 told_exact fs old new ask e n told ends finds quiet = elim ends [
   | inl done ↦ absurd (no_status fs new.store.files ask done.summary e (subst (λ (f : Option FileMap). IsDone f new.store.files ask done.summary) told done.done) finds)
   | inr more ↦ elim more [
     | inl unsaid ↦ absurd (no_status fs new.store.files ask unsaid.summary e (subst (λ (f : Option FileMap). IsDone f new.store.files ask unsaid.summary) told unsaid.done) finds)
-    | inr refused ↦ refusal fs old.store new.store ask e refused.error n told finds quiet refused.status_is refused.cause
+    | inr refused ↦ refusal fs old.store new.store ask e refused.error n told finds (not_failed old.store new.store ask refused.error quiet refused.cause) refused.status_is refused.cause
   ]
 ]
 

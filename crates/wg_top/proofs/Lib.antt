@@ -17,6 +17,7 @@ pub mod ShownLemmas
 pub mod WordLemmas
 pub mod RunLemmas
 pub mod ExactLemmas
+pub mod AskedLemmas
 pub mod MiddleLemmas
 pub mod ErasedLemmas
 pub mod PassLemmas

@@ -32,6 +32,7 @@ use Rattle.ctx_plan.specs.Planned.{Planned}
 use Rattle.lane_code.specs.declared.end.RunEnd.{RunEnd}
 use Rattle.lane_code.specs.declared.end.RunEnd.TheVariants as run
 use Rattle.lane_code.specs.Fits.{LaunchFits}
+use Rattle.lane_code.specs.Listing.{listing_text}
 use Rattle.lane_code.specs.Program.{Plain}
 use Rattle.lane_code.specs.Run.{RunEnded}
 use Rattle.lane_code.specs.View.{plain_of}
@@ -48,6 +49,7 @@ use Rattle.wg_top.specs.Compiled.{IsCompiledFrom}
 use Rattle.wg_top.specs.Described.{IsCompiledAt}
 use Rattle.wg_top.specs.Outcome.{IsOutcome, EndsInOutcomes}
 use Rattle.wg_top.specs.Outcomes.{AreMade, IsCompiledTo, AreCompiledTo, models_in, AreDone, EndBehind, IsOutcomeOf}
+use Rattle.wg_top.specs.Shown.{code_shown}
 use Rattle.wg_top.specs.Launches.{launch_end, launches_in, LaunchRan, LaunchesRan, EndsBehind, EndsSo, site_place, start_place}
 use Rattle.wg_top.proofs.MeaningLemmas.{end_like}
 use Rattle.wg_top.proofs.SumLemmas.{sum-append}
@@ -160,6 +162,11 @@ compiled_to width c name passes valid named = record {
   compiled =
       subst (λ (n : List ℕ). IsCompiledFrom (program_of (unit_of c.program)) n (varying_of (program_of (unit_of c.program))) (kernel_in (unit_of c.program)) (plan_in (unit_of c.program)) passes.lanes n (plain_of c.group)) named (passes.whole valid);
 }
+
+-- and its listing
+pub code_text_of : (width : ℕ) (c : Compiled) (text : List ℕ) → IsCompiledAt width c → IsValid (program_of (unit_of c.program)) → text ≡ listing_text c.group.kernel (plain_of c.group) → code_shown width c.group.kernel (unit_of c.program) text
+unfolding compiled_to
+code_text_of width c text passes valid is = (compiled_to width c c.group.kernel passes valid refl, is)
 
 compiled_each : (width : ℕ) (cs : List Compiled) (parts : List Part) → AllAt (IsCompiledAt width) cs → AllAt (λ c. IsValid (program_of (unit_of c.program))) cs → map (λ c. c.group.kernel) cs ≡ map (λ p. p.kernel) parts → AreCompiledTo width parts (map (λ c. unit_of c.program) cs)
 compiled_each width [] [] passes valid named = tt

@@ -140,6 +140,13 @@ Finds files ask (Parted launch several group item place) = RunStopped files ask 
 Finds files ask (Turns launch several) = RunStopped files ask (Turns launch several)
 Finds files ask Memory = ⊥
 
+-- the same of a command that runs nothing
+abbrev pub ReadingFinds : Option FileMap → Files → RunError → Type 0
+ReadingFinds files ask Absent = LacksText files ask
+ReadingFinds files ask (Source number place) = SourceRefused files ask number place
+ReadingFinds files ask (Launch number) = TextRefused files ask number
+ReadingFinds files ask _ = ⊥
+
 -- the cause of each refusal
 abbrev pub Cause : Standing → Standing → Files → RunError → Type 0
 Cause old new ask Failed = Rose old.faults new.faults
@@ -196,16 +203,20 @@ pub record IsDone (old new : Option FileMap) (ask : Files) (summary : Summary) :
   pub groups : summary.groups ≡ all_groups (launches_in text)
   pub items : summary.items ≡ all_items (launches_in text)
 
--- the store tells its files, has those that the run loads, the source has a unit and the launches' kernels, and no condition stands on the launch file
-pub record IsTaken (files : Option FileMap) (ask : Files) (text : Text) (units : List Unit') : Type 0 where
+-- the store tells its files, has the source and the launch file, no condition stands on what the launch file says, and the source has a unit and the launches' kernels
+pub record IsReadable (files : Option FileMap) (ask : Files) (text : Text) (units : List Unit') : Type 0 where
   pub source_bytes : List ℕ
   pub launch_bytes : List ℕ
   pub source_told : told_file files ask.source ≡ Some (Some source_bytes)
   pub launch_told : told_file files ask.launch ≡ Some (Some launch_bytes)
-  pub buffers_told : (name : List ℕ) → Contains (loads_of text.buffers) (Some name) → (bytes : List ℕ) × (told_file files name ≡ Some (Some bytes))
   pub reads : Reads (take 1048577 launch_bytes) ask.lanes ask.turns text
   pub unit : HasUnit (take 262145 source_bytes) text.defines
   pub compiled : AreCompiled (take 262145 source_bytes) text.defines text.list units
+
+-- besides, the store has the files that the buffers load, and no condition stands on the launches
+pub record IsTaken (files : Option FileMap) (ask : Files) (text : Text) (units : List Unit') : Type 0 where
+  pub readable : IsReadable files ask text units
+  pub buffers_told : (name : List ℕ) → Contains (loads_of text.buffers) (Some name) → (bytes : List ℕ) × (told_file files name ≡ Some (Some bytes))
   pub accepted : bind_refusal text units ≡ None
 
 -- besides, each launch is done on the buffers that those before it leave
@@ -217,6 +228,10 @@ pub record Accepted (files : Option FileMap) (ask : Files) (text : Text) (units 
 pub record AcceptedClean (files : Option FileMap) (ask : Files) (text : Text) (units : List Unit') : Type 0 where
   pub taken : IsTaken files ask text units
   pub clean : (before : List (List ℕ)) → BuffersLoaded files text before → AreClean (models_in units) (launches_in text) before
+
+-- what a run loads is there and accepted, and its launches are done, by what their group programs mean or since they are clean
+abbrev pub AcceptedRun : Option FileMap → Files → Type 0
+AcceptedRun files ask = (text : Text) × (units : List Unit') × (Accepted files ask text units ⊎ AcceptedClean files ask text units)
 
 -- every interleaving of the launches leaves these buffers, which are saved, each whole; all names that are not saved are as before
 pub record LeavesClean (old new : Option FileMap) (text : Text) (units : List Unit') : Type 0 where

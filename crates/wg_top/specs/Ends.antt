@@ -1,5 +1,5 @@
 -- How the call ends.
-use Rattle.std.specs.Prelude.{◌≡◌, ◌⊎◌, ℕ, List, Option, codes}
+use Rattle.std.specs.Prelude.{◌≡◌, ◌⊎◌, ⊤, ℕ, List, Option, Some, codes, is_some, true}
 use Rattle.std.specs.Io.KnownBytes.{Appends}
 use Rattle.wg_outside.specs.Counts.{Rose}
 use Rattle.wg_outside.specs.Files.{FileMap}
@@ -10,10 +10,10 @@ use Rattle.command_words.specs.Command.{Files, Request, run, plan, code, sample,
 use Rattle.wg_top.specs.declared.Summary.{Summary}
 use Rattle.launch_file.specs.Texts.{Text}
 use Rattle.cl_meaning.specs.Typed.{Unit'}
-use Rattle.wg_top.specs.Causes.{Standing, standing, Cause, ReadingCause, RunRead, LeavesFiles, IsDone, LeavesClean}
+use Rattle.wg_top.specs.Causes.{Standing, standing, Finds, ReadingFinds, Cause, ReadingCause, RunRead, LeavesFiles, IsDone, IsReadable, AcceptedRun, LeavesClean}
 use Rattle.wg_top.specs.Outcomes.{AreMade, AreCompiledTo}
 use Rattle.wg_top.specs.Shown.{Showing, plan_shown, code_shown, Shows}
-use Rattle.wg_top.specs.Sample.{IsSample, SampleCause}
+use Rattle.wg_top.specs.Sample.{sample_files, sample_ask, IsSample, SampleCause}
 use Rattle.wg_top.specs.Lines.{IsSaid, done_line, sample_line, error_line, status_of}
 
 -- a sink at one moment
@@ -170,6 +170,27 @@ EndsAsked old new (run ask) status = Ends old new ask status
 EndsAsked old new (plan ask) status = EndsShowing old new ask plan_shown status
 EndsAsked old new (code ask) status = EndsShowing old new ask code_shown status
 EndsAsked old new (sample number) status = (new.store ≡ old.store) × EndsSample old.out new.out old.err new.err number status
+
+-- what a command loads is there and accepted, and the launches of a run are done; the sample has files of its own
+abbrev pub AcceptedFor : Option FileMap → Request → Type 0
+AcceptedFor files (run ask) = AcceptedRun files ask
+AcceptedFor files (plan ask) = (text : Text) × (units : List Unit') × IsReadable files ask text units
+AcceptedFor files (code ask) = (text : Text) × (units : List Unit') × IsReadable files ask text units
+AcceptedFor files (sample number) = AcceptedRun (Some (sample_files number)) sample_ask
+
+-- files that are told decide that a command is refused so, faults and want of memory aside; those of the sample are its own
+abbrev pub FindsFor : Option FileMap → Request → RunError → Type 0
+FindsFor files (run ask) error = (is_some files ≡ true) × Finds files ask error
+FindsFor files (plan ask) error = (is_some files ≡ true) × ReadingFinds files ask error
+FindsFor files (code ask) error = (is_some files ≡ true) × ReadingFinds files ask error
+FindsFor files (sample number) error = Finds (Some (sample_files number)) sample_ask error
+
+-- no fault of the store rose, which the sample leaves alone
+abbrev pub NoStoreFault : Request → (old new : ℕ) → Type 0
+NoStoreFault (run ask) old new = Rose old new → ⊥
+NoStoreFault (plan ask) old new = Rose old new → ⊥
+NoStoreFault (code ask) old new = Rose old new → ⊥
+NoStoreFault (sample number) old new = ⊤
 
 -- nothing went to `out` but a first part of a line, where its faults rose
 abbrev pub KeepsOut : SinkStanding → SinkStanding → Type 0

@@ -10,8 +10,8 @@ use Rattle.plan_lines.specs.Meaning.{AreLinesOf}
 use Rattle.lane_code.specs.Listing.{listing_text}
 use Rattle.wg_top.specs.declared.texts.Shown.{Shown}
 use Rattle.wg_top.specs.declared.texts.Shown.TheVariants.{Plan, Code}
-use Rattle.lane_code.specs.Program.{Plain}
-use Rattle.wg_top.specs.Middle.{names_in, kernel_in, plan_in, group_in, IsLike}
+use Rattle.wg_top.specs.Middle.{names_in, kernel_in, plan_in}
+use Rattle.wg_top.specs.Outcomes.{IsCompiledTo}
 
 -- a text of a launch, by the lane width, the name of its kernel and its unit
 abbrev pub Showing : Type 1
@@ -27,9 +27,9 @@ pub record IsPlanText (u : Unit') (text : List ℕ) : Type 0 where
 abbrev pub plan_shown : Showing
 plan_shown width name u text = IsPlanText u text
 
--- the listing of a program that does what the kernel's group program does, in the same order
+-- the listing of the group program that the unit is compiled to
 abbrev pub code_shown : Showing
-code_shown width name u text = (p : Plain) × IsLike (group_in width u) p × (text ≡ listing_text name p)
+code_shown width name u text = (compiled : IsCompiledTo width name u) × (text ≡ listing_text name compiled.group)
 
 -- the text that is asked for
 abbrev pub showing : Shown → Showing

@@ -1,14 +1,14 @@
 //! The top call: from words to a status, from files to files, through all passes of the compiler.
 #![tactic(auto)]
 
-ghost use Rattle.std.specs.Prelude.{◌≡◌, ◌≤◌, ◌⊎◌, List, map, string_bytes, is_some, true, IfOk};
+ghost use Rattle.std.specs.Prelude.{◌≡◌, ◌≤◌, ◌⊎◌, List, map, string_bytes, IfOk};
 ghost use Rattle.command_words.specs.Command.{Files, Request, run, TakesWords, files_of, request_of};
 ghost use Rattle.launch_file.specs.Texts.{Text};
 ghost use Rattle.wg_outside.specs.Counts.{Rose};
-ghost use Rattle.wg_top.specs.Causes.{Accepted, AcceptedClean, HasLoops, Finds};
+ghost use Rattle.wg_top.specs.Causes.{AcceptedClean, HasLoops};
 ghost use Rattle.wg_top.specs.declared.RunError.{RunError};
 ghost use Rattle.cl_meaning.specs.Typed.{Unit'};
-ghost use Rattle.wg_top.specs.Ends.{sink_standing, outside, AreWords, Ends, EndsShowing, EndsSample, EndsClean, EndsAsked, EndsSaying, KeepsOut, SaysLine, usage_line};
+ghost use Rattle.wg_top.specs.Ends.{sink_standing, outside, AreWords, Ends, EndsShowing, EndsSample, EndsClean, EndsAsked, AcceptedFor, FindsFor, NoStoreFault, EndsSaying, KeepsOut, SaysLine, usage_line};
 ghost use Rattle.wg_top.specs.Shown.{showing};
 ghost use Rattle.wg_top.specs.Lines.{status_of};
 
@@ -242,14 +242,15 @@ pub fn wgcc<S: Store, O: Sink, E: Sink>(
     ensures line { (result ≡ 0 → ⊥) → SaysLine (sink_standing E.written E.faults err.old) (sink_standing E.written E.faults err.new) }
     ensures out { (result ≡ 0 → ⊥) → KeepsOut (sink_standing O.written O.faults out.old) (sink_standing O.written O.faults out.new) }
 
-    // What must come where the store tells its files and no fault rises, want of memory aside.
-    ensures complete { (ask : Files) (text : Text) (units : List Unit') → AreWords (map string_bytes words.now) (run ask) →
-        Accepted (S.files store.old) ask text units →
-        (Rose (S.faults store.old) (S.faults store.new) → ⊥) → (Rose (O.faults out.old) (O.faults out.new) → ⊥) →
+    // What must come where the store tells its files and no fault rises, want of memory aside; the
+    // sample's store is its own.
+    ensures complete { (request : Request) → AreWords (map string_bytes words.now) request →
+        AcceptedFor (S.files store.old) request →
+        NoStoreFault request (S.faults store.old) (S.faults store.new) → (Rose (O.faults out.old) (O.faults out.new) → ⊥) →
         (result ≡ 0) ⊎ (result ≡ 8) }
-    ensures exact { (ask : Files) (error : RunError) → AreWords (map string_bytes words.now) (run ask) →
-        is_some (S.files store.old) ≡ true → Finds (S.files store.old) ask error →
-        (Rose (S.faults store.old) (S.faults store.new) → ⊥) → (result ≡ status_of error) ⊎ (result ≡ 8) }
+    ensures exact { (request : Request) (error : RunError) → AreWords (map string_bytes words.now) request →
+        FindsFor (S.files store.old) request error →
+        NoStoreFault request (S.faults store.old) (S.faults store.new) → (result ≡ status_of error) ⊎ (result ≡ 8) }
 
     // Where no interleaving of any launch races, faults, parts or begins more iterations than the
     // turns: what every interleaving leaves is saved.

@@ -3,8 +3,8 @@ use Rattle.command_words.specs.Command.{Request, run, request_of}
 use Rattle.wg_top.specs.Ends.{Outside, outside, EndsSaying, usage_line}
 use Rattle.wg_top.proofs.EndLemmas.{asked_failed, asked_absent, asked_no_save, asked_quiet, asked_line, asked_out, asked_no_usage, asked_memory}
 use Rattle.wg_top.proofs.WordLemmas.{as_asked}
-use Rattle.wg_top.proofs.CompleteLemmas.{ends_complete, ends_clean, ends_loops}
-use Rattle.wg_top.proofs.ExactLemmas.{ends_exact}
+use Rattle.wg_top.proofs.CompleteLemmas.{ends_clean, ends_loops}
+use Rattle.wg_top.proofs.AskedLemmas.{asked_complete, asked_exact}
 use Rattle.wg_top.proofs.wgcc.Goals as goal
 
 pub returns-in-Ok-clause-ends : goal.returns-in-Ok-clause-ends
@@ -75,7 +75,7 @@ returns-in-Ok-clause-complete g c =
     let old : Outside = (outside g.S.Store.files g.S.Store.faults g.S.Store.misses g.O.Sink.written g.O.Sink.faults g.E.Sink.written g.E.Sink.faults c.args.store.now c.args.out.now c.args.err.now) in
     let new : Outside = (outside g.S.Store.files g.S.Store.faults g.S.Store.misses g.O.Sink.written g.O.Sink.faults g.E.Sink.written g.E.Sink.faults c.do_words.new.store c.do_words.new.out c.do_words.new.err) in
     let request : Request = request_of c.in-Ok.asked in
-    λ ask text s given all quiet out_quiet. ends_complete old new ask text s c.do_words.result (as_asked old new (map string_bytes c.args.words.now) request (run ask) c.do_words.result c.in-Ok.ensures.asked given.asks c.do_words.ensures) all quiet out_quiet
+    λ other given all quiet out_quiet. asked_complete old new other c.do_words.result (as_asked old new (map string_bytes c.args.words.now) request other c.do_words.result c.in-Ok.ensures.asked given.asks c.do_words.ensures) all quiet out_quiet
 
 pub returns-in-Ok-clause-clean : goal.returns-in-Ok-clause-clean
 returns-in-Ok-clause-clean g c =
@@ -96,7 +96,7 @@ returns-in-Ok-clause-exact g c =
     let old : Outside = (outside g.S.Store.files g.S.Store.faults g.S.Store.misses g.O.Sink.written g.O.Sink.faults g.E.Sink.written g.E.Sink.faults c.args.store.now c.args.out.now c.args.err.now) in
     let new : Outside = (outside g.S.Store.files g.S.Store.faults g.S.Store.misses g.O.Sink.written g.O.Sink.faults g.E.Sink.written g.E.Sink.faults c.do_words.new.store c.do_words.new.out c.do_words.new.err) in
     let request : Request = request_of c.in-Ok.asked in
-    λ ask error given told finds quiet. ends_exact old new (g.S.Store.files c.args.store.now) ask error c.do_words.result refl told (as_asked old new (map string_bytes c.args.words.now) request (run ask) c.do_words.result c.in-Ok.ensures.asked given.asks c.do_words.ensures) finds quiet
+    λ other error given finds quiet. asked_exact old new other error c.do_words.result (as_asked old new (map string_bytes c.args.words.now) request other c.do_words.result c.in-Ok.ensures.asked given.asks c.do_words.ensures) finds quiet
 
 pub returns-in-Ok-clause-usage : goal.returns-in-Ok-clause-usage
 returns-in-Ok-clause-usage g c = λ other. absurd (other c.in-Ok.ensures.taken)
@@ -108,7 +108,7 @@ returns-in-Err-Memory-clause-ends g c =
     λ request given. asked_memory old new request (record { store_stays = refl; out_stays = refl; said = c.say_error.ensures.said })
 
 pub returns-in-Err-Usage-clause-complete : goal.returns-in-Err-Usage-clause-complete
-returns-in-Err-Usage-clause-complete g c = λ ask text s given all quiet out_quiet. absurd (c.read_words.ensures.usage (cc) given.taken)
+returns-in-Err-Usage-clause-complete g c = λ request given all quiet out_quiet. absurd (c.read_words.ensures.usage (cc) given.taken)
 
 pub returns-in-Err-Usage-clause-clean : goal.returns-in-Err-Usage-clause-clean
 returns-in-Err-Usage-clause-clean g c = λ ask text s given all quiet out_quiet. absurd (c.read_words.ensures.usage (cc) given.taken)

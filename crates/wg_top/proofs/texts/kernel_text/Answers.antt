@@ -5,6 +5,7 @@ use Rattle.kir.specs.View.{kernel_of}
 use Rattle.ctx_plan.specs.View.{planned_of}
 use Rattle.wg_top.specs.declared.texts.Shown.{Shown}
 use Rattle.wg_top.specs.Shown.{showing}
+use Rattle.wg_top.proofs.OutcomeLemmas.{code_text_of}
 use Rattle.wg_top.proofs.PlanLemmas.{plan_text_of}
 use Rattle.wg_top.proofs.texts.kernel_text.Goals as goal
 
@@ -15,3 +16,11 @@ returns-in-Plan c =
     (λ t e width passed valid.
     subst (λ (s : Shown). showing s width k.group.kernel (unit_of k.program) t.items) (sym c.in-Plan.is) (plan_text_of k.program (kernel_of k.kernel) (planned_of k.plan) t.items valid passed.kernel passed.plan e))
     c.plan_text.ensures.lines
+
+pub returns-in-Code : goal.returns-in-Code
+returns-in-Code c =
+    let k = c.args.kernel.now in
+    IfOk-weaker c.listing.result _ _
+    (λ t e width passed valid.
+    subst (λ (s : Shown). showing s width k.group.kernel (unit_of k.program) t.items) (sym c.in-Code.is) (code_text_of width k t.items passed valid e))
+    c.listing.ensures
