@@ -19,7 +19,7 @@ use Rattle.wg_num.specs.declared.types.Bin.{Bin}
 use Rattle.wg_num.specs.declared.types.Bin.TheVariants.{Add, Sub, Mul, Div, Rem, Shl, Shr, And, Or, Xor, Eq, Ne, Lt, Le, Gt, Ge}
 use Rattle.wg_num.specs.Wrap.{IsCongruent, IsValue, residue, truth_of, wrap_of, value_of, bits_of, modulus, half, is_bool, is_signed, width_bits}
 use Rattle.wg_num.specs.Operators.{unary_of, unary_exact, binary_of, binary_exact, is_shift, number_of, quotient_of, rest_of}
-use Rattle.wg_num.proofs.WrapLaws.{residue-lt, residue_congruent, residue_unique, congruent_refl, congruent_sym, congruent_trans, congruent-add, congruent-sub, congruent-mul, congruent_divides, wrap_same, wrap_bool, wrap_whole, wrap_value, either_type, some_modulus, half-below, IsValue-value, bits_congruent, value_whole, value_bool}
+use Rattle.wg_num.proofs.WrapLaws.{residue-lt, residue_congruent, residue_unique, congruent_refl, congruent_sym, congruent_trans, congruent-add, congruent-sub, congruent-mul, congruent_divides, wrap_same, wrap_bool, wrap_whole, wrap_value, wrap_congruent, either_type, some_modulus, half-below, IsValue-value, bits_congruent, value_whole, value_bool}
 use Rattle.lane_values.specs.Lanes.{FitsLane, IsLane, lane, right_value, binary_value, extended, unary_value, convert_lane}
 use Rattle.lane_kernels.specs.Vectors.{bias_of, raised, signed_by, divisor_of, quotient_lane, rest_lane, shl_lane, shr_lane}
 
@@ -667,6 +667,15 @@ module _ (W H : ℕ) (twice : 2 ^ W ≡ H + H) (high : H ≡ 2 ^ (W - 1)) (big :
   pub convert_extended : (to from : IntType) (p : ℕ) → FitsLane W to → FitsLane W from → extended W to (extended W from p) ≡ convert_lane W to from p
   convert_extended to from p n m =
       lane_convert to from n (extended W from p) (IsLane-extended from p m) ∙ ap (λ v. lane W (wrap_of to v)) (value-extended from p m)
+
+  -- a type that fills the lane leaves its lanes as they are
+  pub extend_full : (t : IntType) (p : ℕ) → width_bits t ≡ W → is_bool t ≡ false → p < 2 ^ W → p ≡ extended W t p
+  unfolding value_of modulus
+  extend_full t p n b h = sym (lane_unique p (value_of t p) h (congruent_sym (subst (λ w. IsCongruent (2 ^ w) (value_of t p) (pos p)) n (wrap_congruent t (pos p) b))))
+
+  pub extended_zero : (t : IntType) → extended W t 0 ≡ 0
+  unfolding lane
+  extended_zero t = ap (λ z. residue z (2 ^ W)) (value_of_zero t) ∙ nothing
 
 pub is_no_shift : (op : Bin) → ¬ (op ≡ Shl) → ¬ (op ≡ Shr) → is_shift op ≡ false
 is_no_shift Add a b = refl

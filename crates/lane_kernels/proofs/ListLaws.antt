@@ -5,6 +5,7 @@ use Rattle.std.proofs.lemmas.List.{take_all, get_or_past}
 use Rattle.lane_kernels.specs.Vectors.{signed_by, divisor_of, quotient_lane, rest_lane, shr_lane}
 use Rattle.std.specs.Simd.Lanes.{zip2, Each1, sel_l, top}
 use Rattle.std.specs.Int.{from_bool}
+use Rattle.std.specs.List.{list_all}
 use Rattle.lane_values.specs.Lanes.{zip3}
 
 abbrev pub add_in : ℕ → ℕ → ℕ → ℕ
@@ -237,6 +238,24 @@ none_anywhere xs i h f k = by (ltb k i) refl
 pub not_true : (b : Bool) → true ≡ not b → b ≡ false
 not_true true e = cc
 not_true false e = refl
+
+-- ---- masks with every lane, and lanes that stay as they are
+
+pub full_select : (m : List Bool) (xs ys : List ℕ) (n : ℕ) → length m ≡ n → length xs ≡ n → length ys ≡ n → list_all (λ on. on) m ≡ true → xs ≡ sel_l m xs ys
+full_select [] [] ys n h k l e = refl
+full_select [] (x ∷ xs) ys n h k l e = absurd (omega arith)
+full_select (b ∷ m) [] ys n h k l e = absurd (omega arith)
+full_select (b ∷ m) (x ∷ xs) [] n h k l e = absurd (omega arith)
+full_select (true ∷ m) (x ∷ xs) (y ∷ ys) n h k l e = ap (λ zs. x ∷ zs) (full_select m xs ys (length m) refl (omega arith) (omega arith) e)
+full_select (false ∷ m) (x ∷ xs) (y ∷ ys) n h k l e = absurd (true≢false (sym e))
+
+pub map_stays : (P : ℕ → Type 0) (f : ℕ → ℕ) → ((x : ℕ) → P x → x ≡ f x) → (a : List ℕ) → Each1 P a → a ≡ map f a
+map_stays P f e [] u = refl
+map_stays P f e (x ∷ a) u = ap₂ (λ v vs. v ∷ vs) (e x u.0) (map_stays P f e a u.1)
+
+pub map_id : {U : Type 0} (a : List U) → map (λ x. x) a ≡ a
+map_id [] = refl
+map_id (x ∷ a) = ap (λ xs. x ∷ xs) (map_id a)
 
 -- ---- three vectors
 
