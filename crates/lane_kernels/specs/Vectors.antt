@@ -38,3 +38,10 @@ pub record IsSize (size : ℕ) : Type 0 where
 -- the number whose bytes stand at an element, lowest first, and 0 for a lane that is inactive
 abbrev pub number_from : ℕ → List ℕ → Bool → ℕ → ℕ
 number_from size bytes on at = if on then number_l 256 (chunk (at * size) size bytes) else 0
+
+-- of two lanes that hold values, the one with the lesser value, and the one with the greater
+abbrev pub lesser_lane : ℕ → ℕ → ℕ → ℕ → ℕ
+lesser_lane W bias p q = if nat_lt (raised W bias q) (raised W bias p) then q else p
+
+abbrev pub greater_lane : ℕ → ℕ → ℕ → ℕ → ℕ
+greater_lane W bias p q = if nat_lt (raised W bias q) (raised W bias p) then p else q
