@@ -1,11 +1,63 @@
 -- Laws of loads and stores.
-use Rattle.std.proofs.Common.{◌≡◌, ℕ, zero, suc, ◌+◌, ◌-◌, ◌*◌, ◌/◌, ◌%◌, ◌^◌, ◌<◌, ◌≤◌, refl, sym, ap, ap₂, ◌∙◌, arith, Bool, false, List, [], ◌∷◌, length, take, set, get_or, drop-cons, add-one, ℤ, add-zero}
+use Rattle.std.proofs.Common.{◌≡◌, ℕ, zero, suc, ◌+◌, ◌-◌, ◌*◌, ◌/◌, ◌%◌, ◌^◌, ◌<◌, ◌≤◌, refl, sym, ap, ap₂, ◌∙◌, arith, Bool, false, List, [], ◌∷◌, length, take, set, get_or, drop-cons, add-one, add-zero, ℤ, map, cond, not, nat_eq, true, pos, true≢false, eqb-true, eq-eqb}
+use Rattle.std.proofs.lemmas.Int.{ints}
 use Rattle.std.specs.Simd.Lanes.{chunk, put_chunk, number_l, digits_l}
-use Rattle.wg_num.specs.Wrap.{bits_of}
+use Rattle.std.specs.Simd.Lanes.{zip2}
+use Rattle.std.specs.Int.{from_bool}
+use Rattle.wg_num.specs.declared.types.IntType.{IntType}
+use Rattle.wg_num.specs.Wrap.{value_of, truth_of, is_bool, bits_of}
 use Rattle.wg_num.proofs.WrapLaws.{congruent_trans, congruent_divides, bits_congruent}
-use Rattle.lane_values.specs.Lanes.{lane}
-use Rattle.lane_values.specs.Access.{lane_put, scattered}
+use Rattle.wg_num.specs.Bytes.{size_of}
+use Rattle.lane_values.specs.Lanes.{FitsLane, lane, extended}
+use Rattle.lane_values.specs.Access.{lane_from, lane_put, gathered, scattered}
+use Rattle.lane_kernels.specs.Vectors.{number_from}
+use Rattle.lane_kernels.proofs.ListLaws.{map_of_map, map_of_zip2, zip2_same}
 use Rattle.lane_kernels.proofs.LaneLaws as K
+
+-- ---- loads
+
+pub gathered_64 : (t : IntType) (bytes : List ℕ) (m : List Bool) (index : List ℕ) → map (extended 64 t) (zip2 (number_from (size_of t) bytes) m index) ≡ gathered 64 t bytes m index
+gathered_64 t bytes m index = map_of_zip2 (extended 64 t) (number_from (size_of t) bytes) m index ∙ zip2_same _ (lane_from 64 t bytes) one m index
+  where
+    one : (on : Bool) (at : ℕ) → extended 64 t (number_from (size_of t) bytes on at) ≡ lane_from 64 t bytes on at
+    one true at = refl
+    one false at = K.extended_zero 64 (2 ^ 63) refl refl (omega arith) (omega arith) t
+
+truth_number : (x : ℕ) → truth_of (pos (from_bool (not (nat_eq x 0)))) ≡ truth_of (pos x)
+truth_number x = by (nat_eq x 0) refl
+  where
+    number : (n : ℕ) → pos n ≡ pos 0 → n ≡ 0
+    number n z = omega (arith, ints, z)
+
+    by : (b : Bool) → nat_eq x 0 ≡ b → truth_of (pos (from_bool (not (nat_eq x 0)))) ≡ truth_of (pos x)
+    by true e = ap (λ b. truth_of (pos (from_bool (not b)))) e ∙ ap (λ n. truth_of (pos n)) (sym (eqb-true x 0 e))
+    by false e = ap (λ b. truth_of (pos (from_bool (not b)))) e
+        ∙ sym (K.truth_nonzero 32 (2 ^ 31) refl refl (omega arith) (omega arith) (pos x) (λ z. true≢false (sym (eq-eqb x 0 (number x z)) ∙ e)))
+
+abbrev low_of : IntType → ℕ → ℕ
+low_of t x = cond (is_bool t) (from_bool (not (nat_eq x 0))) (x % 2 ^ 32)
+
+-- the low half decides what a narrow lane holds
+low_extended : (t : IntType) (x : ℕ) → FitsLane 32 t → extended 32 t (low_of t x) ≡ extended 32 t x
+unfolding value_of
+low_extended t x n = by (is_bool t) refl
+  where
+    by : (b : Bool) → is_bool t ≡ b → extended 32 t (low_of t x) ≡ extended 32 t x
+    by true e = ap (λ b. extended 32 t (cond b (from_bool (not (nat_eq x 0))) (x % 2 ^ 32))) e
+        ∙ ap (lane 32) (K.stands 32 (2 ^ 31) refl refl (omega arith) (omega arith) t (from_bool (not (nat_eq x 0))) (pos x) n (λ f. absurd (true≢false (sym e ∙ f))) (λ f. truth_number x))
+    by false e = ap (λ b. extended 32 t (cond b (from_bool (not (nat_eq x 0))) (x % 2 ^ 32))) e
+        ∙ ap (lane 32) (K.stands 32 (2 ^ 31) refl refl (omega arith) (omega arith) t (x % 2 ^ 32) (pos x) n (λ f. K.mod_congruent 32 (2 ^ 31) refl refl (omega arith) (omega arith) x) (λ f. absurd (true≢false (sym f ∙ e))))
+
+pub gathered_32 : (t : IntType) (bytes : List ℕ) (m : List Bool) (index : List ℕ) → FitsLane 32 t
+    → map (extended 32 t) (map (λ x. cond (is_bool t) (from_bool (not (nat_eq x 0))) (x % 2 ^ 32)) (zip2 (number_from (size_of t) bytes) m index)) ≡ gathered 32 t bytes m index
+gathered_32 t bytes m index n =
+    map_of_map (extended 32 t) (low_of t) (zip2 (number_from (size_of t) bytes) m index)
+    ∙ map_of_zip2 (λ x. extended 32 t (low_of t x)) (number_from (size_of t) bytes) m index
+    ∙ zip2_same _ (lane_from 32 t bytes) one m index
+  where
+    one : (on : Bool) (at : ℕ) → extended 32 t (low_of t (number_from (size_of t) bytes on at)) ≡ lane_from 32 t bytes on at
+    one true at = low_extended t (number_from (size_of t) bytes true at) n
+    one false at = low_extended t 0 n ∙ K.extended_zero 32 (2 ^ 31) refl refl (omega arith) (omega arith) t
 
 -- the low bits of a pattern are the lane
 pub bits_lane : (z : ℤ) → bits_of z % 2 ^ 32 ≡ lane 32 z
@@ -17,6 +69,8 @@ bits_lane z =
 pub bits_lane_64 : (z : ℤ) → bits_of z ≡ lane 64 z
 unfolding bits_of lane
 bits_lane_64 z = refl
+
+-- ---- the bytes of numbers
 
 pub chunk_cons : (i n : ℕ) (xs : List ℕ) → i < length xs → chunk i (suc n) xs ≡ get_or xs i 0 ∷ chunk (i + 1) n xs
 chunk_cons i n xs h = ap (take (suc n)) (drop-cons xs i 0 h) ∙ rw add-one refl
@@ -70,25 +124,38 @@ put_next' (suc i) (x ∷ xs) y ys = ap (λ zs. x ∷ zs) (put_next' i xs y ys)
 pub put_next : (i : ℕ) (xs : List ℕ) (y : ℕ) (ys : List ℕ) → put_chunk i xs (y ∷ ys) ≡ put_chunk (i + 1) (set xs i y) ys
 put_next i xs y ys = put_next' i xs y ys ∙ rw add-one refl
 
--- one more byte of a number
-pub put_step : (from k n x : ℕ) (xs : List ℕ) → k < n → put_chunk (from + k) xs (digits_l 256 (n - k) x) ≡ put_chunk (from + (k + 1)) (set xs (from + k) (x % 256)) (digits_l 256 (n - (k + 1)) (x / 256))
-put_step from k n x xs h =
-    let one : n - k ≡ suc (n - (k + 1)) = omega arith in
-    let place : from + k + 1 ≡ from + (k + 1) = omega arith in
-    ap (λ m. put_chunk (from + k) xs (digits_l 256 m x)) one
-    ∙ put_next (from + k) xs (x % 256) (digits_l 256 (n - (k + 1)) (x / 256))
-    ∙ ap (λ i. put_chunk i (set xs (from + k) (x % 256)) (digits_l 256 (n - (k + 1)) (x / 256))) place
+-- one, two and four bytes of a number
+pub put_1 : (i x : ℕ) (xs : List ℕ) → put_chunk i xs (digits_l 256 1 x) ≡ set xs i (x % 256)
+put_1 i x xs = put_next i xs (x % 256) [] ∙ put_none (i + 1) (set xs i (x % 256))
 
-pub put_done : (from k n x : ℕ) (xs : List ℕ) → n ≤ k → put_chunk (from + k) xs (digits_l 256 (n - k) x) ≡ xs
-put_done from k n x xs h =
-    let none : n - k ≡ 0 = omega arith in
-    ap (λ m. put_chunk (from + k) xs (digits_l 256 m x)) none ∙ put_none (from + k) xs
+pub put_2 : (i x : ℕ) (xs : List ℕ) → put_chunk i xs (digits_l 256 2 x) ≡ set (set xs i (x % 256)) (i + 1) (x / 256 % 256)
+put_2 i x xs = put_next i xs (x % 256) (digits_l 256 1 (x / 256)) ∙ put_1 (i + 1) (x / 256) (set xs i (x % 256))
 
-pub put_start : (from n x : ℕ) (xs : List ℕ) → put_chunk (from + 0) xs (digits_l 256 (n - 0) x) ≡ put_chunk from xs (digits_l 256 n x)
-put_start from n x xs =
-    let a : from + 0 ≡ from = omega arith in
-    let b : n - 0 ≡ n = omega arith in
-    ap₂ (λ i m. put_chunk i xs (digits_l 256 m x)) a b
+abbrev set_4 : ℕ → List ℕ → (a b c d : ℕ) → List ℕ
+set_4 i xs a b c d = set (set (set (set xs i a) (i + 1) b) (i + 2) c) (i + 3) d
+
+put_first : (i : ℕ) (xs : List ℕ) (a b c d : ℕ) (ys : List ℕ) → put_chunk i xs (a ∷ b ∷ c ∷ d ∷ ys) ≡ put_chunk (i + 4) (set_4 i xs a b c d) ys
+put_first i xs a b c d ys =
+    let two : i + 1 + 1 ≡ i + 2 = omega arith in
+    let three : i + 2 + 1 ≡ i + 3 = omega arith in
+    let four : i + 3 + 1 ≡ i + 4 = omega arith in
+    let x1 = set xs i a in
+    let x2 = set x1 (i + 1) b in
+    let x3 = set x2 (i + 2) c in
+    put_next i xs a (b ∷ c ∷ d ∷ ys) ∙ put_next (i + 1) x1 b (c ∷ d ∷ ys)
+    ∙ ap (λ k. put_chunk k x2 (c ∷ d ∷ ys)) two ∙ put_next (i + 2) x2 c (d ∷ ys)
+    ∙ ap (λ k. put_chunk k x3 (d ∷ ys)) three ∙ put_next (i + 3) x3 d ys
+    ∙ ap (λ k. put_chunk k (set x3 (i + 3) d) ys) four
+
+pub put_4 : (i x : ℕ) (xs : List ℕ) → put_chunk i xs (digits_l 256 4 x) ≡ set_4 i xs (x % 256) (x / 256 % 256) (x / 256 / 256 % 256) (x / 256 / 256 / 256 % 256)
+put_4 i x xs = put_first i xs (x % 256) (x / 256 % 256) (x / 256 / 256 % 256) (x / 256 / 256 / 256 % 256) [] ∙ put_none (i + 4) _
+
+-- eight bytes are four and four
+pub put_8 : (i x : ℕ) (xs : List ℕ) → put_chunk (i + 4) (put_chunk i xs (digits_l 256 4 x)) (digits_l 256 4 (x / 2 ^ 32)) ≡ put_chunk i xs (digits_l 256 8 x)
+put_8 i x xs =
+    let rest : x / 2 ^ 32 ≡ x / 256 / 256 / 256 / 256 = omega arith in
+    ap₂ (λ ys z. put_chunk (i + 4) ys (digits_l 256 4 z)) (put_4 i x xs) rest
+    ∙ sym (put_first i xs (x % 256) (x / 256 % 256) (x / 256 / 256 % 256) (x / 256 / 256 / 256 % 256) (digits_l 256 4 (x / 256 / 256 / 256 / 256)))
 
 -- one more lane
 pub scattered_next : (size : ℕ) (bytes : List ℕ) (m : List Bool) (index from : List ℕ) (i : ℕ) → i < length m → i < length index → i < length from

@@ -19,9 +19,11 @@ use Rattle.wg_num.specs.declared.types.Bin.{Bin}
 use Rattle.wg_num.specs.declared.types.Bin.TheVariants.{Add, Sub, Mul, Div, Rem, Shl, Shr, And, Or, Xor, Eq, Ne, Lt, Le, Gt, Ge}
 use Rattle.wg_num.specs.Wrap.{IsCongruent, IsValue, residue, truth_of, wrap_of, value_of, bits_of, modulus, half, is_bool, is_signed, width_bits}
 use Rattle.wg_num.specs.Operators.{unary_of, unary_exact, binary_of, binary_exact, is_shift, number_of, quotient_of, rest_of}
-use Rattle.wg_num.proofs.WrapLaws.{residue-lt, residue_congruent, residue_unique, congruent_refl, congruent_sym, congruent_trans, congruent-add, congruent-sub, congruent-mul, congruent_divides, wrap_same, wrap_bool, wrap_whole, wrap_value, either_type, some_modulus, half-below, IsValue-value, bits_congruent, value_whole, value_bool}
-use Rattle.lane_values.specs.Lanes.{FitsLane, IsLane, lane, right_value, binary_value, extended, unary_value, convert_lane}
-use Rattle.lane_kernels.specs.Vectors.{bias_of, raised, signed_by, divisor_of, quotient_lane, rest_lane, shl_lane, shr_lane}
+use Rattle.wg_num.proofs.WrapLaws.{residue-lt, residue_congruent, residue_unique, congruent_refl, congruent_sym, congruent_trans, congruent-add, congruent-sub, congruent-mul, congruent_divides, wrap_same, wrap_bool, wrap_whole, wrap_value, wrap_congruent, either_type, some_modulus, half-below, IsValue-value, bits_congruent, value_whole, value_bool}
+use Rattle.wg_num.specs.declared.types.Fun.TheVariants.{Min, Max}
+use Rattle.wg_num.specs.Builtins.{builtin_of}
+use Rattle.lane_values.specs.Lanes.{builtin_lane, FitsLane, IsLane, lane, right_value, binary_value, extended, unary_value, convert_lane}
+use Rattle.lane_kernels.specs.Vectors.{lesser_lane, greater_lane, bias_of, raised, signed_by, divisor_of, quotient_lane, rest_lane, shl_lane, shr_lane}
 
 module _ (W H : ℕ) (twice : 2 ^ W ≡ H + H) (high : H ≡ 2 ^ (W - 1)) (big : 128 ≤ H) (most : W ≤ 64) where
   pub some_width : (t : IntType) → 0 < width_bits t
@@ -667,6 +669,36 @@ module _ (W H : ℕ) (twice : 2 ^ W ≡ H + H) (high : H ≡ 2 ^ (W - 1)) (big :
   pub convert_extended : (to from : IntType) (p : ℕ) → FitsLane W to → FitsLane W from → extended W to (extended W from p) ≡ convert_lane W to from p
   convert_extended to from p n m =
       lane_convert to from n (extended W from p) (IsLane-extended from p m) ∙ ap (λ v. lane W (wrap_of to v)) (value-extended from p m)
+
+  -- a type that fills the lane leaves its lanes as they are
+  pub extend_full : (t : IntType) (p : ℕ) → width_bits t ≡ W → is_bool t ≡ false → p < 2 ^ W → p ≡ extended W t p
+  unfolding value_of modulus
+  extend_full t p n b h = sym (lane_unique p (value_of t p) h (congruent_sym (subst (λ w. IsCongruent (2 ^ w) (value_of t p) (pos p)) n (wrap_congruent t (pos p) b))))
+
+  pub extended_zero : (t : IntType) → extended W t 0 ≡ 0
+  unfolding lane
+  extended_zero t = ap (λ z. residue z (2 ^ W)) (value_of_zero t) ∙ nothing
+
+  -- ---- the lesser and the greater
+
+  module _ (t : IntType) (n : FitsLane W t) (p q r : ℕ) where
+    below_as : nat_lt (raised W (bias_of W t) (extended W t q)) (raised W (bias_of W t) (extended W t p)) ≡ int_lt (value_of t q) (value_of t p)
+    below_as =
+        lt_raised _ _ (bias_of W t) (value_of t q) (value_of t p)
+        (raise_is t (extended W t q) n (IsLane-extended t q n) ∙ ap (λ v. v +ℤ pos (bias_of W t)) (value-extended t q n))
+        (raise_is t (extended W t p) n (IsLane-extended t p n) ∙ ap (λ v. v +ℤ pos (bias_of W t)) (value-extended t p n))
+
+    one_of : (b : Bool) (v w : ℤ) → IsValue t v → IsValue t w → cond b (lane W v) (lane W w) ≡ lane W (wrap_of t (cond b v w))
+    one_of true v w i j = ap (lane W) (sym (wrap_value t v i))
+    one_of false v w i j = ap (lane W) (sym (wrap_value t w j))
+
+    pub lane_lesser : lesser_lane W (bias_of W t) (extended W t p) (extended W t q) ≡ builtin_lane W Min t p q r
+    unfolding builtin_of
+    lane_lesser = ap (λ b. cond b (extended W t q) (extended W t p)) below_as ∙ one_of (int_lt (value_of t q) (value_of t p)) (value_of t q) (value_of t p) (IsValue-value t q) (IsValue-value t p)
+
+    pub lane_greater : greater_lane W (bias_of W t) (extended W t p) (extended W t q) ≡ builtin_lane W Max t p q r
+    unfolding builtin_of
+    lane_greater = ap (λ b. cond b (extended W t p) (extended W t q)) below_as ∙ one_of (int_lt (value_of t q) (value_of t p)) (value_of t p) (value_of t q) (IsValue-value t p) (IsValue-value t q)
 
 pub is_no_shift : (op : Bin) → ¬ (op ≡ Shl) → ¬ (op ≡ Shr) → is_shift op ≡ false
 is_no_shift Add a b = refl

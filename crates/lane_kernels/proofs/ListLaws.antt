@@ -2,9 +2,10 @@
 use Rattle.std.proofs.Common.{◌≡◌, ℕ, zero, suc, ◌+◌, ◌-◌, ◌/◌, ◌%◌, ◌^◌, ◌<◌, ◌≤◌, refl, sym, ap, ap₂, ◌∙◌, arith, Bool, true, false, cond, List, [], ◌∷◌, length, replicate, map, subst, ltb, eqb, eq-eqb, true≢false, pos_of_ne-zero, ltb-true, ltb-false, mod-lt, take, set, get_or, ◌++◌, not}
 use Rattle.std.proofs.lemmas.Grind.{take-set_at, take_at_read}
 use Rattle.std.proofs.lemmas.List.{take_all, get_or_past}
-use Rattle.lane_kernels.specs.Vectors.{signed_by, divisor_of, quotient_lane, rest_lane, shr_lane}
+use Rattle.lane_kernels.specs.Vectors.{lesser_lane, greater_lane, signed_by, divisor_of, quotient_lane, rest_lane, shr_lane}
 use Rattle.std.specs.Simd.Lanes.{zip2, Each1, sel_l, top}
 use Rattle.std.specs.Int.{from_bool}
+use Rattle.std.specs.List.{list_all}
 use Rattle.lane_values.specs.Lanes.{zip3}
 
 abbrev pub add_in : ℕ → ℕ → ℕ → ℕ
@@ -157,6 +158,26 @@ module _ (W high ones : ℕ) (on : top high ones ≡ true) (off : top high 0 ≡
   shr_lanes bias w (suc n) (p ∷ a) [] e h = absurd (omega arith)
   shr_lanes bias w (suc n) (p ∷ a) (q ∷ b) e h = ap (λ vs. shr_lane W bias w p q ∷ vs) (shr_lanes bias w n a b (omega arith) (omega arith))
 
+  -- ---- the lesser and the greater
+
+  pub lesser_lanes : (k n : ℕ) (a b : List ℕ) → length a ≡ n → length b ≡ n
+      → sel_l (map (top high) (zip2 (all_if ones ltb) (zip2 (add_in W) b (replicate n k)) (zip2 (add_in W) a (replicate n k)))) b a ≡ zip2 (lesser_lane W k) a b
+  lesser_lanes k zero [] [] e h = refl
+  lesser_lanes k zero [] (q ∷ b) e h = absurd (omega arith)
+  lesser_lanes k zero (p ∷ a) b e h = absurd (omega arith)
+  lesser_lanes k (suc n) [] b e h = absurd (omega arith)
+  lesser_lanes k (suc n) (p ∷ a) [] e h = absurd (omega arith)
+  lesser_lanes k (suc n) (p ∷ a) (q ∷ b) e h = ap₂ (λ v vs. v ∷ vs) (picked (ltb (add_in W q k) (add_in W p k)) q p) (lesser_lanes k n a b (omega arith) (omega arith))
+
+  pub greater_lanes : (k n : ℕ) (a b : List ℕ) → length a ≡ n → length b ≡ n
+      → sel_l (map (top high) (zip2 (all_if ones ltb) (zip2 (add_in W) b (replicate n k)) (zip2 (add_in W) a (replicate n k)))) a b ≡ zip2 (greater_lane W k) a b
+  greater_lanes k zero [] [] e h = refl
+  greater_lanes k zero [] (q ∷ b) e h = absurd (omega arith)
+  greater_lanes k zero (p ∷ a) b e h = absurd (omega arith)
+  greater_lanes k (suc n) [] b e h = absurd (omega arith)
+  greater_lanes k (suc n) (p ∷ a) [] e h = absurd (omega arith)
+  greater_lanes k (suc n) (p ∷ a) (q ∷ b) e h = ap₂ (λ v vs. v ∷ vs) (picked (ltb (add_in W q k) (add_in W p k)) p q) (greater_lanes k n a b (omega arith) (omega arith))
+
   pub zip2_swap : {U V W : Type 0} (f : U → V → W) (a : List U) (b : List V) → zip2 f a b ≡ zip2 (λ y x. f x y) b a
   zip2_swap f [] [] = refl
   zip2_swap f [] (y ∷ b) = refl
@@ -238,6 +259,24 @@ pub not_true : (b : Bool) → true ≡ not b → b ≡ false
 not_true true e = cc
 not_true false e = refl
 
+-- ---- masks with every lane, and lanes that stay as they are
+
+pub full_select : (m : List Bool) (xs ys : List ℕ) (n : ℕ) → length m ≡ n → length xs ≡ n → length ys ≡ n → list_all (λ on. on) m ≡ true → xs ≡ sel_l m xs ys
+full_select [] [] ys n h k l e = refl
+full_select [] (x ∷ xs) ys n h k l e = absurd (omega arith)
+full_select (b ∷ m) [] ys n h k l e = absurd (omega arith)
+full_select (b ∷ m) (x ∷ xs) [] n h k l e = absurd (omega arith)
+full_select (true ∷ m) (x ∷ xs) (y ∷ ys) n h k l e = ap (λ zs. x ∷ zs) (full_select m xs ys (length m) refl (omega arith) (omega arith) e)
+full_select (false ∷ m) (x ∷ xs) (y ∷ ys) n h k l e = absurd (true≢false (sym e))
+
+pub map_stays : (P : ℕ → Type 0) (f : ℕ → ℕ) → ((x : ℕ) → P x → x ≡ f x) → (a : List ℕ) → Each1 P a → a ≡ map f a
+map_stays P f e [] u = refl
+map_stays P f e (x ∷ a) u = ap₂ (λ v vs. v ∷ vs) (e x u.0) (map_stays P f e a u.1)
+
+pub map_id : {U : Type 0} (a : List U) → map (λ x. x) a ≡ a
+map_id [] = refl
+map_id (x ∷ a) = ap (λ xs. x ∷ xs) (map_id a)
+
 -- ---- three vectors
 
 pub get_or-zip3 : {A B C D : Type 0} (f : A → B → C → D) (a : List A) (b : List B) (c : List C) (i : ℕ) (x : A) (y : B) (z : C) (w : D) → i < length a → i < length b → i < length c
@@ -254,3 +293,12 @@ length-zip3 f n (p ∷ a) [] c h k l = absurd (omega arith)
 length-zip3 f n (p ∷ a) (q ∷ b) [] h k l = absurd (omega arith)
 length-zip3 f zero (p ∷ a) (q ∷ b) (r ∷ c) h k l = absurd (omega arith)
 length-zip3 f (suc n) (p ∷ a) (q ∷ b) (r ∷ c) h k l = ap suc (length-zip3 f n a b c (omega arith) (omega arith) (omega arith))
+
+-- a function of three lanes that ignores the third
+pub zip2_as_zip3 : {A B C D : Type 0} (f : A → B → D) (h : A → B → C → D) → ((p : A) (q : B) (r : C) → f p q ≡ h p q r) → (n : ℕ) (a : List A) (b : List B) (c : List C) → length a ≡ n → length b ≡ n → length c ≡ n
+    → zip2 f a b ≡ zip3 h a b c
+zip2_as_zip3 f h e n [] b c i j k = refl
+zip2_as_zip3 f h e n (p ∷ a) [] c i j k = refl
+zip2_as_zip3 f h e n (p ∷ a) (q ∷ b) [] i j k = absurd (omega arith)
+zip2_as_zip3 f h e zero (p ∷ a) (q ∷ b) (r ∷ c) i j k = absurd (omega arith)
+zip2_as_zip3 f h e (suc n) (p ∷ a) (q ∷ b) (r ∷ c) i j k = ap₂ (λ v vs. v ∷ vs) (e p q r) (zip2_as_zip3 f h e n a b c (omega arith) (omega arith) (omega arith))

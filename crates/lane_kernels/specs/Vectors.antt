@@ -1,5 +1,6 @@
 -- What the vector operations do in a lane of W bits, as the code writes them.
-use Rattle.std.specs.Prelude.{ℕ, ◌+◌, ◌-◌, ◌*◌, ◌/◌, ◌%◌, ◌^◌, ◌≡◌, ◌⊎◌, if◌then◌else◌, nat_lt, nat_eq}
+use Rattle.std.specs.Prelude.{ℕ, ◌+◌, ◌-◌, ◌*◌, ◌/◌, ◌%◌, ◌^◌, ◌≡◌, ◌⊎◌, if◌then◌else◌, nat_lt, nat_eq, Bool, List}
+use Rattle.std.specs.Simd.Lanes.{number_l, chunk}
 use Rattle.wg_num.specs.declared.types.IntType.{IntType}
 use Rattle.wg_num.specs.Wrap.{is_signed}
 
@@ -33,3 +34,14 @@ shr_lane W bias width p q = (raised W bias p / 2 ^ (q % width) + (2 ^ W - bias /
 -- how many bytes a value may have
 pub record IsSize (size : ℕ) : Type 0 where
   pub small : (size ≡ 1) ⊎ ((size ≡ 2) ⊎ ((size ≡ 4) ⊎ (size ≡ 8)))
+
+-- the number whose bytes stand at an element, lowest first, and 0 for a lane that is inactive
+abbrev pub number_from : ℕ → List ℕ → Bool → ℕ → ℕ
+number_from size bytes on at = if on then number_l 256 (chunk (at * size) size bytes) else 0
+
+-- of two lanes that hold values, the one with the lesser value, and the one with the greater
+abbrev pub lesser_lane : ℕ → ℕ → ℕ → ℕ → ℕ
+lesser_lane W bias p q = if nat_lt (raised W bias q) (raised W bias p) then q else p
+
+abbrev pub greater_lane : ℕ → ℕ → ℕ → ℕ → ℕ
+greater_lane W bias p q = if nat_lt (raised W bias q) (raised W bias p) then p else q

@@ -1,15 +1,16 @@
-//! One element of an object: where it stands, its bytes read and written.
-ghost use Rattle.std.specs.Prelude.{◌≡◌, ◌+◌, ◌*◌, ◌<◌, ◌≤◌, ◌^◌, ◌⊎◌, length};
-ghost use Rattle.std.specs.Simd.Lanes.{number_l, chunk};
-ghost use Rattle.wg_num.specs.Wrap.{value_of};
+//! One element of an object: where it stands, its bytes read and written; and lanes of elements.
+ghost use Rattle.std.specs.Prelude.{◌≡◌, ◌+◌, ◌*◌, ◌/◌, ◌<◌, ◌≤◌, ◌^◌, ◌⊎◌, length, take, MatchResult, MatchOption, IfErr, OnOk, not, true, false};
+ghost use Rattle.std.specs.Bool.{OnTrue, OnFalse};
+ghost use Rattle.std.specs.Simd.Lanes.{number_l, digits_l, chunk, put_chunk, zip2};
 ghost use Rattle.wg_num.specs.Bytes.{size_of};
-ghost use Rattle.lane_values.specs.Access.{is_within, put_element};
-ghost use Rattle.lane_kernels.specs.Vectors.{IsSize};
+ghost use Rattle.lane_values.specs.Masks.{IsEmpty, IsLowest};
+ghost use Rattle.lane_values.specs.Access.{is_within, is_fault, faults, put_element, lane_put, scattered};
+ghost use Rattle.lane_kernels.specs.Vectors.{IsSize, number_from};
 
-use wg_num::{IntType, value};
+use wg_num::IntType;
 
 /// How many bytes a value of the type has.
-pub(crate) fn size_in_bytes(t: IntType) -> usize
+fn size_in_bytes(t: IntType) -> usize
     ensures value { result ≡ size_of t }
     ensures size { IsSize result }
 {
@@ -22,7 +23,8 @@ pub(crate) fn size_in_bytes(t: IntType) -> usize
 }
 
 /// Whether element `at` lies within `len` bytes.
-pub(crate) fn is_in_range(size: usize, len: usize, at: u64) -> bool
+#[inline(always)]
+fn is_in_range(size: usize, len: usize, at: u64) -> bool
     requires { 0 < size }
     ensures { result ≡ is_within size len at }
 {
@@ -30,6 +32,7 @@ pub(crate) fn is_in_range(size: usize, len: usize, at: u64) -> bool
 }
 
 /// The number of the four bytes from a place on, lowest first.
+#[inline(always)]
 fn four_bytes(bytes: &[u8], from: usize) -> u32
     requires { from + 4 ≤ length bytes.now }
     ensures { result ≡ number_l 256 (chunk from 4 bytes.now) }
@@ -39,6 +42,7 @@ fn four_bytes(bytes: &[u8], from: usize) -> u32
 }
 
 /// The number whose bytes stand at element `at`, lowest first.
+#[inline(always)]
 fn number_at(bytes: &[u8], size: usize, at: usize) -> u64
     requires size { IsSize size }
     requires room { (at + 1) * size ≤ length bytes.now }
@@ -53,24 +57,175 @@ fn number_at(bytes: &[u8], size: usize, at: usize) -> u64
     }
 }
 
-/// The value at element `at`.
-pub(crate) fn value_at(bytes: &[u8], t: IntType, at: usize) -> i128
-    requires { (at + 1) * size_of t ≤ length bytes.now }
-    ensures { result ≡ value_of t (number_l 256 (chunk (at * size_of t) (size_of t) bytes.now)) }
+/// Writes the low two bytes of a number, lowest first.
+#[inline(always)]
+fn put_two(bytes: &mut [u8], from: usize, x: u64)
+    requires { from + 2 ≤ length bytes.old }
+    ensures { bytes.new ≡ put_chunk from bytes.old (digits_l 256 2 x) }
 {
-    value(t, number_at(bytes, size_in_bytes(t), at))
+    let high = x / 0x100;
+    bytes[from] = (x % 0x100) as u8;
+    bytes[from + 1] = (high % 0x100) as u8;
+}
+
+/// Writes the low four bytes of a number, lowest first.
+#[inline(always)]
+fn put_four(bytes: &mut [u8], from: usize, x: u64)
+    requires { from + 4 ≤ length bytes.old }
+    ensures { bytes.new ≡ put_chunk from bytes.old (digits_l 256 4 x) }
+{
+    let second = x / 0x100;
+    let third = second / 0x100;
+    let fourth = third / 0x100;
+    bytes[from] = (x % 0x100) as u8;
+    bytes[from + 1] = (second % 0x100) as u8;
+    bytes[from + 2] = (third % 0x100) as u8;
+    bytes[from + 3] = (fourth % 0x100) as u8;
 }
 
 /// Writes the low bytes of a number at element `at`.
-pub(crate) fn put_number(bytes: &mut [u8], size: usize, at: usize, x: u64)
+#[inline(always)]
+fn put_number(bytes: &mut [u8], size: usize, at: usize, x: u64)
     requires size { IsSize size }
     requires room { (at + 1) * size ≤ length bytes.old }
     ensures { bytes.new ≡ put_element size bytes.old at x }
 {
     let from = at * size;
-    let mut rest = x;
-    for k in 0..size {
-        bytes[from + k] = (rest % 0x100) as u8;
-        rest /= 0x100;
+    match size {
+        1 => bytes[from] = (x % 0x100) as u8,
+        2 => put_two(bytes, from, x),
+        4 => put_four(bytes, from, x),
+        _ => {
+            put_four(bytes, from, x);
+            put_four(bytes, from + 4, x / 0x1_0000_0000);
+        }
+    }
+}
+
+/// The number at element `at`, and 0 where the lane is inactive; `None` exactly where an active
+/// lane's element is out of range.
+#[inline(always)]
+fn number_for(bytes: &[u8], size: usize, on: bool, at: u64) -> Option<u64>
+    requires { IsSize size }
+    ensures { MatchOption result
+        (is_fault size (length bytes.now) on at ≡ true)
+        (λ x. (is_fault size (length bytes.now) on at ≡ false) × (x ≡ number_from size bytes.now on at)) }
+{
+    if !on {
+        return Some(0);
+    }
+    if !is_in_range(size, bytes.len(), at) {
+        return None;
+    }
+    Some(number_at(bytes, size, at as usize))
+}
+
+/// The numbers at the active lanes' places, of elements of one size, and 0 in inactive lanes; or
+/// the lowest active lane whose element is out of range.
+fn gather_of<const W: usize, const S: usize>(
+    bytes: &[u8],
+    places: [u64; W],
+    mask: [bool; W],
+) -> Result<[u64; W], u32>
+    requires size { IsSize S }
+    requires lanes { W ≤ 64 }
+    ensures { MatchResult result
+        (λ v. IsEmpty (faults S (length bytes.now) mask.entry places.entry) × (v ≡ zip2 (number_from S bytes.now) mask.entry places.entry))
+        (IsLowest (faults S (length bytes.now) mask.entry places.entry)) }
+{
+    let mut lanes = [0u64; W];
+    for i in 0..W {
+        match number_for(bytes, S, mask[i], places[i]) {
+            Some(lane) => lanes[i] = lane,
+            None => return Err(i as u32),
+        }
+    }
+    Ok(lanes)
+}
+
+/// The same of elements of a type.
+pub(crate) fn gather_numbers<const W: usize>(
+    bytes: &[u8],
+    t: IntType,
+    places: [u64; W],
+    mask: [bool; W],
+) -> Result<[u64; W], u32>
+    requires lanes { W ≤ 64 }
+    ensures { MatchResult result
+        (λ v. IsEmpty (faults (size_of t) (length bytes.now) mask.entry places.entry) × (v ≡ zip2 (number_from (size_of t) bytes.now) mask.entry places.entry))
+        (IsLowest (faults (size_of t) (length bytes.now) mask.entry places.entry)) }
+{
+    match size_in_bytes(t) {
+        1 => gather_of::<W, 1>(bytes, places, mask),
+        2 => gather_of::<W, 2>(bytes, places, mask),
+        4 => gather_of::<W, 4>(bytes, places, mask),
+        _ => gather_of::<W, 8>(bytes, places, mask),
+    }
+}
+
+/// Stores the lane if it is active; `false`, with the bytes as they were, exactly where it is
+/// active and its place is out of range.
+#[inline(always)]
+fn put_lane(bytes: &mut [u8], size: usize, on: bool, at: u64, x: u64) -> bool
+    requires { IsSize size }
+    ensures done { result ≡ not (is_fault size (length bytes.old) on at) }
+    ensures stored { OnTrue result (bytes.new ≡ lane_put size bytes.old on at x) }
+    ensures kept { OnFalse result (bytes.new ≡ bytes.old) }
+{
+    let is_off = !on;
+    if is_off {
+        return true;
+    }
+    if !is_in_range(size, bytes.len(), at) {
+        return false;
+    }
+    put_number(bytes, size, at as usize, x);
+    true
+}
+
+/// Stores the active lanes as elements of one size, lane 0 first; or the lanes below the lowest
+/// active lane whose place is out of range, which is then the error.
+fn scatter_of<const W: usize, const S: usize>(
+    bytes: &mut [u8],
+    places: [u64; W],
+    lanes: [u64; W],
+    mask: [bool; W],
+) -> Result<(), u32>
+    requires size { IsSize S }
+    requires lanes { W ≤ 64 }
+    ensures cases { MatchResult result
+        (λ _. IsEmpty (faults S (length bytes.old) mask.entry places.entry))
+        (IsLowest (faults S (length bytes.old) mask.entry places.entry)) }
+    ensures stored { OnOk result (bytes.new ≡ scattered S bytes.old mask.entry places.entry lanes.entry) }
+    ensures below { IfErr result (λ k. bytes.new ≡ scattered S bytes.old (take k mask.entry) (take k places.entry) (take k lanes.entry)) }
+{
+    for i in 0..W {
+        if !put_lane(bytes, S, mask[i], places[i], lanes[i]) {
+            return Err(i as u32);
+        }
+    }
+    Ok(())
+}
+
+/// The same as elements of a type.
+pub(crate) fn scatter_numbers<const W: usize>(
+    bytes: &mut [u8],
+    t: IntType,
+    places: [u64; W],
+    lanes: [u64; W],
+    mask: [bool; W],
+) -> Result<(), u32>
+    requires lanes { W ≤ 64 }
+    ensures cases { MatchResult result
+        (λ _. IsEmpty (faults (size_of t) (length bytes.old) mask.entry places.entry))
+        (IsLowest (faults (size_of t) (length bytes.old) mask.entry places.entry)) }
+    ensures stored { OnOk result (bytes.new ≡ scattered (size_of t) bytes.old mask.entry places.entry lanes.entry) }
+    ensures below { IfErr result (λ k. bytes.new ≡ scattered (size_of t) bytes.old (take k mask.entry) (take k places.entry) (take k lanes.entry)) }
+{
+    match size_in_bytes(t) {
+        1 => scatter_of::<W, 1>(bytes, places, lanes, mask),
+        2 => scatter_of::<W, 2>(bytes, places, lanes, mask),
+        4 => scatter_of::<W, 4>(bytes, places, lanes, mask),
+        _ => scatter_of::<W, 8>(bytes, places, lanes, mask),
     }
 }

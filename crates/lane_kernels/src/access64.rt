@@ -6,34 +6,11 @@ ghost use Rattle.lane_values.specs.Lanes.{FitsLane};
 ghost use Rattle.lane_values.specs.Masks.{IsEmpty, IsLowest};
 ghost use Rattle.lane_values.specs.Access.{is_fault, faults, lane_from, lane_put, loaded, gathered, scattered};
 
-use crate::access::{is_in_range, put_number, size_in_bytes, value_at};
+use crate::access::{gather_numbers, scatter_numbers};
+use crate::lanes64::extend64;
 use crate::tally::Tally;
 use std::simd::prelude::*;
-use wg_num::{IntType, bits};
-
-/// The lane of element `at`.
-fn load64(bytes: &[u8], t: IntType, at: usize) -> u64
-    requires { (at + 1) * size_of t ≤ length bytes.now }
-    ensures { result ≡ loaded 64 t bytes.now at }
-{
-    bits(t, value_at(bytes, t, at))
-}
-
-/// The lane of element `at`, and 0 where the lane is inactive; `None` exactly where an active
-/// lane's element is out of range.
-fn lane_at64(bytes: &[u8], t: IntType, on: bool, at: u64) -> Option<u64>
-    ensures { MatchOption result
-        (is_fault (size_of t) (length bytes.now) on at ≡ true)
-        (λ x. (is_fault (size_of t) (length bytes.now) on at ≡ false) × (x ≡ lane_from 64 t bytes.now on at)) }
-{
-    if !on {
-        return Some(0);
-    }
-    if !is_in_range(size_in_bytes(t), bytes.len(), at) {
-        return None;
-    }
-    Some(load64(bytes, t, at as usize))
-}
+use wg_num::IntType;
 
 /// The elements at the active lanes' places, and 0 in inactive lanes; or the lowest active lane
 /// whose element is out of range. The vector is answered as an array.
@@ -52,34 +29,10 @@ pub fn gather64<const W: usize>(
     ensures counted { tally.new ≡ min (tally.old + 1) (2 ^ 64 - 1) }
 {
     tally.raise();
-    let places = index.to_array();
-    let mut lanes = [0u64; W];
-    for i in 0..W {
-        match lane_at64(bytes, t, mask[i], places[i]) {
-            Some(lane) => lanes[i] = lane,
-            None => return Err(i as u32),
-        }
+    match gather_numbers(bytes, t, index.to_array(), mask) {
+        Ok(numbers) => Ok(extend64(t, Simd::from_array(numbers)).to_array()),
+        Err(lane) => Err(lane),
     }
-    Ok(lanes)
-}
-
-/// Stores the lane if it is active; `false`, with the bytes as they were, exactly where it is
-/// active and its place is out of range.
-fn put_lane64(bytes: &mut [u8], t: IntType, on: bool, at: u64, x: u64) -> bool
-    ensures done { result ≡ not (is_fault (size_of t) (length bytes.old) on at) }
-    ensures stored { OnTrue result (bytes.new ≡ lane_put (size_of t) bytes.old on at x) }
-    ensures kept { OnFalse result (bytes.new ≡ bytes.old) }
-{
-    let is_off = !on;
-    if is_off {
-        return true;
-    }
-    let size = size_in_bytes(t);
-    if !is_in_range(size, bytes.len(), at) {
-        return false;
-    }
-    put_number(bytes, size, at as usize, x);
-    true
 }
 
 /// Stores the active lanes, lane 0 first; or the lanes below the lowest active lane whose place is
@@ -102,12 +55,5 @@ pub fn scatter64<const W: usize>(
     ensures counted { tally.new ≡ min (tally.old + 1) (2 ^ 64 - 1) }
 {
     tally.raise();
-    let places = index.to_array();
-    let lanes = from.to_array();
-    for i in 0..W {
-        if !put_lane64(bytes, t, mask[i], places[i], lanes[i]) {
-            return Err(i as u32);
-        }
-    }
-    Ok(())
+    scatter_numbers(bytes, t, index.to_array(), from.to_array(), mask)
 }

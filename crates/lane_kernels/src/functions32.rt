@@ -1,7 +1,10 @@
 //! The built-in functions on narrow lanes, lane by lane.
 ghost use Rattle.std.specs.Prelude.{◌≡◌, ◌≤◌, ◌+◌, ◌-◌, ◌^◌, min};
+ghost use Rattle.std.specs.Simd.Lanes.{zip2};
+ghost use Rattle.lane_kernels.specs.Vectors.{lesser_lane, greater_lane};
 ghost use Rattle.lane_values.specs.Lanes.{FitsLane, lane, builtin_lane, zip3};
 
+use crate::lanes32::{bias, extend32};
 use crate::tally::Tally;
 use std::simd::prelude::*;
 use wg_num::{Fun, IntType, builtin, value};
@@ -23,6 +26,43 @@ fn builtin_at32(f: Fun, t: IntType, p: u32, q: u32, r: u32) -> u32
     ))
 }
 
+/// The lane of the lesser value of two lanes that hold values of the type.
+fn lesser<const W: usize>(bias: u32, a: Simd<u32, W>, b: Simd<u32, W>) -> Simd<u32, W>
+    ensures { result ≡ zip2 (lesser_lane 32 bias) a.entry b.entry }
+{
+    let raise = Simd::splat(bias);
+    (b + raise).simd_lt(a + raise).select(b, a)
+}
+
+/// The lane of the greater value of two lanes that hold values of the type.
+fn greater<const W: usize>(bias: u32, a: Simd<u32, W>, b: Simd<u32, W>) -> Simd<u32, W>
+    ensures { result ≡ zip2 (greater_lane 32 bias) a.entry b.entry }
+{
+    let raise = Simd::splat(bias);
+    (b + raise).simd_lt(a + raise).select(a, b)
+}
+
+/// The function on each lane by itself.
+fn each32<const W: usize>(
+    f: Fun,
+    t: IntType,
+    a: Simd<u32, W>,
+    b: Simd<u32, W>,
+    c: Simd<u32, W>,
+) -> Simd<u32, W>
+    requires { W ≤ 64 }
+    ensures { result ≡ zip3 (builtin_lane 32 f t) a.entry b.entry c.entry }
+{
+    let first = a.to_array();
+    let second = b.to_array();
+    let third = c.to_array();
+    let mut lanes = [0u32; W];
+    for i in 0..W {
+        lanes[i] = builtin_at32(f, t, first[i], second[i], third[i]);
+    }
+    Simd::from_array(lanes)
+}
+
 /// The function on each lane, which is read as the value of the type that its bits have; lanes that
 /// the function does not take are ignored.
 pub fn builtin32<const W: usize>(
@@ -39,12 +79,12 @@ pub fn builtin32<const W: usize>(
     ensures counted { tally.new ≡ min (tally.old + 1) (2 ^ 64 - 1) }
 {
     tally.raise();
-    let first = a.to_array();
-    let second = b.to_array();
-    let third = c.to_array();
-    let mut lanes = [0u32; W];
-    for i in 0..W {
-        lanes[i] = builtin_at32(f, t, first[i], second[i], third[i]);
+    let lift = bias(t);
+    if let Fun::Min = f {
+        return lesser(lift, extend32(t, a), extend32(t, b));
     }
-    Simd::from_array(lanes)
+    if let Fun::Max = f {
+        return greater(lift, extend32(t, a), extend32(t, b));
+    }
+    each32(f, t, a, b, c)
 }

@@ -1,7 +1,10 @@
 //! The built-in functions on wide lanes, lane by lane.
 ghost use Rattle.std.specs.Prelude.{◌≡◌, ◌≤◌, ◌+◌, ◌-◌, ◌^◌, min};
+ghost use Rattle.std.specs.Simd.Lanes.{zip2};
+ghost use Rattle.lane_kernels.specs.Vectors.{lesser_lane, greater_lane};
 ghost use Rattle.lane_values.specs.Lanes.{FitsLane, lane, builtin_lane, zip3};
 
+use crate::lanes64::{bias, extend64};
 use crate::tally::Tally;
 use std::simd::prelude::*;
 use wg_num::{Fun, IntType, builtin, value};
@@ -17,6 +20,43 @@ fn builtin_at64(f: Fun, t: IntType, p: u64, q: u64, r: u64) -> u64
     ensures { result ≡ builtin_lane 64 f t p q r }
 {
     lane_of64(builtin(f, t, [value(t, p), value(t, q), value(t, r)]))
+}
+
+/// The lane of the lesser value of two lanes that hold values of the type.
+fn lesser<const W: usize>(bias: u64, a: Simd<u64, W>, b: Simd<u64, W>) -> Simd<u64, W>
+    ensures { result ≡ zip2 (lesser_lane 64 bias) a.entry b.entry }
+{
+    let raise = Simd::splat(bias);
+    (b + raise).simd_lt(a + raise).select(b, a)
+}
+
+/// The lane of the greater value of two lanes that hold values of the type.
+fn greater<const W: usize>(bias: u64, a: Simd<u64, W>, b: Simd<u64, W>) -> Simd<u64, W>
+    ensures { result ≡ zip2 (greater_lane 64 bias) a.entry b.entry }
+{
+    let raise = Simd::splat(bias);
+    (b + raise).simd_lt(a + raise).select(a, b)
+}
+
+/// The function on each lane by itself.
+fn each64<const W: usize>(
+    f: Fun,
+    t: IntType,
+    a: Simd<u64, W>,
+    b: Simd<u64, W>,
+    c: Simd<u64, W>,
+) -> Simd<u64, W>
+    requires { W ≤ 64 }
+    ensures { result ≡ zip3 (builtin_lane 64 f t) a.entry b.entry c.entry }
+{
+    let first = a.to_array();
+    let second = b.to_array();
+    let third = c.to_array();
+    let mut lanes = [0u64; W];
+    for i in 0..W {
+        lanes[i] = builtin_at64(f, t, first[i], second[i], third[i]);
+    }
+    Simd::from_array(lanes)
 }
 
 /// The function on each lane, which is read as the value of the type that its bits have; lanes that
@@ -35,12 +75,12 @@ pub fn builtin64<const W: usize>(
     ensures counted { tally.new ≡ min (tally.old + 1) (2 ^ 64 - 1) }
 {
     tally.raise();
-    let first = a.to_array();
-    let second = b.to_array();
-    let third = c.to_array();
-    let mut lanes = [0u64; W];
-    for i in 0..W {
-        lanes[i] = builtin_at64(f, t, first[i], second[i], third[i]);
+    let lift = bias(t);
+    if let Fun::Min = f {
+        return lesser(lift, extend64(t, a), extend64(t, b));
     }
-    Simd::from_array(lanes)
+    if let Fun::Max = f {
+        return greater(lift, extend64(t, a), extend64(t, b));
+    }
+    each64(f, t, a, b, c)
 }

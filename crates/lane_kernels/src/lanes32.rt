@@ -1,5 +1,6 @@
 //! Narrow lanes: values of types up to 32 bits, extended to 32 bits.
 ghost use Rattle.std.specs.Prelude.{◌≡◌, ◌≤◌, ◌+◌, ◌-◌, ◌%◌, ◌^◌, min, map, false, not, nat_eq, if◌then◌else◌};
+ghost use Rattle.std.specs.Bool.{OnTrue};
 ghost use Rattle.std.specs.Int.{from_bool};
 ghost use Rattle.std.specs.Simd.Lanes.{zip2, Each1};
 ghost use Rattle.wg_num.specs.Wrap.{half, modulus, width_bits, value_of, is_bool};
@@ -47,6 +48,17 @@ pub(crate) fn bias(t: IntType) -> u32
     }
 }
 
+/// Whether the values of the type take all bits of a lane.
+fn is_whole(t: IntType) -> bool
+    requires { FitsLane 32 t }
+    ensures { OnTrue result (width_bits t ≡ 32) }
+{
+    match t {
+        IntType::Int | IntType::Uint => true,
+        _ => false,
+    }
+}
+
 /// Each lane becomes the lane of the value that its low bits have in the type.
 pub(crate) fn extend32<const W: usize>(t: IntType, a: Simd<u32, W>) -> Simd<u32, W>
     requires { FitsLane 32 t }
@@ -56,6 +68,9 @@ pub(crate) fn extend32<const W: usize>(t: IntType, a: Simd<u32, W>) -> Simd<u32,
         return a
             .simd_ne(Simd::splat(0))
             .select(Simd::splat(1), Simd::splat(0));
+    }
+    if is_whole(t) {
+        return a;
     }
     let half = Simd::splat(half_of(t));
     ((a + half) & Simd::splat(low_bits(t))) - half

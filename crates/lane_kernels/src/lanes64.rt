@@ -1,5 +1,6 @@
 //! Wide lanes: values of types up to 64 bits, extended to 64 bits.
 ghost use Rattle.std.specs.Prelude.{◌≡◌, ◌≤◌, ◌+◌, ◌-◌, ◌%◌, ◌^◌, min, map, false, not, nat_eq, if◌then◌else◌};
+ghost use Rattle.std.specs.Bool.{OnTrue};
 ghost use Rattle.std.specs.Int.{from_bool};
 ghost use Rattle.std.specs.Simd.Lanes.{zip2, Each1};
 ghost use Rattle.wg_num.specs.Wrap.{half, modulus, width_bits, value_of, is_bool};
@@ -49,6 +50,17 @@ pub(crate) fn bias(t: IntType) -> u64
     }
 }
 
+/// Whether the values of the type take all bits of a lane.
+fn is_whole(t: IntType) -> bool
+    requires { FitsLane 64 t }
+    ensures { OnTrue result (width_bits t ≡ 64) }
+{
+    match t {
+        IntType::Long | IntType::Ulong => true,
+        _ => false,
+    }
+}
+
 /// Each lane becomes the lane of the value that its low bits have in the type.
 pub(crate) fn extend64<const W: usize>(t: IntType, a: Simd<u64, W>) -> Simd<u64, W>
     requires { FitsLane 64 t }
@@ -58,6 +70,9 @@ pub(crate) fn extend64<const W: usize>(t: IntType, a: Simd<u64, W>) -> Simd<u64,
         return a
             .simd_ne(Simd::splat(0))
             .select(Simd::splat(1), Simd::splat(0));
+    }
+    if is_whole(t) {
+        return a;
     }
     let half = Simd::splat(half_of(t));
     ((a + half) & Simd::splat(low_bits(t))) - half

@@ -1,11 +1,19 @@
 //! Masks: one truth value per lane.
 ghost use Rattle.std.specs.Prelude.{◌≡◌, ◌≤◌, ◌^◌, map, not, nat_eq, MatchOption};
-ghost use Rattle.std.specs.List.{list_any};
+ghost use Rattle.std.specs.List.{list_any, list_all};
 ghost use Rattle.std.specs.Int.{from_bool};
 ghost use Rattle.std.specs.Simd.Lanes.{sel_l};
 ghost use Rattle.lane_values.specs.Masks.{IsEmpty, IsLowest};
 
 use std::simd::prelude::*;
+
+/// Whether every lane is set.
+#[inline(always)]
+fn is_full<const W: usize>(mask: [bool; W]) -> bool
+    ensures { result ≡ list_all (λ on. on) mask.entry }
+{
+    mask.iter().all(|on| *on)
+}
 
 /// 1 where the mask is set, and else 0.
 fn numbers_of32<const W: usize>(mask: [bool; W]) -> Simd<u32, W>
@@ -26,6 +34,9 @@ pub fn blend32<const W: usize>(
 ) -> Simd<u32, W>
     ensures { result ≡ sel_l mask.entry new.entry old.entry }
 {
+    if is_full(mask) {
+        return new;
+    }
     numbers_of32(mask).simd_ne(Simd::splat(0)).select(new, old)
 }
 
@@ -60,6 +71,9 @@ pub fn blend64<const W: usize>(
 ) -> Simd<u64, W>
     ensures { result ≡ sel_l mask.entry new.entry old.entry }
 {
+    if is_full(mask) {
+        return new;
+    }
     numbers_of64(mask).simd_ne(Simd::splat(0)).select(new, old)
 }
 

@@ -9,6 +9,7 @@ pub mod OwnLaws
 pub mod ReadyLaws
 pub mod RegionLaws
 pub mod RoomLaws
+pub mod RowLaws
 pub mod RunLaws
 pub mod SizeLaws
 pub mod VoteLaws

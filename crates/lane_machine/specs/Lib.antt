@@ -1,6 +1,7 @@
 pub mod Held
 pub mod Machinery
 pub mod Room
+pub mod Rows
 pub mod Sizes
 pub mod Standing
 pub mod State

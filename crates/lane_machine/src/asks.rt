@@ -1,8 +1,8 @@
 //! Work-item functions and kernel arguments, in lanes.
-ghost use Rattle.std.specs.Prelude.{◌≡◌, ◌≢◌, ◌<◌, ◌≤◌, ◌^◌, length, replicate, slice_get};
+ghost use Rattle.std.specs.Prelude.{◌≡◌, ◌≢◌, ◌<◌, ◌≤◌, ◌+◌, ◌^◌, length, replicate, slice_get, IfSome, if◌then◌else◌};
 ghost use Rattle.wg_num.specs.declared.types.IntType.TheVariants.{Uint};
 ghost use Rattle.wg_num.specs.Wrap.{value_of};
-ghost use Rattle.cl_model.specs.Sizes.{answer_of};
+ghost use Rattle.cl_model.specs.Sizes.{answer_of, local_id, size_at};
 ghost use Rattle.cl_model.specs.View.{launch_of};
 ghost use Rattle.lane_values.specs.Lanes.{lane};
 ghost use Rattle.lane_code.specs.Registers.{written, lanes_of, bits_in, lane_count};
@@ -11,7 +11,7 @@ ghost use Rattle.lane_code.specs.declared.step.Bank.TheVariants.{Narrow, Wide, M
 ghost use Rattle.lane_machine.specs.Sizes.{HasSizes};
 ghost use Rattle.lane_machine.specs.State.{IsIn, FitsAsk};
 
-use crate::queries::answer;
+use crate::queries::{answer, grows, is_row};
 use crate::registers::Registers;
 use cl_model::{Bound, Launch, Query};
 use lane_code::{Bank, Reg};
@@ -53,6 +53,58 @@ fn answers32<const W: usize>(
     Simd::from_array(lanes)
 }
 
+/// The entry that all lanes have, if they have one.
+fn shared_dim<const W: usize>(places: [u32; W]) -> Option<u32>
+    ensures { IfSome result (λ d. places.entry ≡ replicate W d) }
+{
+    let d = match places.first() {
+        Some(d) => *d,
+        None => 0,
+    };
+    for i in 0..W {
+        if places[i] != d {
+            return None;
+        }
+    }
+    Some(d)
+}
+
+fn ahead(growing: bool, i: u64) -> u64
+    ensures { result ≡ (if growing then i else 0) }
+{
+    if growing { i } else { 0 }
+}
+
+/// What a work-item function gives the items of a row for one argument: counted on from the first.
+fn counted64<const W: usize>(launch: &Launch, item: u64, what: Query, d: u32) -> Simd<u64, W>
+    requires lanes { W ≤ 64 }
+    requires sizes { HasSizes (launch_of launch.now) }
+    requires row { local_id (launch_of launch.now) item 0 + W ≤ size_at (launch_of launch.now).local 0 }
+    ensures { result ≡ answers 64 (launch_of launch.now) item what (replicate W d) }
+{
+    let first = answer(launch, item, what, d);
+    let growing = grows(what, d);
+    let mut lanes = [0u64; W];
+    for i in 0..W {
+        lanes[i] = first.wrapping_add(ahead(growing, i as u64));
+    }
+    Simd::from_array(lanes)
+}
+
+/// The same for items anywhere and an argument for each.
+fn each64<const W: usize>(launch: &Launch, item: u64, what: Query, places: [u32; W]) -> Simd<u64, W>
+    requires lanes { W ≤ 64 }
+    requires sizes { HasSizes (launch_of launch.now) }
+    requires item { item < 2 ^ 32 }
+    ensures { result ≡ answers 64 (launch_of launch.now) item what places.entry }
+{
+    let mut lanes = [0u64; W];
+    for i in 0..W {
+        lanes[i] = answer64(launch, item + i as u64, what, places[i] as u64);
+    }
+    Simd::from_array(lanes)
+}
+
 fn answers64<const W: usize>(
     launch: &Launch,
     item: u64,
@@ -65,11 +117,12 @@ fn answers64<const W: usize>(
     ensures { result ≡ answers 64 (launch_of launch.now) item what dims.entry }
 {
     let places = dims.to_array();
-    let mut lanes = [0u64; W];
-    for i in 0..W {
-        lanes[i] = answer64(launch, item + i as u64, what, places[i] as u64);
+    if is_row(launch, item, W as u64) {
+        if let Some(d) = shared_dim(places) {
+            return counted64(launch, item, what, d);
+        }
     }
-    Simd::from_array(lanes)
+    each64(launch, item, what, places)
 }
 
 /// A work-item function in lanes or in a scalar.

@@ -1,8 +1,10 @@
 //! What the work-item functions give an item (OpenCL 1.2, section 6.12.1).
-ghost use Rattle.std.specs.Prelude.{◌≡◌, ◌<◌, ◌≤◌, ◌*◌, ◌^◌, pos, take, List, ℕ, slice_index};
+ghost use Rattle.std.specs.Prelude.{◌≡◌, ◌<◌, ◌≤◌, ◌+◌, ◌*◌, ◌^◌, pos, take, List, ℕ, slice_index};
 ghost use Rattle.cl_model.specs.Sizes.{product, size_at, offset_at, group_size, groups_of, groups_at, local_id, group_id, global_id, answer_within, answer_outside, answer_of};
 ghost use Rattle.cl_model.specs.View.{launch_of, three_of};
 ghost use Rattle.lane_machine.specs.Sizes.{HasSizes, AreSizes};
+ghost use Rattle.lane_machine.specs.Rows.{does_grow};
+ghost use Rattle.std.specs.Bool.{OnTrue};
 
 use cl_model::{Launch, Query};
 
@@ -111,6 +113,31 @@ fn global_in(launch: &Launch, item: u64, d: u32) -> u64
     let local = local_in(launch, item, d);
     let group = group_in(launch, item, d);
     offset_in(&launch.offset, d) + group * size_in(&launch.local, d) + local
+}
+
+/// Whether so many items from an item on stand beside one another in the first dimension of a group.
+pub(crate) fn is_row(launch: &Launch, item: u64, count: u64) -> bool
+    requires sizes { HasSizes (launch_of launch.now) }
+    requires few { count ≤ 64 }
+    ensures { OnTrue result (local_id (launch_of launch.now) item 0 + count ≤ size_at (launch_of launch.now).local 0) }
+{
+    let place = local_in(launch, item, 0);
+    count <= size_in(&launch.local, 0) - place
+}
+
+/// Whether the answer grows by 1 from one item of a row to the next; else it stays the same.
+pub(crate) fn grows(what: Query, d: u32) -> bool
+    ensures { result ≡ does_grow what d }
+{
+    match what {
+        Query::GlobalId | Query::LocalId => d == 0,
+        Query::WorkDim
+        | Query::GroupId
+        | Query::GlobalSize
+        | Query::LocalSize
+        | Query::NumGroups
+        | Query::GlobalOffset => false,
+    }
 }
 
 /// What a work-item function gives an item in a dimension below 3.

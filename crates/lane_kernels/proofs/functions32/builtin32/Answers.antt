@@ -1,25 +1,34 @@
-use Rattle.std.proofs.Common.{◌∙◌, sym, arith}
-use Rattle.std.proofs.lemmas.List.{length-set}
-use Rattle.lane_values.specs.Lanes.{builtin_lane, zip3}
-use Rattle.lane_kernels.proofs.ListLaws.{written_next, written_all, get_or-zip3, length-zip3}
+use Rattle.std.proofs.Common.{◌^◌, ◌∙◌, ap, ap₂, refl, sym, map, arith}
+use Rattle.std.specs.Simd.Lanes.{zip2}
+use Rattle.wg_num.specs.declared.types.Fun.TheVariants.{Min, Max}
+use Rattle.lane_values.specs.Lanes.{extended, builtin_lane, zip3}
+use Rattle.lane_kernels.specs.Vectors.{bias_of, lesser_lane, greater_lane}
+use Rattle.lane_kernels.proofs.LaneLaws as K
+use Rattle.lane_kernels.proofs.ListLaws.{zip2-maps, zip2_as_zip3}
 use Rattle.lane_kernels.proofs.functions32.builtin32.Goals as goal
 
-pub loop-i-preserved : goal.loop-i-preserved
-loop-i-preserved g c =
-    let f = builtin_lane 32 c.args.f c.args.t in
+pub returns-in-Min-clause-lanes : goal.returns-in-Min-clause-lanes
+returns-in-Min-clause-lanes g c =
+    let t = c.args.t in
     let a = c.args.a in
     let b = c.args.b in
-    let d = c.args.c in
-    let i = c.loop-i.i in
-    let inv = c.loop-i.invariant in
-    record {
-      long = length-set _ _ _ ∙ inv.long;
-      written = written_next c.loop-i.lanes (zip3 f a b d) i c.builtin_at32.result 0 inv.written (omega (arith, inv.long)) (omega (arith, length-zip3 f g.row.W a b d c.fits-a.0 c.fits-b.0 c.fits-c.0))
-          (c.builtin_at32.ensures ∙ sym (get_or-zip3 f a b d i 0 0 0 0 (omega (arith, c.fits-a.0)) (omega (arith, c.fits-b.0)) (omega (arith, c.fits-c.0))));
-    }
+    let n = c.requires.fits in
+    c.lesser.ensures
+    ∙ ap (λ k. zip2 (lesser_lane 32 k) c.extend32.result c.extend32-in-Min.result) c.bias-lift.ensures
+    ∙ ap₂ (zip2 (lesser_lane 32 (bias_of 32 t))) c.extend32.ensures c.extend32-in-Min.ensures
+    ∙ zip2-maps (lesser_lane 32 (bias_of 32 t)) (extended 32 t) (extended 32 t) a b
+    ∙ zip2_as_zip3 _ (builtin_lane 32 Min t) (λ p q r. K.lane_lesser 32 (2 ^ 31) refl refl (omega arith) (omega arith) t n p q r) g.row.W a b c.args.c c.fits-a.0 c.fits-b.0 c.fits-c.0
+    ∙ ap (λ f. zip3 (builtin_lane 32 f t) a b c.args.c) (sym c.in-Min.is)
 
-pub returns-clause-lanes : goal.returns-clause-lanes
-returns-clause-lanes g c =
-    let f = builtin_lane 32 c.args.f c.args.t in
-    written_all c.loop-i.lanes (zip3 f c.args.a c.args.b c.args.c) c.loop-i.i c.loop-i.invariant.written (omega (arith, c.loop-i.invariant.long))
-    (omega (arith, length-zip3 f g.row.W c.args.a c.args.b c.args.c c.fits-a.0 c.fits-b.0 c.fits-c.0))
+pub returns-in-Max-clause-lanes : goal.returns-in-Max-clause-lanes
+returns-in-Max-clause-lanes g c =
+    let t = c.args.t in
+    let a = c.args.a in
+    let b = c.args.b in
+    let n = c.requires.fits in
+    c.greater.ensures
+    ∙ ap (λ k. zip2 (greater_lane 32 k) c.extend32-in-Max.result c.extend32-in-Max-2.result) c.bias-lift.ensures
+    ∙ ap₂ (zip2 (greater_lane 32 (bias_of 32 t))) c.extend32-in-Max.ensures c.extend32-in-Max-2.ensures
+    ∙ zip2-maps (greater_lane 32 (bias_of 32 t)) (extended 32 t) (extended 32 t) a b
+    ∙ zip2_as_zip3 _ (builtin_lane 32 Max t) (λ p q r. K.lane_greater 32 (2 ^ 31) refl refl (omega arith) (omega arith) t n p q r) g.row.W a b c.args.c c.fits-a.0 c.fits-b.0 c.fits-c.0
+    ∙ ap (λ f. zip3 (builtin_lane 32 f t) a b c.args.c) (sym c.in-Max.is)

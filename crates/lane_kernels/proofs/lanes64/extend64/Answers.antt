@@ -1,10 +1,12 @@
-use Rattle.std.proofs.Common.{refl, arith}
+use Rattle.std.proofs.Common.{refl, arith, ◌<◌, w64}
+use Rattle.std.proofs.lemmas.Simd.{below_from_Fits}
 use Rattle.std.proofs.Common.{◌+◌, ◌-◌, ◌^◌, ◌%◌, ap, ap₂, ◌∙◌, not, nat_eq, cond, bit_and}
 use Rattle.wg_num.specs.Wrap.{is_bool}
 use Rattle.wg_num.proofs.WrapLaws.{not_bool}
 use Rattle.lane_values.specs.Lanes.{extended}
 use Rattle.lane_kernels.proofs.LaneLaws as K
 use Rattle.lane_kernels.proofs.ListLaws as L
+use Rattle.lane_kernels.proofs.ListLaws.{map_stays}
 use Rattle.lane_kernels.proofs.lanes64.extend64.Goals as goal
 
 pub returns-in-Bool : goal.returns-in-Bool
@@ -20,3 +22,9 @@ returns g c =
     ∙ L.map_same 64 63 18446744073709551615 refl refl (λ p. (bit_and ((p + h) % 2 ^ 64) m + (2 ^ 64 - h)) % 2 ^ 64) ((extended 64) c.args.t)
     (λ p. ap₂ (λ x y. (bit_and ((p + x) % 2 ^ 64) y + (2 ^ 64 - x)) % 2 ^ 64) c.half_of-half.ensures c.low_bits.ensures
     ∙ K.extend_whole 64 (2 ^ 63) refl refl (omega arith) (omega arith) c.args.t p c.requires (not_bool c.args.t c.in_default.not-Bool)) c.args.a
+
+pub returns-then-is_whole : goal.returns-then-is_whole
+returns-then-is_whole g c =
+    let t = c.args.t in
+    map_stays (λ x. x < 2 ^ 64) (extended 64 t)
+    (λ p h. K.extend_full 64 (2 ^ 63) refl refl (omega arith) (omega arith) t p c.if-is_whole.ensures (not_bool t c.in_default.not-Bool) h) c.args.a (below_from_Fits w64 c.args.a c.fits-a.1)

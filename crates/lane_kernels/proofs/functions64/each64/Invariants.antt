@@ -1,6 +1,6 @@
 use Rattle.std.proofs.Common.{◌≡◌, length, take}
 use Rattle.lane_values.specs.Lanes.{builtin_lane, zip3}
-use Rattle.lane_kernels.proofs.functions64.builtin64.Given as goal
+use Rattle.lane_kernels.proofs.functions64.each64.Given as goal
 
 abbrev pub invariant-loop-i : goal.invariant-loop-i
 invariant-loop-i g l = record {

@@ -1,7 +1,7 @@
 use Rattle.std.proofs.Common.{◌≡◌, length, take}
 use Rattle.cl_model.specs.View.{launch_of}
 use Rattle.lane_code.specs.Acts.{answers}
-use Rattle.lane_machine.proofs.asks.answers64.Given as goal
+use Rattle.lane_machine.proofs.asks.each64.Given as goal
 
 abbrev pub invariant-loop-i : goal.invariant-loop-i
 invariant-loop-i g l = record {
