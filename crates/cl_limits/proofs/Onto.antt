@@ -35,7 +35,6 @@ other_next ts i t h e b =
 pub functions_out_of : (t : Tree) → functions_in (view t) ≡ functions_among (views (out-Tree t).parts.items)
 functions_out_of t = ap functions_in (view_out t)
 
-
 named_out : (t : Tree) (name : List ℕ) (n : ℕ) (fs : List Syntax) → number_from name n (view t ∷ fs) ≡ (if bytes_eq (name_in (out-Tree t).word) name then Some n else number_from name (suc n) fs)
 named_out t name n fs = ap (λ (s : Syntax). number_from name n (s ∷ fs)) (view_out t)
 
