@@ -13,6 +13,7 @@ use Rattle.cl_meaning.specs.Visible.{Node}
 use Rattle.cl_meaning.specs.Faults.{Asked, at_fault, looked, Stands, AllSound, FirstFault, token_of}
 use Rattle.cl_meaning.specs.Typed.{Unit'}
 use Rattle.cl_meaning.specs.Meant.{unit_meant}
+use Rattle.cl_limits.specs.Heights.{functions_in}
 use Rattle.cl_limits.specs.Kernel.{weights_of, limit_of, sized_of}
 use Rattle.cl_piece.specs.View.{unit_of}
 use Rattle.cl_check.specs.Checked.{nodes_of, asked_in, starts_in, limit_in, IsAccepted, IsRefused}
@@ -114,8 +115,8 @@ first_refused places kernel unit asked k token h f = inl (subst (λ z. FirstFaul
 sized_is : (places : List Place) (kernel : List ℕ) (unit : Syntax) (asked : Asked) (p : rust_program.Program) → asked ≡ asked_in places kernel unit → unit_of p ≡ unit_meant places kernel unit →
     limit_of (sized_of unit asked.calls p) ≡ limit_in places kernel unit
 sized_is places kernel unit asked p h e =
-    ap (λ (a : Asked). limit_of (record { weights = weights_of unit; calls = a.calls; functions = (unit_of p).functions; kernel = (unit_of p).kernel })) h
-    ∙ ap (λ (u : Unit'). limit_of (record { weights = weights_of unit; calls = (asked_in places kernel unit).calls; functions = u.functions; kernel = u.kernel })) e
+    ap (λ (a : Asked). limit_of (record { weights = weights_of unit; trees = functions_in unit; calls = a.calls; functions = (unit_of p).functions; kernel = (unit_of p).kernel })) h
+    ∙ ap (λ (u : Unit'). limit_of (record { weights = weights_of unit; trees = functions_in unit; calls = (asked_in places kernel unit).calls; functions = u.functions; kernel = u.kernel })) e
 
 -- and so does a limit, where no node is at fault
 pub over_refused : (places : List Place) (kernel word : List ℕ) (unit : Syntax) (asked : Asked) (p : rust_program.Program) (o : Option Fault) (k : Fault) (token : ℕ) (parts : Forest) → asked ≡ asked_in places kernel unit → word ≡ kernel →

@@ -1,5 +1,5 @@
 -- The first limit that stands.
-use Rattle.std.proofs.Common.{◌≡◌, ℕ, Bool, true, false, nat_lt, List, map, Option, Some, None, refl, ap, ◌∙◌, if◌then◌else◌}
+use Rattle.std.proofs.Common.{◌≡◌, ℕ, Bool, true, false, nat_lt, List, map, Option, Some, None, ap, ◌∙◌, if◌then◌else◌}
 use Rattle.std.specs.Prelude.{slice_get}
 use Rattle.cl_model.specs.declared.program.Function as rust_function
 use Rattle.cl_meaning.specs.declared.fault.Fault.{Fault}

@@ -1,14 +1,12 @@
 -- Points of trees, put behind others.
-use Rattle.std.proofs.Common.{◌≡◌, ℕ, suc, ◌+◌, ◌<◌, Bool, true, false, List, [], ◌∷◌, length, get_or, drop, Option, Some, refl, ap, sym, ◌∙◌, arith, drop-cons, if◌then◌else◌}
+use Rattle.std.proofs.Common.{◌≡◌, ℕ, suc, ◌+◌, ◌<◌, true, false, List, ◌∷◌, length, get_or, drop, Some, ap, sym, ◌∙◌, arith, drop-cons, if◌then◌else◌}
 use Rattle.std.specs.Str.{bytes_eq}
 use Rattle.cl_tree.specs.declared.tree.Tree.{Tree}
 use Rattle.cl_tree.specs.declared.tree.Tree.TheViews.{out-Tree}
 use Rattle.cl_tree.specs.Syntax.{Syntax, Forest, more, view, views}
 use Rattle.cl_meaning.proofs.Views.{view_out}
 use Rattle.cl_meaning.specs.Spelling.{name_in}
-use Rattle.cl_limits.specs.declared.points.Point.{Point}
 use Rattle.cl_limits.specs.Heights.{is_function, functions_among, functions_in, number_from}
-use Rattle.cl_limits.specs.Points.{functions_onto, onto}
 use Rattle.cl_limits.proofs.Lists.{chosen, not_chosen}
 
 pub views_dropped : (ts : List Tree) (i : ℕ) (t : Tree) → i < length ts → t ≡ get_or ts i t → views (drop i ts) ≡ more (view t) (views (drop (i + 1) ts))
@@ -34,7 +32,6 @@ other_next ts i t h e b =
 
 pub functions_out_of : (t : Tree) → functions_in (view t) ≡ functions_among (views (out-Tree t).parts.items)
 functions_out_of t = ap functions_in (view_out t)
-
 
 named_out : (t : Tree) (name : List ℕ) (n : ℕ) (fs : List Syntax) → number_from name n (view t ∷ fs) ≡ (if bytes_eq (name_in (out-Tree t).word) name then Some n else number_from name (suc n) fs)
 named_out t name n fs = ap (λ (s : Syntax). number_from name n (s ∷ fs)) (view_out t)

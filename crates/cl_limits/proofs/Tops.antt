@@ -9,7 +9,7 @@ use Rattle.cl_meaning.specs.Spelling.{name_in, intrinsic_in}
 use Rattle.cl_limits.specs.declared.points.Point.{Point}
 use Rattle.cl_limits.specs.declared.points.Spot.{Spot}
 use Rattle.cl_limits.specs.Heights.{lifted, is_barrier, number_from, number_height, called_height, is_branch, inside, own_height, height_of, height_of_all, function_height}
-use Rattle.cl_limits.specs.Points.{point_at, deeper, entered, number_onto, call_onto, own_onto, onto, all_onto, functions_onto}
+use Rattle.cl_limits.specs.Points.{point_at, deeper, entered, number_onto, own_onto, onto, all_onto, functions_onto}
 use Rattle.cl_limits.proofs.Lists.{chosen, not_chosen}
 use Rattle.cl_limits.proofs.Summing.{is_same, is_other}
 

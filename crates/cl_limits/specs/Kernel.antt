@@ -1,5 +1,5 @@
 -- The limits of a kernel with all that it calls.
-use Rattle.std.specs.Prelude.{ℕ, nat_lt, Bool, true, false, List, [], ◌∷◌, map, Option, None, Some, slice_get, if◌then◌else◌}
+use Rattle.std.specs.Prelude.{ℕ, nat_lt, Bool, false, List, [], ◌∷◌, map, Option, None, Some, slice_get, if◌then◌else◌}
 use Rattle.cl_model.specs.declared.program.Program as rust_program
 use Rattle.cl_tree.specs.Syntax.{Syntax, node, Forest, none, more}
 use Rattle.cl_meaning.specs.declared.fault.Fault.{Fault}

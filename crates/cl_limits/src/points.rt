@@ -147,12 +147,7 @@ fn put_own(points: &mut Vec<Point>, at: Spot, tree: &Tree, unit: &[Tree]) -> Res
 }
 
 #[cycle(points)]
-fn put_trees(
-    points: &mut Vec<Point>,
-    at: Spot,
-    trees: &[Tree],
-    unit: &[Tree],
-) -> Result<(), Memory>
+fn put_trees(points: &mut Vec<Point>, at: Spot, trees: &[Tree], unit: &[Tree]) -> Result<(), Memory>
     ensures { OnOk result (points.new.items ≡ spec.all_onto (heights.functions_among (views unit.now)) at (views trees.now) points.old.items) }
 {
     for tree in trees {

@@ -1,4 +1,5 @@
-use cl_faults::{Call, leads_back, rows_of};
+use cl_faults::{leads_back, rows_of};
+use cl_meaning::Call;
 use std::test::Fail;
 
 // Three functions in a ring, and one that calls into it.

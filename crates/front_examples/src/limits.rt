@@ -1,5 +1,5 @@
-use cl_meaning::{Call, Fault};
 use cl_limits::{heights, limit_of, local_bytes, private_bytes, totals};
+use cl_meaning::{Call, Fault};
 use cl_model::{Array, Function, Program, Space, Var, VarKind};
 use cl_tree::{Form, Tree};
 use std::alloc::Global;
@@ -183,10 +183,24 @@ fn heights_stop_at_the_cap(rt: HostRuntime) -> Result<(), Fail> {
 fn heights_count_each_part_of_a_for(rt: HostRuntime) -> Result<(), Fail> {
     let heap = rt.alloc();
     let first = around(heap, Form::SimpleNode, barrier(heap)?)?;
-    let loop_ = node(heap, Form::ForNode, "for ( ; )", list(heap, first, leaf(heap, Form::SimpleNode, ";")?)?)?;
+    let loop_ = node(
+        heap,
+        Form::ForNode,
+        "for ( ; )",
+        list(heap, first, leaf(heap, Form::SimpleNode, ";")?)?,
+    )?;
     let before = around(heap, Form::SimpleNode, barrier(heap)?)?;
-    let block = node(heap, Form::BlockNode, "{ }", list(heap, before, leaf(heap, Form::ForNode, "for ( ; )")?)?)?;
-    let functions = list(heap, defined(heap, "f ( )", loop_)?, defined(heap, "g ( )", block)?)?;
+    let block = node(
+        heap,
+        Form::BlockNode,
+        "{ }",
+        list(heap, before, leaf(heap, Form::ForNode, "for ( ; )")?)?,
+    )?;
+    let functions = list(
+        heap,
+        defined(heap, "f ( )", loop_)?,
+        defined(heap, "g ( )", block)?,
+    )?;
     let found = heights(heap, 18, &functions)?;
     assert!(rt; found.as_slice() == [2, 1].as_slice());
     Ok(())
@@ -215,7 +229,12 @@ const LIMITS: [(u32, u32, Option<(Space, u64)>, Option<Fault>); 8] = [
     (16384, 0, None, None),
     (16385, 17, None, Some(Fault::KernelTooLarge)),
     (3, 0, Some((Space::Private, 2)), None),
-    (20, 17, Some((Space::Private, 3)), Some(Fault::PrivateMemory)),
+    (
+        20,
+        17,
+        Some((Space::Private, 3)),
+        Some(Fault::PrivateMemory),
+    ),
     (3, 0, Some((Space::Local, 8)), None),
     (3, 0, Some((Space::Local, 9)), Some(Fault::LocalMemory)),
 ];
@@ -228,7 +247,10 @@ fn kernels_are_limited(rt: HostRuntime) -> Result<(), Fail> {
             None => function(heap)?,
             Some((space, rows)) => with_array(heap, space, rows)?,
         };
-        assert!(rt; limit(heap, nodes, count, kernel)? == wanted, "at {nodes} {count}");
+        assert!(rt;
+            limit(heap, nodes, count, kernel)? == wanted,
+            "at {nodes} {count}"
+        );
     }
     Ok(())
 }
