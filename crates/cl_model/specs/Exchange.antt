@@ -1,5 +1,5 @@
 -- A clean launch with a barrier: two items exchange their elements through local memory.
-use Rattle.std.specs.Prelude.{pos, [], ◌∷◌, Some, None}
+use Rattle.std.specs.Prelude.{pos, List, [], ◌∷◌, Some, None, codes}
 use Rattle.wg_num.specs.declared.types.IntType.TheVariants.{Int, Uint, Long}
 use Rattle.wg_num.specs.declared.types.Bin.TheVariants.{Add, Sub}
 use Rattle.cl_model.specs.declared.program.Space.TheVariants as space
@@ -7,6 +7,7 @@ use Rattle.cl_model.specs.declared.program.Root.TheVariants as root
 use Rattle.cl_model.specs.declared.program.VarKind.TheVariants.{Scalar, Pointer}
 use Rattle.cl_model.specs.declared.program.Query.TheVariants.{LocalId}
 use Rattle.cl_model.specs.Tree.{Literal, Variable, Binary, Convert, Ask, Load, Store, Expression, Apply, none, single, pair, Do, Declare, Barrier, Statements, empty, also, Array, Function, Program}
+use Rattle.cl_model.specs.Heads.{Named, NamedArray, Head}
 use Rattle.cl_model.specs.Sizes.{Launch}
 use Rattle.cl_model.specs.Increment.{flat_launch}
 
@@ -48,6 +49,16 @@ exchange_kernel = record {
   arrays = pair_of_ints ∷ [];
   body = exchange_body;
 }
+
+-- its names, with those of the parameter, of `l` and of `t` in columns 32, 59 and 49
+abbrev pub exchange_variables : List Named
+exchange_variables = record { name = codes "a"; place = record { line = 1; column = 32 } } ∷ record { name = codes "l"; place = record { line = 1; column = 59 } } ∷ []
+
+abbrev pub exchange_array : NamedArray
+exchange_array = record { name = codes "t"; lengths = 2 ∷ []; place = record { line = 1; column = 49 } }
+
+abbrev pub exchange_head : Head
+exchange_head = record { name = codes "ex"; variables = exchange_variables; arrays = exchange_array ∷ []; sizes = None }
 
 -- the program of this kernel, with the places of its elements and of its barrier
 abbrev pub exchange_program : Program

@@ -1,5 +1,5 @@
 -- A clean launch at each size: every item adds 1 to its own element.
-use Rattle.std.specs.Prelude.{◌≡◌, ℕ, ◌%◌, ◌^◌, ◌≤◌, pos, [], ◌∷◌, None}
+use Rattle.std.specs.Prelude.{◌≡◌, ℕ, ◌%◌, ◌^◌, ◌≤◌, pos, [], ◌∷◌, None, codes}
 use Rattle.wg_num.specs.declared.types.IntType.TheVariants.{Int, Uint, Long}
 use Rattle.wg_num.specs.declared.types.Bin.TheVariants.{Add}
 use Rattle.cl_model.specs.declared.program.Space.TheVariants as space
@@ -8,6 +8,7 @@ use Rattle.cl_model.specs.declared.program.VarKind.TheVariants.{Pointer}
 use Rattle.cl_model.specs.declared.program.Query.TheVariants.{GlobalId}
 use Rattle.cl_model.specs.declared.launch.Bound.TheVariants.{Buffer}
 use Rattle.cl_model.specs.Tree.{Literal, Variable, Binary, Convert, Ask, Load, Store, Expression, Apply, none, single, pair, Do, empty, also, Function, Program}
+use Rattle.cl_model.specs.Heads.{Named, Head}
 use Rattle.cl_model.specs.Sizes.{Launch}
 
 -- the element offset of `a[get_global_id(0)]`
@@ -28,6 +29,13 @@ increment_kernel = record {
   arrays = [];
   body = also (Do increment_assignment) empty;
 }
+
+-- its names, with that of the parameter in column 33
+abbrev pub increment_parameter : Named
+increment_parameter = record { name = codes "a"; place = record { line = 1; column = 33 } }
+
+abbrev pub increment_head : Head
+increment_head = record { name = codes "inc"; variables = increment_parameter ∷ []; arrays = []; sizes = None }
 
 -- the program of this kernel; the two elements stand in line 1, columns 38 and 60
 abbrev pub increment_program : Program

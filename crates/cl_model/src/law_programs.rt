@@ -2,6 +2,7 @@
 
 ghost use Rattle.std.specs.Prelude.{◌≡◌, [], ◌∷◌, ◌*◌, ◌<◌, ◌^◌, ◌≤◌, IfOk, replicate};
 ghost use Rattle.cl_model.specs.View.{expression_of, array_of, listed_statements, function_of, program_of, launch_of, buffers_of};
+ghost use Rattle.cl_model.specs.Heads.{named_array, head_of, heads_of};
 ghost use Rattle.cl_model.specs.Increment as increment;
 ghost use Rattle.cl_model.specs.Exchange as exchange;
 
@@ -30,7 +31,9 @@ fn own_offset(alloc: Global) -> Result<Expr, Memory>
 
 /// A parameter that points to global ints.
 fn global_ints(alloc: Global, name: &[u8], place: Place) -> Result<Var, Memory>
-    ensures { IfOk result (λ v. v.kind ≡ VarKind.Pointer Space.Global IntType.Int (Root.Param 0)) }
+    ensures kind { IfOk result (λ v. v.kind ≡ VarKind.Pointer Space.Global IntType.Int (Root.Param 0)) }
+    ensures name { IfOk result (λ v. v.name ≡ name.now) }
+    ensures place { IfOk result (λ v. v.place ≡ place) }
 {
     let name = Word::new(alloc, name)?;
     let kind = VarKind::Pointer {
@@ -59,7 +62,8 @@ fn increment_assignment(alloc: Global) -> Result<Expr, Memory>
 
 /// The kernel that adds 1 to each item's own element.
 fn increment_kernel(alloc: Global) -> Result<Function, Memory>
-    ensures { IfOk result (λ f. function_of f ≡ increment.increment_kernel) }
+    ensures function { IfOk result (λ f. function_of f ≡ increment.increment_kernel) }
+    ensures head { IfOk result (λ f. head_of f ≡ increment.increment_head) }
 {
     let assignment = increment_assignment(alloc)?;
     let name = Word::new(alloc, b"inc")?;
@@ -86,7 +90,8 @@ fn increment_kernel(alloc: Global) -> Result<Function, Memory>
 
 /// The program of that kernel.
 pub fn increment_program(alloc: Global) -> Result<Program, Memory>
-    ensures { IfOk result (λ p. program_of p ≡ increment.increment_program) }
+    ensures program { IfOk result (λ p. program_of p ≡ increment.increment_program) }
+    ensures heads { IfOk result (λ p. heads_of p ≡ increment.increment_head ∷ []) }
 {
     let kernel = increment_kernel(alloc)?;
     let functions = also(Vec::new(alloc), kernel)?;
@@ -234,7 +239,8 @@ fn exchange_body(alloc: Global) -> Result<Vec<Stmt>, Memory>
 
 /// The local array of two ints.
 fn pair_of_ints(alloc: Global) -> Result<Array, Memory>
-    ensures { IfOk result (λ a. array_of a ≡ exchange.pair_of_ints) }
+    ensures array { IfOk result (λ a. array_of a ≡ exchange.pair_of_ints) }
+    ensures named { IfOk result (λ a. named_array a ≡ exchange.exchange_array) }
 {
     let name = Word::new(alloc, b"t")?;
     let dims = also(Vec::new(alloc), 2)?;
@@ -252,7 +258,8 @@ fn pair_of_ints(alloc: Global) -> Result<Array, Memory>
 
 /// The kernel in which two items exchange their elements.
 fn exchange_kernel(alloc: Global) -> Result<Function, Memory>
-    ensures { IfOk result (λ f. function_of f ≡ exchange.exchange_kernel) }
+    ensures function { IfOk result (λ f. function_of f ≡ exchange.exchange_kernel) }
+    ensures head { IfOk result (λ f. head_of f ≡ exchange.exchange_head) }
 {
     let name = Word::new(alloc, b"ex")?;
     let parameter = global_ints(
@@ -289,7 +296,8 @@ fn exchange_kernel(alloc: Global) -> Result<Function, Memory>
 
 /// The program of that kernel.
 pub fn exchange_program(alloc: Global) -> Result<Program, Memory>
-    ensures { IfOk result (λ p. program_of p ≡ exchange.exchange_program) }
+    ensures program { IfOk result (λ p. program_of p ≡ exchange.exchange_program) }
+    ensures heads { IfOk result (λ p. heads_of p ≡ exchange.exchange_head ∷ []) }
 {
     let kernel = exchange_kernel(alloc)?;
     let functions = also(Vec::new(alloc), kernel)?;

@@ -6,10 +6,11 @@ ghost use Rattle.work_items.specs.Runs.{IsRun};
 ghost use Rattle.work_items.specs.Histories.{HasHistories};
 ghost use Rattle.work_items.specs.Law.{Agrees};
 ghost use Rattle.cl_model.specs.View.{program_of, launch_of, buffers_of};
+ghost use Rattle.cl_model.specs.Heads.{heads_of};
 ghost use Rattle.cl_model.specs.Valid.{IsValid};
 ghost use Rattle.cl_model.specs.Fitting.{FitsProgram};
-ghost use Rattle.cl_model.specs.Increment.{IsFlat, increment_program, flat_launch};
-ghost use Rattle.cl_model.specs.Exchange.{exchange_program, exchange_launch};
+ghost use Rattle.cl_model.specs.Increment.{IsFlat, increment_head, increment_program, flat_launch};
+ghost use Rattle.cl_model.specs.Exchange.{exchange_head, exchange_program, exchange_launch};
 ghost use Rattle.cl_model.specs.Meaning.{machine_of, start_world, lengths_of, MayBeTold, ItemCanCome, IsCleanLaunch};
 
 use crate::launch::{Buffers, Launch};
@@ -42,7 +43,8 @@ pub fn history_law(program: &Program, launch: &Launch, buffers: &Buffers)
 
 /// The premise of `agree_law` is met at every size: the program in which each item adds 1 to its own
 /// element, `a[get_global_id(0)] = a[get_global_id(0)] + 1`, with a launch of these sizes in one
-/// dimension and no turn, and a buffer of zeros with one element an item.
+/// dimension and no turn, and a buffer of zeros with one element an item. The program is that of
+/// `__kernel void inc(__global int *a)`, with its names and places.
 pub fn increment_law(
     alloc: Global,
     global: u64,
@@ -50,6 +52,7 @@ pub fn increment_law(
 ) -> Result<(Program, Launch, Buffers), Memory>
     requires { IsFlat global local }
     ensures program { IfOk result (λ r. program_of r.0 ≡ increment_program) }
+    ensures names { IfOk result (λ r. heads_of r.0 ≡ increment_head ∷ []) }
     ensures launch { IfOk result (λ r. launch_of r.1 ≡ flat_launch global local (global * 4)) }
     ensures buffers { IfOk result (λ r. buffers_of r.2 ≡ replicate (global * 4) 0 ∷ []) }
     ensures valid { IfOk result (λ r. IsValid (program_of r.0)) }
@@ -62,9 +65,11 @@ pub fn increment_law(
     Ok((program, launch, buffers))
 }
 
-/// It is met with barriers as well: two items exchange their elements through local memory.
+/// It is met with barriers as well: two items exchange their elements through local memory. The
+/// program has its names and places too.
 pub fn exchange_law(alloc: Global) -> Result<(Program, Launch, Buffers), Memory>
     ensures program { IfOk result (λ r. program_of r.0 ≡ exchange_program) }
+    ensures names { IfOk result (λ r. heads_of r.0 ≡ exchange_head ∷ []) }
     ensures launch { IfOk result (λ r. launch_of r.1 ≡ exchange_launch) }
     ensures buffers { IfOk result (λ r. buffers_of r.2 ≡ replicate 8 0 ∷ []) }
     ensures valid { IfOk result (λ r. IsValid (program_of r.0)) }

@@ -2,7 +2,7 @@ use Rattle.cl_model.proofs.LawPrograms.{valid_at, clean_at, exchange_valid, exch
 use Rattle.cl_model.proofs.laws.exchange_law.Goals as goal
 
 pub returns-clause-valid : goal.returns-clause-valid
-returns-clause-valid c = valid_at _ _ c.in_ok-program.ensures exchange_valid
+returns-clause-valid c = valid_at _ _ c.in_ok-program.ensures.program exchange_valid
 
 pub returns-clause-clean : goal.returns-clause-clean
-returns-clause-clean c = clean_at _ _ _ _ _ _ c.in_ok-program.ensures c.in_ok-launch.ensures c.in_ok-buffers.ensures exchange_whole
+returns-clause-clean c = clean_at _ _ _ _ _ _ c.in_ok-program.ensures.program c.in_ok-launch.ensures c.in_ok-buffers.ensures exchange_whole
