@@ -3,7 +3,7 @@ use Rattle.std.specs.Prelude.{◌≡◌, ℕ, Bool, true, false, List, [], ◌++
 use Rattle.cl_tree.specs.declared.tree.Form.{Form}
 use Rattle.cl_tree.specs.declared.tree.Form.TheVariants as forms
 use Rattle.cl_tree.specs.Syntax.{Syntax, node, Forest, none, more}
-use Rattle.cl_spelling.specs.Spelling.{name_in}
+use Rattle.cl_meaning.specs.Spelling.{name_in}
 use Rattle.cl_meaning.specs.Kinds.{callee_of}
 use Rattle.cl_meaning.specs.declared.kind.Kind.{Kind}
 use Rattle.cl_meaning.specs.declared.kind.Role.TheVariants as roles

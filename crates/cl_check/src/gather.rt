@@ -8,14 +8,14 @@ ghost use Rattle.cl_meaning.specs.Declarations.{form_of, word_of};
 ghost use Rattle.cl_meaning.specs.Visible as visible;
 ghost use Rattle.cl_meaning.specs.Environment.{Env};
 ghost use Rattle.cl_scope.specs.View.{env_of, visible_in};
-ghost use Rattle.cl_faults.specs.View.{call_of, looked_in};
+ghost use Rattle.cl_meaning.specs.Calls.{call_of};
+ghost use Rattle.cl_faults.specs.View.{looked_in};
 ghost use Rattle.cl_check.specs.Walk.{kind_at};
 ghost use Rattle.cl_check.specs.Gather.{Gathered, GatheredAlong, calls_by, missing_by};
 
-use cl_faults::{Call, Looked, kind_of};
-use cl_meaning::{Kind, Role};
+use cl_faults::{Looked, kind_of};
+use cl_meaning::{Call, Kind, Role, name_of};
 use cl_scope::{Callee, Environment, callee_of, enter, later, leave, restore};
-use cl_spelling::name_of;
 use cl_tree::{Form, Tree};
 use std::alloc::Global;
 use wg_num::{Memory, Place, Word};
@@ -37,7 +37,7 @@ fn push<T: Drop>(list: &mut Vec<T>, item: T) -> Result<(), Memory>
 }
 
 /// The call of a node, if it is one of a function.
-#[tactic(auto, using(cl_spelling::proofs::Views::view_out))]
+#[tactic(auto, using(cl_meaning::proofs::Views::view_out))]
 fn add_call(
     alloc: Global,
     environment: &Environment,

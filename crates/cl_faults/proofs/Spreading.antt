@@ -2,8 +2,8 @@
 use Rattle.std.proofs.Common.{ℕ, zero, suc, ◌<◌, ◌&&◌, not, nat_eq, Bool, true, false, List, [], ◌∷◌, length, map, set, slice_get, Some, ◌≡◌, refl, sym, ap, ◌∙◌, length-set}
 use Rattle.std.proofs.lemmas.Bool.{and_from, and_parts}
 use Rattle.cl_meaning.specs.Faults.{Call}
-use Rattle.cl_faults.specs.declared.looked.Call as rust
-use Rattle.cl_faults.specs.View.{call_of}
+use Rattle.cl_meaning.specs.declared.call.Call as rust
+use Rattle.cl_meaning.specs.Calls.{call_of}
 use Rattle.cl_faults.specs.Reach.{marked, Spreads}
 use Rattle.cl_faults.proofs.Reaching.{edge, or_left, or_right, number_same, sound_step, set_stays}
 

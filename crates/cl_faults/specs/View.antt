@@ -4,14 +4,11 @@ use Rattle.cl_tree.specs.Syntax.{Syntax, node, view}
 use Rattle.cl_meaning.specs.declared.kind.Kind.{Kind}
 use Rattle.cl_meaning.specs.declared.kind.Role.{Role}
 use Rattle.cl_meaning.specs.Environment.{Env}
-use Rattle.cl_meaning.specs.Faults.{Looked, Asked, Call}
+use Rattle.cl_meaning.specs.Calls.{call_of}
+use Rattle.cl_meaning.specs.Faults.{Looked, Asked}
 use Rattle.cl_scope.specs.View.{visible_in}
-use Rattle.cl_faults.specs.declared.looked.Call as rust_call
 use Rattle.cl_faults.specs.declared.looked.Asked as rust_asked
 use Rattle.cl_faults.specs.declared.looked.Looked as rust_looked
-
-abbrev pub call_of : rust_call.Call → Call
-call_of c = record { caller = c.caller; called = c.called }
 
 abbrev pub asked_of : rust_asked.Asked → Asked
 asked_of a = record { kernel = a.kernel; calls = map call_of a.calls.items; missing = a.missing.items }

@@ -9,12 +9,12 @@ ghost use Rattle.cl_faults.specs.View.{looked_of};
 use crate::callees::{arity_fits, call_fits, is_fence_call};
 use crate::looked::Looked;
 use cl_kinds::{are_flags_alone, are_known};
+use cl_meaning::name_of;
 use cl_scope::{Callee, callee_of};
-use cl_spelling::name_of;
 use cl_tree::Form;
 
 /// What the node calls.
-#[tactic(auto, using(cl_spelling::proofs::Views::view_out))]
+#[tactic(auto, using(cl_meaning::proofs::Views::view_out))]
 fn called<'a>(node: Looked<'a>) -> Option<Callee<'a>>
     ensures { option_map callee_view result ≡ called_in (looked_of node.entry) (looked_of node.entry).form }
 {
@@ -25,7 +25,7 @@ fn called<'a>(node: Looked<'a>) -> Option<Callee<'a>>
 }
 
 /// Whether a call has another number of arguments than is taken.
-#[tactic(auto, using(cl_spelling::proofs::Views::view_out))]
+#[tactic(auto, using(cl_meaning::proofs::Views::view_out))]
 pub(crate) fn is_miscounted(node: Looked) -> bool
     ensures { result ≡ spec.miscounted (looked_of node.entry) (looked_of node.entry).form }
 {
@@ -36,7 +36,7 @@ pub(crate) fn is_miscounted(node: Looked) -> bool
 }
 
 /// Whether a call has as many arguments as are taken, and they do not fit.
-#[tactic(auto, using(cl_spelling::proofs::Views::view_out, cl_kinds::proofs::Known::all_are_known))]
+#[tactic(auto, using(cl_meaning::proofs::Views::view_out, cl_kinds::proofs::Known::all_are_known))]
 pub(crate) fn is_mispassed(node: Looked) -> bool
     ensures { result ≡ spec.mispassed (looked_of node.entry) (looked_of node.entry).form }
 {
@@ -51,7 +51,7 @@ pub(crate) fn is_mispassed(node: Looked) -> bool
 }
 
 /// Whether a call of a barrier or fence has an argument that names no memory fence.
-#[tactic(auto, using(cl_spelling::proofs::Views::view_out))]
+#[tactic(auto, using(cl_meaning::proofs::Views::view_out))]
 pub(crate) fn has_no_flags(node: Looked) -> bool
     ensures { result ≡ spec.barrier_flags (looked_of node.entry) (looked_of node.entry).form }
 {

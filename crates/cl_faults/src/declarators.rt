@@ -2,7 +2,7 @@
 
 ghost use Rattle.std.specs.Prelude.{◌≡◌, ◌&&◌, IfOk, map, not};
 ghost use Rattle.cl_tree.specs.Syntax.{view};
-ghost use Rattle.cl_constant.specs.Constants.{constant_of as constant_in};
+ghost use Rattle.cl_meaning.specs.Constants.{constant_of as constant_in};
 ghost use Rattle.cl_meaning.specs.Declarations as declarations;
 ghost use Rattle.cl_meaning.specs.Kinds as kind_spec;
 ghost use Rattle.cl_meaning.specs.Faults as spec;
@@ -11,21 +11,19 @@ ghost use Rattle.cl_faults.specs.View.{looked_of};
 
 use crate::looked::Looked;
 use crate::targets::changes_root;
-use cl_constant::constant_of;
-use cl_kinds::{is_number, same_space, same_type};
-use cl_meaning::{Each, Kind};
+use cl_kinds::is_number;
+use cl_meaning::{Declared, Each, Kind, constant_of, same_space, same_type};
 use cl_model::Space;
 use cl_scope::{
     Declarator, declarator_in, dims_of, has_list, initialiser_count, is_at_outermost, is_at_unit,
     pointed_space, product_of,
 };
-use cl_spelling::Declared;
 use cl_tree::{Form, Tree};
 use std::alloc::Global;
 use wg_num::Memory;
 
 /// The declarator that the node is.
-#[tactic(auto, using(cl_spelling::proofs::Views::view_out))]
+#[tactic(auto, using(cl_meaning::proofs::Views::view_out))]
 pub(crate) fn declarator_of<'a>(node: Looked<'a>) -> Result<Declarator<'a>, Memory>
     ensures { IfOk result (λ d. declarator_view d ≡ declarations.declarator_in (looked_of node.entry).word (looked_of node.entry).first (looked_of node.entry).parts) }
 {
@@ -124,7 +122,7 @@ fn all_constant(trees: &[Tree]) -> bool
 }
 
 /// Whether all initial values are constant.
-#[tactic(auto, using(cl_spelling::proofs::Views::view_out, cl_scope::proofs::Trees::listed_views))]
+#[tactic(auto, using(cl_meaning::proofs::Views::view_out, cl_scope::proofs::Trees::listed_views))]
 fn has_constant_values(declarator: &Declarator) -> bool
     ensures { result ≡ spec.all_constant (declarations.initial_values (declarator_view declarator.now).init) }
 {
@@ -157,7 +155,7 @@ pub(crate) fn no_program_variable(declared: Declared, declarator: &Declarator) -
 }
 
 /// Whether the node declares a variable or array where its space is not allowed.
-#[tactic(auto, using(cl_spelling::proofs::Views::view_out))]
+#[tactic(auto, using(cl_meaning::proofs::Views::view_out))]
 pub(crate) fn is_local_misplaced(node: Looked) -> Result<bool, Memory>
     ensures { IfOk result (λ b. b ≡ spec.local_misplaced (looked_of node.entry) (looked_of node.entry).form) }
 {
@@ -171,7 +169,7 @@ pub(crate) fn is_local_misplaced(node: Looked) -> Result<bool, Memory>
 }
 
 /// Whether the node declares something else at the unit than constants with constant values.
-#[tactic(auto, using(cl_spelling::proofs::Views::view_out))]
+#[tactic(auto, using(cl_meaning::proofs::Views::view_out))]
 pub(crate) fn is_no_program_variable(node: Looked) -> Result<bool, Memory>
     ensures { IfOk result (λ b. b ≡ spec.program_variable (looked_of node.entry) (looked_of node.entry).form) }
 {
@@ -185,7 +183,7 @@ pub(crate) fn is_no_program_variable(node: Looked) -> Result<bool, Memory>
 }
 
 /// Whether the node declares a pointer variable without an initialiser, or assigns a pointer of another root.
-#[tactic(auto, using(cl_spelling::proofs::Views::view_out))]
+#[tactic(auto, using(cl_meaning::proofs::Views::view_out))]
 pub(crate) fn has_wrong_root(node: Looked) -> Result<bool, Memory>
     ensures { IfOk result (λ b. b ≡ spec.pointer_root (looked_of node.entry) (looked_of node.entry).form) }
 {
@@ -233,7 +231,7 @@ fn all_positive(trees: &[Tree]) -> bool
 }
 
 /// Whether an array's lengths or initialisers, or the sizes of an attribute, are at fault.
-#[tactic(auto, using(cl_spelling::proofs::Views::view_out, cl_scope::proofs::Trees::listed_views))]
+#[tactic(auto, using(cl_meaning::proofs::Views::view_out, cl_scope::proofs::Trees::listed_views))]
 pub(crate) fn has_wrong_length(alloc: Global, node: Looked) -> Result<bool, Memory>
     ensures { IfOk result (λ b. b ≡ spec.array_length (looked_of node.entry) (looked_of node.entry).form) }
 {

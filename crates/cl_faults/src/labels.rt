@@ -2,22 +2,21 @@
 
 ghost use Rattle.std.specs.Prelude.{◌≡◌, map, option_map};
 ghost use Rattle.cl_tree.specs.Syntax.{views};
-ghost use Rattle.cl_constant.specs.Constants.{constant_of as constant_in};
+ghost use Rattle.cl_meaning.specs.Constants.{constant_of as constant_in};
 ghost use Rattle.cl_meaning.specs.Kinds.{first_part};
 ghost use Rattle.cl_scope.specs.View.{labels_of, signature_of};
 ghost use Rattle.cl_meaning.specs.Faults as spec;
 ghost use Rattle.cl_faults.specs.View.{asked_of, looked_of};
 
 use crate::looked::{Asked, Looked};
-use cl_constant::{Constant, constant_of};
 use cl_kinds::return_misfits;
+use cl_meaning::{Base, Constant, base_of, constant_of};
 use cl_scope::{Labels, Signature};
-use cl_spelling::{Base, base_of};
 use cl_tree::{Form, Tree};
 use wg_num::wrap;
 
 /// Whether an exit or a label stands where it means nothing.
-#[tactic(auto, using(cl_spelling::proofs::Views::view_out))]
+#[tactic(auto, using(cl_meaning::proofs::Views::view_out))]
 pub(crate) fn is_misplaced(node: Looked) -> bool
     ensures { result ≡ spec.misplaced (looked_of node.entry) (looked_of node.entry).form }
 {
@@ -31,7 +30,7 @@ pub(crate) fn is_misplaced(node: Looked) -> bool
 }
 
 /// Whether the value of a `return`, if any, is not what the function gives.
-#[tactic(auto, using(cl_spelling::proofs::Views::view_out))]
+#[tactic(auto, using(cl_meaning::proofs::Views::view_out))]
 pub(crate) fn returns_other(node: Looked) -> bool
     ensures { result ≡ spec.return_fit (looked_of node.entry) (looked_of node.entry).form }
 {
@@ -72,7 +71,7 @@ fn first_constant(parts: &[Tree]) -> Option<Constant>
 }
 
 /// Whether a label is no constant, or stands there already.
-#[tactic(auto, using(cl_spelling::proofs::Views::view_out))]
+#[tactic(auto, using(cl_meaning::proofs::Views::view_out))]
 pub(crate) fn is_wrong_label(node: Looked) -> bool
     ensures { result ≡ spec.case_value (looked_of node.entry) (looked_of node.entry).form }
 {
@@ -91,7 +90,7 @@ pub(crate) fn is_wrong_label(node: Looked) -> bool
 }
 
 /// Whether the node is a type outside the profile.
-#[tactic(auto, using(cl_spelling::proofs::Views::view_out))]
+#[tactic(auto, using(cl_meaning::proofs::Views::view_out))]
 pub(crate) fn is_outside_type(node: Looked) -> bool
     ensures { result ≡ spec.outside_type (looked_of node.entry) (looked_of node.entry).form }
 {
@@ -116,7 +115,7 @@ fn defines_kernel(name: &[u8], functions: &[Signature]) -> bool
 }
 
 /// Whether the unit does not define the kernel that is asked for.
-#[tactic(auto, using(cl_spelling::proofs::Views::view_out))]
+#[tactic(auto, using(cl_meaning::proofs::Views::view_out))]
 pub(crate) fn has_no_such_kernel(asked: &Asked, node: Looked) -> bool
     ensures { result ≡ spec.no_such_kernel (asked_of asked.now) (looked_of node.entry) (looked_of node.entry).form }
 {

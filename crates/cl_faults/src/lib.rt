@@ -18,7 +18,7 @@ mod targets;
 
 pub use callees::{arity_fits, call_fits, call_kind, call_result};
 pub use fault::fault_at;
-pub use looked::{Asked, Call, Looked};
+pub use looked::{Asked, Looked};
 pub use operands::kind_of;
 pub use reach::leads_back;
 pub use spread::{Rows, rows_of};

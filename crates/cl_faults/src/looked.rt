@@ -1,18 +1,10 @@
 //! What a node is judged by.
 
 use crate::spread::Rows;
-use cl_meaning::{Kind, Role};
+use cl_meaning::{Call, Kind, Role};
 use cl_scope::Environment;
 use cl_tree::Tree;
 use wg_num::Word;
-
-/// A call of a function that the unit defines: the number of the function in which it stands and of the one that
-/// it calls.
-#[derive(Clone, Copy, PartialEq, Eq, Debug)]
-pub struct Call {
-    pub caller: u32,
-    pub called: u32,
-}
 
 /// The name of the kernel that is asked for, the calls of functions that the unit defines, and the names that are
 /// called of functions that it does not define.

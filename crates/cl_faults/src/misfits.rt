@@ -1,7 +1,7 @@
 //! Operands of kinds that do not fit (C99, section 6.5).
 
 ghost use Rattle.std.specs.Prelude.{◌≡◌, ◌||◌, IfOk};
-ghost use Rattle.cl_spelling.specs.Spelling.{name_in, binary_in, prefix_in, postfix_in, setting_in};
+ghost use Rattle.cl_meaning.specs.Spelling.{name_in, binary_in, prefix_in, postfix_in, setting_in};
 ghost use Rattle.cl_meaning.specs.Kinds as kind_spec;
 ghost use Rattle.cl_meaning.specs.Faults as spec;
 ghost use Rattle.cl_tree.specs.Syntax.{views};
@@ -15,9 +15,8 @@ use cl_kinds::{
     are_known, binary_misfits, cast_kind, choice_misfits, comma_misfits, is_number, logic_misfits,
     postfix_misfits, prefix_misfits, setting_misfits,
 };
-use cl_meaning::{Kind, Role};
+use cl_meaning::{Kind, Role, binary_of, declared_of, name_of, postfix_of, prefix_of, setting_of};
 use cl_scope::{callee_of, last_kind};
-use cl_spelling::{binary_of, declared_of, name_of, postfix_of, prefix_of, setting_of};
 use cl_tree::{Form, Tree};
 use wg_num::Memory;
 
@@ -34,7 +33,7 @@ fn cast_misfits(parts: &[Tree], kinds: &[Option<Kind>]) -> bool
 }
 
 /// Whether the node is a call without a value that stands elsewhere than as the whole of a statement.
-#[tactic(auto, using(cl_spelling::proofs::Views::view_out, cl_kinds::proofs::Known::all_are_known))]
+#[tactic(auto, using(cl_meaning::proofs::Views::view_out, cl_kinds::proofs::Known::all_are_known))]
 fn is_valueless(node: Looked) -> bool
     ensures { result ≡ spec.valueless (looked_of node.entry) (kind_spec.callee_of (looked_of node.entry).env (name_in (looked_of node.entry).word)) }
 {
@@ -86,7 +85,7 @@ fn set_misfits(word: &[u8], kinds: &[Option<Kind>]) -> bool
 }
 
 /// Whether the operands of an expression, or a declarator and its initialiser, do not fit.
-#[tactic(auto, using(cl_spelling::proofs::Views::view_out), unfolding(cl_meaning::specs::Faults::misfits))]
+#[tactic(auto, using(cl_meaning::proofs::Views::view_out), unfolding(cl_meaning::specs::Faults::misfits))]
 pub(crate) fn operands_misfit(node: Looked) -> Result<bool, Memory>
     ensures { IfOk result (λ b. b ≡ spec.misfits (looked_of node.entry) (looked_of node.entry).form) }
 {
@@ -118,7 +117,7 @@ pub(crate) fn operands_misfit(node: Looked) -> Result<bool, Memory>
 }
 
 /// Whether a statement tests the node, and it is no number.
-#[tactic(auto, using(cl_spelling::proofs::Views::view_out))]
+#[tactic(auto, using(cl_meaning::proofs::Views::view_out))]
 pub(crate) fn tested_misfits(node: Looked) -> bool
     ensures { result ≡ spec.tested_misfits (looked_of node.entry) }
 {

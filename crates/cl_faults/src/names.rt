@@ -6,12 +6,12 @@ ghost use Rattle.cl_scope.specs.View.{visible_in};
 ghost use Rattle.cl_faults.specs.View.{looked_of};
 
 use crate::looked::Looked;
+use cl_meaning::{intrinsic_of, name_of};
 use cl_scope::{Environment, callee_of, is_at_unit, is_declared, name_kind};
-use cl_spelling::{intrinsic_of, name_of};
 use cl_tree::Form;
 
 /// Whether the node's name is not visible, as a variable or array or as a function.
-#[tactic(auto, using(cl_spelling::proofs::Views::view_out))]
+#[tactic(auto, using(cl_meaning::proofs::Views::view_out))]
 pub(crate) fn is_unknown_name(node: Looked) -> bool
     ensures { result ≡ spec.unknown_name (looked_of node.entry) (looked_of node.entry).form }
 {
@@ -30,7 +30,7 @@ fn is_known_name(environment: &Environment, name: &[u8]) -> bool
 }
 
 /// Whether the node declares a name that is declared already.
-#[tactic(auto, using(cl_spelling::proofs::Views::view_out))]
+#[tactic(auto, using(cl_meaning::proofs::Views::view_out))]
 pub(crate) fn is_declared_twice(node: Looked) -> bool
     ensures { result ≡ spec.declared_twice (looked_of node.entry) (looked_of node.entry).form }
 {

@@ -4,7 +4,7 @@ ghost use Rattle.std.specs.Prelude.{◌≡◌};
 ghost use Rattle.cl_meaning.specs.Kinds as spec;
 ghost use Rattle.cl_meaning.specs.Faults as faults;
 ghost use Rattle.cl_tree.specs.Syntax.{views};
-ghost use Rattle.cl_spelling.specs.Spelling.{literal_in};
+ghost use Rattle.cl_meaning.specs.Spelling.{literal_in};
 ghost use Rattle.cl_scope.specs.View.{visible_in};
 ghost use Rattle.cl_faults.specs.View.{looked_of};
 
@@ -14,9 +14,8 @@ use cl_kinds::{
     binary_of, cast_kind, choice_of, comma_of, is_number, list_kind, logic_of, number, only_of,
     postfix_kind, prefix_kind, set_of,
 };
-use cl_meaning::Kind;
+use cl_meaning::{Kind, declared_of, literal, name_of, postfix_of, prefix_of, setting_of};
 use cl_scope::{callee_of, name_kind};
-use cl_spelling::{declared_of, literal, name_of, postfix_of, prefix_of, setting_of};
 use cl_tree::{Form, Tree};
 use wg_num::IntType;
 
@@ -40,7 +39,7 @@ fn cast_of(parts: &[Tree], kinds: &[Option<Kind>]) -> Option<Kind>
 
 /// The kind of the node, from the kinds of its parts; `None` where it is no expression, or it or a part is at
 /// fault.
-#[tactic(auto, using(cl_spelling::proofs::Views::view_out), unfolding(cl_meaning::specs::Kinds::kind_step))]
+#[tactic(auto, using(cl_meaning::proofs::Views::view_out), unfolding(cl_meaning::specs::Kinds::kind_step))]
 pub fn kind_of(node: Looked) -> Option<Kind>
     ensures { result ≡ spec.kind_step (looked_of node.entry).env (looked_of node.entry).form (looked_of node.entry).word (looked_of node.entry).parts (looked_of node.entry).kinds' }
 {
@@ -62,7 +61,7 @@ pub fn kind_of(node: Looked) -> Option<Kind>
         | Form::OrderNode
         | Form::ShiftNode
         | Form::SumNode
-        | Form::TermNode => binary_of(cl_spelling::binary_of(word)?, kinds),
+        | Form::TermNode => binary_of(cl_meaning::binary_of(word)?, kinds),
         Form::CastNode => cast_of(&node.tree.parts, kinds),
         Form::UnaryNode => prefix_kind(prefix_of(word)?, kinds),
         Form::PostfixNode => postfix_kind(postfix_of(word)?, kinds),

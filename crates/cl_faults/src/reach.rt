@@ -2,11 +2,11 @@
 
 ghost use Rattle.std.specs.Prelude.{◌≡◌, map, IfOk};
 ghost use Rattle.cl_meaning.specs.Faults as spec;
-ghost use Rattle.cl_faults.specs.View.{call_of};
+ghost use Rattle.cl_meaning.specs.Calls.{call_of};
 ghost use Rattle.cl_faults.specs.Reach.{marked, open_in, most, Spreads};
 
-use crate::looked::Call;
 use crate::spread::{Rows, Search, spread};
+use cl_meaning::Call;
 use std::alloc::Global;
 use wg_num::Memory;
 

@@ -5,18 +5,18 @@ ghost use Rattle.cl_meaning.specs.Declarations as declarations;
 ghost use Rattle.cl_meaning.specs.Faults as spec;
 ghost use Rattle.cl_scope.specs.Callees.{callee_view};
 ghost use Rattle.cl_scope.specs.View.{signature_of};
-ghost use Rattle.cl_faults.specs.View.{asked_of, call_of, looked_of};
+ghost use Rattle.cl_meaning.specs.Calls.{call_of};
+ghost use Rattle.cl_faults.specs.View.{asked_of, looked_of};
 
-use crate::looked::{Asked, Call, Looked};
+use crate::looked::{Asked, Looked};
 use crate::reach::leads_back;
 use crate::spread::Rows;
 use cl_kinds::{same_parameters, same_yield};
-use cl_meaning::Yield;
+use cl_meaning::{Call, Declared, Yield, name_of};
 use cl_model::Space;
 use cl_scope::{
     Callee, Signature, callee_of, first_type, pointed_space, second_star, signature_in,
 };
-use cl_spelling::{Declared, name_of};
 use cl_tree::Form;
 use std::alloc::Global;
 use wg_num::{IntType, Memory, Word};
@@ -63,7 +63,7 @@ fn leads_from(
 }
 
 /// Whether a call leads back to the function in which it stands.
-#[tactic(auto, using(cl_spelling::proofs::Views::view_out))]
+#[tactic(auto, using(cl_meaning::proofs::Views::view_out))]
 pub(crate) fn is_recursive(alloc: Global, asked: &Asked, node: Looked) -> Result<bool, Memory>
     ensures { IfOk result (λ b. b ≡ spec.recursion (asked_of asked.now) (looked_of node.entry) (looked_of node.entry).form) }
 {
@@ -83,7 +83,7 @@ pub(crate) fn is_recursive(alloc: Global, asked: &Asked, node: Looked) -> Result
 }
 
 /// The kind of result and the parameters that a function or prototype declares.
-#[tactic(auto, using(cl_spelling::proofs::Views::view_out))]
+#[tactic(auto, using(cl_meaning::proofs::Views::view_out))]
 fn signature_of_node(alloc: Global, node: Looked) -> Result<Signature, Memory>
     ensures { IfOk result (λ g. signature_of g ≡ declarations.signature_in (looked_of node.entry).word (looked_of node.entry).parts) }
 {
@@ -100,7 +100,7 @@ fn gives_something(result_of: Yield) -> bool
 }
 
 /// Whether a kernel has a parameter or a result that it may not have.
-#[tactic(auto, using(cl_spelling::proofs::Views::view_out))]
+#[tactic(auto, using(cl_meaning::proofs::Views::view_out))]
 pub(crate) fn is_wrong_kernel(alloc: Global, node: Looked) -> Result<bool, Memory>
     ensures { IfOk result (λ b. b ≡ spec.kernel_signature (looked_of node.entry) (looked_of node.entry).form) }
 {
@@ -159,7 +159,7 @@ fn prototype_misfits(asked: &Asked, prototype: &Signature, defined: Option<&Sign
 }
 
 /// Whether the node is a prototype that is not as its definition, or has none and is called.
-#[tactic(auto, using(cl_spelling::proofs::Views::view_out))]
+#[tactic(auto, using(cl_meaning::proofs::Views::view_out))]
 pub(crate) fn is_no_prototype(alloc: Global, asked: &Asked, node: Looked) -> Result<bool, Memory>
     ensures { IfOk result (λ b. b ≡ spec.prototype_match (asked_of asked.now) (looked_of node.entry) (looked_of node.entry).form) }
 {

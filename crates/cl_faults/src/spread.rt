@@ -1,11 +1,11 @@
 //! Marking along rows of calls. What is marked is right whatever the rows are; they are for speed.
 
 ghost use Rattle.std.specs.Prelude.{◌≡◌, ◌&&◌, not, map, IfOk};
-ghost use Rattle.cl_faults.specs.View.{call_of};
+ghost use Rattle.cl_meaning.specs.Calls.{call_of};
 ghost use Rattle.cl_faults.specs.Reach.{marked, Spreads};
 
-use crate::looked::Call;
 use crate::reach::is_marked;
+use cl_meaning::Call;
 use std::alloc::Global;
 use wg_num::Memory;
 

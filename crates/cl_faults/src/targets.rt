@@ -1,7 +1,7 @@
 //! What is assigned, or counted up or down (C99, sections 6.5.16, 6.5.2.4 and 6.5.3.1).
 
 ghost use Rattle.std.specs.Prelude.{◌≡◌, ◌&&◌, Bool};
-ghost use Rattle.cl_spelling.specs.Spelling.{setting_in};
+ghost use Rattle.cl_meaning.specs.Spelling.{setting_in};
 ghost use Rattle.cl_meaning.specs.declared.kind.Kind as kind;
 ghost use Rattle.cl_meaning.specs.Kinds as kind_spec;
 ghost use Rattle.cl_meaning.specs.Faults as spec;
@@ -9,13 +9,12 @@ ghost use Rattle.cl_faults.specs.View.{looked_of};
 
 use crate::looked::Looked;
 use cl_kinds::{is_constant_memory, setting_changes_root, unassignable};
-use cl_meaning::Kind;
-use cl_spelling::{Postfix, Prefix, postfix_of, prefix_of, setting_of};
+use cl_meaning::{Kind, Postfix, Prefix, postfix_of, prefix_of, setting_of};
 use cl_tree::Form;
 
 /// The kind of what the node assigns, counts up or counts down; `None` where it does nothing of that, or its
 /// operands are not known.
-#[tactic(auto, using(cl_spelling::proofs::Views::view_out))]
+#[tactic(auto, using(cl_meaning::proofs::Views::view_out))]
 fn target_of(node: Looked) -> Option<Kind>
     ensures { (test : kind.Kind → Bool) → spec.given result test ≡ spec.of_target (looked_of node.entry) test (looked_of node.entry).form }
 {

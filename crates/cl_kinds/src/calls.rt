@@ -6,12 +6,9 @@ ghost use Rattle.cl_model.specs.Valid as valid;
 ghost use Rattle.cl_meaning.specs.Kinds as spec;
 ghost use Rattle.cl_kinds.specs.Known.{known};
 
-use crate::equal::{same_space, same_type};
 use crate::kinds::{is_number, number, type_of};
-use cl_constant::common;
-use cl_meaning::{Each, Kind, Parameter, Yield};
+use cl_meaning::{Each, Intrinsic, Kind, Parameter, Yield, common, same_space, same_type};
 use cl_model::Query;
-use cl_spelling::Intrinsic;
 use wg_num::{Fun, IntType};
 
 /// Whether the kinds of all parts are known.

@@ -4,11 +4,11 @@ ghost use Rattle.std.specs.Prelude.{◌≡◌};
 ghost use Rattle.cl_meaning.specs.Kinds as spec;
 ghost use Rattle.cl_tree.specs.Syntax.{view, views};
 
-use cl_spelling::{Flag, flag_of, name_of};
+use cl_meaning::{Flag, flag_of, name_of};
 use cl_tree::{Form, Tree};
 
 /// The memory fence that a tree names, parentheses aside.
-#[tactic(auto, using(cl_spelling::proofs::Views::view_out, crate::proofs::Counts::flag_parts))]
+#[tactic(auto, using(cl_meaning::proofs::Views::view_out, crate::proofs::Counts::flag_parts))]
 pub fn named_flag(tree: &Tree) -> Option<Flag>
     ensures { result ≡ spec.flag_of (view tree.now) }
 {
@@ -30,7 +30,7 @@ fn are_both(left: Option<Flag>, right: Option<Flag>) -> bool
 }
 
 /// Whether the tree names one of the two memory fences, or both joined by `|`, parentheses aside.
-#[tactic(auto, using(cl_spelling::proofs::Views::view_out, crate::proofs::Counts::flag_parts))]
+#[tactic(auto, using(cl_meaning::proofs::Views::view_out, crate::proofs::Counts::flag_parts))]
 pub fn are_flags(tree: &Tree) -> bool
     ensures { result ≡ spec.are_flags (view tree.now) }
 {

@@ -3,8 +3,7 @@
 ghost use Rattle.std.specs.Prelude.{◌≡◌};
 ghost use Rattle.cl_meaning.specs.Kinds as spec;
 
-use cl_meaning::{Each, Kind, Reach};
-use cl_spelling::Declared;
+use cl_meaning::{Declared, Each, Kind, Reach};
 use wg_num::IntType;
 
 /// The kind of a number that is no more than its value.

@@ -2,7 +2,6 @@
 #![tactic(auto)]
 
 pub mod calls;
-pub mod equal;
 pub mod flags;
 pub mod kinds;
 pub mod misfits;
@@ -14,7 +13,6 @@ pub use calls::{
     all_numbers, are_known, argument_fits, arguments_fit, builtin_type, intrinsic_arity,
     intrinsic_fits, intrinsic_result, is_fence, list_kind, result_kind,
 };
-pub use equal::{same_root, same_space, same_type};
 pub use flags::{are_flags, are_flags_alone, named_flag};
 pub use kinds::{
     address_kind, cast_kind, comma_kind, element_kind, index_kind, is_number, is_scalar, number,

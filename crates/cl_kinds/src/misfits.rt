@@ -4,12 +4,10 @@ ghost use Rattle.std.specs.Prelude.{◌≡◌, ◌&&◌};
 ghost use Rattle.cl_meaning.specs.Kinds as spec;
 ghost use Rattle.cl_meaning.specs.Faults as faults;
 
-use crate::equal::{same_space, same_type};
 use crate::kinds::{address_kind, comma_kind, element_kind, index_kind, is_number};
 use crate::operators::{binary_kind, choice_kind, logic_kind, operator_kind};
 use crate::settings::{is_target, root_changes, value_fits};
-use cl_meaning::{Kind, Parameter, Yield};
-use cl_spelling::{Postfix, Prefix, Setting};
+use cl_meaning::{Kind, Parameter, Postfix, Prefix, Setting, Yield, same_space, same_type};
 use wg_num::{Bin, Un};
 
 /// Whether the operands of a comma do not fit.

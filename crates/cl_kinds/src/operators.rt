@@ -5,9 +5,9 @@ ghost use Rattle.cl_meaning.specs.Kinds as spec;
 
 use crate::kinds::{address_kind, element_kind, index_kind, number, value_kind};
 use crate::settings::step_kind;
-use cl_constant::{binary_type, common, operand_type, promoted, unary_type};
-use cl_meaning::{Each, Kind};
-use cl_spelling::{Postfix, Prefix};
+use cl_meaning::{
+    Each, Kind, Postfix, Prefix, binary_type, common, operand_type, promoted, unary_type,
+};
 use wg_num::{Bin, IntType, Un};
 
 /// The kind of an operator on two operands: on numbers, or on a pointer and a number, which are added in

@@ -6,8 +6,7 @@ ghost use Rattle.cl_meaning.specs.Kinds as spec;
 use crate::kinds::comma_kind;
 use crate::operators::{binary_kind, choice_kind, logic_kind};
 use crate::settings::set_kind;
-use cl_meaning::Kind;
-use cl_spelling::Setting;
+use cl_meaning::{Kind, Setting};
 use wg_num::Bin;
 
 /// The kind of a comma; `None` where it is at fault or a part is.

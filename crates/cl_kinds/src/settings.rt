@@ -4,11 +4,9 @@ ghost use Rattle.std.specs.Prelude.{◌≡◌};
 ghost use Rattle.cl_meaning.specs.Kinds as spec;
 ghost use Rattle.cl_meaning.specs.Faults as faults;
 
-use crate::equal::{same_root, same_space, same_type};
 use crate::kinds::value_kind;
-use cl_meaning::{Each, Kind, Reach};
+use cl_meaning::{Each, Kind, Reach, Setting, same_root, same_space, same_type};
 use cl_model::Space;
-use cl_spelling::Setting;
 use wg_num::Bin;
 
 /// Whether it is a scalar variable, a pointer variable or an element.

@@ -6,7 +6,7 @@ use Rattle.std.proofs.lemmas.Bool.Decides.{nat_tests}
 use Rattle.cl_tree.specs.declared.tree.Tree.{Tree}
 use Rattle.cl_tree.specs.declared.tree.Tree.TheViews.{out-Tree}
 use Rattle.cl_tree.specs.Syntax.{Syntax, Forest, more, view, views}
-use Rattle.cl_spelling.proofs.Views.{view_out}
+use Rattle.cl_meaning.proofs.Views.{view_out}
 use Rattle.cl_meaning.specs.Faults.{Call}
 use Rattle.cl_limits.specs.Limits.{count_nodes, called_sum, with_called, total, whole}
 use Rattle.cl_limits.specs.Kernel.{block_nodes, is_function, blocks_in, weights_of}

@@ -5,15 +5,14 @@ ghost use Rattle.cl_tree.specs.Syntax.{view, views};
 ghost use Rattle.cl_limits.specs.Limits.{whole, private_bytes as private_bytes_of};
 ghost use Rattle.cl_limits.specs.Heights.{full_height};
 ghost use Rattle.cl_limits.specs.Kernel as spec;
-ghost use Rattle.cl_faults.specs.View.{call_of};
+ghost use Rattle.cl_meaning.specs.Calls.{call_of};
 ghost use Rattle.cl_limits.specs.View.{function_of, body_of};
 
 use crate::barriers::heights;
 use crate::memory::{local_bytes, private_bytes};
 use crate::nodes::count_nodes;
 use crate::sums::{totals, value_at};
-use cl_faults::Call;
-use cl_meaning::Fault;
+use cl_meaning::{Call, Fault};
 use cl_model::{Function, Program};
 use cl_tree::{Form, Tree};
 use std::alloc::Global;

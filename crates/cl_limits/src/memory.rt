@@ -5,7 +5,7 @@ ghost use Rattle.cl_meaning.specs.Declarations.{product};
 ghost use Rattle.cl_limits.specs.Limits as spec;
 ghost use Rattle.cl_limits.specs.View.{array_of, function_of};
 
-use cl_constant::size_of;
+use cl_meaning::size_of;
 use cl_model::{Array, Function, Space};
 
 fn product_of(lengths: &[u64]) -> u64

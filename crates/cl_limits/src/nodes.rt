@@ -20,7 +20,7 @@ fn count_all(trees: &[Tree]) -> u64
 
 /// How many nodes a tree has, its root included, as far as 64 bits count them.
 #[cycle(nodes)]
-#[tactic(auto, using(cl_spelling::proofs::Views::view_out))]
+#[tactic(auto, using(cl_meaning::proofs::Views::view_out))]
 pub fn count_nodes(tree: &Tree) -> u64
     ensures { result ≡ min (spec.count_nodes (view tree.now)) 18446744073709551615 }
 {

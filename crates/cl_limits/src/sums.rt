@@ -3,9 +3,9 @@
 ghost use Rattle.std.specs.Prelude.{◌≡◌, ◌+◌, ℕ, ◌↔◌, IsTrue, IfOk, min, map, length, slice_index, replicate};
 ghost use Rattle.cl_limits.specs.Limits.{whole};
 ghost use Rattle.cl_limits.specs.Rounds as rounds;
-ghost use Rattle.cl_faults.specs.View.{call_of};
+ghost use Rattle.cl_meaning.specs.Calls.{call_of};
 
-use cl_faults::Call;
+use cl_meaning::Call;
 use std::alloc::Global;
 use wg_num::Memory;
 

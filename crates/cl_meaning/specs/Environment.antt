@@ -5,7 +5,7 @@ use Rattle.wg_num.specs.declared.types.IntType.{IntType}
 use Rattle.wg_num.specs.declared.types.Place.{Place}
 use Rattle.cl_model.specs.declared.program.Space.{Space}
 use Rattle.cl_model.specs.declared.program.VarKind.{VarKind}
-use Rattle.cl_spelling.specs.declared.types.Declared.{Declared}
+use Rattle.cl_meaning.specs.declared.types.Declared.{Declared}
 use Rattle.cl_meaning.specs.declared.kind.Entry.{Entry}
 use Rattle.cl_meaning.specs.declared.kind.Meaning.{Meaning}
 use Rattle.cl_meaning.specs.declared.kind.Parameter.{Parameter}

@@ -11,16 +11,16 @@ use Rattle.cl_model.specs.declared.program.Root.{Root}
 use Rattle.cl_model.specs.Tree as tree
 use Rattle.cl_model.specs.Tree.{Expression, Expressions, Apply, single, pair, truth_of, decided}
 use Rattle.cl_tree.specs.Syntax.{Forest}
-use Rattle.cl_spelling.specs.declared.types.Declared.{Declared}
-use Rattle.cl_spelling.specs.declared.operators.Prefix.{Prefix}
-use Rattle.cl_spelling.specs.declared.operators.Prefix.TheVariants as prefixes
-use Rattle.cl_spelling.specs.declared.operators.Postfix.{Postfix}
-use Rattle.cl_spelling.specs.declared.operators.Postfix.TheVariants as postfixes
-use Rattle.cl_spelling.specs.declared.operators.Setting.{Setting}
-use Rattle.cl_spelling.specs.declared.operators.Setting.TheVariants as settings
-use Rattle.cl_spelling.specs.declared.names.Intrinsic.{Intrinsic}
-use Rattle.cl_spelling.specs.declared.names.Intrinsic.TheVariants as intrinsics
-use Rattle.cl_constant.specs.Conversions.{promoted, common, operand_type, right_type}
+use Rattle.cl_meaning.specs.declared.types.Declared.{Declared}
+use Rattle.cl_meaning.specs.declared.operators.Prefix.{Prefix}
+use Rattle.cl_meaning.specs.declared.operators.Prefix.TheVariants as prefixes
+use Rattle.cl_meaning.specs.declared.operators.Postfix.{Postfix}
+use Rattle.cl_meaning.specs.declared.operators.Postfix.TheVariants as postfixes
+use Rattle.cl_meaning.specs.declared.operators.Setting.{Setting}
+use Rattle.cl_meaning.specs.declared.operators.Setting.TheVariants as settings
+use Rattle.cl_meaning.specs.declared.names.Intrinsic.{Intrinsic}
+use Rattle.cl_meaning.specs.declared.names.Intrinsic.TheVariants as intrinsics
+use Rattle.cl_meaning.specs.Conversions.{promoted, common, operand_type, right_type}
 use Rattle.cl_meaning.specs.declared.kind.Each.TheVariants as each
 use Rattle.cl_meaning.specs.declared.kind.Kind.{Kind}
 use Rattle.cl_meaning.specs.declared.kind.Kind.TheVariants as kinds

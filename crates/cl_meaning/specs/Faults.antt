@@ -12,17 +12,17 @@ use Rattle.cl_model.specs.declared.program.Space.TheVariants as spaces
 use Rattle.cl_tree.specs.declared.tree.Form.{Form}
 use Rattle.cl_tree.specs.declared.tree.Form.TheVariants as forms
 use Rattle.cl_tree.specs.Syntax.{Syntax, node, Forest, first_of}
-use Rattle.cl_spelling.specs.declared.types.Declared.{Declared}
-use Rattle.cl_spelling.specs.declared.operators.Prefix.{Prefix}
-use Rattle.cl_spelling.specs.declared.operators.Prefix.TheVariants as prefixes
-use Rattle.cl_spelling.specs.declared.operators.Postfix.{Postfix}
-use Rattle.cl_spelling.specs.declared.operators.Postfix.TheVariants as postfixes
-use Rattle.cl_spelling.specs.declared.operators.Setting.{Setting}
-use Rattle.cl_spelling.specs.declared.types.Base.{Base}
-use Rattle.cl_spelling.specs.declared.types.Base.TheVariants as bases
-use Rattle.cl_spelling.specs.Spelling.{name_in, base_in, binary_in, setting_in, prefix_in, postfix_in, intrinsic_in}
-use Rattle.cl_constant.specs.declared.constant.Constant.{Constant}
-use Rattle.cl_constant.specs.Constants.{constant_of}
+use Rattle.cl_meaning.specs.declared.types.Declared.{Declared}
+use Rattle.cl_meaning.specs.declared.operators.Prefix.{Prefix}
+use Rattle.cl_meaning.specs.declared.operators.Prefix.TheVariants as prefixes
+use Rattle.cl_meaning.specs.declared.operators.Postfix.{Postfix}
+use Rattle.cl_meaning.specs.declared.operators.Postfix.TheVariants as postfixes
+use Rattle.cl_meaning.specs.declared.operators.Setting.{Setting}
+use Rattle.cl_meaning.specs.declared.types.Base.{Base}
+use Rattle.cl_meaning.specs.declared.types.Base.TheVariants as bases
+use Rattle.cl_meaning.specs.Spelling.{name_in, base_in, binary_in, setting_in, prefix_in, postfix_in, intrinsic_in}
+use Rattle.cl_meaning.specs.declared.constant.Constant.{Constant}
+use Rattle.cl_meaning.specs.Constants.{constant_of}
 use Rattle.cl_meaning.specs.declared.fault.Fault.{Fault}
 use Rattle.cl_meaning.specs.declared.fault.Fault.TheVariants as faults
 use Rattle.cl_meaning.specs.declared.kind.Each.TheVariants as each

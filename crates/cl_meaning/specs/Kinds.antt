@@ -16,19 +16,19 @@ use Rattle.cl_model.specs.Valid.{unary_type, binary_type, arity_of, query_type}
 use Rattle.cl_tree.specs.declared.tree.Form.{Form}
 use Rattle.cl_tree.specs.declared.tree.Form.TheVariants as forms
 use Rattle.cl_tree.specs.Syntax.{Syntax, node, Forest, none, more}
-use Rattle.cl_spelling.specs.declared.types.Declared.{Declared}
-use Rattle.cl_spelling.specs.declared.operators.Prefix.{Prefix}
-use Rattle.cl_spelling.specs.declared.operators.Prefix.TheVariants as prefixes
-use Rattle.cl_spelling.specs.declared.operators.Postfix.{Postfix}
-use Rattle.cl_spelling.specs.declared.operators.Postfix.TheVariants as postfixes
-use Rattle.cl_spelling.specs.declared.operators.Setting.{Setting}
-use Rattle.cl_spelling.specs.declared.operators.Setting.TheVariants as settings
-use Rattle.cl_spelling.specs.declared.names.Intrinsic.{Intrinsic}
-use Rattle.cl_spelling.specs.declared.names.Intrinsic.TheVariants as intrinsics
-use Rattle.cl_spelling.specs.declared.names.Flag.{Flag}
-use Rattle.cl_spelling.specs.declared.names.Flag.TheVariants as flags
-use Rattle.cl_spelling.specs.Spelling.{name_in, declared_in, binary_in, setting_in, prefix_in, postfix_in, intrinsic_in, flag_in, literal_in}
-use Rattle.cl_constant.specs.Conversions.{promoted, common, operand_type}
+use Rattle.cl_meaning.specs.declared.types.Declared.{Declared}
+use Rattle.cl_meaning.specs.declared.operators.Prefix.{Prefix}
+use Rattle.cl_meaning.specs.declared.operators.Prefix.TheVariants as prefixes
+use Rattle.cl_meaning.specs.declared.operators.Postfix.{Postfix}
+use Rattle.cl_meaning.specs.declared.operators.Postfix.TheVariants as postfixes
+use Rattle.cl_meaning.specs.declared.operators.Setting.{Setting}
+use Rattle.cl_meaning.specs.declared.operators.Setting.TheVariants as settings
+use Rattle.cl_meaning.specs.declared.names.Intrinsic.{Intrinsic}
+use Rattle.cl_meaning.specs.declared.names.Intrinsic.TheVariants as intrinsics
+use Rattle.cl_meaning.specs.declared.names.Flag.{Flag}
+use Rattle.cl_meaning.specs.declared.names.Flag.TheVariants as flags
+use Rattle.cl_meaning.specs.Spelling.{name_in, declared_in, binary_in, setting_in, prefix_in, postfix_in, intrinsic_in, flag_in, literal_in}
+use Rattle.cl_meaning.specs.Conversions.{promoted, common, operand_type}
 use Rattle.cl_meaning.specs.declared.kind.Each.TheVariants as each
 use Rattle.cl_meaning.specs.declared.kind.Reach.TheVariants as reach
 use Rattle.cl_meaning.specs.declared.kind.Kind.{Kind}

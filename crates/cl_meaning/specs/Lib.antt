@@ -1,3 +1,11 @@
+pub mod Literals
+pub mod Names
+pub mod Operators
+pub mod Pieces
+pub mod Spelling
+pub mod Types
+pub mod Constants
+pub mod Conversions
 pub mod Numbers
 pub mod Environment
 pub mod Kinds
@@ -8,3 +16,4 @@ pub mod Typed
 pub mod Expressions
 pub mod Statements
 pub mod Meant
+pub mod Calls

@@ -6,7 +6,7 @@ use Rattle.cl_model.specs.Tree as tree
 use Rattle.cl_tree.specs.declared.tree.Form.{Form}
 use Rattle.cl_tree.specs.declared.tree.Form.TheVariants as forms
 use Rattle.cl_tree.specs.Syntax.{Syntax, node, Forest, none, more}
-use Rattle.cl_spelling.specs.Spelling.{name_in, binary_in, setting_in, prefix_in, postfix_in, truth_in, literal_in}
+use Rattle.cl_meaning.specs.Spelling.{name_in, binary_in, setting_in, prefix_in, postfix_in, truth_in, literal_in}
 use Rattle.cl_meaning.specs.declared.kind.Kind.{Kind}
 use Rattle.cl_meaning.specs.Environment.{Env, Signature, at_start, place_of}
 use Rattle.cl_meaning.specs.Kinds.{callee_of}

@@ -8,9 +8,9 @@ use Rattle.cl_model.specs.declared.program.Space.TheVariants as spaces
 use Rattle.cl_model.specs.Tree as tree
 use Rattle.cl_model.specs.Tree.{Expression, Statement, Statements, empty, also, Arms, no_arm, arm}
 use Rattle.cl_tree.specs.Syntax.{Syntax, Forest, more, first_of, last_of}
-use Rattle.cl_spelling.specs.declared.types.Declared.{Declared}
-use Rattle.cl_constant.specs.declared.constant.Constant.{Constant}
-use Rattle.cl_constant.specs.Constants.{constant_of}
+use Rattle.cl_meaning.specs.declared.types.Declared.{Declared}
+use Rattle.cl_meaning.specs.declared.constant.Constant.{Constant}
+use Rattle.cl_meaning.specs.Constants.{constant_of}
 use Rattle.cl_meaning.specs.declared.kind.Yield.{Yield}
 use Rattle.cl_meaning.specs.declared.kind.Yield.TheVariants as yields
 use Rattle.cl_meaning.specs.Environment.{Env, Labels, Signature}

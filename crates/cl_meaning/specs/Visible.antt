@@ -7,10 +7,10 @@ use Rattle.wg_num.specs.Wrap.{wrap_of}
 use Rattle.cl_tree.specs.declared.tree.Form.{Form}
 use Rattle.cl_tree.specs.declared.tree.Form.TheVariants as forms
 use Rattle.cl_tree.specs.Syntax.{Syntax, node, Forest, none, more, first_of, last_of}
-use Rattle.cl_spelling.specs.Spelling.{name_in, declared_in, intrinsic_in}
-use Rattle.cl_constant.specs.Conversions.{promoted}
-use Rattle.cl_constant.specs.declared.constant.Constant.{Constant}
-use Rattle.cl_constant.specs.Constants.{constant_of}
+use Rattle.cl_meaning.specs.Spelling.{name_in, declared_in, intrinsic_in}
+use Rattle.cl_meaning.specs.Conversions.{promoted}
+use Rattle.cl_meaning.specs.declared.constant.Constant.{Constant}
+use Rattle.cl_meaning.specs.Constants.{constant_of}
 use Rattle.cl_meaning.specs.declared.kind.Kind.{Kind}
 use Rattle.cl_meaning.specs.declared.kind.Entry.{Entry}
 use Rattle.cl_meaning.specs.declared.kind.Meaning.{Meaning}

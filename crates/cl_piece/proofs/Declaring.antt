@@ -5,7 +5,7 @@ use Rattle.wg_num.specs.declared.types.Place.{Place}
 use Rattle.cl_model.specs.declared.program.Space.{Space}
 use Rattle.cl_model.specs.declared.program.Space.TheVariants as spaces
 use Rattle.cl_tree.specs.Syntax.{Syntax}
-use Rattle.cl_spelling.specs.declared.types.Declared.{Declared}
+use Rattle.cl_meaning.specs.declared.types.Declared.{Declared}
 use Rattle.cl_meaning.specs.Environment.{Env}
 use Rattle.cl_meaning.specs.Kinds.{is_some}
 use Rattle.cl_meaning.specs.Declarations.{Declarator, kept_in}

@@ -4,7 +4,7 @@ use Rattle.wg_num.specs.declared.types.Place.{Place}
 use Rattle.cl_tree.specs.declared.tree.Tree.{Tree}
 use Rattle.cl_tree.specs.declared.tree.Tree.TheViews.{out-Tree}
 use Rattle.cl_tree.specs.Syntax.{Syntax, Forest, views, first_of, last_of}
-use Rattle.cl_spelling.proofs.Views.{view_out}
+use Rattle.cl_meaning.proofs.Views.{view_out}
 use Rattle.cl_meaning.specs.Typed.{Piece}
 use Rattle.cl_meaning.specs.Expressions.{read}
 use Rattle.cl_meaning.specs.Statements.{loop_made, for_made, second_is_test}

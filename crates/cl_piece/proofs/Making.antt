@@ -6,7 +6,7 @@ use Rattle.cl_tree.specs.declared.tree.Form.TheVariants as forms
 use Rattle.cl_tree.specs.declared.tree.Tree.{Tree}
 use Rattle.cl_tree.specs.declared.tree.Tree.TheViews.{out-Tree}
 use Rattle.cl_tree.specs.Syntax.{Syntax, view, views, first_of}
-use Rattle.cl_spelling.proofs.Views.{view_out}
+use Rattle.cl_meaning.proofs.Views.{view_out}
 use Rattle.cl_meaning.specs.Environment.{Env, place_of}
 use Rattle.cl_meaning.specs.Declarations.{Declarator, form_of, declarator_in, signature_in}
 use Rattle.cl_meaning.specs.Typed.{Piece}

@@ -3,7 +3,7 @@ use Rattle.std.proofs.Common.{◌≡◌, Option, false, ap, ap₂, ◌∙◌}
 use Rattle.wg_num.specs.declared.types.IntType.{IntType}
 use Rattle.wg_num.specs.declared.types.Bin.{Bin}
 use Rattle.cl_model.specs.Tree.{Expression}
-use Rattle.cl_constant.specs.Conversions.{operand_type, right_type}
+use Rattle.cl_meaning.specs.Conversions.{operand_type, right_type}
 use Rattle.cl_meaning.specs.declared.kind.Kind.{Kind}
 use Rattle.cl_meaning.specs.Typed.{What, Piece}
 use Rattle.cl_meaning.specs.Expressions.{type_in, operand, updated}

@@ -6,7 +6,7 @@ use Rattle.cl_model.specs.declared.program.Space.{Space}
 use Rattle.cl_model.specs.declared.program.Space.TheVariants as spaces
 use Rattle.cl_model.specs.Tree as tree
 use Rattle.cl_model.specs.Tree.{Expression, empty}
-use Rattle.cl_spelling.specs.declared.types.Declared.{Declared}
+use Rattle.cl_meaning.specs.declared.types.Declared.{Declared}
 use Rattle.cl_meaning.specs.Typed.{What, nothing, lines, Piece, Built}
 use Rattle.cl_meaning.specs.Expressions.{made, sited, read, operand, expressions}
 use Rattle.cl_meaning.specs.Statements.{alone, last_piece, set_value, list_values}

@@ -2,7 +2,7 @@
 
 ghost use Rattle.std.specs.Prelude.{◌≡◌, IfOk, List, map, false};
 ghost use Rattle.cl_model.specs.View.{expression_of};
-ghost use Rattle.cl_constant.specs.Conversions as conversions;
+ghost use Rattle.cl_meaning.specs.Conversions as conversions;
 ghost use Rattle.cl_meaning.specs.Expressions as meaning;
 ghost use Rattle.wg_num.specs.declared.types.Place as places;
 ghost use Rattle.cl_piece.specs.View.{piece_of, what_of, built_of};
@@ -13,10 +13,8 @@ use crate::parts::pair;
 use crate::piece::{Piece, What};
 use crate::types::type_in;
 use crate::values::{literal, read};
-use cl_constant::{operand_type, right_type};
-use cl_meaning::Kind;
+use cl_meaning::{Kind, Setting, operand_type, right_type};
 use cl_model::Expr;
-use cl_spelling::Setting;
 use program_build::expression;
 use std::alloc::Global;
 use wg_num::{Bin, IntType, Memory};

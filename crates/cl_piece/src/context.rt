@@ -2,7 +2,7 @@
 
 ghost use Rattle.std.specs.Prelude.{◌≡◌, IfOk, List, Some, map, option_map};
 ghost use Rattle.cl_tree.specs.Syntax.{views};
-ghost use Rattle.cl_constant.specs.Constants as constants;
+ghost use Rattle.cl_meaning.specs.Constants as constants;
 ghost use Rattle.cl_scope.specs.Declarators.{declarator_view};
 ghost use Rattle.cl_scope.specs.View.{visible_in};
 ghost use Rattle.cl_scope.specs.Walk.{body_view, body_of};
@@ -20,13 +20,12 @@ use crate::functions::{Inside, function};
 use crate::leaves;
 use crate::piece::{Piece, What};
 use crate::switches::case;
-use cl_constant::{Constant, constant_of};
+use cl_meaning::{Constant, Declared, constant_of};
 use cl_model::Space;
 use cl_scope::{
     Body, Callee, Declarator, Environment, Signature, callee_of, is_at_unit, is_flag, meaning_of,
     signature_in,
 };
-use cl_spelling::Declared;
 use cl_tree::Tree;
 use std::alloc::Global;
 use wg_num::{IntType, Memory, Place};

@@ -13,8 +13,8 @@ use crate::lines::{last, put};
 use crate::piece::{Piece, What};
 use crate::sites::take_site;
 use crate::values::{operand, read};
+use cl_meaning::Declared;
 use cl_model::{Expr, Space, Stmt};
-use cl_spelling::Declared;
 use std::alloc::Global;
 use wg_num::{IntType, Memory, Place};
 

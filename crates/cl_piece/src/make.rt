@@ -13,8 +13,8 @@ use crate::boxes::as_statement;
 use crate::context::{call_at, case_at, declarator_at, function_at, name_at};
 use crate::piece::{Piece, What};
 use crate::{assignments, elements, functions, leaves, lines, operators, statements, switches};
+use cl_meaning::{binary_of, literal, name_of, postfix_of, prefix_of, setting_of, truth_of};
 use cl_scope::{Body, Environment, declarator_in, first_type, place_of};
-use cl_spelling::{binary_of, literal, name_of, postfix_of, prefix_of, setting_of, truth_of};
 use cl_tree::{Form, Tree};
 use std::alloc::Global;
 use wg_num::{Memory, Place};
@@ -28,7 +28,7 @@ struct Node<'a> {
 }
 
 /// The place of the first token of a node, which is that of its site.
-#[tactic(auto, using(cl_spelling::proofs::Views::view_out))]
+#[tactic(auto, using(cl_meaning::proofs::Views::view_out))]
 fn place_at(node: Node) -> Place
     ensures { result ≡ first_place node.entry }
 {
@@ -36,7 +36,7 @@ fn place_at(node: Node) -> Place
 }
 
 /// What an expression with no operator stands for.
-#[tactic(auto, using(cl_spelling::proofs::Views::view_out), unfolding(cl_meaning::specs::Meant::make))]
+#[tactic(auto, using(cl_meaning::proofs::Views::view_out), unfolding(cl_meaning::specs::Meant::make))]
 fn primary(
     alloc: Global,
     node: Node,
@@ -59,7 +59,7 @@ fn primary(
 }
 
 /// What an expression with an operator on two or three operands stands for.
-#[tactic(auto, using(cl_spelling::proofs::Views::view_out), unfolding(cl_meaning::specs::Meant::make))]
+#[tactic(auto, using(cl_meaning::proofs::Views::view_out), unfolding(cl_meaning::specs::Meant::make))]
 fn joined(
     alloc: Global,
     node: Node,
@@ -89,7 +89,7 @@ fn joined(
 }
 
 /// What a cast, or an expression with an operator in front of its operand or behind it, stands for.
-#[tactic(auto, using(cl_spelling::proofs::Views::view_out), unfolding(cl_meaning::specs::Meant::make))]
+#[tactic(auto, using(cl_meaning::proofs::Views::view_out), unfolding(cl_meaning::specs::Meant::make))]
 fn fixed(
     alloc: Global,
     node: Node,
@@ -112,7 +112,7 @@ fn fixed(
 }
 
 /// What a declaration, or a statement that stands for its parts in order, stands for.
-#[tactic(auto, using(cl_spelling::proofs::Views::view_out), unfolding(cl_meaning::specs::Meant::make))]
+#[tactic(auto, using(cl_meaning::proofs::Views::view_out), unfolding(cl_meaning::specs::Meant::make))]
 fn line(
     alloc: Global,
     node: Node,
@@ -136,7 +136,7 @@ fn line(
 }
 
 /// What a statement that tests stands for.
-#[tactic(auto, using(cl_spelling::proofs::Views::view_out, crate::proofs::Loops::loop_is), unfolding(cl_meaning::specs::Meant::make))]
+#[tactic(auto, using(cl_meaning::proofs::Views::view_out, crate::proofs::Loops::loop_is), unfolding(cl_meaning::specs::Meant::make))]
 fn test(
     alloc: Global,
     node: Node,
@@ -160,7 +160,7 @@ fn test(
 }
 
 /// What a label or an exit stands for.
-#[tactic(auto, using(cl_spelling::proofs::Views::view_out), unfolding(cl_meaning::specs::Meant::make))]
+#[tactic(auto, using(cl_meaning::proofs::Views::view_out), unfolding(cl_meaning::specs::Meant::make))]
 fn jump(
     alloc: Global,
     node: Node,
@@ -187,7 +187,7 @@ fn jump(
 /// What a node stands for, from what its parts stand for, with the environment that is visible at it behind
 /// its parts; `body` and `sizes` are what is known at the end of a function alone. `sites` are those so far. An error
 /// is that memory was refused, or that there are more than 2^32 of something.
-#[tactic(auto, using(cl_spelling::proofs::Views::view_out), unfolding(cl_meaning::specs::Meant::make))]
+#[tactic(auto, using(cl_meaning::proofs::Views::view_out), unfolding(cl_meaning::specs::Meant::make))]
 pub fn make(
     alloc: Global,
     environment: &Environment,

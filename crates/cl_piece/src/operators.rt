@@ -1,7 +1,7 @@
 //! Operators on values.
 
 ghost use Rattle.std.specs.Prelude.{◌≡◌, IfOk, List, Some, map};
-ghost use Rattle.cl_constant.specs.Conversions as conversions;
+ghost use Rattle.cl_meaning.specs.Conversions as conversions;
 ghost use Rattle.cl_meaning.specs.Typed as typed;
 ghost use Rattle.cl_meaning.specs.Expressions as meaning;
 ghost use Rattle.wg_num.specs.declared.types.Place as places;
@@ -13,9 +13,7 @@ use crate::parts::{Two, pair, triple};
 use crate::piece::{Piece, What};
 use crate::types::type_in;
 use crate::values::{moved, moved_by, operand, read, way};
-use cl_constant::{common, operand_type, right_type};
-use cl_meaning::Kind;
-use cl_spelling::Declared;
+use cl_meaning::{Declared, Kind, common, operand_type, right_type};
 use program_build::expression;
 use std::alloc::Global;
 use wg_num::{Bin, IntType, Memory, Place};

@@ -4,7 +4,7 @@ ghost use Rattle.std.specs.Prelude.{◌≡◌, ◌∷◌, List, Option, IfOk, ma
 ghost use Rattle.program_build.specs.Lists.{listed_arms};
 ghost use Rattle.cl_meaning.specs.Environment as visible;
 ghost use Rattle.cl_meaning.specs.Kinds.{first_part};
-ghost use Rattle.cl_constant.specs.Constants as constants;
+ghost use Rattle.cl_meaning.specs.Constants as constants;
 ghost use Rattle.cl_tree.specs.Syntax.{Forest};
 ghost use Rattle.cl_meaning.specs.Typed as typed;
 ghost use Rattle.cl_meaning.specs.Statements as meaning;
@@ -20,7 +20,7 @@ use crate::parts::{Two, next, only, pair};
 use crate::piece::{Piece, What};
 use crate::sites::take_site;
 use crate::values::read;
-use cl_constant::Constant;
+use cl_meaning::Constant;
 use cl_model::SwitchArm;
 use program_build::statement;
 use std::alloc::Global;

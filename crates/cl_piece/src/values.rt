@@ -6,8 +6,8 @@ ghost use Rattle.cl_meaning.specs.Expressions as meaning;
 ghost use Rattle.cl_piece.specs.View.{piece_of, what_of, target_of};
 
 use crate::piece::{Piece, What};
-use crate::types::{same_type, type_in};
-use cl_constant::promoted;
+use crate::types::type_in;
+use cl_meaning::{promoted, same_type};
 use cl_model::{Expr, Target};
 use program_build::expression;
 use std::alloc::Global;

@@ -6,7 +6,7 @@ use Rattle.cl_model.specs.declared.program.Space.TheVariants as spaces
 use Rattle.cl_model.specs.declared.program.Root.{Root}
 use Rattle.cl_model.specs.declared.program.Root.TheVariants as roots
 use Rattle.cl_model.specs.declared.program.VarKind.TheVariants as var_kinds
-use Rattle.cl_spelling.specs.declared.types.Declared.{Declared}
+use Rattle.cl_meaning.specs.declared.types.Declared.{Declared}
 use Rattle.cl_meaning.specs.declared.kind.Each.{Each}
 use Rattle.cl_meaning.specs.declared.kind.Kind.{Kind}
 use Rattle.cl_meaning.specs.declared.kind.Meaning.{Meaning}

@@ -6,8 +6,8 @@ use Rattle.cl_tree.specs.declared.tree.Form.TheVariants as forms
 use Rattle.cl_tree.specs.declared.tree.Tree.{Tree}
 use Rattle.cl_tree.specs.declared.tree.Tree.TheViews.{out-Tree}
 use Rattle.cl_tree.specs.Syntax.{Syntax, Forest, view, views}
-use Rattle.cl_spelling.specs.Spelling.{name_in}
-use Rattle.cl_spelling.proofs.Views.{view_out}
+use Rattle.cl_meaning.specs.Spelling.{name_in}
+use Rattle.cl_meaning.proofs.Views.{view_out}
 use Rattle.cl_meaning.specs.declared.kind.Kind.{Kind}
 use Rattle.cl_meaning.specs.Environment.{Env, Owner, Labels, declare}
 use Rattle.cl_meaning.specs.Declarations.{Declarator, form_of, declarator_in, last_kind, with_declarator, with_parameter, first_type, second_star}

@@ -6,8 +6,8 @@ use Rattle.cl_tree.specs.declared.tree.Form.TheVariants as forms
 use Rattle.cl_tree.specs.declared.tree.Tree.{Tree}
 use Rattle.cl_tree.specs.declared.tree.Tree.TheViews.{out-Tree}
 use Rattle.cl_tree.specs.Syntax.{Syntax, node, Forest, more, view, views}
-use Rattle.cl_spelling.specs.Spelling.{requires_size}
-use Rattle.cl_spelling.proofs.Views.{view_out}
+use Rattle.cl_meaning.specs.Spelling.{requires_size}
+use Rattle.cl_meaning.proofs.Views.{view_out}
 use Rattle.cl_meaning.specs.declared.kind.Parameter.{Parameter}
 use Rattle.cl_meaning.specs.Environment.{Signature}
 use Rattle.cl_meaning.specs.Declarations.{parameter_of, parameters_of, parts_of, form_of, with_part, with_parts, definitions_in, listed, size_in, sizes_in}

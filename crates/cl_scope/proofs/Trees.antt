@@ -5,7 +5,7 @@ use Rattle.cl_tree.specs.declared.tree.Form.TheVariants as forms
 use Rattle.cl_tree.specs.declared.tree.Tree.{Tree}
 use Rattle.cl_tree.specs.declared.tree.Tree.TheViews.{out-Tree}
 use Rattle.cl_tree.specs.Syntax.{Syntax, node, Forest, view, views, forest}
-use Rattle.cl_spelling.proofs.Views.{view_out}
+use Rattle.cl_meaning.proofs.Views.{view_out}
 use Rattle.cl_meaning.specs.Declarations.{listed, behind_star, but_last, last_one, is_star, parts_of, is_list, initial_values}
 
 pub listed_forest : (ts : List Syntax) → listed (forest ts) ≡ ts

@@ -5,8 +5,8 @@ use Rattle.cl_tree.specs.declared.tree.Form.TheVariants as forms
 use Rattle.cl_tree.specs.declared.tree.Tree.{Tree}
 use Rattle.cl_tree.specs.declared.tree.Tree.TheViews.{out-Tree}
 use Rattle.cl_tree.specs.Syntax.{Syntax, view}
-use Rattle.cl_spelling.specs.Spelling.{name_in}
-use Rattle.cl_spelling.proofs.Views.{view_out}
+use Rattle.cl_meaning.specs.Spelling.{name_in}
+use Rattle.cl_meaning.proofs.Views.{view_out}
 use Rattle.cl_meaning.specs.Environment.{Env, Scope, Labels}
 use Rattle.cl_meaning.specs.Visible.{inside, restored}
 use Rattle.cl_scope.specs.Walk.{Kept, Body, Aside, nothing, labels, body, body_of, kept, kept_at, entered, inside_named, restored_by, with_aside, aside_at, inner_for, inner_at}

@@ -6,7 +6,7 @@ use Rattle.cl_model.specs.declared.program.Root.TheVariants as roots
 use Rattle.cl_model.specs.declared.program.VarKind.{VarKind}
 use Rattle.cl_model.specs.declared.program.VarKind.TheVariants as var_kinds
 use Rattle.cl_tree.specs.Syntax.{view}
-use Rattle.cl_spelling.specs.declared.types.Declared.{Declared}
+use Rattle.cl_meaning.specs.declared.types.Declared.{Declared}
 use Rattle.cl_meaning.specs.declared.kind.Meaning.{Meaning}
 use Rattle.cl_meaning.specs.declared.kind.Meaning.TheVariants as meanings
 use Rattle.cl_meaning.specs.Environment.{Env, Variable, Array, Table, declare, at_unit}

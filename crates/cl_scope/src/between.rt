@@ -1,7 +1,7 @@
 //! From part to part: what a part of a node adds for the parts behind it, beside the names that it declares.
 ghost use Rattle.std.specs.Prelude.{◌≡◌, ◌||◌, List, ◌∷◌, [], ◌++◌, Some, map, option_map, slice_get, OnOk, IfOk};
 ghost use Rattle.wg_num.specs.declared.types.Place.{Place};
-ghost use Rattle.cl_constant.specs.Constants as constants;
+ghost use Rattle.cl_meaning.specs.Constants as constants;
 ghost use Rattle.cl_tree.specs.Syntax.{view};
 ghost use Rattle.cl_meaning.specs.Declarations.{form_of};
 ghost use Rattle.cl_meaning.specs.Environment as environments;
@@ -13,9 +13,7 @@ use crate::environment::{Environment, Labels, Names, Owner};
 use crate::lookup::function_meaning;
 use crate::scopes::{insert, open};
 use crate::signature::{head_sizes, is_kernel_head, yield_of};
-use cl_constant::{Constant, constant_of, promoted};
-use cl_meaning::{Entry, Kind};
-use cl_spelling::declared_of;
+use cl_meaning::{Constant, Entry, Kind, constant_of, declared_of, promoted};
 use cl_tree::{Form, Tree};
 use indexmap::IndexMap;
 use std::alloc::Global;

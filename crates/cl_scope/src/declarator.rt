@@ -5,10 +5,8 @@ ghost use Rattle.cl_tree.specs.Syntax.{view, views};
 ghost use Rattle.cl_meaning.specs.Declarations as spec;
 ghost use Rattle.cl_scope.specs.Declarators.{declarator_view};
 
-use cl_constant::constant_of;
-use cl_meaning::Each;
-use cl_spelling::types::Declared;
-use cl_spelling::{declared_of, dimensions_of, is_const, is_set, name_of};
+use cl_meaning::types::Declared;
+use cl_meaning::{Each, constant_of, declared_of, dimensions_of, is_const, is_set, name_of};
 use cl_tree::{Form, Tree};
 use std::alloc::Global;
 use wg_num::Memory;
@@ -32,7 +30,7 @@ pub struct Declarator<'a> {
 }
 
 /// The star in front of some parts: whether it is `const`.
-#[tactic(auto, using(cl_spelling::proofs::Views::view_out))]
+#[tactic(auto, using(cl_meaning::proofs::Views::view_out))]
 pub fn star_in(parts: &[Tree]) -> Option<bool>
     ensures { result ≡ spec.star_in (views parts.now) }
 {
@@ -46,7 +44,7 @@ pub fn star_in(parts: &[Tree]) -> Option<bool>
 }
 
 /// The parts behind the star.
-#[tactic(auto, using(cl_spelling::proofs::Views::view_out))]
+#[tactic(auto, using(cl_meaning::proofs::Views::view_out))]
 fn behind_star(parts: &[Tree]) -> &[Tree]
     ensures { map view result.now ≡ spec.listed (spec.behind_star (views parts.now)) }
 {
@@ -60,7 +58,7 @@ fn behind_star(parts: &[Tree]) -> &[Tree]
 }
 
 /// The number of the token behind a star, or else the first one.
-#[tactic(auto, using(cl_spelling::proofs::Views::view_out))]
+#[tactic(auto, using(cl_meaning::proofs::Views::view_out))]
 fn name_token(first: u32, parts: &[Tree]) -> Result<u32, Memory>
     ensures { IfOk result (λ t. t ≡ spec.name_token first (views parts.now)) }
 {
@@ -193,7 +191,7 @@ fn allowed_lengths(alloc: Global, trees: &[Tree]) -> Result<Option<Vec<u64>>, Me
 }
 
 /// Whether the initialiser is a list in braces.
-#[tactic(auto, using(cl_spelling::proofs::Views::view_out))]
+#[tactic(auto, using(cl_meaning::proofs::Views::view_out))]
 pub fn has_list(declarator: &Declarator) -> bool
     ensures { result ≡ spec.is_list (declarator_view declarator.now).init }
 {
@@ -207,7 +205,7 @@ pub fn has_list(declarator: &Declarator) -> bool
 }
 
 /// How many parts the initialiser has.
-#[tactic(auto, using(cl_spelling::proofs::Views::view_out))]
+#[tactic(auto, using(cl_meaning::proofs::Views::view_out))]
 pub fn initialiser_count(declarator: &Declarator) -> usize
     ensures { result ≡ length (spec.initialisers (declarator_view declarator.now).init) }
 {

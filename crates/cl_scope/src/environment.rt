@@ -1,8 +1,8 @@
 //! What is visible, and what is around.
 
+use cl_meaning::types::Declared;
 use cl_meaning::{Entry, Parameter, Yield};
 use cl_model::{Array, Table, Var};
-use cl_spelling::types::Declared;
 use indexmap::IndexMap;
 use wg_num::{IntType, Word};
 

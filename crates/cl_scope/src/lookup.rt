@@ -7,8 +7,7 @@ ghost use Rattle.cl_scope.specs.View.{scope_of, visible_in};
 ghost use Rattle.cl_scope.specs.Callees.{callee_view, definition_view};
 
 use crate::environment::{Environment, Names, Signature};
-use cl_meaning::{Each, Entry, Kind, Meaning, Reach};
-use cl_spelling::{Intrinsic, flag_of, intrinsic_of};
+use cl_meaning::{Each, Entry, Intrinsic, Kind, Meaning, Reach, flag_of, intrinsic_of};
 use wg_num::IntType;
 
 fn find(scope: &Names, name: &[u8]) -> Option<Entry>

@@ -9,9 +9,7 @@ ghost use Rattle.cl_scope.specs.Signatures.{definition_at};
 use crate::declarator::{first_type, second_star};
 use crate::declare::pointed_space;
 use crate::environment::Signature;
-use cl_constant::constant_of;
-use cl_meaning::{Parameter, Yield};
-use cl_spelling::{declared_of, is_kernel, name_of, requires_size};
+use cl_meaning::{Parameter, Yield, constant_of, declared_of, is_kernel, name_of, requires_size};
 use cl_tree::{Form, Tree};
 use std::alloc::Global;
 use wg_num::{Memory, Word};
@@ -66,7 +64,7 @@ fn parameters_of(alloc: Global, parts: &[Tree]) -> Result<Vec<Parameter>, Memory
 }
 
 /// Whether a head makes its function a kernel.
-#[tactic(auto, using(cl_spelling::proofs::Views::view_out))]
+#[tactic(auto, using(cl_meaning::proofs::Views::view_out))]
 pub(crate) fn is_kernel_head(tree: &Tree) -> bool
     ensures { result ≡ spec.is_kernel_head (view tree.now) }
 {
@@ -74,7 +72,7 @@ pub(crate) fn is_kernel_head(tree: &Tree) -> bool
 }
 
 /// Notes what a part of a function or prototype says: a head, its result, or its parameters.
-#[tactic(auto, using(cl_spelling::proofs::Views::view_out))]
+#[tactic(auto, using(cl_meaning::proofs::Views::view_out))]
 fn add_part(alloc: Global, signature: &mut Signature, part: &Tree) -> Result<(), Memory>
     ensures { OnOk result (signature_of signature.new ≡ spec.with_part (signature_of signature.old) (spec.form_of (view part.now)) (view part.now)) }
 {
@@ -121,7 +119,7 @@ fn push_signature(signatures: &mut Vec<Signature>, signature: Signature) -> Resu
 }
 
 /// Notes what a part of a unit defines, if it is a function.
-#[tactic(auto, using(cl_spelling::proofs::Views::view_out))]
+#[tactic(auto, using(cl_meaning::proofs::Views::view_out))]
 fn add_definition(
     alloc: Global,
     definitions: &mut Vec<Signature>,
@@ -179,7 +177,7 @@ fn three_sizes(parts: &[Tree]) -> Result<[u64; 3], Memory>
 }
 
 /// The work-group size that an attribute requires, if it requires one (OpenCL 1.2, section 6.7.2).
-#[tactic(auto, using(cl_spelling::proofs::Views::view_out))]
+#[tactic(auto, using(cl_meaning::proofs::Views::view_out))]
 pub fn sizes_in(tree: &Tree) -> Result<Option<[u64; 3]>, Memory>
     ensures { IfOk result (λ o. o ≡ spec.sizes_in (view tree.now)) }
 {

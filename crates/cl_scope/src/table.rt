@@ -3,13 +3,12 @@ ghost use Rattle.std.specs.Prelude.{◌≡◌, ◌++◌, ◌∷◌, ◌*◌, [],
 ghost use Rattle.cl_tree.specs.Syntax.{view, views};
 ghost use Rattle.wg_num.specs.Wrap.{IsValue};
 ghost use Rattle.wg_num.specs.Bytes.{bytes_of, size_of as bytes_in};
-ghost use Rattle.cl_constant.specs.Constants as constants;
+ghost use Rattle.cl_meaning.specs.Constants as constants;
 ghost use Rattle.cl_meaning.specs.Declarations as spec;
 ghost use Rattle.cl_scope.specs.Declarators.{declarator_view};
 
 use crate::declarator::{Declarator, has_list};
-use cl_constant::{constant_of, size_of};
-use cl_spelling::Declared;
+use cl_meaning::{Declared, constant_of, size_of};
 use cl_tree::Tree;
 use std::alloc::Global;
 use wg_num::{IntType, Memory, bits, wrap};
@@ -81,7 +80,7 @@ fn table_size(of: IntType, lengths: &[u64]) -> Result<usize, Memory>
 }
 
 /// Pushes the bytes of the initialiser.
-#[tactic(auto, using(cl_spelling::proofs::Views::view_out))]
+#[tactic(auto, using(cl_meaning::proofs::Views::view_out))]
 fn push_initial(bytes: &mut Vec<u8>, of: IntType, declarator: &Declarator) -> Result<(), Memory>
     ensures { OnOk result (bytes.new.items ≡ bytes.old.items ++ spec.all_bytes of (spec.initial_values (declarator_view declarator.now).init)) }
 {

@@ -16,9 +16,9 @@ use Rattle.cl_model.specs.declared.program.VarKind.TheVariants as var_kinds
 use Rattle.cl_model.specs.Tree as tree
 use Rattle.cl_model.specs.Tree.{Expression, Function, Program, Apply, single, pair}
 use Rattle.cl_model.specs.Valid.{RootIs, HasType, RightFits, CanStore, kind_type}
-use Rattle.cl_spelling.specs.declared.operators.Setting.{Setting}
-use Rattle.cl_spelling.specs.declared.operators.Setting.TheVariants as settings
-use Rattle.cl_constant.specs.Conversions.{operand_type, right_type}
+use Rattle.cl_meaning.specs.declared.operators.Setting.{Setting}
+use Rattle.cl_meaning.specs.declared.operators.Setting.TheVariants as settings
+use Rattle.cl_meaning.specs.Conversions.{operand_type, right_type}
 use Rattle.cl_meaning.specs.declared.kind.Each.{Each}
 use Rattle.cl_meaning.specs.declared.kind.Each.TheVariants as each
 use Rattle.cl_meaning.specs.declared.kind.Reach.{Reach}

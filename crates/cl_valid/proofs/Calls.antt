@@ -18,9 +18,9 @@ use Rattle.cl_model.specs.Tree as tree
 use Rattle.cl_model.specs.Tree.{Expression, Expressions, Function, Program, Apply, single}
 use Rattle.cl_model.specs.Calls.{function_at}
 use Rattle.cl_model.specs.Valid.{RootIs, HasType, HaveTypes, ArgumentsFit, CanBeCalled, arity_of, parameter_kinds}
-use Rattle.cl_spelling.specs.declared.names.Intrinsic.{Intrinsic}
-use Rattle.cl_spelling.specs.declared.names.Intrinsic.TheVariants as intrinsics
-use Rattle.cl_spelling.specs.Spelling.{intrinsic_in}
+use Rattle.cl_meaning.specs.declared.names.Intrinsic.{Intrinsic}
+use Rattle.cl_meaning.specs.declared.names.Intrinsic.TheVariants as intrinsics
+use Rattle.cl_meaning.specs.Spelling.{intrinsic_in}
 use Rattle.cl_meaning.specs.declared.kind.Each.TheVariants as each
 use Rattle.cl_meaning.specs.declared.kind.Reach.{Reach}
 use Rattle.cl_meaning.specs.declared.kind.Kind.{Kind}

@@ -5,9 +5,9 @@ use Rattle.wg_num.specs.declared.types.Place.{Place}
 use Rattle.wg_num.specs.declared.types.Bin.{Bin}
 use Rattle.cl_model.specs.Tree as tree
 use Rattle.cl_model.specs.Tree.{Function, Program, Apply, single, pair, truth_of, decided}
-use Rattle.cl_spelling.specs.declared.types.Declared.{Declared}
-use Rattle.cl_spelling.specs.declared.operators.Setting.{Setting}
-use Rattle.cl_constant.specs.Conversions.{promoted, common}
+use Rattle.cl_meaning.specs.declared.types.Declared.{Declared}
+use Rattle.cl_meaning.specs.declared.operators.Setting.{Setting}
+use Rattle.cl_meaning.specs.Conversions.{promoted, common}
 use Rattle.cl_meaning.specs.declared.kind.Kind.{Kind}
 use Rattle.cl_meaning.specs.Kinds.{is_some, on_one, on_both, pair_kind, binary_kind, logic_kind, choice_kind, choice_part_kind, comma_kind, cast_kind, index_kind, element_kind, address_kind, operator_kind, set_kind, step_kind, value_kind, is_target, is_fixed, is_constant_memory, assignable, value_fits, root_changes}
 use Rattle.cl_meaning.specs.Faults.{given, given_pair, given_first, lacks_pair, lacks, setting_misfits, unassignable, choice_misfits}

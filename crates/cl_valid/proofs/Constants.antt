@@ -18,10 +18,10 @@ use Rattle.cl_model.specs.Tree.{Function, Program}
 use Rattle.cl_model.specs.Valid.{IsValidTable}
 use Rattle.cl_tree.specs.declared.tree.Form.TheVariants as forms
 use Rattle.cl_tree.specs.Syntax.{Syntax, node, Forest, none, more, last_of}
-use Rattle.cl_spelling.specs.declared.types.Declared.{Declared}
-use Rattle.cl_spelling.specs.Spelling.{declared_in}
-use Rattle.cl_constant.specs.declared.constant.Constant.{Constant}
-use Rattle.cl_constant.specs.Constants.{constant_of}
+use Rattle.cl_meaning.specs.declared.types.Declared.{Declared}
+use Rattle.cl_meaning.specs.Spelling.{declared_in}
+use Rattle.cl_meaning.specs.declared.constant.Constant.{Constant}
+use Rattle.cl_meaning.specs.Constants.{constant_of}
 use Rattle.cl_meaning.specs.declared.fault.Fault.TheVariants as faults
 use Rattle.cl_meaning.specs.declared.kind.Entry.{Entry}
 use Rattle.cl_meaning.specs.declared.kind.Kind.{Kind}

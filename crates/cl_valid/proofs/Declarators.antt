@@ -8,8 +8,8 @@ use Rattle.cl_model.specs.Tree.{Function, Program, Statements}
 use Rattle.cl_model.specs.Valid.{Scope, NamesAmong, AllHaveType, number_of_values}
 use Rattle.cl_tree.specs.declared.tree.Form.TheVariants as forms
 use Rattle.cl_tree.specs.Syntax.{Syntax, node, Forest, none, more, last_of}
-use Rattle.cl_spelling.specs.Spelling.{is_set, declared_in}
-use Rattle.cl_spelling.specs.declared.types.Declared.{Declared}
+use Rattle.cl_meaning.specs.Spelling.{is_set, declared_in}
+use Rattle.cl_meaning.specs.declared.types.Declared.{Declared}
 use Rattle.cl_meaning.specs.declared.fault.Fault.{Fault}
 use Rattle.cl_meaning.specs.declared.fault.Fault.TheVariants as faults
 use Rattle.cl_meaning.specs.declared.kind.Kind.{Kind}

@@ -7,7 +7,7 @@ use Rattle.wg_num.specs.declared.types.Place.{Place}
 use Rattle.cl_model.specs.Tree.{Function, Program, Expression}
 use Rattle.cl_model.specs.Valid.{Scope, NamesAmong, AllHaveType, number_of_values}
 use Rattle.cl_tree.specs.Syntax.{Syntax}
-use Rattle.cl_spelling.specs.declared.types.Declared.{Declared}
+use Rattle.cl_meaning.specs.declared.types.Declared.{Declared}
 use Rattle.cl_meaning.specs.declared.kind.Kind.{Kind}
 use Rattle.cl_meaning.specs.Environment.{Env, Variable, Array}
 use Rattle.cl_meaning.specs.Kinds.{is_some, is_number}

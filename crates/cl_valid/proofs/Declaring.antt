@@ -15,14 +15,14 @@ use Rattle.cl_model.specs.Tree as tree
 use Rattle.cl_model.specs.Tree.{Function, Program, Expression, Expressions, Statements, empty, also}
 use Rattle.cl_model.specs.Valid.{Scope, RootIs, HasType, NamesIn, NamesAmong, NamesInOptional, DeclaredFits, AllHaveType, number_of_values, IsScopedList, AllFit, AllExitsFit, all_declarations}
 use Rattle.cl_tree.specs.Syntax.{Syntax}
-use Rattle.cl_spelling.specs.declared.types.Declared.{Declared}
+use Rattle.cl_meaning.specs.declared.types.Declared.{Declared}
 use Rattle.cl_meaning.specs.declared.kind.Each.TheVariants as each
 use Rattle.cl_meaning.specs.declared.kind.Kind.{Kind}
 use Rattle.cl_meaning.specs.declared.kind.Kind.TheVariants as kinds
 use Rattle.cl_meaning.specs.declared.kind.Meaning.{Meaning}
 use Rattle.cl_meaning.specs.declared.kind.Meaning.TheVariants as meanings
-use Rattle.cl_constant.specs.declared.constant.Constant.{Constant}
-use Rattle.cl_constant.specs.Constants.{constant_of}
+use Rattle.cl_meaning.specs.declared.constant.Constant.{Constant}
+use Rattle.cl_meaning.specs.Constants.{constant_of}
 use Rattle.cl_meaning.specs.Environment as environment
 use Rattle.cl_meaning.specs.Environment.{Env, Variable, Array, at_unit, place_of}
 use Rattle.cl_meaning.specs.Kinds.{is_some, is_number, same_space, same_type}

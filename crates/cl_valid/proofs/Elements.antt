@@ -12,8 +12,8 @@ use Rattle.cl_model.specs.declared.program.Root.{Root}
 use Rattle.cl_model.specs.Tree as tree
 use Rattle.cl_model.specs.Tree.{Expression, Function, Program, Apply, single, pair, truth_of, decided}
 use Rattle.cl_model.specs.Valid.{RootIs, HasType}
-use Rattle.cl_spelling.specs.declared.types.Declared.{Declared}
-use Rattle.cl_constant.specs.Conversions.{promoted, common}
+use Rattle.cl_meaning.specs.declared.types.Declared.{Declared}
+use Rattle.cl_meaning.specs.Conversions.{promoted, common}
 use Rattle.cl_meaning.specs.declared.kind.Each.TheVariants as each
 use Rattle.cl_meaning.specs.declared.kind.Reach.{Reach}
 use Rattle.cl_meaning.specs.declared.kind.Reach.TheVariants as reach

@@ -8,11 +8,11 @@ use Rattle.cl_tree.specs.Syntax.{Syntax, none, more}
 use Rattle.cl_tree.specs.Nodes.{Spot, tok, unit_node, function_node, word_node, params_node, param_node, type_front_node, star_node, block_node, simple_node, pair_node, index_node}
 use Rattle.cl_tree.specs.Grammar.{Sort, Source, Cond, Assign, Expr, Postfix, Cast, one, Spells}
 use Rattle.cl_tree.specs.Grammar as grammar
-use Rattle.cl_spelling.specs.Operators.{prefix_in, binary_in, setting_in, postfix_in}
-use Rattle.cl_spelling.specs.Literals.{literal_in}
-use Rattle.cl_spelling.specs.Literals as literals
-use Rattle.cl_spelling.specs.Names as names
-use Rattle.cl_spelling.specs.Types as types
+use Rattle.cl_meaning.specs.Operators.{prefix_in, binary_in, setting_in, postfix_in}
+use Rattle.cl_meaning.specs.Literals.{literal_in}
+use Rattle.cl_meaning.specs.Literals as literals
+use Rattle.cl_meaning.specs.Names as names
+use Rattle.cl_meaning.specs.Types as types
 use Rattle.cl_token.specs.NumberReading as reading
 use Rattle.wg_num.specs.Wrap as wraps
 use Rattle.wg_num.specs.Operators as operators

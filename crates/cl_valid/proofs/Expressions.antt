@@ -6,8 +6,8 @@ use Rattle.cl_model.specs.Tree.{Function, Program}
 use Rattle.cl_tree.specs.declared.tree.Form.{Form}
 use Rattle.cl_tree.specs.declared.tree.Form.TheVariants as forms
 use Rattle.cl_tree.specs.Syntax.{Syntax, node, Forest, none, more}
-use Rattle.cl_spelling.specs.Spelling.{name_in, declared_in, binary_in, setting_in, prefix_in, postfix_in, literal_in, truth_in}
-use Rattle.cl_constant.proofs.Values.{constant_fits}
+use Rattle.cl_meaning.specs.Spelling.{name_in, declared_in, binary_in, setting_in, prefix_in, postfix_in, literal_in, truth_in}
+use Rattle.cl_meaning.proofs.Values.{constant_fits}
 use Rattle.cl_meaning.specs.declared.fault.Fault.{Fault}
 use Rattle.cl_meaning.specs.declared.fault.Fault.TheVariants as faults
 use Rattle.cl_meaning.specs.declared.kind.Kind.{Kind}

@@ -18,7 +18,7 @@ use Rattle.cl_model.specs.Valid.{Scope, RootIs, CanBeCalled, parameter_kinds, nu
 use Rattle.cl_model.specs.Valid as valid
 use Rattle.cl_tree.specs.declared.tree.Form.TheVariants as forms
 use Rattle.cl_tree.specs.Syntax.{Syntax, node, Forest}
-use Rattle.cl_spelling.specs.Spelling.{name_in}
+use Rattle.cl_meaning.specs.Spelling.{name_in}
 use Rattle.cl_meaning.specs.declared.kind.Parameter.{Parameter}
 use Rattle.cl_meaning.specs.declared.kind.Parameter.TheVariants as parameters
 use Rattle.cl_meaning.specs.declared.kind.Role.TheVariants as roles

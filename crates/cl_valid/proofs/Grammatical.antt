@@ -11,11 +11,11 @@ use Rattle.cl_tree.specs.Syntax.{Syntax, node, Forest, none, more, joined}
 use Rattle.cl_tree.specs.Nodes.{Spot, spelled}
 use Rattle.cl_tree.specs.Precedence.{looseness, joins, form_of, assigns, prefixes, qualifies}
 use Rattle.cl_tree.specs.Grammar.{Sort, Source, Item, Head, Attribute, Result, Params, Param, TypeName, Base, Core, Star, Declare, Declarator, Dimension, Init, Initializers, Elements, Block, Line, Start, Simple, Statement, Expr, Assign, Cond, Cast, Unary, Postfix, Primary, Level, Qualifier, Maybe, Many, Just, Comma, Space, Value, one, list}
-use Rattle.cl_spelling.specs.declared.operators.Prefix.{Prefix}
-use Rattle.cl_spelling.specs.declared.operators.Prefix.TheVariants as prefix_kinds
-use Rattle.cl_spelling.specs.declared.operators.Postfix.TheVariants as postfix_kinds
-use Rattle.cl_spelling.specs.Operators.{binary_in, setting_in, prefix_in, postfix_in}
-use Rattle.cl_spelling.specs.Types.{base_in}
+use Rattle.cl_meaning.specs.declared.operators.Prefix.{Prefix}
+use Rattle.cl_meaning.specs.declared.operators.Prefix.TheVariants as prefix_kinds
+use Rattle.cl_meaning.specs.declared.operators.Postfix.TheVariants as postfix_kinds
+use Rattle.cl_meaning.specs.Operators.{binary_in, setting_in, prefix_in, postfix_in}
+use Rattle.cl_meaning.specs.Types.{base_in}
 use Rattle.cl_meaning.specs.Kinds.{is_some}
 use Rattle.cl_valid.specs.Shape.{IsType, PrefixOf, indexes, IsExpression, AreExpressions, IsList, AreLengths, IsDeclarator, AreDeclarators, IsDeclaration, IsOptional, IsSimple, IsStatement, AreStatements, AreLines, IsBlock, IsHead, IsResult, IsParam, AreParams, BehindHeads, IsFunction, IsPrototype, AreItems, IsUnit}
 use Rattle.cl_valid.proofs.WordFacts.{is_operand, Word}

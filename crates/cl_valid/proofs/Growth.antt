@@ -2,8 +2,8 @@
 use Rattle.std.proofs.Common.{◌≡◌, ℕ, List, Option, None, Some, Bool, true, false, not, ◌&&◌, refl, ap, sym, ◌∙◌, subst, inl, inr, ◌⊎◌, if◌then◌else◌}
 use Rattle.cl_tree.specs.declared.tree.Form.TheVariants as forms
 use Rattle.cl_tree.specs.Syntax.{Syntax, node, Forest, none, more, last_of}
-use Rattle.cl_spelling.specs.declared.types.Declared.{Declared}
-use Rattle.cl_spelling.specs.Spelling.{declared_in}
+use Rattle.cl_meaning.specs.declared.types.Declared.{Declared}
+use Rattle.cl_meaning.specs.Spelling.{declared_in}
 use Rattle.cl_meaning.specs.declared.fault.Fault.TheVariants as faults
 use Rattle.cl_meaning.specs.declared.kind.Kind.{Kind}
 use Rattle.cl_meaning.specs.declared.kind.Role.{Role}

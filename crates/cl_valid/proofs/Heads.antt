@@ -7,8 +7,8 @@ use Rattle.cl_model.specs.Tree.{Function, Program}
 use Rattle.cl_model.specs.Valid.{Scope, numbers_below}
 use Rattle.cl_tree.specs.declared.tree.Form.TheVariants as forms
 use Rattle.cl_tree.specs.Syntax.{Syntax, node, Forest, none, more, last_of}
-use Rattle.cl_spelling.specs.Spelling.{name_in}
-use Rattle.cl_spelling.specs.declared.types.Declared.{Declared}
+use Rattle.cl_meaning.specs.Spelling.{name_in}
+use Rattle.cl_meaning.specs.declared.types.Declared.{Declared}
 use Rattle.cl_meaning.specs.declared.kind.Meaning.TheVariants as meanings
 use Rattle.cl_meaning.specs.declared.kind.Parameter.{Parameter}
 use Rattle.cl_meaning.specs.declared.kind.Parameter.TheVariants as parameters

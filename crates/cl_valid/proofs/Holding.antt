@@ -6,7 +6,7 @@ use Rattle.cl_tree.specs.declared.tree.Form.{Form}
 use Rattle.cl_tree.specs.declared.tree.Form.TheVariants as forms
 use Rattle.cl_tree.specs.Syntax.{Syntax, node, Forest, none, more}
 use Rattle.cl_limits.specs.Limits.{called_sum}
-use Rattle.cl_spelling.specs.Spelling.{name_in, declared_in, binary_in, setting_in, prefix_in, postfix_in, literal_in, truth_in}
+use Rattle.cl_meaning.specs.Spelling.{name_in, declared_in, binary_in, setting_in, prefix_in, postfix_in, literal_in, truth_in}
 use Rattle.cl_meaning.specs.Environment.{Env, place_of}
 use Rattle.cl_meaning.specs.Kinds.{Callee, defined, undefined, known, callee_of, kind_step}
 use Rattle.cl_meaning.specs.Visible.{inside, later, behind, behind_parts, kind_of, kinds_of, visible_at}

@@ -9,8 +9,8 @@ use Rattle.wg_num.proofs.WrapLaws.{IsValue-wrap}
 use Rattle.cl_model.specs.Lists.{Each, IsOneOf, AllDiffer}
 use Rattle.cl_tree.specs.declared.tree.Form.TheVariants as forms
 use Rattle.cl_tree.specs.Syntax.{Syntax, node, Forest, none, more}
-use Rattle.cl_constant.specs.declared.constant.Constant.{Constant}
-use Rattle.cl_constant.specs.Constants.{constant_of}
+use Rattle.cl_meaning.specs.declared.constant.Constant.{Constant}
+use Rattle.cl_meaning.specs.Constants.{constant_of}
 use Rattle.cl_meaning.specs.declared.fault.Fault.TheVariants as faults
 use Rattle.cl_meaning.specs.declared.kind.Role.{Role}
 use Rattle.cl_meaning.specs.Environment.{Env, Labels, place_of}

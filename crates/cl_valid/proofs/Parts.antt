@@ -4,8 +4,8 @@ use Rattle.wg_num.specs.declared.types.Place.{Place}
 use Rattle.cl_model.specs.Tree as tree
 use Rattle.cl_tree.specs.declared.tree.Form.TheVariants as forms
 use Rattle.cl_tree.specs.Syntax.{Syntax, node, Forest, none, more, first_of, last_of}
-use Rattle.cl_constant.specs.Constants.{constant_of}
-use Rattle.cl_spelling.specs.Spelling.{declared_in}
+use Rattle.cl_meaning.specs.Constants.{constant_of}
+use Rattle.cl_meaning.specs.Spelling.{declared_in}
 use Rattle.cl_meaning.specs.declared.kind.Role.{Role}
 use Rattle.cl_meaning.specs.declared.kind.Role.TheVariants as roles
 use Rattle.cl_meaning.specs.Environment.{Env, place_of}

@@ -2,9 +2,9 @@
 use Rattle.std.proofs.Common.{Option, None, Some, refl, ◌⊎◌, inl, inr}
 use Rattle.cl_tree.specs.declared.tree.Form.TheVariants as forms
 use Rattle.cl_tree.specs.Syntax.{Syntax, node, Forest, none, more}
-use Rattle.cl_spelling.specs.declared.operators.Prefix.{Prefix}
-use Rattle.cl_spelling.specs.declared.operators.Prefix.TheVariants as prefixes
-use Rattle.cl_spelling.specs.Spelling.{prefix_in}
+use Rattle.cl_meaning.specs.declared.operators.Prefix.{Prefix}
+use Rattle.cl_meaning.specs.declared.operators.Prefix.TheVariants as prefixes
+use Rattle.cl_meaning.specs.Spelling.{prefix_in}
 use Rattle.cl_valid.specs.Shape.{IsType, OfExpressions, AreOperands, PrefixOf, IsExpression, AreExpressions}
 
 -- what stands behind a prefix is an operand

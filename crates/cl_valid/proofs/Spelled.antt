@@ -11,11 +11,11 @@ use Rattle.cl_tree.specs.Leaves.{leaves_of}
 use Rattle.cl_tree.specs.Nodes.{tok}
 use Rattle.cl_tree.specs.Grammar.{Sort, Value, one, list, Spells, SpellsUnit}
 use Rattle.cl_tree.specs.Grammar as grammar
-use Rattle.cl_spelling.specs.Literals.{literal_in}
-use Rattle.cl_spelling.specs.Operators.{prefix_in}
+use Rattle.cl_meaning.specs.Literals.{literal_in}
+use Rattle.cl_meaning.specs.Operators.{prefix_in}
 use Rattle.cl_meaning.specs.Kinds.{is_some}
 use Rattle.cl_valid.specs.Shape.{IsExpression, IsDefinition, IsAnnouncement}
-use Rattle.cl_spelling.proofs.Numbers.{literal_is}
+use Rattle.cl_meaning.proofs.Numbers.{literal_is}
 use Rattle.cl_valid.specs.Law.{NumbersRead, UnitsShaped}
 use Rattle.cl_valid.proofs.WordFacts.{token_word}
 use Rattle.cl_valid.proofs.TypeFacts.{type_spelled, qualifiers_append}

@@ -15,7 +15,7 @@ use Rattle.cl_meaning.specs.Faults.{Asked}
 use Rattle.cl_meaning.specs.Typed.{What, nothing, value, target, offset, values, barrier, fence, lines, statement, labelled, function, functions, Piece, Built}
 use Rattle.cl_meaning.specs.Expressions.{read}
 use Rattle.cl_meaning.specs.Statements.{alone, body_of, lines_of, all_lines, simple_statement, for_made, second_is_test, label_of, labelled_by, returned}
-use Rattle.cl_constant.specs.Constants.{constant_of}
+use Rattle.cl_meaning.specs.Constants.{constant_of}
 use Rattle.cl_meaning.specs.Meant.{MadeParts, meant, parts_meant}
 use Rattle.cl_valid.specs.Shape.{IsExpression, IsDeclaration}
 use Rattle.cl_valid.specs.Sound.{SoundTree}

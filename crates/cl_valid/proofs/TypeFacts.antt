@@ -5,8 +5,8 @@ use Rattle.std.proofs.lemmas.List.Splits.{slice_split-cons_yes, slice_split-cons
 use Rattle.std.specs.List.{list_any, filter, slice_split, onto_first}
 use Rattle.cl_model.specs.Lists.{Each}
 use Rattle.cl_tree.specs.Nodes.{Spot, spelled}
-use Rattle.cl_spelling.specs.Pieces.{is_blank, has_bytes, pieces}
-use Rattle.cl_spelling.specs.Types.{is_qualifier, bare, names_outside, base_in}
+use Rattle.cl_meaning.specs.Pieces.{is_blank, has_bytes, pieces}
+use Rattle.cl_meaning.specs.Types.{is_qualifier, bare, names_outside, base_in}
 use Rattle.cl_meaning.specs.Kinds.{is_some}
 use Rattle.cl_valid.proofs.Assigning.{both_true, is_not}
 use Rattle.cl_valid.proofs.WordFacts.{is_solid, base_by}

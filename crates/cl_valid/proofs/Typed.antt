@@ -11,16 +11,16 @@ use Rattle.wg_num.specs.Bytes.{size_of}
 use Rattle.cl_model.specs.Tree.{Function, Program}
 use Rattle.cl_tree.specs.declared.tree.Form.TheVariants as forms
 use Rattle.cl_tree.specs.Syntax.{Syntax, node, none, more}
-use Rattle.cl_spelling.specs.declared.types.Base.{Base}
-use Rattle.cl_spelling.specs.declared.types.Base.TheVariants as bases
-use Rattle.cl_spelling.specs.declared.types.Declared.{Declared}
-use Rattle.cl_spelling.specs.declared.operators.Prefix.{Prefix}
-use Rattle.cl_spelling.specs.declared.operators.Prefix.TheVariants as prefixes
-use Rattle.cl_spelling.specs.declared.operators.Postfix.{Postfix}
-use Rattle.cl_spelling.specs.declared.operators.Postfix.TheVariants as postfixes
-use Rattle.cl_spelling.specs.Spelling.{base_in, declared_in}
-use Rattle.cl_constant.specs.Constants.{number_constant, int_constant}
-use Rattle.cl_constant.proofs.Values.{IsFit}
+use Rattle.cl_meaning.specs.declared.types.Base.{Base}
+use Rattle.cl_meaning.specs.declared.types.Base.TheVariants as bases
+use Rattle.cl_meaning.specs.declared.types.Declared.{Declared}
+use Rattle.cl_meaning.specs.declared.operators.Prefix.{Prefix}
+use Rattle.cl_meaning.specs.declared.operators.Prefix.TheVariants as prefixes
+use Rattle.cl_meaning.specs.declared.operators.Postfix.{Postfix}
+use Rattle.cl_meaning.specs.declared.operators.Postfix.TheVariants as postfixes
+use Rattle.cl_meaning.specs.Spelling.{base_in, declared_in}
+use Rattle.cl_meaning.specs.Constants.{number_constant, int_constant}
+use Rattle.cl_meaning.proofs.Values.{IsFit}
 use Rattle.cl_meaning.specs.declared.fault.Fault.TheVariants as faults
 use Rattle.cl_meaning.specs.declared.kind.Meaning.{Meaning}
 use Rattle.cl_meaning.specs.declared.kind.Role.{Role}
@@ -28,7 +28,7 @@ use Rattle.cl_meaning.specs.Environment.{Env, meaning_of}
 use Rattle.cl_meaning.specs.Kinds.{is_some, number, literal_kind, name_kind, is_flag, on_one, kind_of_meaning, cast_kind, prefix_kind, postfix_kind, is_constant_memory}
 use Rattle.cl_meaning.specs.Faults.{Asked, Sound, Looked, at_fault, misfits, tested_misfits, unknown_name, given, given_pair, given_first, lacks, lacks_pair, prefix_misfits, postfix_misfits, prefix_assigns, postfix_assigns, unassignable, of_target}
 use Rattle.cl_meaning.specs.Faults as fault_specs
-use Rattle.cl_spelling.specs.Types as types_specs
+use Rattle.cl_meaning.specs.Types as types_specs
 use Rattle.cl_meaning.specs.Typed.{value, Piece}
 use Rattle.cl_meaning.specs.Expressions.{cast_made, literal, number_what, truth_what, flagged_made, name_made, prefix_made, postfix_made, size_what}
 use Rattle.cl_valid.specs.Shape.{IsType, PrefixOf, indexes}

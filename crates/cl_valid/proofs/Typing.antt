@@ -12,7 +12,7 @@ use Rattle.wg_num.specs.Operators.{is_shift}
 use Rattle.cl_model.specs.Tree as tree
 use Rattle.cl_model.specs.Tree.{Expression, Function, Program, Apply, single, pair}
 use Rattle.cl_model.specs.Valid.{HasType, RightFits, binary_type}
-use Rattle.cl_constant.specs.Conversions.{promoted, common, operand_type, right_type}
+use Rattle.cl_meaning.specs.Conversions.{promoted, common, operand_type, right_type}
 use Rattle.cl_meaning.specs.declared.kind.Each.TheVariants as each
 use Rattle.cl_meaning.specs.declared.kind.Reach.{Reach}
 use Rattle.cl_meaning.specs.declared.kind.Kind.{Kind}

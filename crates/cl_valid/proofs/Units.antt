@@ -11,7 +11,7 @@ use Rattle.cl_model.specs.Valid.{IsValidFunction}
 use Rattle.cl_tree.specs.declared.tree.Form.TheVariants as forms
 use Rattle.cl_tree.specs.Syntax.{Syntax, node, Forest, none, more, last_of}
 use Rattle.cl_limits.specs.Kernel.{block_nodes, blocks_in}
-use Rattle.cl_spelling.specs.Spelling.{name_in}
+use Rattle.cl_meaning.specs.Spelling.{name_in}
 use Rattle.cl_meaning.specs.declared.kind.Role.TheVariants as roles
 use Rattle.cl_meaning.specs.Environment as environment
 use Rattle.cl_meaning.specs.Environment.{Env, Table, Signature, is_declared}

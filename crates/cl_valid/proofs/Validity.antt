@@ -10,7 +10,7 @@ use Rattle.cl_model.specs.Tree as tree
 use Rattle.cl_model.specs.Tree.{Function, Program, Expression, Statement, Statements, empty, also}
 use Rattle.cl_model.specs.Valid.{Scope, HasType, HasValue, OptionalFits, ReturnFits, StatementFits, AllFit, NamesIn, NamesInOptional, IsScoped, IsScopedList, AreScoped, ExitsFit, AllExitsFit, declarations, all_declarations, labels_of, defaults_of}
 use Rattle.cl_model.specs.Valid as valid
-use Rattle.cl_constant.specs.Conversions.{promoted}
+use Rattle.cl_meaning.specs.Conversions.{promoted}
 use Rattle.cl_tree.specs.declared.tree.Form.TheVariants as forms
 use Rattle.cl_tree.specs.Syntax.{Syntax, node, Forest, none, more}
 use Rattle.cl_meaning.specs.declared.fault.Fault.TheVariants as faults

@@ -7,8 +7,8 @@ use Rattle.cl_model.specs.declared.program.Space.TheVariants as spaces
 use Rattle.cl_model.specs.Tree.{Expression, Statement, Statements, Arms, Do, Declare, Fill, Block, If, Loop, Switch, Break, Continue, Return, Barrier, empty, also, no_arm, arm}
 use Rattle.cl_tree.specs.declared.tree.Form.TheVariants as forms
 use Rattle.cl_tree.specs.Syntax.{Syntax, node, Forest, none, more, last_of}
-use Rattle.cl_constant.specs.Constants.{constant_of}
-use Rattle.cl_spelling.specs.declared.types.Declared.{Declared}
+use Rattle.cl_meaning.specs.Constants.{constant_of}
+use Rattle.cl_meaning.specs.declared.types.Declared.{Declared}
 use Rattle.cl_meaning.specs.declared.kind.Kind.{Kind}
 use Rattle.cl_meaning.specs.declared.kind.Meaning.{Meaning}
 use Rattle.cl_meaning.specs.declared.kind.Meaning.TheVariants as meanings

@@ -6,7 +6,7 @@ use Rattle.cl_tree.specs.declared.tree.Form.{Form}
 use Rattle.cl_tree.specs.declared.tree.Form.TheVariants as forms
 use Rattle.cl_tree.specs.Syntax.{Syntax, node, Forest, none, more}
 use Rattle.cl_limits.specs.Limits.{count_nodes, count_forest}
-use Rattle.cl_spelling.specs.Spelling.{name_in}
+use Rattle.cl_meaning.specs.Spelling.{name_in}
 use Rattle.cl_meaning.specs.Environment.{Env}
 use Rattle.cl_meaning.specs.Visible.{inside, later, behind, kind_of, visible_at, in_definition}
 use Rattle.cl_meaning.specs.Faults.{Asked}

@@ -10,14 +10,14 @@ use Rattle.cl_tree.specs.declared.terminal.Terminal.{Terminal}
 use Rattle.cl_tree.specs.declared.terminal.Terminal.TheVariants as terminals
 use Rattle.cl_tree.specs.Words.{Row, is_among, looked_up, assignments, assignment_of, operators, operator_of, brackets, bracket_of, vector_words, vector_word_of, outside_words, outside_word_of, base_words, base_word_of, space_words, space_word_of, declaration_words, declaration_word_of, control_words, control_word_of, terminal_of}
 use Rattle.cl_model.specs.Lists.{Each}
-use Rattle.cl_spelling.specs.declared.operators.Prefix.{Prefix}
-use Rattle.cl_spelling.specs.declared.operators.Prefix.TheVariants as prefixes
-use Rattle.cl_spelling.specs.declared.types.Base.{Base}
-use Rattle.cl_spelling.specs.declared.types.Base.TheVariants as bases
-use Rattle.cl_spelling.specs.Operators.{binary_in, setting_in, prefix_in, postfix_in}
-use Rattle.cl_spelling.specs.Literals.{truth_in, literal_in}
-use Rattle.cl_spelling.specs.Pieces.{is_blank, has_bytes, pieces, first_row}
-use Rattle.cl_spelling.specs.Types.{is_qualifier, integers}
+use Rattle.cl_meaning.specs.declared.operators.Prefix.{Prefix}
+use Rattle.cl_meaning.specs.declared.operators.Prefix.TheVariants as prefixes
+use Rattle.cl_meaning.specs.declared.types.Base.{Base}
+use Rattle.cl_meaning.specs.declared.types.Base.TheVariants as bases
+use Rattle.cl_meaning.specs.Operators.{binary_in, setting_in, prefix_in, postfix_in}
+use Rattle.cl_meaning.specs.Literals.{truth_in, literal_in}
+use Rattle.cl_meaning.specs.Pieces.{is_blank, has_bytes, pieces, first_row}
+use Rattle.cl_meaning.specs.Types.{is_qualifier, integers}
 use lib.Pointwise.{pointwise}
 use Rattle.cl_meaning.specs.Kinds.{is_some}
 use Rattle.cl_valid.specs.Shape.{indexes}

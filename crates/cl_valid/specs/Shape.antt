@@ -4,11 +4,11 @@ use Rattle.std.specs.Prelude.{◌≡◌, Bool, true, false, Option, None, Some, 
 use Rattle.cl_tree.specs.declared.tree.Form.{Form}
 use Rattle.cl_tree.specs.declared.tree.Form.TheVariants as forms
 use Rattle.cl_tree.specs.Syntax.{Syntax, node, Forest, none, more}
-use Rattle.cl_spelling.specs.declared.operators.Prefix.{Prefix}
-use Rattle.cl_spelling.specs.declared.operators.Prefix.TheVariants as prefixes
-use Rattle.cl_spelling.specs.declared.operators.Postfix.{Postfix}
-use Rattle.cl_spelling.specs.declared.operators.Postfix.TheVariants as postfixes
-use Rattle.cl_spelling.specs.Spelling.{base_in, binary_in, setting_in, prefix_in, postfix_in, truth_in, literal_in}
+use Rattle.cl_meaning.specs.declared.operators.Prefix.{Prefix}
+use Rattle.cl_meaning.specs.declared.operators.Prefix.TheVariants as prefixes
+use Rattle.cl_meaning.specs.declared.operators.Postfix.{Postfix}
+use Rattle.cl_meaning.specs.declared.operators.Postfix.TheVariants as postfixes
+use Rattle.cl_meaning.specs.Spelling.{base_in, binary_in, setting_in, prefix_in, postfix_in, truth_in, literal_in}
 use Rattle.cl_meaning.specs.Kinds.{is_some}
 
 -- the productions of expressions

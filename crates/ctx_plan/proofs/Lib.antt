@@ -1,7 +1,6 @@
 pub mod Rows
 pub mod Onto
 pub mod Names
-pub mod Firsts
 pub mod Outlines
 pub mod Texts
 pub mod Counted

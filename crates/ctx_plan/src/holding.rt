@@ -3,15 +3,11 @@
 ghost use Rattle.std.specs.Prelude.{◌≡◌, ◌∷◌, [], ◌++◌, false, length, map, replicate, IsTrue, IfOk, OnOk};
 ghost use Rattle.cl_model.specs.View.{statement_of, listed_statements, function_of};
 ghost use Rattle.kir.specs.Inlined.{holds, some_holds};
-ghost use Rattle.kir.specs.Tree.{NoLine};
-ghost use Rattle.kir.specs.Listed.{line_before, lines_of};
-ghost use Rattle.kir.specs.Cuts.{holds_barrier};
 ghost use Rattle.ctx_plan.specs.Points.{points_onto, all_onto, arms_onto, listed_arms, entry, point_holds, points_hold};
 ghost use Rattle.ctx_plan.specs.Sharing.{holding_of, bodies_after};
 
 use crate::outline::{Piece, put, put_expression, put_expressions, put_optional};
 use cl_model::{Function, Stmt, SwitchArm};
-use kir::Line;
 use std::alloc::Global;
 use wg_num::Memory;
 
@@ -187,29 +183,4 @@ pub(crate) fn functions_hold(alloc: Global, functions: &[Function]) -> Result<Ve
         inside = next;
     }
     Ok(inside)
-}
-
-/// Whether a barrier stands among the lines.
-#[cycle(lines)]
-pub(crate) fn lines_hold(lines: &[Line]) -> bool
-    ensures { result ≡ holds_barrier (lines_of lines.now) }
-{
-    for line in lines {
-        if line_holds(line) {
-            return true;
-        }
-    }
-    false
-}
-
-#[cycle(lines)]
-fn line_holds(line: &Line) -> bool
-    ensures { result ≡ holds_barrier (line_before line.now NoLine) }
-{
-    match line {
-        Line::Set { .. } | Line::Load { .. } | Line::Store { .. } | Line::Clear { .. } => false,
-        Line::If { yes, no, .. } => lines_hold(yes) || lines_hold(no),
-        Line::Loop { test, body, .. } => lines_hold(test) || lines_hold(body),
-        Line::Barrier { .. } => true,
-    }
 }

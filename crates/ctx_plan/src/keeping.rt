@@ -7,7 +7,8 @@ ghost use Rattle.kir.specs.Cuts.{holds_barrier};
 ghost use Rattle.kir.specs.Keeps.{Piece, Names, Cut, named_by, named_by_all, named_by_work, cut_before, pieces_of};
 ghost use Rattle.ctx_plan.specs.Naming.{Leads, named_from};
 
-use crate::holding::{lines_hold, no_entries};
+use crate::holding::no_entries;
+use kir::holding::lines_hold;
 use kir::{Atom, Line, Work};
 use std::alloc::Global;
 use wg_num::Memory;

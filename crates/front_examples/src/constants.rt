@@ -1,4 +1,4 @@
-use cl_constant::{Constant, constant_of};
+use cl_meaning::{Constant, constant_of};
 use cl_tree::{Form, Tree};
 use std::alloc::Global;
 use std::test::Fail;

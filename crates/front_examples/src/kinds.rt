@@ -1,9 +1,8 @@
 use cl_kinds::{
     binary_kind, builtin_type, comma_kind, number, root_changes, set_kind, value_fits, value_kind,
 };
-use cl_meaning::{Each, Kind, Reach};
+use cl_meaning::{Each, Kind, Reach, Setting};
 use cl_model::{Root, Space};
-use cl_spelling::Setting;
 use wg_num::{Bin, IntType};
 
 const fn pointer(root: Root, reach: Reach) -> Kind {

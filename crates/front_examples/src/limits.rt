@@ -1,6 +1,5 @@
-use cl_faults::Call;
+use cl_meaning::{Call, Fault};
 use cl_limits::{heights, limit_of, local_bytes, private_bytes, totals};
-use cl_meaning::Fault;
 use cl_model::{Array, Expr, Function, Program, Space, Stmt, Var, VarKind};
 use cl_tree::{Form, Tree};
 use std::alloc::Global;

@@ -1,4 +1,4 @@
-use cl_spelling::{
+use cl_meaning::{
     base_of, dimensions_of, intrinsic_of, is_const, is_set, literal, name_of, prefix_of,
     requires_size,
 };

@@ -1,4 +1,5 @@
 pub mod Rows
+pub mod Firsts
 pub mod Alike
 pub mod Placed
 pub mod Outcomes
@@ -9,5 +10,6 @@ pub mod ItemHistories
 pub mod Aligned
 pub mod FromSteps
 pub mod EvenRuns
+pub mod Across
 pub mod Kept
 pub mod FirstLines

@@ -3,6 +3,7 @@
 #![tactic(auto)]
 
 pub mod fitting;
+pub mod holding;
 pub mod kernel;
 pub mod laws;
 pub mod line;

@@ -1,13 +1,13 @@
 //! The atoms that a region names.
 
 ghost use Rattle.std.specs.Prelude.{◌≡◌, ◌++◌, ◌∷◌, [], map, IfOk, OnOk};
-ghost use Rattle.wg_num.specs.Operators as operators;
 ghost use Rattle.kir.specs.Tree.{Lines};
 ghost use Rattle.kir.specs.Listed.{line_before, lines_of, work_of};
 ghost use Rattle.regions.specs.View.{region_of};
 ghost use Rattle.mask_lower.specs.Atoms as spec;
 
 use crate::registers::{amount_type, crosses, put};
+use kir::types::is_shift;
 use kir::{Atom, Line, Work};
 use regions::Region;
 use std::alloc::Global;
@@ -30,29 +30,6 @@ fn amount_atom(of: IntType, atom: Atom) -> Atom
             }
         }
         Atom::Cell(_) => atom,
-    }
-}
-
-/// Whether the operator is a shift.
-pub(crate) fn is_shift(op: Bin) -> bool
-    ensures { result ≡ operators.is_shift op }
-{
-    match op {
-        Bin::Shl | Bin::Shr => true,
-        Bin::Add
-        | Bin::Sub
-        | Bin::Mul
-        | Bin::Div
-        | Bin::Rem
-        | Bin::And
-        | Bin::Or
-        | Bin::Xor
-        | Bin::Eq
-        | Bin::Ne
-        | Bin::Lt
-        | Bin::Le
-        | Bin::Gt
-        | Bin::Ge => false,
     }
 }
 

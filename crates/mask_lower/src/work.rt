@@ -1,47 +1,18 @@
 //! Lines that compute.
 
 ghost use Rattle.std.specs.Prelude.{◌≡◌, ◌++◌, ◌∷◌, [], slice_get, IfOk, OnOk};
-ghost use Rattle.cl_model.specs.Valid as valid;
 ghost use Rattle.kir.specs.Listed.{work_of};
 ghost use Rattle.mask_lower.specs.Atoms.{atoms_of};
 ghost use Rattle.mask_lower.specs.Registers.{frame_of, past};
 ghost use Rattle.mask_lower.specs.Lowered as spec;
 
-use crate::atoms::{is_shift, right_atom};
+use crate::atoms::right_atom;
 use crate::placing::read;
 use crate::registers::{Free, Layout, Operand, amount_type, crosses, put, register_at};
+use kir::types::{binary_type, is_shift, unary_type};
 use kir::{Atom, Work};
 use lane_code::{Reg, Step};
 use wg_num::{Bin, Fun, IntType, Memory, Un};
-
-/// The type of the result of an operator that computes in a type.
-fn unary_type(op: Un, of: IntType) -> IntType
-    ensures { result ≡ valid.unary_type op of }
-{
-    match op {
-        Un::Plus | Un::Minus | Un::Flip => of,
-        Un::Not => IntType::Int,
-    }
-}
-
-/// The same of an operator on two operands: `Int` for a comparison.
-fn binary_type(op: Bin, of: IntType) -> IntType
-    ensures { result ≡ valid.binary_type op of }
-{
-    match op {
-        Bin::Add
-        | Bin::Sub
-        | Bin::Mul
-        | Bin::Div
-        | Bin::Rem
-        | Bin::Shl
-        | Bin::Shr
-        | Bin::And
-        | Bin::Or
-        | Bin::Xor => of,
-        Bin::Eq | Bin::Ne | Bin::Lt | Bin::Le | Bin::Gt | Bin::Ge => IntType::Int,
-    }
-}
 
 /// Where what is computed in a type goes first, if it is of this kind: to the cell's register, or to
 /// that on the way to the other bank.

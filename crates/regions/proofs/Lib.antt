@@ -2,7 +2,7 @@ pub mod Pieces
 pub mod Cuts
 pub mod Interleaving
 pub mod Sets
-pub mod Firsts
+pub mod Copies
 pub mod Passings
 pub mod Trees
 pub mod Walk

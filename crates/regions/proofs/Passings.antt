@@ -11,7 +11,7 @@ use Rattle.kir.specs.Listed.{line_before, lines_of}
 use Rattle.kir.specs.Live.{reads, live_in}
 use Rattle.kir.proofs.Rows.{if_listed, loop_listed}
 use Rattle.regions.specs.Living.{Becomes, IsPassing, through, before_if, before_answer, before_loop}
-use Rattle.regions.proofs.Firsts.{first_left}
+use Rattle.kir.proofs.Firsts.{first_left}
 use Rattle.regions.proofs.Sets.{set_becomes, set_as}
 
 -- through lines of which it is said

@@ -6,7 +6,7 @@ use Rattle.std.proofs.lemmas.List.{get_or-set_same, get_or-set_other, length-set
 use Rattle.kir.specs.declared.line.Atom.{Atom}
 use Rattle.kir.specs.Live.{reads, some_reads}
 use Rattle.regions.specs.Living.{those, IsSet, Becomes}
-use Rattle.regions.proofs.Firsts.{first_left}
+use Rattle.kir.proofs.Firsts.{first_left}
 
 -- a list of which the entries below a number have become what they are to be
 pub record Halfway (old new : List Test) (entry : ℕ → Test → Test) (i : ℕ) : Type 0 where

@@ -20,7 +20,7 @@ use Rattle.regions.specs.Tree.{RegionOf, Tree, NoRegion, RegionThen, VoteThen, L
 use Rattle.regions.specs.Split.{until_cut, live_from, region_to, cut_into}
 use Rattle.regions.specs.Living.{those, IsSet, IsPassing, Becomes, through, answer_live}
 use Rattle.regions.specs.Cutting.{region_with, stacked, ended_by, ended, cut_by, AreLiveAt}
-use Rattle.regions.proofs.Firsts.{first_left, or_none}
+use Rattle.kir.proofs.Firsts.{first_left, or_none}
 use Rattle.regions.proofs.Sets.{set_becomes, set_as}
 use Rattle.regions.proofs.Passings.{through_is}
 

@@ -2,7 +2,6 @@
 #![tactic(auto)]
 
 mod copying;
-mod holding;
 mod living;
 pub mod region;
 mod splitting;

@@ -17,12 +17,12 @@ ghost use Rattle.regions.specs.Living.{those, IsSet, answer_live};
 ghost use Rattle.regions.specs.Cutting.{region_with, stacked, ended_by, ended, cut_by, AreLiveAt};
 
 use crate::copying::{add_line, copy_line, copy_lines};
-use crate::holding::{line_holds, lines_hold};
 use crate::living::{
     all_cells, listed_cells, live_at_answer, live_before, live_in_either, pass_line, pass_lines,
     pass_none,
 };
 use crate::region::{Region, RegionTree};
+use kir::holding::{line_holds, lines_hold};
 use kir::{Atom, Kernel, Line};
 use std::alloc::Global;
 use wg_num::Memory;

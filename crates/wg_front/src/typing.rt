@@ -4,7 +4,6 @@ ghost use Rattle.cl_token.specs.Places.{place_at};
 ghost use Rattle.cl_token.specs.Cuts.{limit};
 ghost use Rattle.cl_prep.specs.declared.prep.Define.{Define};
 ghost use Rattle.cl_tree.specs.Syntax.{view};
-ghost use Rattle.cl_meaning.specs.Numbers.{number_of};
 ghost use Rattle.cl_piece.specs.View.{unit_of};
 ghost use Rattle.wg_front.specs.Front.{IsRefusal, place_of_token};
 ghost use Rattle.wg_front.specs.Compiled.{IsSource, IsCompiled, IsKernelRefusal, IsUnitRefusal, places_of};
@@ -12,7 +11,6 @@ ghost use Rattle.wg_front.specs.declared.front.SourceError.TheVariants as errors
 
 use crate::front::{SourceError, read_tokens, read_unit};
 use cl_check::{CheckError, check};
-use cl_meaning::Fault;
 use cl_model::Program;
 use cl_prep::Defines;
 use cl_token::{Token, place_of, places};
@@ -75,38 +73,6 @@ pub fn read_source(alloc: Global, source: &[u8], defines: &Defines) -> Result<So
     }
 }
 
-/// The number of a fault.
-fn fault_number(fault: Fault) -> u16
-    ensures { result ≡ number_of fault }
-{
-    match fault {
-        Fault::UnknownName => 401,
-        Fault::DeclaredTwice => 402,
-        Fault::OperandTypes => 403,
-        Fault::ArgumentCount => 404,
-        Fault::ArgumentType => 405,
-        Fault::NotAssignable => 406,
-        Fault::ConstantWritten => 407,
-        Fault::OutsideType => 408,
-        Fault::LocalMisplaced => 409,
-        Fault::ProgramVariable => 410,
-        Fault::KernelSignature => 411,
-        Fault::Recursion => 412,
-        Fault::PointerRoot => 413,
-        Fault::ArrayLength => 414,
-        Fault::Misplaced => 415,
-        Fault::CaseValue => 416,
-        Fault::ReturnFit => 417,
-        Fault::BarrierFlags => 418,
-        Fault::KernelTooLarge => 419,
-        Fault::PrivateMemory => 420,
-        Fault::BarriersTooDeep => 421,
-        Fault::NoSuchKernel => 422,
-        Fault::LocalMemory => 423,
-        Fault::PrototypeMatch => 424,
-    }
-}
-
 // The place of the token with that number, or of the end.
 fn token_place(source: &Source, token: u32) -> Place
     ensures { (bytes : List ℕ) → source.now.places.items ≡ places_of bytes source.now.tokens.items → source.now.end ≡ place_at bytes (length bytes) → result ≡ place_of_token bytes source.now.tokens.items token }
@@ -127,7 +93,7 @@ pub fn compile_kernel(alloc: Global, source: &Source, kernel: &[u8]) -> Result<P
     match check(alloc, &source.unit, &source.places, kernel) {
         Ok(program) => Ok(program),
         Err(CheckError::Fault { fault, token }) => Err(SourceError::Fault {
-            number: fault_number(fault),
+            number: fault.number(),
             place: token_place(source, token),
         }),
         Err(CheckError::Memory) => Err(SourceError::Memory),

@@ -5,7 +5,8 @@ use Rattle.cl_meaning.specs.declared.kind.Role.TheVariants as roles
 use Rattle.cl_meaning.specs.Declarations.{form_of}
 use Rattle.cl_scope.specs.View.{env_of}
 use Rattle.cl_scope.specs.Walk.{departed}
-use Rattle.cl_faults.specs.View.{call_of, looked_in}
+use Rattle.cl_meaning.specs.Calls.{call_of}
+use Rattle.cl_faults.specs.View.{looked_in}
 use Rattle.cl_check.specs.Walk.{kind_at}
 use Rattle.cl_check.proofs.Judging.{form_is, parts_is}
 use Rattle.cl_check.proofs.Gathering.{gather_more, tree_gathered}

@@ -1,7 +1,7 @@
 use Rattle.std.proofs.Common.{map, drop}
 use Rattle.cl_tree.specs.Syntax.{views}
 use Rattle.cl_scope.specs.View.{env_of}
-use Rattle.cl_faults.specs.View.{call_of}
+use Rattle.cl_meaning.specs.Calls.{call_of}
 use Rattle.cl_check.specs.Gather.{GatheredAlong}
 use Rattle.cl_check.proofs.gather.+gather.Given as goal
 

@@ -1,8 +1,8 @@
 use Rattle.std.proofs.Common.{map, List, ap}
 use Rattle.cl_tree.specs.Syntax.{view}
 use Rattle.cl_scope.specs.View.{env_of}
-use Rattle.cl_faults.specs.declared.looked.Call.{Call}
-use Rattle.cl_faults.specs.View.{call_of}
+use Rattle.cl_meaning.specs.declared.call.Call.{Call}
+use Rattle.cl_meaning.specs.Calls.{call_of}
 use Rattle.cl_check.proofs.Answering.{asked_is}
 use Rattle.cl_check.proofs.unit.asked_for.Goals as goal
 

@@ -3,8 +3,9 @@ use Rattle.cl_model.specs.declared.program.Program.{Program}
 use Rattle.cl_tree.specs.declared.tree.Tree.{Tree}
 use Rattle.cl_tree.specs.Syntax.{view, views}
 use Rattle.cl_meaning.specs.Faults.{Asked}
-use Rattle.cl_faults.specs.declared.looked.Call.{Call}
-use Rattle.cl_faults.specs.View.{asked_of, call_of}
+use Rattle.cl_meaning.specs.declared.call.Call.{Call}
+use Rattle.cl_meaning.specs.Calls.{call_of}
+use Rattle.cl_faults.specs.View.{asked_of}
 use Rattle.cl_limits.specs.Kernel.{limit_of, sized_of}
 use Rattle.cl_check.proofs.Judging.{fault_then, parts_is}
 use Rattle.cl_check.proofs.Deciding.{accepted_or_not, refused_once, first_refused, over_refused}

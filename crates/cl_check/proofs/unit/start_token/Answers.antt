@@ -2,7 +2,7 @@ use Rattle.std.proofs.Common.{◌≡◌, ◌≢◌, ◌<◌, ◌+◌, ◌-◌, �
 use Rattle.cl_tree.specs.declared.tree.Tree.{Tree}
 use Rattle.cl_tree.specs.declared.tree.Tree.TheViews.{out-Tree}
 use Rattle.cl_tree.specs.Syntax.{Syntax, Forest, more, view, views}
-use Rattle.cl_spelling.proofs.Views.{view_out}
+use Rattle.cl_meaning.proofs.Views.{view_out}
 use Rattle.cl_limits.specs.Kernel.{is_function}
 use Rattle.cl_check.specs.Checked.{starts_in}
 use Rattle.cl_check.proofs.Judging.{views_drop}

@@ -1,5 +1,5 @@
 use Rattle.std.proofs.Common.{◌≡◌, ◌+◌, ◌<◌, suc, true, false, Bool, List, length, get_or-set_same, map, set, replicate, None, sym, ap, subst, ◌∙◌, arith, length-set}
-use Rattle.cl_faults.specs.View.{call_of}
+use Rattle.cl_meaning.specs.Calls.{call_of}
 use Rattle.cl_faults.specs.Reach.{marked, most, open_in, Sound}
 use Rattle.cl_faults.proofs.Reaching.{Open, open_found, sound_first, sound_step, set_stays, most_from, most_edge, fewer, answer_is}
 use Rattle.cl_faults.proofs.reach.leads_back.Goals as goal

@@ -1,5 +1,5 @@
 use Rattle.std.proofs.Common.{◌≡◌, suc, true, length, map}
-use Rattle.cl_faults.specs.View.{call_of}
+use Rattle.cl_meaning.specs.Calls.{call_of}
 use Rattle.cl_faults.specs.Reach.{marked, unmarked, most, Sound}
 use Rattle.cl_faults.proofs.reach.leads_back.Given as goal
 

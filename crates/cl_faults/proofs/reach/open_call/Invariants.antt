@@ -1,5 +1,5 @@
 use Rattle.std.proofs.Common.{◌≡◌, drop, map}
-use Rattle.cl_faults.specs.View.{call_of}
+use Rattle.cl_meaning.specs.Calls.{call_of}
 use Rattle.cl_faults.specs.Reach.{open_in}
 use Rattle.cl_faults.proofs.reach.open_call.Given as goal
 

@@ -1,5 +1,5 @@
 use Rattle.std.proofs.Common.{map}
-use Rattle.cl_faults.specs.View.{call_of}
+use Rattle.cl_meaning.specs.Calls.{call_of}
 use Rattle.cl_faults.specs.Reach.{Spreads}
 use Rattle.cl_faults.proofs.spread.follow_row.Given as goal
 

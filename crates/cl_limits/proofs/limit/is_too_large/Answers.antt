@@ -1,7 +1,7 @@
 use Rattle.std.proofs.Common.{List, ℕ, map, slice_index, ap, ◌∙◌, arith}
 use Rattle.cl_tree.specs.Syntax.{view}
 use Rattle.cl_limits.specs.Kernel.{weights_of}
-use Rattle.cl_faults.specs.View.{call_of}
+use Rattle.cl_meaning.specs.Calls.{call_of}
 use Rattle.cl_limits.proofs.Over.{above_whole}
 use Rattle.cl_limits.proofs.limit.is_too_large.Goals as goal
 

@@ -1,7 +1,7 @@
 use Rattle.std.proofs.Common.{map, sym, ◌∙◌}
 use Rattle.cl_tree.specs.Syntax.{view}
 use Rattle.cl_limits.specs.Kernel.{sized_of}
-use Rattle.cl_faults.specs.View.{call_of}
+use Rattle.cl_meaning.specs.Calls.{call_of}
 use Rattle.cl_limits.proofs.Chosen.{chosen_third, chosen_fourth, private_test, deep_test, local_test}
 use Rattle.cl_limits.proofs.limit.limit_of.Goals as goal
 

@@ -1,5 +1,5 @@
 use Rattle.std.proofs.Common.{◌≡◌, map, drop}
-use Rattle.cl_faults.specs.View.{call_of}
+use Rattle.cl_meaning.specs.Calls.{call_of}
 use Rattle.cl_limits.specs.Rounds.{with_calls, next_totals}
 use Rattle.cl_limits.proofs.sums.next_totals.Given as goal
 

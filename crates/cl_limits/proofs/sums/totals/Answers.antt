@@ -1,6 +1,6 @@
 use Rattle.std.proofs.Common.{◌≡◌, ℕ, ◌≤◌, List, length, map, ap, sym, ◌∙◌, arith, rules}
 use Rattle.cl_meaning.specs.Faults.{Call}
-use Rattle.cl_faults.specs.View.{call_of}
+use Rattle.cl_meaning.specs.Calls.{call_of}
 use Rattle.cl_limits.specs.Rounds.{next_totals, totals_after}
 use Rattle.cl_limits.proofs.Summing.{steady, totals_are, totals_size}
 use Rattle.cl_limits.proofs.sums.totals.Goals as goal

@@ -1,7 +1,7 @@
 use Rattle.std.proofs.Common.{◌≡◌, length, map, Option, refl, ap, ◌∙◌, arith}
 use Rattle.std.proofs.Math.ListN.{length-map}
 use Rattle.cl_tree.specs.Syntax.{view}
-use Rattle.cl_spelling.specs.declared.types.Declared.{Declared}
+use Rattle.cl_meaning.specs.declared.types.Declared.{Declared}
 use Rattle.cl_meaning.specs.Statements.{declarator_made}
 use Rattle.cl_scope.specs.View.{visible_in, variable_of, array_of}
 use Rattle.cl_scope.specs.Declarators.{declarator_view}

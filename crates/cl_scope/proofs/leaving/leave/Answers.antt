@@ -1,6 +1,6 @@
 use Rattle.std.proofs.Common.{◌∙◌, ap, inl, inr}
 use Rattle.std.proofs.lemmas.Result.{on_ok_weaker}
-use Rattle.cl_spelling.specs.Spelling.{name_in}
+use Rattle.cl_meaning.specs.Spelling.{name_in}
 use Rattle.cl_meaning.specs.Environment.{Env}
 use Rattle.cl_scope.specs.View.{env_of}
 use Rattle.cl_scope.proofs.Departures.{function_left, prototype_left, parameter_left, declarator_left, case_left, default_left, others_left}

@@ -1,6 +1,6 @@
 use Rattle.std.proofs.Common.{◌∙◌, ap}
 use Rattle.std.proofs.lemmas.Result.{on_ok_weaker}
-use Rattle.cl_spelling.specs.Spelling.{name_in}
+use Rattle.cl_meaning.specs.Spelling.{name_in}
 use Rattle.cl_scope.specs.View.{env_of}
 use Rattle.cl_scope.proofs.Departures.{parameter_at}
 use Rattle.cl_scope.proofs.leaving.leave_parameter.Goals as goal

@@ -1,6 +1,6 @@
 use Rattle.std.proofs.Common.{◌∙◌, map, ap, sym}
 use Rattle.cl_tree.specs.Syntax.{view}
-use Rattle.cl_spelling.specs.Spelling.{requires_size}
+use Rattle.cl_meaning.specs.Spelling.{requires_size}
 use Rattle.cl_meaning.specs.Declarations.{size_in}
 use Rattle.cl_scope.proofs.Signatures.{sizes_are}
 use Rattle.cl_scope.proofs.signature.sizes_in.Goals as goal

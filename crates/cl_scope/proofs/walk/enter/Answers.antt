@@ -1,6 +1,6 @@
 use Rattle.std.proofs.Common.{ℕ, List, ◌∙◌, sym, ap}
 use Rattle.cl_tree.specs.declared.tree.Tree.TheViews.{out-Tree}
-use Rattle.cl_spelling.specs.Spelling.{name_in}
+use Rattle.cl_meaning.specs.Spelling.{name_in}
 use Rattle.cl_scope.specs.View.{env_of}
 use Rattle.cl_scope.specs.Walk.{inside_named}
 use Rattle.cl_scope.proofs.WalkLaws.{entered_is}

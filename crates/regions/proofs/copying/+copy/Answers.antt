@@ -4,7 +4,7 @@ use Rattle.kir.specs.Tree.{joined_to}
 use Rattle.kir.specs.Listed.{lines_of}
 use Rattle.regions.proofs.Cuts.{joined_none}
 use Rattle.kir.proofs.Rows.{if_listed, loop_listed}
-use Rattle.regions.proofs.Firsts.{if_alike, loop_alike, copied_step}
+use Rattle.regions.proofs.Copies.{if_alike, loop_alike, copied_step}
 use Rattle.regions.proofs.copying.+copy.Goals as goal
 
 pub copy_onto-returns-in_ok-add_if-in-If : goal.copy_onto-returns-in_ok-add_if-in-If

@@ -3,7 +3,7 @@ use Rattle.kir.specs.declared.line.Line.TheVariants as line
 use Rattle.kir.specs.Tree.{joined_to}
 use Rattle.kir.specs.Listed.{lines_of}
 use Rattle.kir.proofs.Rows.{if_listed}
-use Rattle.regions.proofs.Firsts.{added}
+use Rattle.regions.proofs.Copies.{added}
 use Rattle.regions.proofs.copying.add_if.Goals as goal
 
 pub returns : goal.returns

@@ -1,7 +1,7 @@
 use Rattle.std.proofs.Common.{ap, ◌∙◌}
 use Rattle.kir.specs.Tree.{joined_to}
 use Rattle.kir.specs.Listed.{lines_of}
-use Rattle.regions.proofs.Firsts.{added}
+use Rattle.regions.proofs.Copies.{added}
 use Rattle.regions.proofs.copying.add_plain.Goals as goal
 
 pub returns : goal.returns

@@ -1,6 +1,6 @@
 use Rattle.std.proofs.Common.{ap, ◌∙◌}
 use Rattle.kir.specs.Listed.{lines_of}
-use Rattle.regions.proofs.Firsts.{if_alike, loop_alike}
+use Rattle.regions.proofs.Copies.{if_alike, loop_alike}
 use Rattle.regions.proofs.copying.copy_line.Goals as goal
 
 pub returns-in_ok-no-in-If : goal.returns-in_ok-no-in-If

@@ -1,6 +1,0 @@
-pub mod Literals
-pub mod Names
-pub mod Operators
-pub mod Pieces
-pub mod Spelling
-pub mod Types
