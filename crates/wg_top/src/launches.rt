@@ -15,6 +15,7 @@ ghost use Rattle.wg_top.specs.Stages.{BindCause};
 ghost use Rattle.wg_top.specs.Launches.{launches_in, HasLimits, IsReady, AllFit, LaunchesRan, EndsSo, refusal_of, start_place, all_groups, all_items};
 
 use crate::compile::Compiled;
+use crate::shared::SharedKernel;
 use crate::{RunError, Summary};
 use cl_model::{Bound, Buffers, Launch};
 use group_run::Launcher;
@@ -33,7 +34,7 @@ const START: Place = Place { line: 1, column: 1 };
 /// The launches, each bound to its own kernel.
 pub(crate) fn bind_each(
     alloc: Global,
-    kernels: &[Compiled],
+    kernels: &[SharedKernel],
     text: &LaunchText,
 ) -> Result<Vec<Launch>, RunError>
     requires text { IsText text.now }
@@ -47,7 +48,7 @@ pub(crate) fn bind_each(
 {
     let mut list = Vec::new(alloc);
     for which in 0..text.list.len() {
-        match bind(alloc, &kernels[which].program, text, which) {
+        match bind(alloc, &kernels[which].compiled().program, text, which) {
             Ok(launch) => {
                 if list.push(launch).is_err() {
                     return Err(RunError::Memory);
@@ -134,39 +135,27 @@ fn has_room(locals: &[u64], args: &[Bound]) -> bool
 
 // The kernel's program made ready for the launch; `Memory` also where the local memory of its groups
 // has no room.
-fn prepare_one(alloc: Global, kernel: Compiled, launch: Launch) -> Result<Launcher, Memory>
-    requires { LaunchFits (plain_of kernel.group).params 0 (launch_of launch) }
-    ensures program { IfOk result (λ l. l.program ≡ kernel.group) }
+fn prepare_one(alloc: Global, kernel: &Compiled, launch: Launch) -> Result<Launcher<'_>, Memory>
+    requires { LaunchFits (plain_of kernel.now.group).params 0 (launch_of launch) }
+    ensures program { IfOk result (λ l. l.program ≡ kernel.now.group) }
     ensures launch { IfOk result (λ l. l.launch ≡ launch) }
     ensures fit { IfOk result (λ l. LaunchFits (plain_of l.program).params (sum (plain_of l.program).locals) (launch_of l.launch)) }
 {
-    let Compiled {
-        program,
-        kernel,
-        varying,
-        plan,
-        group,
-    } = kernel;
-    drop(program);
-    drop(kernel);
-    drop(varying);
-    drop(plan);
-    if has_room(&group.locals, &launch.args) {
-        Launcher::prepare(alloc, group, launch)
+    if has_room(&kernel.group.locals, &launch.args) {
+        Launcher::prepare(alloc, &kernel.group, launch)
     } else {
-        drop(group);
         Err(Memory)
     }
 }
 
 /// The programs of the kernels, each made ready for its launch.
-pub(crate) fn prepare_each(
+pub(crate) fn prepare_each<'k>(
     alloc: Global,
-    kernels: Vec<Compiled>,
+    kernels: &'k [SharedKernel],
     launches: Vec<Launch>,
-) -> Result<Vec<Launcher>, Memory>
-    requires { AllFit kernels.items launches.items }
-    ensures programs { IfOk result (λ v. map (λ l. plain_of l.program) v.items ≡ map (λ c. plain_of c.group) kernels.items) }
+) -> Result<Vec<Launcher<'k>>, Memory>
+    requires { AllFit kernels.now launches.items }
+    ensures programs { IfOk result (λ v. map (λ l. plain_of l.program) v.items ≡ map (λ c. plain_of c.group) kernels.now) }
     ensures launches { IfOk result (λ v. map (λ l. l.launch) v.items ≡ launches.items) }
     ensures fit { IfOk result (λ v. All (λ l. LaunchFits (plain_of l.program).params (sum (plain_of l.program).locals) (launch_of l.launch)) v.items) }
 {
@@ -174,10 +163,9 @@ pub(crate) fn prepare_each(
     let mut rest = launches.into_iter();
     for kernel in kernels {
         let Some(launch) = rest.next() else {
-            drop(kernel);
             return Ok(launchers);
         };
-        let launcher = prepare_one(alloc, kernel, launch)?;
+        let launcher = prepare_one(alloc, kernel.compiled(), launch)?;
         if launchers.push(launcher).is_err() {
             return Err(Memory);
         }

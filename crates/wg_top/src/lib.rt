@@ -26,6 +26,7 @@ mod programs;
 mod reading;
 mod run;
 mod sample;
+mod shared;
 mod texts;
 
 pub use compile::{Compiled, compile_program};

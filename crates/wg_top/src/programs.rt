@@ -1,4 +1,4 @@
-// The kernels of a source, one for each launch.
+// The kernels of a source, one for each launch; each name is compiled once.
 ghost use Rattle.std.specs.Prelude.{◌≡◌, ℕ, List, All, IfOk, IfErr, length, map};
 ghost use Rattle.wg_num.specs.Operators.{lanes_of};
 ghost use Rattle.cl_tree.specs.Syntax.{view};
@@ -13,7 +13,8 @@ ghost use Rattle.wg_top.specs.Units.{AreCompiled};
 ghost use Rattle.wg_top.specs.Stages.{ProgramCause, KernelCause, KernelsCause};
 
 use crate::RunError;
-use crate::compile::{Compiled, compile_program};
+use crate::compile::compile_program;
+use crate::shared::SharedKernel;
 use launch_file::{LaunchPart, LaunchText};
 use std::alloc::Global;
 use wg_front::{Source, SourceError, compile_kernel, read_source};
@@ -30,13 +31,13 @@ fn refused(error: SourceError) -> RunError
     }
 }
 
-// The kernel of that name.
+// The kernel of that name, compiled.
 fn compile_one(
     alloc: Global,
     source: &Source,
     kernel: &Word,
     width: Width,
-) -> Result<Compiled, RunError>
+) -> Result<SharedKernel, RunError>
     ensures compiled { IfOk result (λ c. (bytes : List ℕ) (defines : List Define) → IsSource bytes defines source.now.tokens.items (view source.now.unit) → source.now.places.items ≡ places_of bytes source.now.tokens.items → IsCompiled bytes defines kernel.now (unit_of c.program)) }
     ensures passes { IfOk result (λ c. IsCompiledAt (lanes_of width) c) }
     ensures name { IfOk result (λ c. c.group.kernel ≡ kernel.now) }
@@ -44,11 +45,41 @@ fn compile_one(
 {
     match compile_kernel(alloc, source, kernel.bytes()) {
         Ok(program) => match compile_program(alloc, program, kernel, width) {
-            Ok(compiled) => Ok(compiled),
+            Ok(compiled) => match SharedKernel::new(alloc, compiled) {
+                Ok(compiled) => Ok(compiled),
+                Err(Memory) => Err(RunError::Memory),
+            },
             Err(Memory) => Err(RunError::Memory),
         },
         Err(error) => Err(refused(error)),
     }
+}
+
+// The kernel of that name: the one that an earlier launch has where it names the same, and else
+// compiled.
+fn kernel_for(
+    alloc: Global,
+    source: &Source,
+    kernel: &Word,
+    width: Width,
+    earlier: &[SharedKernel],
+) -> Result<SharedKernel, RunError>
+    requires compiled { (bytes : List ℕ) (defines : List Define) → IsSource bytes defines source.now.tokens.items (view source.now.unit) → source.now.places.items ≡ places_of bytes source.now.tokens.items → All (λ c. IsCompiled bytes defines c.group.kernel (unit_of c.program)) earlier.now }
+    requires passes { All (IsCompiledAt (lanes_of width)) earlier.now }
+    ensures compiled { IfOk result (λ c. (bytes : List ℕ) (defines : List Define) → IsSource bytes defines source.now.tokens.items (view source.now.unit) → source.now.places.items ≡ places_of bytes source.now.tokens.items → IsCompiled bytes defines kernel.now (unit_of c.program)) }
+    ensures passes { IfOk result (λ c. IsCompiledAt (lanes_of width) c) }
+    ensures name { IfOk result (λ c. c.group.kernel ≡ kernel.now) }
+    ensures err { IfErr result (λ e. (bytes : List ℕ) (defines : List Define) → IsSource bytes defines source.now.tokens.items (view source.now.unit) → source.now.places.items ≡ places_of bytes source.now.tokens.items → source.now.end ≡ place_at bytes (length bytes) → KernelCause bytes defines kernel.now e) }
+{
+    for other in earlier {
+        if other.compiled().group.kernel.bytes() == kernel.bytes() {
+            return match other.share() {
+                Ok(compiled) => Ok(compiled),
+                Err(Memory) => Err(RunError::Memory),
+            };
+        }
+    }
+    compile_one(alloc, source, kernel, width)
 }
 
 // The kernels, one for each launch.
@@ -57,7 +88,7 @@ fn compile_each(
     source: &Source,
     list: &[LaunchPart],
     width: Width,
-) -> Result<Vec<Compiled>, RunError>
+) -> Result<Vec<SharedKernel>, RunError>
     ensures compiled { IfOk result (λ v. (bytes : List ℕ) (defines : List Define) → IsSource bytes defines source.now.tokens.items (view source.now.unit) → source.now.places.items ≡ places_of bytes source.now.tokens.items → AreCompiled bytes defines (map part_of list.now) (map (λ c. unit_of c.program) v.items)) }
     ensures passes { IfOk result (λ v. All (IsCompiledAt (lanes_of width)) v.items) }
     ensures names { IfOk result (λ v. map (λ c. c.group.kernel) v.items ≡ map (λ p. p.kernel) list.now) }
@@ -65,7 +96,7 @@ fn compile_each(
 {
     let mut kernels = Vec::new(alloc);
     for which in 0..list.len() {
-        match compile_one(alloc, source, &list[which].kernel, width) {
+        match kernel_for(alloc, source, &list[which].kernel, width, &kernels) {
             Ok(compiled) => {
                 if kernels.push(compiled).is_err() {
                     return Err(RunError::Memory);
@@ -77,13 +108,14 @@ fn compile_each(
     Ok(kernels)
 }
 
-/// The kernels of a source, one for each launch, or the first refusal of the source: of its bytes,
-/// its macros and its grammar, then of each launch's kernel in order.
+/// The kernels of a source, one for each launch, those of one name compiled once, or the first
+/// refusal of the source: of its bytes, its macros and its grammar, then of each launch's kernel in
+/// order.
 pub(crate) fn compile_all(
     alloc: Global,
     bytes: &[u8],
     text: &LaunchText,
-) -> Result<Vec<Compiled>, RunError>
+) -> Result<Vec<SharedKernel>, RunError>
     ensures unit { IfOk result (λ v. HasUnit bytes.now (text_of text.now).defines) }
     ensures compiled { IfOk result (λ v. AreCompiled bytes.now (text_of text.now).defines (text_of text.now).list (map (λ c. unit_of c.program) v.items)) }
     ensures passes { IfOk result (λ v. All (IsCompiledAt (text_of text.now).lanes) v.items) }

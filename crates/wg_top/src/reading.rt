@@ -8,8 +8,8 @@ ghost use Rattle.wg_top.specs.Given.{IsText, IsGiven};
 ghost use Rattle.wg_top.specs.Ends.{asked};
 
 use crate::RunError;
-use crate::compile::Compiled;
 use crate::programs::compile_all;
+use crate::shared::SharedKernel;
 use launch_file::{LaunchError, LaunchText, read};
 use std::alloc::Global;
 use wg_outside::{LoadError, Store};
@@ -24,7 +24,7 @@ const LAUNCH_MOST: u64 = 1_048_577;
 #[derive(Drop)]
 pub(crate) struct Given {
     pub(crate) text: LaunchText,
-    pub(crate) kernels: Vec<Compiled>,
+    pub(crate) kernels: Vec<SharedKernel>,
 }
 
 /// What the options say: the lanes and the turns, where they are given.
@@ -59,7 +59,7 @@ fn load_launch<S: Store>(
     }
 }
 
-/// Loads the source, then the launch file, and compiles the kernel of each launch.
+/// Loads the source, then the launch file, and compiles the kernel of each launch, each name once.
 pub(crate) fn read_all<S: Store>(
     alloc: Global,
     store: &mut S,

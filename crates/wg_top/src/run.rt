@@ -16,9 +16,9 @@ ghost use Rattle.wg_top.specs.Given.{IsText, IsGiven};
 ghost use Rattle.wg_top.specs.Launches.{launches_in, IsReady, AllFit};
 ghost use Rattle.wg_top.specs.Ends.{asked};
 
-use crate::compile::Compiled;
 use crate::launches::{bind_each, count_all, prepare_each, run_each};
 use crate::reading::{Given, Options, read_all};
+use crate::shared::SharedKernel;
 use crate::{RunError, Summary};
 use buffer_io::{load_all, save_all};
 use cl_model::Launch;
@@ -31,22 +31,22 @@ use wg_outside::{Failed, LoadError, Store};
 fn run_bound<S: Store>(
     alloc: Global,
     store: &mut S,
-    kernels: Vec<Compiled>,
+    kernels: &[SharedKernel],
     text: &LaunchText,
     launches: Vec<Launch>,
 ) -> Result<Summary, RunError>
     requires text { IsText text.now }
     requires as_many { length launches.items ≡ length text.now.list.items }
-    requires passes { All (IsCompiledAt (text_of text.now).lanes) kernels.items }
-    requires valid { All (λ c. IsValid (program_of (unit_of c.program))) kernels.items }
-    requires names { map (λ c. c.group.kernel) kernels.items ≡ map (λ p. p.kernel) (text_of text.now).list }
+    requires passes { All (IsCompiledAt (text_of text.now).lanes) kernels.now }
+    requires valid { All (λ c. IsValid (program_of (unit_of c.program))) kernels.now }
+    requires names { map (λ c. c.group.kernel) kernels.now ≡ map (λ p. p.kernel) (text_of text.now).list }
     requires launches { map launch_of launches.items ≡ launches_in (text_of text.now) }
     requires ready { All (IsReady text.now.buffers.items) launches.items }
-    requires fit { AllFit kernels.items launches.items }
-    requires accepted { bind_refusal (text_of text.now) (map (λ c. unit_of c.program) kernels.items) ≡ None }
-    ensures ok { IfOk result (IsRun (S.files store.old) (S.files store.new) (text_of text.now) (map (λ c. unit_of c.program) kernels.items)) }
-    ensures err { IfErr result (BackCause (standing S.files S.faults S.misses store.old) (standing S.files S.faults S.misses store.new) (text_of text.now) (map (λ c. unit_of c.program) kernels.items)) }
-    ensures left { IfErr result (LeavesOthers (standing S.files S.faults S.misses store.old) (standing S.files S.faults S.misses store.new) (text_of text.now) (map (λ c. unit_of c.program) kernels.items)) }
+    requires fit { AllFit kernels.now launches.items }
+    requires accepted { bind_refusal (text_of text.now) (map (λ c. unit_of c.program) kernels.now) ≡ None }
+    ensures ok { IfOk result (IsRun (S.files store.old) (S.files store.new) (text_of text.now) (map (λ c. unit_of c.program) kernels.now)) }
+    ensures err { IfErr result (BackCause (standing S.files S.faults S.misses store.old) (standing S.files S.faults S.misses store.new) (text_of text.now) (map (λ c. unit_of c.program) kernels.now)) }
+    ensures left { IfErr result (LeavesOthers (standing S.files S.faults S.misses store.old) (standing S.files S.faults S.misses store.new) (text_of text.now) (map (λ c. unit_of c.program) kernels.now)) }
     ensures stands { Stands (standing S.files S.faults S.misses store.old) (standing S.files S.faults S.misses store.new) }
 {
     let summary = count_all(&launches);
@@ -80,7 +80,7 @@ fn run_given<S: Store>(alloc: Global, store: &mut S, given: Given) -> Result<Sum
 {
     let Given { text, kernels } = given;
     match bind_each(alloc, &kernels, &text) {
-        Ok(launches) => run_bound(alloc, store, kernels, &text, launches),
+        Ok(launches) => run_bound(alloc, store, &kernels, &text, launches),
         Err(error) => Err(error),
     }
 }

@@ -69,7 +69,7 @@ fn texts_of(alloc: Global, shown: Shown, given: &Given) -> Result<Vec<u8>, Memor
 {
     let mut text = Vec::new(alloc);
     for k in 0..given.kernels.len() {
-        let own = kernel_text(alloc, shown, &given.kernels[k])?;
+        let own = kernel_text(alloc, shown, given.kernels[k].compiled())?;
         put_head(&mut text, given.text.several, k as u64 + 1)?;
         put(&mut text, &own)?;
     }

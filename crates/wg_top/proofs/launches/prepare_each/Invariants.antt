@@ -1,4 +1,4 @@
-use Rattle.std.proofs.Common.{◌≡◌, ◌++◌, map}
+use Rattle.std.proofs.Common.{◌≡◌, ◌++◌, map, drop}
 use Rattle.std.specs.Prelude.{All, sum}
 use Rattle.std.specs.Vec.Iter.{into_iter_items}
 use Rattle.cl_model.specs.View.{launch_of}
@@ -9,8 +9,8 @@ use Rattle.wg_top.proofs.launches.prepare_each.Given as goal
 
 abbrev pub invariant-loop-kernel : goal.invariant-loop-kernel
 invariant-loop-kernel l = record {
-  fit : AllFit (into_iter_items l.kernel-iterator) (into_iter_items l.rest);
-  programs : map (λ q. plain_of q.program) l.launchers.items ++ map (λ c. plain_of c.group) (into_iter_items l.kernel-iterator) ≡ map (λ c. plain_of c.group) l.fn.kernels.items;
+  fit : AllFit (drop l.kernel-index l.kernels) (into_iter_items l.rest);
+  programs : map (λ q. plain_of q.program) l.launchers.items ++ map (λ c. plain_of c.group) (drop l.kernel-index l.kernels) ≡ map (λ c. plain_of c.group) l.kernels;
   prepared : All (λ q. LaunchFits (plain_of q.program).params (sum (plain_of q.program).locals) (launch_of q.launch)) l.launchers.items;
   launches : map (λ q. q.launch) l.launchers.items ++ into_iter_items l.rest ≡ l.fn.launches.items;
 }

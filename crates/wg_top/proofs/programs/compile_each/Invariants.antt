@@ -5,7 +5,7 @@ use Rattle.cl_prep.specs.declared.prep.Define.{Define}
 use Rattle.cl_tree.specs.Syntax.{view}
 use Rattle.cl_piece.specs.View.{unit_of}
 use Rattle.launch_file.specs.Texts.{part_of}
-use Rattle.wg_front.specs.Compiled.{IsSource, places_of}
+use Rattle.wg_front.specs.Compiled.{IsSource, IsCompiled, places_of}
 use Rattle.wg_top.specs.Described.{IsCompiledAt}
 use Rattle.wg_top.specs.Units.{AreCompiled}
 use Rattle.wg_top.proofs.programs.compile_each.Given as goal
@@ -13,6 +13,7 @@ use Rattle.wg_top.proofs.programs.compile_each.Given as goal
 abbrev pub invariant-loop-which : goal.invariant-loop-which
 invariant-loop-which l = record {
   compiled : (bytes : List ℕ) (defines : List Define) → IsSource bytes defines l.source.tokens.items (view l.source.unit) → l.source.places.items ≡ places_of bytes l.source.tokens.items → AreCompiled bytes defines (map part_of (take l.which l.list)) (map (λ c. unit_of c.program) l.kernels.items);
+  each : (bytes : List ℕ) (defines : List Define) → IsSource bytes defines l.source.tokens.items (view l.source.unit) → l.source.places.items ≡ places_of bytes l.source.tokens.items → All (λ c. IsCompiled bytes defines c.group.kernel (unit_of c.program)) l.kernels.items;
   passes : All (IsCompiledAt (lanes_of l.width)) l.kernels.items;
   names : map (λ c. c.group.kernel) l.kernels.items ≡ map (λ p. p.kernel) (take l.which l.list);
 }
