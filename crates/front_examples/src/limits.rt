@@ -95,7 +95,7 @@ fn defined(heap: Global, name: &str, block: Tree) -> Result<Tree, Fail> {
 fn unit(heap: Global, nodes: u32, count: u32) -> Result<Tree, Fail> {
     let mut parts = Vec::new(heap);
     parts.push(under(heap, count)?)?;
-    for _ in count + 2..nodes {
+    for _ in 2..nodes.saturating_sub(count) {
         parts.push(leaf(heap, Form::SimpleNode, ";")?)?;
     }
     let block = node(heap, Form::BlockNode, "{ }", parts)?;
