@@ -1,10 +1,39 @@
 //! Buffers of a launch, from files and to files, and numbers in bytes.
 #![tactic(auto)]
 
-ghost use Rattle.std.specs.Prelude.{◌≡◌, ◌≤◌, ◌<◌, ◌+◌, ℕ, IfOk, OnOk, OnErr, Err, IfSome, is_some, IsUtf8, All, length, map, vec_len, ◌∷◌, []};
+ghost use Rattle.std.specs.Prelude.{
+  ◌≡◌,
+  ◌≤◌,
+  ◌<◌,
+  ◌+◌,
+  ℕ,
+  IfOk,
+  OnOk,
+  OnErr,
+  Err,
+  IfSome,
+  is_some,
+  IsUtf8,
+  All,
+  length,
+  map,
+  vec_len,
+  ◌∷◌,
+  [],
+};
 ghost use Rattle.wg_outside.specs.Counts.{Rose};
 ghost use Rattle.buffer_io.specs.Loads.{AllStartAs, LacksOneFile, StartsAs, fitted};
-ghost use Rattle.buffer_io.specs.Saves.{AllSavedAs, KeepsAllBut, AreApart, StopsAt, IsSavedAs, saves_for, room_for, all_saves, all_room};
+ghost use Rattle.buffer_io.specs.Saves.{
+  AllSavedAs,
+  KeepsAllBut,
+  AreApart,
+  StopsAt,
+  IsSavedAs,
+  saves_for,
+  room_for,
+  all_saves,
+  all_room,
+};
 ghost use Rattle.buffer_io.specs.Words.{words_of, bytes_of_words};
 
 use byteorder::{ByteOrder, LittleEndian};
@@ -29,7 +58,8 @@ fn load_one<S: Store>(
     ensures files_stay { S.files store.new ≡ S.files store.old }
     ensures faults_stand { S.faults store.old ≤ S.faults store.new }
     ensures misses_stand { S.misses store.old ≤ S.misses store.new }
-    ensures certain { (saves room : ℕ) → S.certain store.old saves room → S.certain store.new saves room × (S.faults store.new ≡ S.faults store.old) }
+    ensures certain { (saves room : ℕ) → S.certain store.old saves room → S.certain store.new saves room ×
+        (S.faults store.new ≡ S.faults store.old) }
 {
     let mut bytes = match load {
         None => Vec::new(alloc),
@@ -55,14 +85,16 @@ pub fn load_all<S: Store>(
 ) -> Result<Buffers, LoadError>
     requires same { vec_len launch.now.loads ≡ vec_len launch.now.lengths }
     requires texts { All (λ load. IfSome load IsUtf8) launch.now.loads.items }
-    ensures content { IfOk result (λ b. AllStartAs (S.files store.old) launch.now.lengths.items launch.now.loads.items (map (λ v. v.items) b.list.items)) }
+    ensures content { IfOk result (λ b. AllStartAs (S.files store.old) launch.now.lengths.items
+        launch.now.loads.items (map (λ v. v.items) b.list.items)) }
     ensures failed { result ≡ Err LoadError.Failed → Rose (S.faults store.old) (S.faults store.new) }
     ensures absent { result ≡ Err LoadError.Absent → Rose (S.misses store.old) (S.misses store.new) }
     ensures absent_name { result ≡ Err LoadError.Absent → LacksOneFile (S.files store.old) launch.now.loads.items }
     ensures files_stay { S.files store.new ≡ S.files store.old }
     ensures faults_stand { S.faults store.old ≤ S.faults store.new }
     ensures misses_stand { S.misses store.old ≤ S.misses store.new }
-    ensures certain { (saves room : ℕ) → S.certain store.old saves room → S.certain store.new saves room × (S.faults store.new ≡ S.faults store.old) }
+    ensures certain { (saves room : ℕ) → S.certain store.old saves room → S.certain store.new saves room ×
+        (S.faults store.new ≡ S.faults store.old) }
 {
     let mut list = Vec::new(alloc);
     for i in 0..launch.lengths.len() {
@@ -83,7 +115,9 @@ fn save_one<S: Store>(store: &mut S, save: &Option<Word>, bytes: &[u8]) -> Resul
     ensures tells { is_some (S.files store.new) ≡ is_some (S.files store.old) }
     ensures faults_stand { S.faults store.old ≤ S.faults store.new }
     ensures misses_stand { S.misses store.old ≤ S.misses store.new }
-    ensures certain { (saves room : ℕ) → S.certain store.old (saves + saves_for save.now) (room + room_for save.now bytes.now) → S.certain store.new saves room × (S.faults store.new ≡ S.faults store.old) }
+    ensures certain { (saves room : ℕ) →
+        S.certain store.old (saves + saves_for save.now) (room + room_for save.now bytes.now) →
+        S.certain store.new saves room × (S.faults store.new ≡ S.faults store.old) }
 {
     match save {
         None => Ok(()),
@@ -100,13 +134,18 @@ pub fn save_all<S: Store>(store: &mut S, launch: &Launch, buffers: &Buffers) -> 
     requires same { vec_len buffers.now.list ≡ vec_len launch.now.saves }
     requires texts { All (λ save. IfSome save IsUtf8) launch.now.saves.items }
     requires apart { AreApart launch.now.saves.items }
-    ensures saved { OnOk result (AllSavedAs (S.files store.old) (S.files store.new) launch.now.saves.items (map (λ v. v.items) buffers.now.list.items)) }
+    ensures saved { OnOk result (AllSavedAs (S.files store.old) (S.files store.new) launch.now.saves.items
+        (map (λ v. v.items) buffers.now.list.items)) }
     ensures others { KeepsAllBut (S.files store.old) (S.files store.new) launch.now.saves.items }
-    ensures stops { OnErr result (StopsAt (S.files store.old) (S.files store.new) launch.now.saves.items (map (λ v. v.items) buffers.now.list.items)) }
+    ensures stops { OnErr result (StopsAt (S.files store.old) (S.files store.new) launch.now.saves.items
+        (map (λ v. v.items) buffers.now.list.items)) }
     ensures failed { OnErr result (Rose (S.faults store.old) (S.faults store.new)) }
     ensures faults_stand { S.faults store.old ≤ S.faults store.new }
     ensures misses_stand { S.misses store.old ≤ S.misses store.new }
-    ensures certain { (saves room : ℕ) → S.certain store.old (saves + all_saves launch.now.saves.items) (room + all_room launch.now.saves.items (map (λ v. v.items) buffers.now.list.items)) → OnOk result (S.certain store.new saves room) × (S.faults store.new ≡ S.faults store.old) }
+    ensures certain { (saves room : ℕ) →
+        S.certain store.old (saves + all_saves launch.now.saves.items)
+        (room + all_room launch.now.saves.items (map (λ v. v.items) buffers.now.list.items)) →
+        OnOk result (S.certain store.new saves room) × (S.faults store.new ≡ S.faults store.old) }
 {
     for i in 0..launch.saves.len() {
         if save_one(store, &launch.saves[i], &buffers.list[i]).is_err() {

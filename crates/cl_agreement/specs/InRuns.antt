@@ -6,4 +6,5 @@ use Rattle.cl_model.specs.Agreement.{Owned, Agrees, AgreesInRuns}
 
 -- a variable that agrees, agrees in every run of the launch
 abbrev pub CarriesToRuns : Program → Launch → List (List ℕ) → Type 0
-CarriesToRuns program launch buffers = (v : Owned) → Agrees program launch buffers v → AgreesInRuns program launch buffers v
+CarriesToRuns program launch buffers =
+    (v : Owned) → Agrees program launch buffers v → AgreesInRuns program launch buffers v

@@ -5,10 +5,13 @@ use Rattle.cl_model.specs.Sizes.{Launch}
 use Rattle.cl_model.specs.Varying.{AVariable, Varies}
 use Rattle.cl_model.specs.Agreement.{Owned, Agrees, AgreesInRuns}
 
--- each variable that does not vary agrees: whenever two histories of items of one group end at one point in its scope it has equal values
+-- each variable that does not vary agrees: whenever two histories of items of one group end at one point in its scope
+-- it has equal values
 abbrev pub AgreeUnlessVarying : Program → Launch → List (List ℕ) → Type 0
-AgreeUnlessVarying program launch buffers = (v : Owned) → (¬ Varies program (AVariable v.function v.variable)) → Agrees program launch buffers v
+AgreeUnlessVarying program launch buffers =
+    (v : Owned) → (¬ Varies program (AVariable v.function v.variable)) → Agrees program launch buffers v
 
 -- and so in every run
 abbrev pub AgreeInRunsUnlessVarying : Program → Launch → List (List ℕ) → Type 0
-AgreeInRunsUnlessVarying program launch buffers = (v : Owned) → (¬ Varies program (AVariable v.function v.variable)) → AgreesInRuns program launch buffers v
+AgreeInRunsUnlessVarying program launch buffers =
+    (v : Owned) → (¬ Varies program (AVariable v.function v.variable)) → AgreesInRuns program launch buffers v

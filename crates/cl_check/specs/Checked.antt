@@ -18,7 +18,8 @@ nodes_of places unit = in_order (start_of places unit) roles.Other unit []
 
 -- what they are judged by
 abbrev pub asked_in : List Place → (kernel : List ℕ) → Syntax → Asked
-asked_in places kernel unit = record { kernel = kernel; calls = calls_of (nodes_of places unit); missing = missing_of (nodes_of places unit) }
+asked_in places kernel unit =
+    record { kernel = kernel; calls = calls_of (nodes_of places unit); missing = missing_of (nodes_of places unit) }
 
 -- no node is at fault
 abbrev pub IsSound : List Place → (kernel : List ℕ) → Syntax → Type 0
@@ -56,4 +57,6 @@ pub record IsOver (places : List Place) (kernel : List ℕ) (unit : Syntax) (k :
 
 -- the first node at fault, with the least number there; or, where no node is, the first limit that the kernel is above
 abbrev pub IsRefused : List Place → (kernel : List ℕ) → Syntax → Fault → ℕ → Type 0
-IsRefused places kernel unit k token = FirstFault (asked_in places kernel unit) (length places) (nodes_of places unit) k token ⊎ IsOver places kernel unit k token
+IsRefused places kernel unit k token =
+    FirstFault (asked_in places kernel unit) (length places) (nodes_of places unit) k token ⊎
+    IsOver places kernel unit k token

@@ -25,21 +25,28 @@ own_missing n = missing_at n (form_of n.tree) (word_of n.tree)
 unfoldable mutual
   -- what the nodes of a tree give, parts before the whole
   pub given_in : {A : Type 0} → (Node → List A) → Env → Syntax → List A
-  given_in g env (node form w f l parts) = given_among g (inside env form w) form true parts ++ g (node_at env (node form w f l parts))
+  given_in g env (node form w f l parts) =
+      given_among g (inside env form w) form true parts ++ g (node_at env (node form w f l parts))
 
   pub given_among : {A : Type 0} → (Node → List A) → Env → Form → Bool → Forest → List A
   given_among g env form front none = []
-  given_among g env form front (more p ps) = given_in g env p ++ given_among g (later (behind env p) form front p (kind_of env p)) form false ps
+  given_among g env form front (more p ps) =
+      given_in g env p ++ given_among g (later (behind env p) form front p (kind_of env p)) form false ps
 
 -- some parts are gathered: their kinds and what they give, in front of the parts that are left
-pub record GatheredAlong (form : Form) (env0 : Env) (parts0 : Forest) (env : Env) (front : Bool) (ks : List (Option Kind)) (calls0 calls : List Call) (missing0 missing : List (List ℕ)) (parts : Forest) : Type 0 where
-  pub environment : behind_parts env0 form true parts0 ≡ behind_parts env form front parts
-  pub kinds' : kinds_of env0 form true parts0 ≡ ks ++ kinds_of env form front parts
-  pub calls' : calls0 ++ given_among own_calls env0 form true parts0 ≡ calls ++ given_among own_calls env form front parts
-  pub missing' : missing0 ++ given_among own_missing env0 form true parts0 ≡ missing ++ given_among own_missing env form front parts
+pub record GatheredAlong (form : Form) (env0 : Env) (parts0 : Forest) (env : Env) (front : Bool)
+    (ks : List (Option Kind)) (calls0 calls : List Call) (missing0 missing : List (List ℕ)) (parts : Forest) : Type 0
+  where
+    pub environment : behind_parts env0 form true parts0 ≡ behind_parts env form front parts
+    pub kinds' : kinds_of env0 form true parts0 ≡ ks ++ kinds_of env form front parts
+    pub calls' : calls0 ++ given_among own_calls env0 form true parts0 ≡ calls ++ given_among own_calls env form front
+        parts
+    pub missing' : missing0 ++ given_among own_missing env0 form true parts0 ≡ missing ++
+        given_among own_missing env form front parts
 
 -- a tree is gathered
-pub record Gathered (env : Env) (t : Syntax) (calls0 : List Call) (missing0 : List (List ℕ)) (env' : Env) (k : Option Kind) (calls : List Call) (missing : List (List ℕ)) : Type 0 where
+pub record Gathered (env : Env) (t : Syntax) (calls0 : List Call) (missing0 : List (List ℕ)) (env' : Env)
+    (k : Option Kind) (calls : List Call) (missing : List (List ℕ)) : Type 0 where
   pub environment : env' ≡ behind env t
   pub kind : k ≡ kind_of env t
   pub calls' : calls ≡ calls0 ++ given_in own_calls env t

@@ -1,6 +1,18 @@
 //! The calls of a unit, by the names that are visible, before any node is judged.
 
-ghost use Rattle.std.specs.Prelude.{◌≡◌, ◌++◌, ◌∷◌, [], List, IfOk, OnOk, map, true, false, Bool as TestOf};
+ghost use Rattle.std.specs.Prelude.{
+  ◌≡◌,
+  ◌++◌,
+  ◌∷◌,
+  [],
+  List,
+  IfOk,
+  OnOk,
+  map,
+  true,
+  false,
+  Bool as TestOf,
+};
 ghost use Rattle.cl_meaning.specs.declared.kind.Role.TheVariants as roles;
 ghost use Rattle.wg_num.specs.declared.types.Place.{Place as PlaceOf};
 ghost use Rattle.cl_tree.specs.Syntax.{view, views, none};
@@ -44,8 +56,10 @@ fn add_call(
     tree: &Tree,
     found: &mut Calls,
 ) -> Result<(), Memory>
-    ensures calls { OnOk result (map call_of found.new.calls.items ≡ map call_of found.old.calls.items ++ calls_by (visible_in environment.now) (form_of (view tree.now)) (word_of (view tree.now))) }
-    ensures missing { OnOk result (found.new.missing.items ≡ found.old.missing.items ++ missing_by (visible_in environment.now) (form_of (view tree.now)) (word_of (view tree.now))) }
+    ensures calls { OnOk result (map call_of found.new.calls.items ≡ map call_of found.old.calls.items ++
+        calls_by (visible_in environment.now) (form_of (view tree.now)) (word_of (view tree.now))) }
+    ensures missing { OnOk result (found.new.missing.items ≡ found.old.missing.items ++
+        missing_by (visible_in environment.now) (form_of (view tree.now)) (word_of (view tree.now))) }
 {
     if tree.form != Form::CallNode {
         return Ok(());
@@ -74,7 +88,10 @@ fn gather_parts(
     form: Form,
     trees: &[Tree],
 ) -> Result<Vec<Option<Kind>>, Memory>
-    ensures { IfOk result (λ ks. (front : TestOf) × GatheredAlong form (env_of places.now environment.old) (views trees.now) (env_of places.now environment.new) front ks.items (map call_of found.old.calls.items) (map call_of found.new.calls.items) found.old.missing.items found.new.missing.items none) }
+    ensures { IfOk result (λ ks. (front : TestOf) ×
+        GatheredAlong form (env_of places.now environment.old) (views trees.now) (env_of places.now environment.new)
+        front ks.items (map call_of found.old.calls.items) (map call_of found.new.calls.items)
+        found.old.missing.items found.new.missing.items none) }
 {
     let mut kinds = Vec::new(alloc);
     let mut front = true;
@@ -96,7 +113,9 @@ pub(crate) fn gather_tree(
     found: &mut Calls,
     tree: &Tree,
 ) -> Result<Option<Kind>, Memory>
-    ensures { IfOk result (λ k. Gathered (env_of places.now environment.old) (view tree.now) (map call_of found.old.calls.items) found.old.missing.items (env_of places.now environment.new) k (map call_of found.new.calls.items) found.new.missing.items) }
+    ensures { IfOk result (λ k. Gathered (env_of places.now environment.old) (view tree.now)
+        (map call_of found.old.calls.items) found.old.missing.items (env_of places.now environment.new) k
+        (map call_of found.new.calls.items) found.new.missing.items) }
 {
     let saved = enter(alloc, environment, tree)?;
     let kinds = gather_parts(
@@ -123,7 +142,8 @@ pub(crate) fn gather_tree(
 
 /// The kind of a node behind its parts.
 fn kind_here(environment: &Environment, tree: &Tree, kinds: &[Option<Kind>]) -> Option<Kind>
-    ensures { (places : List PlaceOf) → result ≡ kind_at (looked_in (env_of places environment.now) roles.Other (view tree.now) kinds.now) }
+    ensures { (places : List PlaceOf) →
+        result ≡ kind_at (looked_in (env_of places environment.now) roles.Other (view tree.now) kinds.now) }
 {
     kind_of(Looked {
         environment,

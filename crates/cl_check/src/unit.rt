@@ -104,7 +104,8 @@ fn tables_of(environment: Environment) -> Vec<Table>
 
 /// The kernel's number, and what is visible at the unit.
 fn kernel_of(kernel: &[u8], environment: &Environment) -> Result<u32, Memory>
-    ensures { IfOk result (λ n. n ≡ meant.kernel_from kernel.now 0 (map signature_of environment.now.functions.items)) }
+    ensures { IfOk result (λ n. n ≡
+        meant.kernel_from kernel.now 0 (map signature_of environment.now.functions.items)) }
 {
     match u32::try_from(kernel_number(kernel, &environment.functions)) {
         Ok(number) => Ok(number),
@@ -116,7 +117,8 @@ fn kernel_of(kernel: &[u8], environment: &Environment) -> Result<u32, Memory>
 fn typed(alloc: Global, unit: &Tree, places: &[Place], asked: &Asked) -> Result<Program, CheckError>
     ensures sound { IfOk result (λ p. faults.AllSound (asked_of asked.now) (nodes_of places.now (view unit.now))) }
     ensures program { IfOk result (λ p. unit_of p ≡ meant.unit_meant places.now asked.now.kernel (view unit.now)) }
-    ensures faulted { IfFault result (faults.FirstFault (asked_of asked.now) (length places.now) (nodes_of places.now (view unit.now))) }
+    ensures faulted { IfFault result (faults.FirstFault (asked_of asked.now) (length places.now)
+        (nodes_of places.now (view unit.now))) }
 {
     let mut environment = match start(alloc, unit) {
         Ok(environment) => environment,
@@ -164,7 +166,8 @@ pub fn check(
     ensures program { IfOk result (λ p. unit_of p ≡ meant.unit_meant places.now kernel.now (view unit.now)) }
     ensures refused { IfFault result (IsRefused places.now kernel.now (view unit.now)) }
     ensures never_accepted { IfFault result (λ k token. ¬ IsAccepted places.now kernel.now (view unit.now)) }
-    ensures only { IfFault result (λ k token. (j : FaultOf) (other : ℕ) → IsRefused places.now kernel.now (view unit.now) j other → (j ≡ k) × (other ≡ token)) }
+    ensures only { IfFault result (λ k token. (j : FaultOf) (other : ℕ) →
+        IsRefused places.now kernel.now (view unit.now) j other → (j ≡ k) × (other ≡ token)) }
 {
     let asked = match asked_for(alloc, unit, places, kernel) {
         Ok(asked) => asked,

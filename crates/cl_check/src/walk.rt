@@ -1,6 +1,21 @@
 //! The walk through a tree: parts in order, then the node itself.
 
-ghost use Rattle.std.specs.Prelude.{◌≡◌, ◌++◌, ◌∷◌, [], ℕ, suc, nat_eq, if◌then◌else◌, Some, List, IfOk, OnOk, map, length};
+ghost use Rattle.std.specs.Prelude.{
+  ◌≡◌,
+  ◌++◌,
+  ◌∷◌,
+  [],
+  ℕ,
+  suc,
+  nat_eq,
+  if◌then◌else◌,
+  Some,
+  List,
+  IfOk,
+  OnOk,
+  map,
+  length,
+};
 ghost use Rattle.cl_meaning.specs.declared.kind.Role.TheVariants as roles;
 ghost use Rattle.wg_num.specs.declared.types.Place.{Place as PlaceOf};
 ghost use Rattle.cl_tree.specs.Syntax.{view, views, first_of, last_of};
@@ -13,7 +28,18 @@ ghost use Rattle.cl_meaning.specs.Environment.{Env};
 ghost use Rattle.cl_meaning.specs.Declarations.{form_of};
 ghost use Rattle.cl_scope.specs.Walk.{inner_of, inner_at};
 ghost use Rattle.cl_faults.specs.View.{looked_in};
-ghost use Rattle.cl_check.specs.Walk.{Walked, Faulted, IfFault, IfReported, PartsWalked, PartsFaulted, IsJudged, IsBuilt, IsAtFault, kind_at};
+ghost use Rattle.cl_check.specs.Walk.{
+  Walked,
+  Faulted,
+  IfFault,
+  IfReported,
+  PartsWalked,
+  PartsFaulted,
+  IsJudged,
+  IsBuilt,
+  IsAtFault,
+  kind_at,
+};
 ghost use Rattle.cl_faults.specs.Least.{IsLeast};
 
 use crate::error::CheckError;
@@ -79,7 +105,8 @@ pub(crate) struct Parts {
 
 /// One part more.
 fn add_part(parts: &mut Parts, last: u32, piece: Piece) -> Result<(), Memory>
-    ensures pieces { OnOk result (map piece_of parts.new.pieces.items ≡ map piece_of parts.old.pieces.items ++ piece_of piece ∷ []) }
+    ensures pieces { OnOk result (map piece_of parts.new.pieces.items ≡ map piece_of parts.old.pieces.items ++
+        piece_of piece ∷ []) }
     ensures kinds { OnOk result (parts.new.kinds.items ≡ parts.old.kinds.items ++ piece.kind ∷ []) }
     ensures last { OnOk result (parts.new.last ≡ Some last) }
 {
@@ -103,8 +130,11 @@ fn go_behind(
     parts: &mut Parts,
     piece: Piece,
 ) -> Result<(), Memory>
-    ensures environment { OnOk result ((places : List PlaceOf) → env_of places environment.new ≡ visible.later (env_of places environment.old) form (visible.is_front parts.old.last) (view part.now) piece.kind) }
-    ensures pieces { OnOk result (map piece_of parts.new.pieces.items ≡ map piece_of parts.old.pieces.items ++ piece_of piece ∷ []) }
+    ensures environment { OnOk result ((places : List PlaceOf) →
+        env_of places environment.new ≡ visible.later (env_of places environment.old) form
+        (visible.is_front parts.old.last) (view part.now) piece.kind) }
+    ensures pieces { OnOk result (map piece_of parts.new.pieces.items ≡ map piece_of parts.old.pieces.items ++
+        piece_of piece ∷ []) }
     ensures kinds { OnOk result (parts.new.kinds.items ≡ parts.old.kinds.items ++ piece.kind ∷ []) }
     ensures last { OnOk result (parts.new.last ≡ Some (last_of (view part.now))) }
 {
@@ -134,8 +164,11 @@ fn look(
     tree: &Tree,
     kinds: &[Option<Kind>],
 ) -> Result<Judgement, Memory>
-    ensures fault { IfOk result (λ j. (places : List PlaceOf) → IsLeast (asked_of asked.now) (looked_in (env_of places environment.now) role (view tree.now) kinds.now) j.fault) }
-    ensures kind { IfOk result (λ j. (places : List PlaceOf) → j.kind ≡ kind_at (looked_in (env_of places environment.now) role (view tree.now) kinds.now)) }
+    ensures fault { IfOk result (λ j. (places : List PlaceOf) →
+        IsLeast (asked_of asked.now) (looked_in (env_of places environment.now) role (view tree.now) kinds.now)
+        j.fault) }
+    ensures kind { IfOk result (λ j. (places : List PlaceOf) →
+        j.kind ≡ kind_at (looked_in (env_of places environment.now) role (view tree.now) kinds.now)) }
 {
     let node = Looked {
         environment,
@@ -160,7 +193,9 @@ fn build(
     kinds: &[Option<Kind>],
     kind: Option<Kind>,
 ) -> Result<Piece, Memory>
-    ensures { IfOk result (λ p. (end : Env) → inner_of inner ≡ inner_at (form_of (view tree.now)) end → IsBuilt (env_of places.now environment.old) end sites.old.items (view tree.now) (map piece_of pieces.items) kinds.now kind (env_of places.now environment.new) sites.new.items (piece_of p)) }
+    ensures { IfOk result (λ p. (end : Env) → inner_of inner ≡ inner_at (form_of (view tree.now)) end →
+        IsBuilt (env_of places.now environment.old) end sites.old.items (view tree.now) (map piece_of pieces.items)
+        kinds.now kind (env_of places.now environment.new) sites.new.items (piece_of p)) }
 {
     let what = make(
         alloc,
@@ -178,7 +213,8 @@ fn build(
 
 /// A fault with the token at which it is reported.
 fn fault_of(places: &[Place], fault: Fault, first: u32) -> CheckError
-    ensures { IfReported result (λ k token. (k ≡ fault) × (token ≡ faults.token_of (length places.now) fault first)) }
+    ensures { IfReported result (λ k token. (k ≡ fault) ×
+        (token ≡ faults.token_of (length places.now) fault first)) }
 {
     match u32::try_from(places.len()) {
         Err(_) => CheckError::Memory,
@@ -201,8 +237,13 @@ fn judge(
     inner: Inner,
     parts: Parts,
 ) -> Result<Piece, CheckError>
-    ensures made { IfOk result (λ p. (end : Env) → inner_of inner ≡ inner_at (form_of (view tree.now)) end → IsJudged (asked_of asked.now) (env_of places.now environment.old) end sites.old.items role (view tree.now) (map piece_of parts.pieces.items) parts.kinds.items (env_of places.now environment.new) sites.new.items (piece_of p)) }
-    ensures faulted { IfFault result (λ k token. IsAtFault (asked_of asked.now) (length places.now) (looked_in (env_of places.now environment.old) role (view tree.now) parts.kinds.items) (first_of (view tree.now)) k token) }
+    ensures made { IfOk result (λ p. (end : Env) → inner_of inner ≡ inner_at (form_of (view tree.now)) end →
+        IsJudged (asked_of asked.now) (env_of places.now environment.old) end sites.old.items role (view tree.now)
+        (map piece_of parts.pieces.items) parts.kinds.items (env_of places.now environment.new) sites.new.items
+        (piece_of p)) }
+    ensures faulted { IfFault result (λ k token. IsAtFault (asked_of asked.now) (length places.now)
+        (looked_in (env_of places.now environment.old) role (view tree.now) parts.kinds.items)
+        (first_of (view tree.now)) k token) }
 {
     let pieces = parts.pieces;
     let kinds = parts.kinds;
@@ -242,8 +283,11 @@ fn check_parts(
     form: Form,
     trees: &[Tree],
 ) -> Result<Parts, CheckError>
-    ensures done { IfOk result (λ d. PartsWalked (asked_of asked.now) (length places.now) form (env_of places.now environment.old) sites.old.items (views trees.now) (env_of places.now environment.new) sites.new.items d.last (map piece_of d.pieces.items) d.kinds.items) }
-    ensures faulted { IfFault result (PartsFaulted (asked_of asked.now) (length places.now) form (env_of places.now environment.old) (views trees.now)) }
+    ensures done { IfOk result (λ d. PartsWalked (asked_of asked.now) (length places.now) form
+        (env_of places.now environment.old) sites.old.items (views trees.now) (env_of places.now environment.new)
+        sites.new.items d.last (map piece_of d.pieces.items) d.kinds.items) }
+    ensures faulted { IfFault result (PartsFaulted (asked_of asked.now) (length places.now) form
+        (env_of places.now environment.old) (views trees.now)) }
 {
     let mut parts = Parts {
         pieces: Vec::new(alloc),
@@ -274,8 +318,11 @@ pub(crate) fn check_tree(
     role: Role,
     tree: &Tree,
 ) -> Result<Piece, CheckError>
-    ensures walked { IfOk result (λ p. Walked (asked_of asked.now) (length places.now) (env_of places.now environment.old) sites.old.items role (view tree.now) (env_of places.now environment.new) sites.new.items (piece_of p)) }
-    ensures faulted { IfFault result (Faulted (asked_of asked.now) (length places.now) (env_of places.now environment.old) role (view tree.now)) }
+    ensures walked { IfOk result (λ p. Walked (asked_of asked.now) (length places.now)
+        (env_of places.now environment.old) sites.old.items role (view tree.now) (env_of places.now environment.new)
+        sites.new.items (piece_of p)) }
+    ensures faulted { IfFault result (Faulted (asked_of asked.now) (length places.now)
+        (env_of places.now environment.old) role (view tree.now)) }
 {
     match enter(alloc, environment, tree) {
         Err(_) => Err(CheckError::Memory),

@@ -1,5 +1,6 @@
 -- The first fault of the groups that passes is the least.
-use Rattle.std.proofs.Common.{ℕ, suc, ◌+◌, ◌-◌, ◌<◌, ◌≤◌, Bool, true, false, List, [], ◌∷◌, ◌++◌, length, slice_get, Option, None, Some, ◌⊎◌, inl, inr, ◌≡◌, refl, sym, ap, ◌∙◌, arith, find}
+use Rattle.std.proofs.Common.{ℕ, suc, ◌+◌, ◌-◌, ◌<◌, ◌≤◌, Bool, true, false, List, [], ◌∷◌, ◌++◌, length, slice_get}
+use Rattle.std.proofs.Common.{Option, None, Some, ◌⊎◌, inl, inr, ◌≡◌, refl, sym, ap, ◌∙◌, arith, find}
 use Rattle.std.proofs.lemmas.Bool.{cases_lt}
 use Rattle.cl_meaning.specs.declared.fault.Fault.{Fault}
 use Rattle.cl_meaning.specs.declared.fault.Fault.TheVariants as faults
@@ -81,7 +82,8 @@ find_some p n (x ∷ xs) k r h = elim (test_is (p x)) [
   | inr e ↦ (let g : find p xs ≡ Some k = rw e at h in behind p n x k r.0 e (find_some p (suc n) xs k r.1 g))
 ]
 
-find_none : (p : Fault → Bool) (n : ℕ) (xs : List Fault) → Rising n xs → find p xs ≡ None → (j : Fault) → n ≤ number_of j → number_of j < n + length xs → p j ≡ false
+find_none : (p : Fault → Bool) (n : ℕ) (xs : List Fault) → Rising n xs → find p xs ≡ None → (j : Fault) →
+    n ≤ number_of j → number_of j < n + length xs → p j ≡ false
 find_none p n [] r h j a b = absurd (omega arith)
 find_none p n (x ∷ xs) r h j a b = elim (test_is (p x)) [
   | inl e ↦ (let g : Some x ≡ None = rw e at h in absurd cc)
@@ -104,18 +106,21 @@ module _ (p : Fault → Bool) where
   none_of_expressions : find p expression_faults ≡ None → (j : Fault) → number_of j < 408 → p j ≡ false
   none_of_expressions h j b = find_none p 401 expression_faults expressions_rise h j (numbers j).low (omega arith)
 
-  none_of_declarations : find p declaration_faults ≡ None → (j : Fault) → 408 ≤ number_of j → number_of j < 415 → p j ≡ false
+  none_of_declarations : find p declaration_faults ≡ None → (j : Fault) → 408 ≤ number_of j → number_of j < 415 →
+      p j ≡ false
   none_of_declarations h j a b = find_none p 408 declaration_faults declarations_rise h j a (omega arith)
 
   none_of_statements : find p statement_faults ≡ None → (j : Fault) → 415 ≤ number_of j → p j ≡ false
-  none_of_statements h j a = find_none p 415 statement_faults statements_rise h j a (let b : number_of j < 425 = (numbers j).high in omega arith)
+  none_of_statements h j a = find_none p 415 statement_faults statements_rise h j a (let b : number_of j <
+      425 = (numbers j).high in omega arith)
 
   pub least_expression : (k : Fault) → find p expression_faults ≡ Some k → LeastOf p k
   least_expression k h =
       let f : Found p 401 k = find_some p 401 expression_faults k expressions_rise h in
       record { at = f.at; least = λ j b. f.least j (numbers j).low b }
 
-  pub least_declaration : (k : Fault) → find p expression_faults ≡ None → find p declaration_faults ≡ Some k → LeastOf p k
+  pub least_declaration : (k : Fault) → find p expression_faults ≡ None → find p declaration_faults ≡ Some k →
+      LeastOf p k
   least_declaration k g h = record { at = f.at; least = least }
     where
       f : Found p 408 k
@@ -124,7 +129,8 @@ module _ (p : Fault → Bool) where
       least : (j : Fault) → number_of j < number_of k → p j ≡ false
       least j b = elim (cases_lt (number_of j) 408) [ inl c ↦ none_of_expressions g j c | inr c ↦ f.least j c b ]
 
-  least_statement : (k : Fault) → find p expression_faults ≡ None → find p declaration_faults ≡ None → find p statement_faults ≡ Some k → LeastOf p k
+  least_statement : (k : Fault) → find p expression_faults ≡ None → find p declaration_faults ≡ None →
+      find p statement_faults ≡ Some k → LeastOf p k
   least_statement k g d h = record { at = f.at; least = least }
     where
       f : Found p 415 k
@@ -136,12 +142,18 @@ module _ (p : Fault → Bool) where
         | inr c ↦ elim (cases_lt (number_of j) 415) [ inl e ↦ none_of_declarations d j c e | inr e ↦ f.least j e b ]
       ]
 
-  none_at_all : find p expression_faults ≡ None → find p declaration_faults ≡ None → find p statement_faults ≡ None → (j : Fault) → p j ≡ false
+  none_at_all : find p expression_faults ≡ None → find p declaration_faults ≡ None → find p statement_faults ≡ None →
+      (j : Fault) → p j ≡ false
   none_at_all g d h j = elim (cases_lt (number_of j) 408) [
     | inl c ↦ none_of_expressions g j c
-    | inr c ↦ elim (cases_lt (number_of j) 415) [ inl e ↦ none_of_declarations d j c e | inr e ↦ none_of_statements h j e ]
+    | inr c ↦ elim (cases_lt (number_of j) 415) [
+      | inl e ↦ none_of_declarations d j c e
+      | inr e ↦
+          none_of_statements h j e
+    ]
   ]
 
-  pub least_of_all : (o : Option Fault) → find p expression_faults ≡ None → find p declaration_faults ≡ None → o ≡ find p statement_faults → IsLeastOf p o
+  pub least_of_all : (o : Option Fault) → find p expression_faults ≡ None → find p declaration_faults ≡ None →
+      o ≡ find p statement_faults → IsLeastOf p o
   least_of_all None g d h = none_at_all g d (sym h)
   least_of_all (Some k) g d h = least_statement k g d (sym h)

@@ -16,7 +16,8 @@ use Rattle.cl_scope.specs.declared.environment.Environment as rust
 use Rattle.cl_scope.specs.View.{env_of, visible_in}
 use Rattle.cl_faults.specs.View.{looked_in}
 
-module _ (asked : Asked) (places : List Place) (e : rust.Environment) (role : Role) (w : List ℕ) (f l : ℕ) (parts : Forest) (ks : List (Option Kind)) where
+module _ (asked : Asked) (places : List Place) (e : rust.Environment) (role : Role) (w : List ℕ) (f l : ℕ)
+    (parts : Forest) (ks : List (Option Kind)) where
   abbrev placed : Form → Looked
   placed form = looked_in (env_of places e) role (node form w f l parts) ks
 
@@ -52,11 +53,13 @@ module _ (asked : Asked) (places : List Place) (e : rust.Environment) (role : Ro
   same_local_misplaced forms.UnitNode = refl
   same_local_misplaced form = refl
 
-  same_program_variable : (form : Form) → spec.program_variable (placed form) form ≡ spec.program_variable (bare form) form
+  same_program_variable : (form : Form) →
+      spec.program_variable (placed form) form ≡ spec.program_variable (bare form) form
   same_program_variable forms.UnitNode = refl
   same_program_variable form = refl
 
-  same_kernel_signature : (form : Form) → spec.kernel_signature (placed form) form ≡ spec.kernel_signature (bare form) form
+  same_kernel_signature : (form : Form) →
+      spec.kernel_signature (placed form) form ≡ spec.kernel_signature (bare form) form
   same_kernel_signature forms.UnitNode = refl
   same_kernel_signature form = refl
 
@@ -88,19 +91,23 @@ module _ (asked : Asked) (places : List Place) (e : rust.Environment) (role : Ro
   same_barrier_flags forms.UnitNode = refl
   same_barrier_flags form = refl
 
-  same_no_such_kernel : (form : Form) → spec.no_such_kernel asked (placed form) form ≡ spec.no_such_kernel asked (bare form) form
+  same_no_such_kernel : (form : Form) →
+      spec.no_such_kernel asked (placed form) form ≡ spec.no_such_kernel asked (bare form) form
   same_no_such_kernel forms.UnitNode = refl
   same_no_such_kernel form = refl
 
-  same_prototype_match : (form : Form) → spec.prototype_match asked (placed form) form ≡ spec.prototype_match asked (bare form) form
+  same_prototype_match : (form : Form) →
+      spec.prototype_match asked (placed form) form ≡ spec.prototype_match asked (bare form) form
   same_prototype_match forms.UnitNode = refl
   same_prototype_match form = refl
 
-  same_unassignable : (form : Form) → spec.of_target (placed form) spec.unassignable form ≡ spec.of_target (bare form) spec.unassignable form
+  same_unassignable : (form : Form) → spec.of_target (placed form) spec.unassignable form ≡
+      spec.of_target (bare form) spec.unassignable form
   same_unassignable forms.UnitNode = refl
   same_unassignable form = refl
 
-  same_is_constant_memory : (form : Form) → spec.of_target (placed form) kinds_spec.is_constant_memory form ≡ spec.of_target (bare form) kinds_spec.is_constant_memory form
+  same_is_constant_memory : (form : Form) → spec.of_target (placed form) kinds_spec.is_constant_memory form ≡
+      spec.of_target (bare form) kinds_spec.is_constant_memory form
   same_is_constant_memory forms.UnitNode = refl
   same_is_constant_memory form = refl
 
@@ -115,7 +122,9 @@ module _ (asked : Asked) (places : List Place) (e : rust.Environment) (role : Ro
   same_fault : (form : Form) (k : Fault) → at_fault asked (placed form) k ≡ at_fault asked (bare form) k
   same_fault form faults.UnknownName = same_unknown_name form
   same_fault form faults.DeclaredTwice = same_declared_twice form
-  same_fault form faults.OperandTypes = ap (λ (b : Bool). b || spec.tested_misfits (placed form)) (same_misfits form) ∙ ap (λ (b : Bool). spec.misfits (bare form) form || b) (same_tested form)
+  same_fault form faults.OperandTypes =
+      ap (λ (b : Bool). b || spec.tested_misfits (placed form)) (same_misfits form) ∙
+      ap (λ (b : Bool). spec.misfits (bare form) form || b) (same_tested form)
   same_fault form faults.ArgumentCount = same_miscounted form
   same_fault form faults.ArgumentType = same_mispassed form
   same_fault form faults.NotAssignable = same_unassignable form
@@ -139,6 +148,7 @@ module _ (asked : Asked) (places : List Place) (e : rust.Environment) (role : Ro
   same_fault form faults.PrototypeMatch = same_prototype_match form
 
 -- a fault stands at a node exactly where it does when the places of tokens are not looked at
-pub places_aside : (asked : Asked) (places : List Place) (e : rust.Environment) (role : Role) (t : Syntax) (ks : List (Option Kind)) (k : Fault)
+pub places_aside : (asked : Asked) (places : List Place) (e : rust.Environment) (role : Role) (t : Syntax)
+    (ks : List (Option Kind)) (k : Fault)
     → at_fault asked (looked_in (env_of places e) role t ks) k ≡ at_fault asked (looked_in (visible_in e) role t ks) k
 places_aside asked places e role (node form w f l parts) ks k = same_fault asked places e role w f l parts ks form k

@@ -7,13 +7,17 @@ use Rattle.cl_meaning.specs.Faults.{Asked, Looked, at_fault}
 
 -- the faults in rising order, in three groups
 abbrev pub expression_faults : List Fault
-expression_faults = faults.UnknownName ∷ faults.DeclaredTwice ∷ faults.OperandTypes ∷ faults.ArgumentCount ∷ faults.ArgumentType ∷ faults.NotAssignable ∷ faults.ConstantWritten ∷ []
+expression_faults = faults.UnknownName ∷ faults.DeclaredTwice ∷ faults.OperandTypes ∷ faults.ArgumentCount ∷
+    faults.ArgumentType ∷ faults.NotAssignable ∷ faults.ConstantWritten ∷ []
 
 abbrev pub declaration_faults : List Fault
-declaration_faults = faults.OutsideType ∷ faults.LocalMisplaced ∷ faults.ProgramVariable ∷ faults.KernelSignature ∷ faults.Recursion ∷ faults.PointerRoot ∷ faults.ArrayLength ∷ []
+declaration_faults = faults.OutsideType ∷ faults.LocalMisplaced ∷ faults.ProgramVariable ∷ faults.KernelSignature ∷
+    faults.Recursion ∷ faults.PointerRoot ∷ faults.ArrayLength ∷ []
 
 abbrev pub statement_faults : List Fault
-statement_faults = faults.Misplaced ∷ faults.CaseValue ∷ faults.ReturnFit ∷ faults.BarrierFlags ∷ faults.KernelTooLarge ∷ faults.PrivateMemory ∷ faults.BarriersTooDeep ∷ faults.NoSuchKernel ∷ faults.LocalMemory ∷ faults.PrototypeMatch ∷ []
+statement_faults = faults.Misplaced ∷ faults.CaseValue ∷ faults.ReturnFit ∷ faults.BarrierFlags ∷
+    faults.KernelTooLarge ∷ faults.PrivateMemory ∷ faults.BarriersTooDeep ∷ faults.NoSuchKernel ∷ faults.LocalMemory ∷
+    faults.PrototypeMatch ∷ []
 
 -- the fault passes, and none of a smaller number does
 pub record LeastOf (test : Fault → Bool) (k : Fault) : Type 0 where

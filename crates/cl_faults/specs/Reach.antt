@@ -1,5 +1,6 @@
 -- Which functions a call leads to, step by step.
-use Rattle.std.specs.Prelude.{◌≡◌, ◌+◌, ℕ, suc, nat_lt, Bool, true, not, ◌&&◌, List, [], ◌∷◌, length, slice_index_or, Option, None, Some, if◌then◌else◌}
+use Rattle.std.specs.Prelude.{◌≡◌, ◌+◌, ℕ, suc, nat_lt, Bool, true, not, ◌&&◌, List, [], ◌∷◌, length, slice_index_or}
+use Rattle.std.specs.Prelude.{Option, None, Some, if◌then◌else◌}
 use Rattle.std.specs.Prelude.{false}
 use Rattle.cl_meaning.specs.Faults.{Call, leads}
 

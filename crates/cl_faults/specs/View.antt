@@ -15,7 +15,8 @@ asked_of a = record { kernel = a.kernel; calls = map call_of a.calls.items; miss
 
 -- a node with what is visible there, its place in its parent, and the kinds of its parts
 abbrev pub looked_in : Env → Role → Syntax → List (Option Kind) → Looked
-looked_in env role (node form w f l parts) ks = record { env = env; role = role; form = form; word = w; first = f; parts = parts; kinds' = ks }
+looked_in env role (node form w f l parts) ks =
+    record { env = env; role = role; form = form; word = w; first = f; parts = parts; kinds' = ks }
 
 -- places aside, which no fault depends on
 abbrev pub looked_of : rust_looked.Looked → Looked

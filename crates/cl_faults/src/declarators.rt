@@ -25,7 +25,8 @@ use wg_num::Memory;
 /// The declarator that the node is.
 #[tactic(auto, using(cl_meaning::proofs::Views::view_out))]
 pub(crate) fn declarator_of<'a>(node: Looked<'a>) -> Result<Declarator<'a>, Memory>
-    ensures { IfOk result (λ d. declarator_view d ≡ declarations.declarator_in (looked_of node.entry).word (looked_of node.entry).first (looked_of node.entry).parts) }
+    ensures { IfOk result (λ d. declarator_view d ≡ declarations.declarator_in (looked_of node.entry).word
+        (looked_of node.entry).first (looked_of node.entry).parts) }
 {
     declarator_in(node.tree.word.bytes(), node.tree.first, &node.tree.parts)
 }
@@ -100,7 +101,9 @@ fn is_misplaced(node: Looked, declarator: &Declarator, space: Option<Space>) -> 
 
 /// Whether a variable or array is declared where its space is not allowed.
 pub(crate) fn local_misplaced(node: Looked, declarator: &Declarator) -> bool
-    ensures { result ≡ spec.given (looked_of node.entry).env.declared (λ d. not (kind_spec.is_some (declarator_view declarator.now).star) && spec.is_misplaced (looked_of node.entry) (declarator_view declarator.now) d.space) }
+    ensures { result ≡ spec.given (looked_of node.entry).env.declared
+        (λ d. not (kind_spec.is_some (declarator_view declarator.now).star) &&
+        spec.is_misplaced (looked_of node.entry) (declarator_view declarator.now) d.space) }
 {
     match node.environment.declared {
         Some(declared) => {
@@ -199,7 +202,8 @@ pub(crate) fn has_wrong_root(node: Looked) -> Result<bool, Memory>
 
 /// Whether an array has no lengths, or more initialisers than elements.
 fn has_too_many(alloc: Global, declarator: &Declarator) -> Result<bool, Memory>
-    ensures { IfOk result (λ b. b ≡ spec.too_many_initialisers (declarator_view declarator.now) (declarations.dims_of (declarator_view declarator.now))) }
+    ensures { IfOk result (λ b. b ≡ spec.too_many_initialisers (declarator_view declarator.now)
+        (declarations.dims_of (declarator_view declarator.now))) }
 {
     match dims_of(alloc, declarator)? {
         Some(lengths) => {

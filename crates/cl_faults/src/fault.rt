@@ -24,7 +24,8 @@ use wg_num::Memory;
 
 /// The first of E401 to E407 that stands.
 fn expression_fault(node: Looked) -> Result<Option<Fault>, Memory>
-    ensures { (asked : spec.Asked) → IfOk result (λ o. o ≡ find (spec.at_fault asked (looked_of node.entry)) expression_faults) }
+    ensures { (asked : spec.Asked) →
+        IfOk result (λ o. o ≡ find (spec.at_fault asked (looked_of node.entry)) expression_faults) }
 {
     if is_unknown_name(node) {
         return Ok(Some(Fault::UnknownName));
@@ -52,7 +53,8 @@ fn expression_fault(node: Looked) -> Result<Option<Fault>, Memory>
 
 /// The first of E408 to E414 that stands.
 fn declaration_fault(alloc: Global, asked: &Asked, node: Looked) -> Result<Option<Fault>, Memory>
-    ensures { IfOk result (λ o. o ≡ find (spec.at_fault (asked_of asked.now) (looked_of node.entry)) declaration_faults) }
+    ensures { IfOk result (λ o. o ≡ find (spec.at_fault (asked_of asked.now) (looked_of node.entry))
+        declaration_faults) }
 {
     if is_outside_type(node) {
         return Ok(Some(Fault::OutsideType));
@@ -80,7 +82,8 @@ fn declaration_fault(alloc: Global, asked: &Asked, node: Looked) -> Result<Optio
 
 /// The first of E415 to E424 that stands, those of the whole kernel aside.
 fn statement_fault(alloc: Global, asked: &Asked, node: Looked) -> Result<Option<Fault>, Memory>
-    ensures { IfOk result (λ o. o ≡ find (spec.at_fault (asked_of asked.now) (looked_of node.entry)) statement_faults) }
+    ensures { IfOk result (λ o. o ≡ find (spec.at_fault (asked_of asked.now) (looked_of node.entry))
+        statement_faults) }
 {
     if is_misplaced(node) {
         return Ok(Some(Fault::Misplaced));

@@ -35,7 +35,8 @@ fn cast_misfits(parts: &[Tree], kinds: &[Option<Kind>]) -> bool
 /// Whether the node is a call without a value that stands elsewhere than as the whole of a statement.
 #[tactic(auto, using(cl_meaning::proofs::Views::view_out, cl_kinds::proofs::Known::all_are_known))]
 fn is_valueless(node: Looked) -> bool
-    ensures { result ≡ spec.valueless (looked_of node.entry) (kind_spec.callee_of (looked_of node.entry).env (name_in (looked_of node.entry).word)) }
+    ensures { result ≡ spec.valueless (looked_of node.entry) (kind_spec.callee_of (looked_of node.entry).env
+        (name_in (looked_of node.entry).word)) }
 {
     match callee_of(node.environment, name_of(node.tree.word.bytes())) {
         Some(callee) => {
@@ -132,7 +133,8 @@ pub(crate) fn tested_misfits(node: Looked) -> bool
 
 /// Whether the node's operands do not fit, or a statement tests it and it is no number.
 pub(crate) fn has_misfit(node: Looked) -> Result<bool, Memory>
-    ensures { IfOk result (λ b. b ≡ (spec.misfits (looked_of node.entry) (looked_of node.entry).form || spec.tested_misfits (looked_of node.entry))) }
+    ensures { IfOk result (λ b. b ≡ (spec.misfits (looked_of node.entry) (looked_of node.entry).form ||
+        spec.tested_misfits (looked_of node.entry))) }
 {
     Ok(operands_misfit(node)? || tested_misfits(node))
 }

@@ -41,7 +41,8 @@ fn cast_of(parts: &[Tree], kinds: &[Option<Kind>]) -> Option<Kind>
 /// fault.
 #[tactic(auto, using(cl_meaning::proofs::Views::view_out), unfolding(cl_meaning::specs::Kinds::kind_step))]
 pub fn kind_of(node: Looked) -> Option<Kind>
-    ensures { result ≡ spec.kind_step (looked_of node.entry).env (looked_of node.entry).form (looked_of node.entry).word (looked_of node.entry).parts (looked_of node.entry).kinds' }
+    ensures { result ≡ spec.kind_step (looked_of node.entry).env (looked_of node.entry).form
+        (looked_of node.entry).word (looked_of node.entry).parts (looked_of node.entry).kinds' }
 {
     let word = node.tree.word.bytes();
     let kinds = node.kinds;

@@ -65,7 +65,8 @@ fn leads_from(
 /// Whether a call leads back to the function in which it stands.
 #[tactic(auto, using(cl_meaning::proofs::Views::view_out))]
 pub(crate) fn is_recursive(alloc: Global, asked: &Asked, node: Looked) -> Result<bool, Memory>
-    ensures { IfOk result (λ b. b ≡ spec.recursion (asked_of asked.now) (looked_of node.entry) (looked_of node.entry).form) }
+    ensures { IfOk result (λ b. b ≡ spec.recursion (asked_of asked.now) (looked_of node.entry)
+        (looked_of node.entry).form) }
 {
     match node.tree.form {
         Form::CallNode => match callee_of(node.environment, name_of(node.tree.word.bytes())) {
@@ -85,7 +86,8 @@ pub(crate) fn is_recursive(alloc: Global, asked: &Asked, node: Looked) -> Result
 /// The kind of result and the parameters that a function or prototype declares.
 #[tactic(auto, using(cl_meaning::proofs::Views::view_out))]
 fn signature_of_node(alloc: Global, node: Looked) -> Result<Signature, Memory>
-    ensures { IfOk result (λ g. signature_of g ≡ declarations.signature_in (looked_of node.entry).word (looked_of node.entry).parts) }
+    ensures { IfOk result (λ g. signature_of g ≡ declarations.signature_in (looked_of node.entry).word
+        (looked_of node.entry).parts) }
 {
     signature_in(alloc, node.tree.word.bytes(), &node.tree.parts)
 }
@@ -132,7 +134,8 @@ fn is_called(missing: &[Word], name: &[u8]) -> bool
 }
 
 fn find_definition<'a>(name: &[u8], functions: &'a [Signature]) -> Option<&'a Signature>
-    ensures { option_map (λ g. signature_of g.now) result ≡ spec.signature_of name.now (map signature_of functions.now) }
+    ensures { option_map (λ g. signature_of g.now) result ≡
+        spec.signature_of name.now (map signature_of functions.now) }
 {
     for function in functions {
         if function.name.bytes() == name {
@@ -150,7 +153,8 @@ fn same_signature(left: &Signature, right: &Signature) -> bool
 
 /// Whether a prototype is not as its definition, or has none and is called.
 fn prototype_misfits(asked: &Asked, prototype: &Signature, defined: Option<&Signature>) -> bool
-    ensures { result ≡ spec.prototype_misfits (asked_of asked.now) (signature_of prototype.now) (option_map (λ g. signature_of g.now) defined.entry) }
+    ensures { result ≡ spec.prototype_misfits (asked_of asked.now) (signature_of prototype.now)
+        (option_map (λ g. signature_of g.now) defined.entry) }
 {
     match defined {
         Some(function) => !same_signature(prototype, function),
@@ -161,7 +165,8 @@ fn prototype_misfits(asked: &Asked, prototype: &Signature, defined: Option<&Sign
 /// Whether the node is a prototype that is not as its definition, or has none and is called.
 #[tactic(auto, using(cl_meaning::proofs::Views::view_out))]
 pub(crate) fn is_no_prototype(alloc: Global, asked: &Asked, node: Looked) -> Result<bool, Memory>
-    ensures { IfOk result (λ b. b ≡ spec.prototype_match (asked_of asked.now) (looked_of node.entry) (looked_of node.entry).form) }
+    ensures { IfOk result (λ b. b ≡ spec.prototype_match (asked_of asked.now) (looked_of node.entry)
+        (looked_of node.entry).form) }
 {
     match node.tree.form {
         Form::PrototypeNode => {

@@ -16,7 +16,8 @@ use cl_tree::Form;
 /// operands are not known.
 #[tactic(auto, using(cl_meaning::proofs::Views::view_out))]
 fn target_of(node: Looked) -> Option<Kind>
-    ensures { (test : kind.Kind → Bool) → spec.given result test ≡ spec.of_target (looked_of node.entry) test (looked_of node.entry).form }
+    ensures { (test : kind.Kind → Bool) →
+        spec.given result test ≡ spec.of_target (looked_of node.entry) test (looked_of node.entry).form }
 {
     let word = node.tree.word.bytes();
     match (node.tree.form, node.kinds) {
@@ -45,7 +46,8 @@ pub(crate) fn is_not_assignable(node: Looked) -> bool
 
 /// Whether the node writes constant memory (OpenCL 1.2, section 6.5.3).
 pub(crate) fn writes_constant_memory(node: Looked) -> bool
-    ensures { result ≡ spec.of_target (looked_of node.entry) kind_spec.is_constant_memory (looked_of node.entry).form }
+    ensures { result ≡ spec.of_target (looked_of node.entry) kind_spec.is_constant_memory
+        (looked_of node.entry).form }
 {
     match target_of(node) {
         Some(kind) => is_constant_memory(kind),
@@ -55,7 +57,8 @@ pub(crate) fn writes_constant_memory(node: Looked) -> bool
 
 /// Whether the node assigns a pointer of another root to a pointer variable.
 pub(crate) fn changes_root(word: &[u8], kinds: &[Option<Kind>]) -> bool
-    ensures { result ≡ spec.given (setting_in word.now) (λ s. spec.given_pair kinds.now (λ a b. kind_spec.is_target a && kind_spec.root_changes s a b)) }
+    ensures { result ≡ spec.given (setting_in word.now)
+        (λ s. spec.given_pair kinds.now (λ a b. kind_spec.is_target a && kind_spec.root_changes s a b)) }
 {
     match setting_of(word) {
         Some(setting) => setting_changes_root(setting, kinds),

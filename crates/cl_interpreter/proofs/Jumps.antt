@@ -16,10 +16,13 @@ break_switch : (t : Task) (ts : List model.Task) → mark_of t ≡ Switch → be
 break_switch (task.InSwitch at site) ts h = refl
 break_switch _ ts h = cc
 
-pub break_at_loop : (ts rest : List Task) → first_mark_of ts ≡ Some Loop → rest ≡ drop 1 ts → tasks_of rest ≡ behind_break (tasks_of ts)
+pub break_at_loop : (ts rest : List Task) → first_mark_of ts ≡ Some Loop → rest ≡ drop 1 ts →
+    tasks_of rest ≡ behind_break (tasks_of ts)
 break_at_loop [] rest h r = cc
 break_at_loop (t ∷ ts) rest h r = rw r (let e : mark_of t ≡ Loop = cc in let q = break_loop t (tasks_of ts) e in cc)
 
-pub break_at_switch : (ts rest : List Task) → first_mark_of ts ≡ Some Switch → rest ≡ drop 1 ts → tasks_of rest ≡ behind_break (tasks_of ts)
+pub break_at_switch : (ts rest : List Task) → first_mark_of ts ≡ Some Switch → rest ≡ drop 1 ts →
+    tasks_of rest ≡ behind_break (tasks_of ts)
 break_at_switch [] rest h r = cc
-break_at_switch (t ∷ ts) rest h r = rw r (let e : mark_of t ≡ Switch = cc in let q = break_switch t (tasks_of ts) e in cc)
+break_at_switch (t ∷ ts) rest h r =
+    rw r (let e : mark_of t ≡ Switch = cc in let q = break_switch t (tasks_of ts) e in cc)

@@ -4,7 +4,8 @@ use Rattle.std.specs.Simd.Lanes.{digits_l}
 use Rattle.std.proofs.lemmas.List.{append_assoc}
 
 -- one byte more is behind the others
-pub byte_pushed : (whole before after : List ℕ) (n i r : ℕ) → i < n → whole ≡ before ++ digits_l 256 (n - i) r → after ≡ before ++ (r % 256) ∷ []
+pub byte_pushed : (whole before after : List ℕ) (n i r : ℕ) → i < n → whole ≡ before ++ digits_l 256 (n - i) r →
+    after ≡ before ++ (r % 256) ∷ []
     → whole ≡ after ++ digits_l 256 (n - (i + 1)) (r / 256)
 byte_pushed whole before after n i r h w a =
     let k : n - i ≡ suc (n - (i + 1)) = omega arith in

@@ -19,12 +19,15 @@ use Rattle.cl_interpreter.specs.Reasons.{IsReasonAt}
 abbrev pub IsStep : Program → Launch → rust_item.Item → Task → Next → Type 0
 IsStep p l i t n = next_of n ≡ task_next p l (item_of i) (task_of t) (tasks_of i.tasks.items)
 
-pub stepped : (p : Program) (l : Launch) (i : rust_item.Item) (t t' : Task) (r : Result Next Error) → t ≡ t' → IfOk r (IsStep p l i t') → IfOk r (IsStep p l i t)
+pub stepped : (p : Program) (l : Launch) (i : rust_item.Item) (t t' : Task) (r : Result Next Error) → t ≡ t' →
+    IfOk r (IsStep p l i t') → IfOk r (IsStep p l i t)
 stepped p l i t t' r e h = subst (λ (z : Task). IfOk r (IsStep p l i z)) (sym e) h
 
-pub widened : (P Q : Next → Type 0) (r : Result Next Error) (m : Result Next Memory) → MatchResult r (λ v. m ≡ Ok v) (λ e. e ≡ error.Memory) → ((n : Next) → P n → Q n) → IfOk m P → IfOk r Q
+pub widened : (P Q : Next → Type 0) (r : Result Next Error) (m : Result Next Memory) →
+    MatchResult r (λ v. m ≡ Ok v) (λ e. e ≡ error.Memory) → ((n : Next) → P n → Q n) → IfOk m P → IfOk r Q
 widened P Q (Ok v) m h f k = f v (IfOk-at_ok P h k)
 widened P Q (Err e) m h f k = tt
 
-pub explained : (l : Launch) (i : model.Item) (t t' : Task) (r : Result Next Error) → t ≡ t' → IfErr r (IsReasonAt l i (task_of t')) → IfErr r (IsReasonAt l i (task_of t))
+pub explained : (l : Launch) (i : model.Item) (t t' : Task) (r : Result Next Error) → t ≡ t' →
+    IfErr r (IsReasonAt l i (task_of t')) → IfErr r (IsReasonAt l i (task_of t))
 explained l i t t' r e h = subst (λ (z : Task). IfErr r (IsReasonAt l i (task_of z))) (sym e) h

@@ -16,5 +16,7 @@ next_of next.Ends = items.Ends
 next_of (next.Waits site after) = items.Waits site (item_of after)
 next_of (next.Goes after) = items.Goes (item_of after)
 next_of (next.Begins after) = items.Begins (item_of after)
-next_of (next.Loads site object element index after) = items.Loads site (record { object = object; size = size_of element; index = index }) (λ bytes. pushed (item_of after) (value_of_bytes element bytes))
+next_of (next.Loads site object element index after) =
+    items.Loads site (record { object = object; size = size_of element; index = index })
+    (λ bytes. pushed (item_of after) (value_of_bytes element bytes))
 next_of (next.Stores site object index bytes after) = items.Stores site object index bytes.items (item_of after)

@@ -59,11 +59,14 @@ IsReasonOf launch i e = IsReasonFirst launch i i.tasks e
 
 -- why a move has none: memory ran out, or it is a step of an item that is there, which has none
 abbrev pub IsReasonOfMove : Launch → items.World Item → items.Move → Error → Type 0
-IsReasonOfMove launch w (items.Step item) e = (e ≡ Memory) ⊎ ((i : Item) × (slice_get w.items item ≡ Some i) × IsReasonOf launch i e)
+IsReasonOfMove launch w (items.Step item) e =
+    (e ≡ Memory) ⊎ ((i : Item) × (slice_get w.items item ≡ Some i) × IsReasonOf launch i e)
 IsReasonOfMove launch w (items.Release group) e = e ≡ Memory
 
 -- why moves from a world on have none: memory ran out, or one of them has none where the moves before it lead
-abbrev pub IsReasonOfMoves : items.Machine Item (Option Point) → Launch → items.World Item → List items.Move → Error → Type 0
+abbrev pub IsReasonOfMoves : items.Machine Item (Option Point) → Launch → items.World Item → List items.Move → Error →
+    Type 0
 IsReasonOfMoves machine launch start moves e =
     (e ≡ Memory)
-    ⊎ ((n : ℕ) × (m : items.Move) × (slice_get moves n ≡ Some m) × IsRun machine start (take n moves) × IsReasonOfMove launch (world_after machine start (take n moves)) m e)
+    ⊎ ((n : ℕ) × (m : items.Move) × (slice_get moves n ≡ Some m) × IsRun machine start (take n moves) ×
+    IsReasonOfMove launch (world_after machine start (take n moves)) m e)

@@ -37,9 +37,12 @@ action_of (action.Store site element root) = model.Store site element root
 abbrev mutual
   pub expression_of : Expression → model.Expression
   expression_of (expression.Apply act operands) = model.Apply (action_of act) (expressions_of operands)
-  expression_of (expression.Update' site element root op of back old p index q value) = model.Update site element root op of back old (expression_of index) (expression_of value)
-  expression_of (expression.Choose' site p test q chosen r other) = model.Choose site (expression_of test) (expression_of chosen) (expression_of other)
-  expression_of (expression.Call site function roots arguments) = model.Call site function roots.items (expressions_of arguments)
+  expression_of (expression.Update' site element root op of back old p index q value) =
+      model.Update site element root op of back old (expression_of index) (expression_of value)
+  expression_of (expression.Choose' site p test q chosen r other) =
+      model.Choose site (expression_of test) (expression_of chosen) (expression_of other)
+  expression_of (expression.Call site function roots arguments) =
+      model.Call site function roots.items (expressions_of arguments)
 
   pub expressions_of : Expressions → model.Expressions
   expressions_of expressions.End = model.none
@@ -56,8 +59,10 @@ abbrev mutual
   statement_of (statement.Declare x value) = model.Declare x (optional_of value)
   statement_of (statement.Fill site array values) = model.Fill site array (expressions_of values)
   statement_of (statement.Block list) = model.Block (statements_of list)
-  statement_of (statement.If site test chosen other) = model.If site (expression_of test) (statements_of chosen) (statements_of other)
-  statement_of (statement.Loop' site test_first test step p body) = model.Loop site test_first (optional_of test) (optional_of step) (statement_of body)
+  statement_of (statement.If site test chosen other) =
+      model.If site (expression_of test) (statements_of chosen) (statements_of other)
+  statement_of (statement.Loop' site test_first test step p body) =
+      model.Loop site test_first (optional_of test) (optional_of step) (statement_of body)
   statement_of (statement.Switch site value all) = model.Switch site (expression_of value) (arms_of all)
   statement_of (statement.Break site) = model.Break site
   statement_of (statement.Continue site) = model.Continue site

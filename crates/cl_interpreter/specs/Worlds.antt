@@ -1,5 +1,6 @@
 -- The worlds and moves of the definitions for which those of the crate stand, and what a run comes to.
-use Rattle.std.specs.Prelude.{◌≡◌, ℕ, suc, ◌<◌, ◌/◌, List, [], ◌∷◌, Option, Some, None, map, length, take, slice_get, nat_eq, if◌then◌else◌}
+use Rattle.std.specs.Prelude.{◌≡◌, ℕ, suc, ◌<◌, ◌/◌, List, [], ◌∷◌, Option, Some, None, map, length, take, slice_get}
+use Rattle.std.specs.Prelude.{nat_eq, if◌then◌else◌}
 use Rattle.std.specs.Prelude.{Bool as Test, true, false}
 use Rattle.std.specs.declared.alloc.Global.{Global}
 use Rattle.std.specs.declared.vec.Vec.{Vec}
@@ -38,8 +39,10 @@ world_of w = record { memory = bytes_in w.memory.items; items = map item_of w.it
 -- what the step of an item comes to, and what it leaves of the memory
 abbrev pub IsOutcome : memory.Memory → items.Next Item → Stepped → memory.Memory → Type 0
 IsOutcome before next stepped.Stuck after = (items.HasStep next → ⊥) × (after ≡ before)
-IsOutcome before next (stepped.Out site) after = items.HasStep next × (items.fault_of before next ≡ Some site) × (after ≡ before)
-IsOutcome before next (stepped.To i) after = items.HasStep next × (items.fault_of before next ≡ None) × (after ≡ items.memory_after before next) × ((state : Item) → item_of i ≡ items.state_after before state next)
+IsOutcome before next (stepped.Out site) after =
+    items.HasStep next × (items.fault_of before next ≡ Some site) × (after ≡ before)
+IsOutcome before next (stepped.To i) after = items.HasStep next × (items.fault_of before next ≡ None) ×
+    (after ≡ items.memory_after before next) × ((state : Item) → item_of i ≡ items.state_after before state next)
 
 -- a move is made, or it cannot be made and the world stays as it is
 abbrev pub IsMade : items.Machine Item (Option Point) → items.World Item → items.Move → Test → items.World Item → Type 0
@@ -51,7 +54,8 @@ abbrev pub IsPlayed : items.Machine Item (Option Point) → items.World Item →
 IsPlayed machine start moves (Reached w) = IsRun machine start moves × (world_of w ≡ world_after machine start moves)
 IsPlayed machine start moves (Impossible n) =
     (n < length moves) × IsRun machine start (take n moves)
-    × ((m : items.Move) → slice_get moves n ≡ Some m → items.IsPossible machine (world_after machine start (take n moves)) m → ⊥)
+    × ((m : items.Move) → slice_get moves n ≡ Some m →
+    items.IsPossible machine (world_after machine start (take n moves)) m → ⊥)
 
 -- the point of the barrier at which the item of these tasks stands, if it does
 abbrev pub barrier_of : List Task → Option Point
@@ -73,7 +77,9 @@ tasks_below (task ∷ rest) = rest
 abbrev pub gone : Item → Item
 gone i = with_tasks i (tasks_below i.tasks)
 
--- the items, those of a group without their first task, where groups have so many items and the first of these has this number
+-- the items, those of a group without their first task, where groups have so many items and the first of these has
+-- this number
 abbrev pub gone_from : ℕ → ℕ → ℕ → List Item → List Item
 gone_from size group first [] = []
-gone_from size group first (i ∷ rest) = (if nat_eq (first / size) group then gone i else i) ∷ gone_from size group (suc first) rest
+gone_from size group first (i ∷ rest) =
+    (if nat_eq (first / size) group then gone i else i) ∷ gone_from size group (suc first) rest

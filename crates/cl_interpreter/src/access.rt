@@ -1,6 +1,18 @@
 //! What the step of an item does to the memory of a launch: loads and stores of whole elements.
 
-ghost use Rattle.std.specs.Prelude.{◌≡◌, ◌+◌, ◌≤◌, IfOk, IfErr, MatchOption, length, take, drop, true, false};
+ghost use Rattle.std.specs.Prelude.{
+  ◌≡◌,
+  ◌+◌,
+  ◌≤◌,
+  IfOk,
+  IfErr,
+  MatchOption,
+  length,
+  take,
+  drop,
+  true,
+  false,
+};
 ghost use Rattle.wg_num.specs.Bytes as values;
 ghost use Rattle.work_items.specs.Memory as cells;
 ghost use Rattle.cl_interpreter.specs.Nexts.{next_of};
@@ -35,7 +47,8 @@ fn length_of(memory: &[Vec<u8>], object: u64) -> usize
 /// The value of the element of an object that begins with this byte.
 fn value_in(memory: &[Vec<u8>], object: u64, element: IntType, first: usize) -> i128
     requires { first + values.size_of element ≤ length (cells.bytes_of (bytes_in memory.now) object) }
-    ensures { result ≡ values.value_of_bytes element (take (values.size_of element) (drop first (cells.bytes_of (bytes_in memory.now) object))) }
+    ensures { result ≡ values.value_of_bytes element
+        (take (values.size_of element) (drop first (cells.bytes_of (bytes_in memory.now) object))) }
 {
     match memory.get(object as usize) {
         Some(bytes) => {
@@ -48,7 +61,10 @@ fn value_in(memory: &[Vec<u8>], object: u64, element: IntType, first: usize) -> 
 
 /// The value of an element, if it is in range of its object.
 fn load(memory: &[Vec<u8>], object: u64, element: IntType, index: i128) -> Option<i128>
-    ensures { let access : cells.Access = record { object = object; size = values.size_of element; index = index } in MatchOption result (cells.is_in_range (bytes_in memory.now) access ≡ false) (λ v. (cells.is_in_range (bytes_in memory.now) access ≡ true) × (v ≡ values.value_of_bytes element (cells.loaded (bytes_in memory.now) access))) }
+    ensures { let access : cells.Access = record { object = object; size = values.size_of element; index = index } in
+        MatchOption result (cells.is_in_range (bytes_in memory.now) access ≡ false)
+        (λ v. (cells.is_in_range (bytes_in memory.now) access ≡ true) ×
+        (v ≡ values.value_of_bytes element (cells.loaded (bytes_in memory.now) access))) }
 {
     match place_in(length_of(memory, object), size_of(element), index) {
         None => None,
@@ -58,8 +74,13 @@ fn load(memory: &[Vec<u8>], object: u64, element: IntType, index: i128) -> Optio
 
 /// Stores an element, if it is in range of its object, and else leaves the memory and is false.
 fn store(memory: &mut Vec<Vec<u8>>, object: u64, index: i128, bytes: &[u8]) -> bool
-    ensures range { result ≡ cells.is_in_range (bytes_in memory.old.items) (record { object = object; size = length bytes.now; index = index }) }
-    ensures stored { result ≡ true → bytes_in memory.new.items ≡ cells.stored (bytes_in memory.old.items) object index bytes.now }
+    ensures range { result ≡ cells.is_in_range (bytes_in memory.old.items) (record {
+      object = object;
+      size = length bytes.now;
+      index = index;
+    }) }
+    ensures stored { result ≡ true →
+        bytes_in memory.new.items ≡ cells.stored (bytes_in memory.old.items) object index bytes.now }
     ensures same { result ≡ false → bytes_in memory.new.items ≡ bytes_in memory.old.items }
 {
     match place_in(length_of(memory, object), bytes.len() as u64, index) {
@@ -86,7 +107,8 @@ pub enum Stepped {
 
 /// What the step of an item comes to, with what it does to the memory, which an error leaves as it is.
 pub(crate) fn outcome(memory: &mut Vec<Vec<u8>>, next: Next) -> Result<Stepped, Memory>
-    ensures came { IfOk result (λ s. IsOutcome (bytes_in memory.old.items) (next_of next) s (bytes_in memory.new.items)) }
+    ensures came { IfOk result (λ s. IsOutcome (bytes_in memory.old.items) (next_of next) s
+        (bytes_in memory.new.items)) }
     ensures kept { IfErr result (λ e. bytes_in memory.new.items ≡ bytes_in memory.old.items) }
 {
     match next {

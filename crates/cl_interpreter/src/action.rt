@@ -105,7 +105,8 @@ fn with_value(item: Item, v: i128) -> Result<Next, Memory>
 
 /// The item with a variable set and a value more.
 fn with_variable(item: Item, x: u32, set: i128, v: i128) -> Result<Next, Memory>
-    ensures { IfOk result (λ n. next_of n ≡ items.Goes (model.with_variable (item_of item) (item_of item).tasks (v ∷ (item_of item).values) x set)) }
+    ensures { IfOk result (λ n. next_of n ≡
+        items.Goes (model.with_variable (item_of item) (item_of item).tasks (v ∷ (item_of item).values) x set)) }
 {
     let mut item = item;
     set_first(&mut item.frames, x, set)?;
@@ -130,7 +131,9 @@ pub(crate) fn load(
     from: Spot,
     index: i128,
 ) -> Result<Next, Memory>
-    ensures { IfOk result (λ n. next_of n ≡ items.Loads from.site (model.access_at (program_of program.now) (launch_of launch.now) (item_of item) from.element from.root index) (λ bytes. pushed (item_of item) (value_of_bytes from.element bytes))) }
+    ensures { IfOk result (λ n. next_of n ≡
+        items.Loads from.site (model.access_at (program_of program.now) (launch_of launch.now) (item_of item)
+        from.element from.root index) (λ bytes. pushed (item_of item) (value_of_bytes from.element bytes))) }
 {
     let object = object_at(alloc, program, launch, &item, from.root)?;
     Ok(Next::Loads {
@@ -152,7 +155,9 @@ pub(crate) fn store(
     index: i128,
     new: i128,
 ) -> Result<Next, Memory>
-    ensures { IfOk result (λ n. next_of n ≡ items.Stores to.site (model.object_at (program_of program.now) (launch_of launch.now) (item_of item) to.root) index (bytes_of_value to.element new) (item_of item)) }
+    ensures { IfOk result (λ n. next_of n ≡
+        items.Stores to.site (model.object_at (program_of program.now) (launch_of launch.now) (item_of item)
+        to.root) index (bytes_of_value to.element new) (item_of item)) }
 {
     let object = object_at(alloc, program, launch, &item, to.root)?;
     let bytes = bytes_of(alloc, to.element, new)?;
@@ -174,8 +179,10 @@ pub(crate) fn action_next(
     action: Action,
     args: &VecDeque<i128>,
 ) -> Result<Next, Error>
-    ensures next { IfOk result (λ n. next_of n ≡ model.action_next (program_of program.now) (launch_of launch.now) (item_of item) (action_of action) args.now.items (item_of item).values (item_of item).tasks) }
-    ensures reason { IfErr result (IsReason (IsBeyond (launch_of launch.now) item.number (action_of action) args.now.items) (HasNoValue (action_of action) args.now.items)) }
+    ensures next { IfOk result (λ n. next_of n ≡ model.action_next (program_of program.now) (launch_of launch.now)
+        (item_of item) (action_of action) args.now.items (item_of item).values (item_of item).tasks) }
+    ensures reason { IfErr result (IsReason (IsBeyond (launch_of launch.now) item.number (action_of action)
+        args.now.items) (HasNoValue (action_of action) args.now.items)) }
 {
     let a = nth(args, 0);
     let b = nth(args, 1);

@@ -1,6 +1,19 @@
 //! Values in memory, and loads and stores of whole elements.
 
-ghost use Rattle.std.specs.Prelude.{◌≡◌, ◌<◌, ◌+◌, ◌≤◌, IfOk, MatchOption, length, replicate, true, false, ◌^◌, ◌*◌};
+ghost use Rattle.std.specs.Prelude.{
+  ◌≡◌,
+  ◌<◌,
+  ◌+◌,
+  ◌≤◌,
+  IfOk,
+  MatchOption,
+  length,
+  replicate,
+  true,
+  false,
+  ◌^◌,
+  ◌*◌,
+};
 ghost use Rattle.std.specs.Simd.Lanes.{number_l};
 ghost use Rattle.wg_num.specs.Wrap.{bits_of};
 ghost use Rattle.wg_num.specs.Bytes as values;
@@ -81,7 +94,9 @@ pub(crate) fn zeros(alloc: Global, count: u64) -> Result<Vec<u8>, Memory>
 
 /// The first byte of the element with this number, if all its bytes are below a length.
 pub(crate) fn place_in(len: usize, size: u64, index: i128) -> Option<usize>
-    ensures { MatchOption result (memory.has_element len size index ≡ false) (λ first. (memory.has_element len size index ≡ true) × (first ≡ memory.first_byte size index) × (first + size ≤ len)) }
+    ensures { MatchOption result (memory.has_element len size index ≡ false)
+        (λ first. (memory.has_element len size index ≡ true) × (first ≡ memory.first_byte size index) ×
+        (first + size ≤ len)) }
 {
     if index < 0 {
         return None;

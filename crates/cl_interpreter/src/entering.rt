@@ -8,7 +8,17 @@ ghost use Rattle.cl_model.specs.Steps as model;
 ghost use Rattle.cl_model.specs.Calls.{function_at};
 ghost use Rattle.cl_model.specs.Task as way;
 ghost use Rattle.cl_model.specs.View.{launch_of};
-ghost use Rattle.cl_interpreter.specs.Trees.{action_of, array_of, expression_of, expressions_of, optional_of, statement_of, statements_of, arms_of, program_of};
+ghost use Rattle.cl_interpreter.specs.Trees.{
+  action_of,
+  array_of,
+  expression_of,
+  expressions_of,
+  optional_of,
+  statement_of,
+  statements_of,
+  arms_of,
+  program_of,
+};
 ghost use Rattle.cl_interpreter.specs.Tasks.{leg_of, path_of, task_of, tasks_of, item_of};
 ghost use Rattle.cl_interpreter.specs.Nexts.{next_of};
 
@@ -77,7 +87,9 @@ pub(crate) fn enter_next(
     at: Vec<Leg>,
     callee: Callee,
 ) -> Result<Next, Memory>
-    ensures { IfOk result (λ n. next_of n ≡ model.task_next (program_of program.now) (launch_of launch.now) (item_of item) (way.Enter (path_of at.items) callee.site callee.function callee.roots.items callee.count) (item_of item).tasks) }
+    ensures { IfOk result (λ n. next_of n ≡ model.task_next (program_of program.now) (launch_of launch.now)
+        (item_of item) (way.Enter (path_of at.items) callee.site callee.function callee.roots.items callee.count)
+        (item_of item).tasks) }
 {
     let mut item = item;
     let Callee {
@@ -114,7 +126,8 @@ pub(crate) fn enter_next(
 
 /// The end of a function's body: its value is 0 where nothing was returned.
 pub(crate) fn call_ends(item: Item) -> Result<Next, Memory>
-    ensures { IfOk result (λ n. (p : tree.Program) (l : sizes.Launch) (at : way.Point) (site : ℕ) → next_of n ≡ model.task_next p l (item_of item) (way.InCall at site) (item_of item).tasks) }
+    ensures { IfOk result (λ n. (p : tree.Program) (l : sizes.Launch) (at : way.Point) (site : ℕ) →
+        next_of n ≡ model.task_next p l (item_of item) (way.InCall at site) (item_of item).tasks) }
 {
     let mut item = item;
     push(&mut item.values, 0)?;
@@ -165,7 +178,8 @@ fn initial_tasks(
     k: u64,
     values: &[i128],
 ) -> Result<(), Memory>
-    ensures { OnOk result (tasks_of tasks.new.items ≡ model.initial_tasks (path_of at.now) of.0 of.1 k values.now (tasks_of tasks.old.items)) }
+    ensures { OnOk result (tasks_of tasks.new.items ≡ model.initial_tasks (path_of at.now) of.0 of.1 k values.now
+        (tasks_of tasks.old.items)) }
 {
     match values {
         [] => Ok(()),
@@ -198,7 +212,8 @@ pub(crate) fn clear_next(
     of: (u32, u32),
     count: u64,
 ) -> Result<Next, Memory>
-    ensures { IfOk result (λ n. next_of n ≡ model.task_next (program_of program.now) (launch_of launch.now) (item_of item) (way.Clear (path_of at.items) of.0 of.1 count) (item_of item).tasks) }
+    ensures { IfOk result (λ n. next_of n ≡ model.task_next (program_of program.now) (launch_of launch.now)
+        (item_of item) (way.Clear (path_of at.items) of.0 of.1 count) (item_of item).tasks) }
 {
     let mut item = item;
     let (_site, array) = of;
@@ -226,7 +241,9 @@ pub(crate) fn initialise_next(
     index: u64,
     value: i128,
 ) -> Result<Next, Memory>
-    ensures { IfOk result (λ n. (at : way.Point) → next_of n ≡ model.task_next (program_of program.now) (launch_of launch.now) (item_of item) (way.Initialise at of.0 of.1 index value) (item_of item).tasks) }
+    ensures { IfOk result (λ n. (at : way.Point) →
+        next_of n ≡ model.task_next (program_of program.now) (launch_of launch.now) (item_of item)
+        (way.Initialise at of.0 of.1 index value) (item_of item).tasks) }
 {
     let (site, array) = of;
     let object = object_at(alloc, program, launch, &item, Root::Private(array))?;

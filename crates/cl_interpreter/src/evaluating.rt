@@ -8,7 +8,17 @@ ghost use Rattle.cl_model.specs.Steps as model;
 ghost use Rattle.cl_model.specs.Calls.{function_at};
 ghost use Rattle.cl_model.specs.Task as way;
 ghost use Rattle.cl_model.specs.View.{launch_of};
-ghost use Rattle.cl_interpreter.specs.Trees.{action_of, array_of, expression_of, expressions_of, optional_of, statement_of, statements_of, arms_of, program_of};
+ghost use Rattle.cl_interpreter.specs.Trees.{
+  action_of,
+  array_of,
+  expression_of,
+  expressions_of,
+  optional_of,
+  statement_of,
+  statements_of,
+  arms_of,
+  program_of,
+};
 ghost use Rattle.cl_interpreter.specs.Tasks.{leg_of, path_of, task_of, tasks_of, item_of};
 ghost use Rattle.cl_interpreter.specs.Nexts.{next_of};
 ghost use Rattle.cl_interpreter.specs.Reasons.{IsReasonAt};
@@ -33,7 +43,11 @@ fn apply_next(
     action: Action,
     operands: Expressions,
 ) -> Result<Next, Memory>
-    ensures { IfOk result (λ n. next_of n ≡ items.Goes (model.with_tasks (item_of item) (model.each_operand (path_of at.items) 0 (expressions_of operands) (way.Finish (path_of at.items) (action_of action) (model.count_of (expressions_of operands)) ∷ (item_of item).tasks)))) }
+    ensures { IfOk result (λ n. next_of n ≡
+        items.Goes (model.with_tasks (item_of item)
+        (model.each_operand (path_of at.items) 0 (expressions_of operands)
+        (way.Finish (path_of at.items) (action_of action) (model.count_of (expressions_of operands)) ∷
+        (item_of item).tasks)))) }
 {
     let mut item = item;
     let count = count_of(&operands)?;
@@ -71,7 +85,12 @@ fn update_next(
     index: Expression,
     value: Expression,
 ) -> Result<Next, Memory>
-    ensures { IfOk result (λ n. next_of n ≡ items.Goes (model.with_tasks (item_of item) (way.Evaluate ((path_of at.items) ++ way.Operand 0 ∷ []) (expression_of index) ∷ way.Peek (path_of at.items) how.site how.element how.root ∷ way.Evaluate ((path_of at.items) ++ way.Operand 1 ∷ []) (expression_of value) ∷ way.Alter (path_of at.items) how.site how.element how.root how.op how.of how.back how.old ∷ (item_of item).tasks))) }
+    ensures { IfOk result (λ n. next_of n ≡
+        items.Goes (model.with_tasks (item_of item) (way.Evaluate ((path_of at.items) ++ way.Operand 0 ∷ [])
+        (expression_of index) ∷ way.Peek (path_of at.items) how.site how.element how.root ∷
+        way.Evaluate ((path_of at.items) ++ way.Operand 1 ∷ []) (expression_of value) ∷
+        way.Alter (path_of at.items) how.site how.element how.root how.op how.of how.back how.old ∷
+        (item_of item).tasks))) }
 {
     let Altered {
         site,
@@ -121,7 +140,9 @@ pub(crate) fn before_task(
     e: Expression,
     task: Task,
 ) -> Result<Next, Memory>
-    ensures { IfOk result (λ n. next_of n ≡ items.Goes (model.with_tasks (item_of item) (way.Evaluate (path_of at.now ++ leg_of leg ∷ []) (expression_of e) ∷ task_of task ∷ (item_of item).tasks))) }
+    ensures { IfOk result (λ n. next_of n ≡
+        items.Goes (model.with_tasks (item_of item) (way.Evaluate (path_of at.now ++ leg_of leg ∷ [])
+        (expression_of e) ∷ task_of task ∷ (item_of item).tasks))) }
 {
     let mut item = item;
     put(&mut item.tasks, task)?;
@@ -138,7 +159,11 @@ fn call_next(
     roots: Vec<Option<Root>>,
     arguments: Expressions,
 ) -> Result<Next, Memory>
-    ensures { IfOk result (λ n. next_of n ≡ items.Goes (model.with_tasks (item_of item) (model.each_operand (path_of at.items) 0 (expressions_of arguments) (way.Enter (path_of at.items) callee.0 callee.1 roots.items (model.count_of (expressions_of arguments)) ∷ (item_of item).tasks)))) }
+    ensures { IfOk result (λ n. next_of n ≡
+        items.Goes (model.with_tasks (item_of item)
+        (model.each_operand (path_of at.items) 0 (expressions_of arguments)
+        (way.Enter (path_of at.items) callee.0 callee.1 roots.items
+        (model.count_of (expressions_of arguments)) ∷ (item_of item).tasks)))) }
 {
     let mut item = item;
     let (site, function) = callee;
@@ -167,8 +192,10 @@ pub(crate) fn evaluate_next(
     at: Vec<Leg>,
     e: Expression,
 ) -> Result<Next, Error>
-    ensures next { IfOk result (λ n. next_of n ≡ model.evaluate_next (program_of program.now) (launch_of launch.now) (item_of item) (path_of at.items) (expression_of e) (item_of item).tasks) }
-    ensures reason { IfErr result (IsReasonAt (launch_of launch.now) (item_of item) (way.Evaluate (path_of at.items) (expression_of e))) }
+    ensures next { IfOk result (λ n. next_of n ≡ model.evaluate_next (program_of program.now)
+        (launch_of launch.now) (item_of item) (path_of at.items) (expression_of e) (item_of item).tasks) }
+    ensures reason { IfErr result (IsReasonAt (launch_of launch.now) (item_of item)
+        (way.Evaluate (path_of at.items) (expression_of e))) }
 {
     match e {
         Expression::Apply { action, operands } => match operands {

@@ -70,7 +70,8 @@ pub(crate) fn behind_break(tasks: &mut VecDeque<Task>)
 
 /// Drops the tasks in front of the nearest marker of a loop or a call.
 fn before_loop(tasks: &mut VecDeque<Task>)
-    ensures same { model.behind_continue (tasks_of tasks.new.items) ≡ model.behind_continue (tasks_of tasks.old.items) }
+    ensures same { model.behind_continue (tasks_of tasks.new.items) ≡
+        model.behind_continue (tasks_of tasks.old.items) }
     ensures stops { IsStop (first_mark_of tasks.new.items) }
 {
     while let Some(mark) = first_mark(tasks) {
@@ -126,7 +127,8 @@ pub(crate) fn behind_continue(alloc: Global, tasks: &mut VecDeque<Task>) -> Resu
 
 /// Drops the tasks in front of the nearest marker of a call, and the marker; false where there is none.
 fn behind_call(tasks: &mut VecDeque<Task>) -> bool
-    ensures { (i : way.Item) (values : List ℤ) → model.behind_return i (tasks_of tasks.old.items) values ≡ left_item result i (tasks_of tasks.new.items) values }
+    ensures { (i : way.Item) (values : List ℤ) → model.behind_return i (tasks_of tasks.old.items) values ≡
+        left_item result i (tasks_of tasks.new.items) values }
 {
     while let Some(mark) = first_mark(tasks) {
         drop_first(tasks);

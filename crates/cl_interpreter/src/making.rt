@@ -5,7 +5,19 @@ ghost use Rattle.cl_model.specs.Tree as model;
 ghost use Rattle.cl_model.specs.Sizes as sizes;
 ghost use Rattle.cl_model.specs.View as typed;
 ghost use Rattle.cl_interpreter.specs.Lists.{listed_roots, listed_arguments, listed_arms};
-ghost use Rattle.cl_interpreter.specs.Trees.{action_of, expression_of, expressions_of, optional_of, statement_of, statements_of, arms_of, array_of, table_of, function_of, program_of};
+ghost use Rattle.cl_interpreter.specs.Trees.{
+  action_of,
+  expression_of,
+  expressions_of,
+  optional_of,
+  statement_of,
+  statements_of,
+  arms_of,
+  array_of,
+  table_of,
+  function_of,
+  program_of,
+};
 
 use crate::queue::{beside, boxed_value};
 use crate::tree::{
@@ -112,7 +124,8 @@ fn on_one(alloc: Global, action: Action, a: Expression) -> Result<Expression, Me
 
 /// A step on the values of two expressions.
 fn on_two(alloc: Global, action: Action, a: Expression, b: Expression) -> Result<Expression, Memory>
-    ensures { IfOk result (λ e. expression_of e ≡ model.Apply (action_of action) (model.pair (expression_of a) (expression_of b))) }
+    ensures { IfOk result (λ e. expression_of e ≡
+        model.Apply (action_of action) (model.pair (expression_of a) (expression_of b))) }
 {
     let operands = more(alloc, b, Expressions::End)?;
     let operands = more(alloc, a, operands)?;
@@ -127,7 +140,8 @@ fn choice(
     chosen: Expression,
     other: Expression,
 ) -> Result<Expression, Memory>
-    ensures { IfOk result (λ e. expression_of e ≡ model.Choose site (expression_of test) (expression_of chosen) (expression_of other)) }
+    ensures { IfOk result (λ e. expression_of e ≡ model.Choose site (expression_of test) (expression_of chosen)
+        (expression_of other)) }
 {
     let test = boxed(alloc, test)?;
     let chosen = boxed(alloc, chosen)?;
@@ -174,7 +188,8 @@ struct Changing {
 
 /// The change of a variable.
 fn change(alloc: Global, x: u32, how: Changing, value: Expression) -> Result<Expression, Memory>
-    ensures { IfOk result (λ e. expression_of e ≡ model.Apply (model.Change x how.op how.of how.back how.old) (model.pair (model.Apply (model.Variable x) model.none) (expression_of value))) }
+    ensures { IfOk result (λ e. expression_of e ≡ model.Apply (model.Change x how.op how.of how.back how.old)
+        (model.pair (model.Apply (model.Variable x) model.none) (expression_of value))) }
 {
     let action = Action::Change {
         x,
@@ -195,7 +210,8 @@ fn updated(
     how: Changing,
     value: Expression,
 ) -> Result<Expression, Memory>
-    ensures { IfOk result (λ e. expression_of e ≡ typed.updated target.now how.op how.of how.back how.old (expression_of value)) }
+    ensures { IfOk result (λ e. expression_of e ≡ typed.updated target.now how.op how.of how.back how.old
+        (expression_of value)) }
 {
     match target {
         Target::Var(x) => change(alloc, *x, how, value),
@@ -233,7 +249,8 @@ fn truth(alloc: Global, a: Expression) -> Result<Expression, Memory>
 /// A call.
 #[cycle(expressions)]
 fn call(alloc: Global, site: u32, function: u32, args: &[Arg]) -> Result<Expression, Memory>
-    ensures { IfOk result (λ e. expression_of e ≡ model.Call site function (listed_roots args.now) (listed_arguments args.now)) }
+    ensures { IfOk result (λ e. expression_of e ≡ model.Call site function (listed_roots args.now)
+        (listed_arguments args.now)) }
 {
     let roots = roots(alloc, args)?;
     let arguments = arguments(alloc, args)?;
@@ -248,7 +265,8 @@ fn call(alloc: Global, site: u32, function: u32, args: &[Arg]) -> Result<Express
 /// A step on the values of expressions.
 #[cycle(expressions)]
 fn on_all(alloc: Global, action: Action, list: &[Expr]) -> Result<Expression, Memory>
-    ensures { IfOk result (λ e. expression_of e ≡ model.Apply (action_of action) (typed.listed_expressions list.now)) }
+    ensures { IfOk result (λ e. expression_of e ≡
+        model.Apply (action_of action) (typed.listed_expressions list.now)) }
 {
     let operands = expressions(alloc, list)?;
     Ok(Expression::Apply { action, operands })

@@ -1,14 +1,44 @@
 //! The objects of a launch and their numbers: each buffer; each constant table; per group, one for each local array and
 //! each argument of local memory; per item and path of calls, one for each private array (OpenCL 1.2, section 3.3).
 
-ghost use Rattle.std.specs.Prelude.{◌≡◌, ◌<◌, ◌+◌, ◌++◌, ◌∷◌, [], ℕ, IfOk, OnOk, length, map, slice_get, vec_len};
+ghost use Rattle.std.specs.Prelude.{
+  ◌≡◌,
+  ◌<◌,
+  ◌+◌,
+  ◌++◌,
+  ◌∷◌,
+  [],
+  ℕ,
+  IfOk,
+  OnOk,
+  length,
+  map,
+  slice_get,
+  vec_len,
+};
 ghost use Rattle.cl_model.specs.Calls as called;
 ghost use Rattle.cl_model.specs.Objects as model;
 ghost use Rattle.cl_model.specs.Steps as steps;
 ghost use Rattle.cl_model.specs.Steps.{object_at as object_at_of};
 ghost use Rattle.cl_model.specs.View.{launch_of};
-ghost use Rattle.cl_interpreter.specs.Trees.{expression_of, expressions_of, optional_of, statement_of, statements_of, arms_of, array_of, program_of};
-ghost use Rattle.cl_interpreter.specs.Objects.{call_of, instance_of, placed_of, is_chosen as is_chosen_of, chosen_of, placed_at};
+ghost use Rattle.cl_interpreter.specs.Trees.{
+  expression_of,
+  expressions_of,
+  optional_of,
+  statement_of,
+  statements_of,
+  arms_of,
+  array_of,
+  program_of,
+};
+ghost use Rattle.cl_interpreter.specs.Objects.{
+  call_of,
+  instance_of,
+  placed_of,
+  is_chosen as is_chosen_of,
+  chosen_of,
+  placed_at,
+};
 ghost use Rattle.cl_interpreter.specs.Tasks.{item_of, nth_object};
 
 use crate::bytes::size_of;
@@ -29,7 +59,8 @@ pub struct CallSite {
 /// Puts the calls of an expression behind others, in the order of the text.
 #[cycle(expressions)]
 fn calls_in(calls: &mut Vec<CallSite>, e: &Expression) -> Result<(), Memory>
-    ensures { OnOk result (map call_of calls.new.items ≡ map call_of calls.old.items ++ called.calls_in (expression_of e.now)) }
+    ensures { OnOk result (map call_of calls.new.items ≡ map call_of calls.old.items ++
+        called.calls_in (expression_of e.now)) }
 {
     match e {
         Expression::Apply { operands, .. } => calls_among(calls, operands),
@@ -68,7 +99,8 @@ fn calls_in(calls: &mut Vec<CallSite>, e: &Expression) -> Result<(), Memory>
 
 #[cycle(expressions)]
 fn calls_among(calls: &mut Vec<CallSite>, list: &Expressions) -> Result<(), Memory>
-    ensures { OnOk result (map call_of calls.new.items ≡ map call_of calls.old.items ++ called.calls_among (expressions_of list.now)) }
+    ensures { OnOk result (map call_of calls.new.items ≡ map call_of calls.old.items ++
+        called.calls_among (expressions_of list.now)) }
 {
     match list {
         Expressions::End => Ok(()),
@@ -80,7 +112,8 @@ fn calls_among(calls: &mut Vec<CallSite>, list: &Expressions) -> Result<(), Memo
 }
 
 fn calls_in_optional(calls: &mut Vec<CallSite>, e: &Option<Expression>) -> Result<(), Memory>
-    ensures { OnOk result (map call_of calls.new.items ≡ map call_of calls.old.items ++ called.calls_in_optional (optional_of e.now)) }
+    ensures { OnOk result (map call_of calls.new.items ≡ map call_of calls.old.items ++
+        called.calls_in_optional (optional_of e.now)) }
 {
     match e {
         None => Ok(()),
@@ -90,7 +123,8 @@ fn calls_in_optional(calls: &mut Vec<CallSite>, e: &Option<Expression>) -> Resul
 
 #[cycle(statements)]
 fn calls_of(calls: &mut Vec<CallSite>, s: &Statement) -> Result<(), Memory>
-    ensures { OnOk result (map call_of calls.new.items ≡ map call_of calls.old.items ++ called.calls_of (statement_of s.now)) }
+    ensures { OnOk result (map call_of calls.new.items ≡ map call_of calls.old.items ++
+        called.calls_of (statement_of s.now)) }
 {
     match s {
         Statement::Do(e) => calls_in(calls, e),
@@ -129,7 +163,8 @@ fn calls_of(calls: &mut Vec<CallSite>, s: &Statement) -> Result<(), Memory>
 
 #[cycle(statements)]
 fn calls_of_all(calls: &mut Vec<CallSite>, list: &Statements) -> Result<(), Memory>
-    ensures { OnOk result (map call_of calls.new.items ≡ map call_of calls.old.items ++ called.calls_of_all (statements_of list.now)) }
+    ensures { OnOk result (map call_of calls.new.items ≡ map call_of calls.old.items ++
+        called.calls_of_all (statements_of list.now)) }
 {
     match list {
         Statements::End => Ok(()),
@@ -142,7 +177,8 @@ fn calls_of_all(calls: &mut Vec<CallSite>, list: &Statements) -> Result<(), Memo
 
 #[cycle(statements)]
 fn calls_of_arms(calls: &mut Vec<CallSite>, arms: &Arms) -> Result<(), Memory>
-    ensures { OnOk result (map call_of calls.new.items ≡ map call_of calls.old.items ++ called.calls_of_arms (arms_of arms.now)) }
+    ensures { OnOk result (map call_of calls.new.items ≡ map call_of calls.old.items ++
+        called.calls_of_arms (arms_of arms.now)) }
 {
     match arms {
         Arms::End => Ok(()),
@@ -188,7 +224,8 @@ fn put_instance(
     path: &[u32],
     function: u32,
 ) -> Result<(), Memory>
-    ensures { OnOk result (map instance_of instances.new.items ≡ map instance_of instances.old.items ++ record { path = path.now; function = function } ∷ []) }
+    ensures { OnOk result (map instance_of instances.new.items ≡ map instance_of instances.old.items ++
+        record { path = path.now; function = function } ∷ []) }
 {
     let path = same_numbers(alloc, path)?;
     match instances.push(Instance { path, function }) {
@@ -199,7 +236,8 @@ fn put_instance(
 
 /// The calls of the function with this number, none where there is no such function.
 fn calls_at(alloc: Global, program: &Program, function: u32) -> Result<Vec<CallSite>, Memory>
-    ensures { IfOk result (λ v. map call_of v.items ≡ called.calls_of_all (called.function_at (program_of program.now) function).body) }
+    ensures { IfOk result (λ v. map call_of v.items ≡
+        called.calls_of_all (called.function_at (program_of program.now) function).body) }
 {
     let mut calls = Vec::new(alloc);
     if let Some(function) = program.functions.get(function as usize) {
@@ -218,7 +256,8 @@ fn instances_below(
     path: &[u32],
     function: u32,
 ) -> Result<(), Memory>
-    ensures { OnOk result (map instance_of instances.new.items ≡ map instance_of instances.old.items ++ called.instances_below (program_of program.now) depth path.now function) }
+    ensures { OnOk result (map instance_of instances.new.items ≡ map instance_of instances.old.items ++
+        called.instances_below (program_of program.now) depth path.now function) }
 {
     if depth == 0 {
         return Ok(());
@@ -260,7 +299,8 @@ fn put_arrays(
     path: &[u32],
     arrays: &[Array],
 ) -> Result<(), Memory>
-    ensures { OnOk result (map placed_of placed.new.items ≡ map placed_of placed.old.items ++ chosen_of local (model.placed_from path.now 0 (map array_of arrays.now))) }
+    ensures { OnOk result (map placed_of placed.new.items ≡ map placed_of placed.old.items ++
+        chosen_of local (model.placed_from path.now 0 (map array_of arrays.now))) }
 {
     for (number, array) in arrays.iter().enumerate() {
         if is_chosen(local, *array) {
@@ -287,7 +327,8 @@ fn put_placed(
     program: &Program,
     instance: &Instance,
 ) -> Result<(), Memory>
-    ensures { OnOk result (map placed_of placed.new.items ≡ map placed_of placed.old.items ++ chosen_of local (placed_at (program_of program.now) (instance_of instance.now))) }
+    ensures { OnOk result (map placed_of placed.new.items ≡ map placed_of placed.old.items ++
+        chosen_of local (placed_at (program_of program.now) (instance_of instance.now))) }
 {
     match program.functions.get(instance.function as usize) {
         Some(function) => put_arrays(alloc, placed, local, &instance.path, &function.arrays),
@@ -301,7 +342,8 @@ pub(crate) fn arrays_in(
     program: &Program,
     local: bool,
 ) -> Result<Vec<PlacedArray>, Memory>
-    ensures { IfOk result (λ v. map placed_of v.items ≡ chosen_of local (model.placed_arrays (program_of program.now))) }
+    ensures { IfOk result (λ v. map placed_of v.items ≡
+        chosen_of local (model.placed_arrays (program_of program.now))) }
 {
     let mut instances = Vec::new(alloc);
     let path = Vec::new(alloc);
@@ -405,7 +447,8 @@ fn argument_object(
     parameter: usize,
 ) -> Result<u64, Memory>
     requires { parameter < vec_len launch.now.args }
-    ensures { IfOk result (λ n. n ≡ model.argument_object (program_of program.now) (launch_of launch.now) group parameter (slice_get launch.now.args.items parameter)) }
+    ensures { IfOk result (λ n. n ≡ model.argument_object (program_of program.now) (launch_of launch.now) group
+        parameter (slice_get launch.now.args.items parameter)) }
 {
     match launch.args[parameter] {
         Bound::Buffer(b) => Ok(u64::from(b)),
@@ -427,7 +470,8 @@ pub(crate) fn kernel_objects(
     launch: &Launch,
     item: u64,
 ) -> Result<Vec<u64>, Memory>
-    ensures { IfOk result (λ v. (n : ℕ) → nth_object v.items n ≡ model.kernel_objects (program_of program.now) (launch_of launch.now) item n) }
+    ensures { IfOk result (λ v. (n : ℕ) →
+        nth_object v.items n ≡ model.kernel_objects (program_of program.now) (launch_of launch.now) item n) }
 {
     let group = group_of(launch, item)?;
     let mut objects = Vec::new(alloc);
@@ -467,7 +511,8 @@ fn object_of(
     seat: Seat<'_>,
     root: Root,
 ) -> Result<u64, Memory>
-    ensures { IfOk result (λ n. n ≡ model.object_of (program_of program.now) (launch_of launch.now) seat.entry.item seat.entry.path.now (nth_object seat.entry.objects.now) root) }
+    ensures { IfOk result (λ n. n ≡ model.object_of (program_of program.now) (launch_of launch.now) seat.entry.item
+        seat.entry.path.now (nth_object seat.entry.objects.now) root) }
 {
     match root {
         Root::Param(n) => Ok(object_in(seat.objects, n)),
@@ -494,7 +539,8 @@ pub(crate) fn object_at(
     item: &Item,
     root: Root,
 ) -> Result<u64, Memory>
-    ensures { IfOk result (λ n. n ≡ object_at_of (program_of program.now) (launch_of launch.now) (item_of item.now) root) }
+    ensures { IfOk result (λ n. n ≡ object_at_of (program_of program.now) (launch_of launch.now) (item_of item.now)
+        root) }
 {
     match item.frames.front() {
         Some(frame) => {
@@ -524,7 +570,9 @@ pub(crate) fn passed_objects(
     item: &Item,
     roots: &[Option<Root>],
 ) -> Result<Vec<u64>, Memory>
-    ensures { IfOk result (λ v. (n : ℕ) → nth_object v.items n ≡ steps.passed_object (program_of program.now) (launch_of launch.now) (item_of item.now) (slice_get roots.now n)) }
+    ensures { IfOk result (λ v. (n : ℕ) →
+        nth_object v.items n ≡ steps.passed_object (program_of program.now) (launch_of launch.now)
+        (item_of item.now) (slice_get roots.now n)) }
 {
     let mut objects = Vec::new(alloc);
     for root in roots {

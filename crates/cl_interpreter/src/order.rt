@@ -3,7 +3,14 @@
 ghost use Rattle.std.specs.Prelude.{◌≡◌, ◌∷◌, [], ◌++◌, suc, IfOk, OnOk};
 ghost use Rattle.cl_model.specs.Task as model;
 ghost use Rattle.cl_model.specs.Steps as steps;
-ghost use Rattle.cl_interpreter.specs.Trees.{expression_of, expressions_of, optional_of, statement_of, statements_of, arms_of};
+ghost use Rattle.cl_interpreter.specs.Trees.{
+  expression_of,
+  expressions_of,
+  optional_of,
+  statement_of,
+  statements_of,
+  arms_of,
+};
 ghost use Rattle.cl_interpreter.specs.Tasks.{leg_of, path_of, task_of, tasks_of};
 
 use crate::copying;
@@ -60,7 +67,8 @@ pub(crate) fn put_expression(
     leg: Leg,
     e: Expression,
 ) -> Result<(), Memory>
-    ensures { OnOk result (tasks_of tasks.new.items ≡ model.Evaluate (path_of at.now ++ leg_of leg ∷ []) (expression_of e) ∷ tasks_of tasks.old.items) }
+    ensures { OnOk result (tasks_of tasks.new.items ≡ model.Evaluate (path_of at.now ++ leg_of leg ∷ [])
+        (expression_of e) ∷ tasks_of tasks.old.items) }
 {
     let at = further(alloc, at, leg)?;
     put(tasks, Task::Evaluate { at, e })
@@ -74,7 +82,8 @@ pub(crate) fn put_statement(
     leg: Leg,
     s: Statement,
 ) -> Result<(), Memory>
-    ensures { OnOk result (tasks_of tasks.new.items ≡ model.Run (path_of at.now ++ leg_of leg ∷ []) (statement_of s) ∷ tasks_of tasks.old.items) }
+    ensures { OnOk result (tasks_of tasks.new.items ≡ model.Run (path_of at.now ++ leg_of leg ∷ [])
+        (statement_of s) ∷ tasks_of tasks.old.items) }
 {
     let (at, s) = beside(further(alloc, at, leg), s)?;
     put(tasks, Task::Run { at, s })
@@ -111,7 +120,8 @@ pub(crate) fn each_operand(
     k: u64,
     list: Expressions,
 ) -> Result<(), Memory>
-    ensures { OnOk result (tasks_of tasks.new.items ≡ steps.each_operand (path_of at.now) k (expressions_of list) (tasks_of tasks.old.items)) }
+    ensures { OnOk result (tasks_of tasks.new.items ≡ steps.each_operand (path_of at.now) k (expressions_of list)
+        (tasks_of tasks.old.items)) }
 {
     match list {
         Expressions::End => Ok(()),
@@ -131,7 +141,8 @@ pub(crate) fn in_order(
     k: u64,
     list: Statements,
 ) -> Result<(), Memory>
-    ensures { OnOk result (tasks_of tasks.new.items ≡ steps.in_order (path_of at.now) k (statements_of list) (tasks_of tasks.old.items)) }
+    ensures { OnOk result (tasks_of tasks.new.items ≡ steps.in_order (path_of at.now) k (statements_of list)
+        (tasks_of tasks.old.items)) }
 {
     match list {
         Statements::End => Ok(()),
@@ -151,7 +162,8 @@ pub(crate) fn arm_tasks(
     k: u64,
     arms: Arms,
 ) -> Result<(), Memory>
-    ensures { OnOk result (tasks_of tasks.new.items ≡ steps.arm_tasks (path_of at.now) k (arms_of arms) (tasks_of tasks.old.items)) }
+    ensures { OnOk result (tasks_of tasks.new.items ≡ steps.arm_tasks (path_of at.now) k (arms_of arms)
+        (tasks_of tasks.old.items)) }
 {
     match arms {
         Arms::End => Ok(()),
@@ -172,7 +184,8 @@ pub(crate) fn test_tasks(
     k: u64,
     test: Option<Expression>,
 ) -> Result<(), Memory>
-    ensures { OnOk result (tasks_of tasks.new.items ≡ steps.test_tasks (path_of at.now) k (optional_of test) (tasks_of tasks.old.items)) }
+    ensures { OnOk result (tasks_of tasks.new.items ≡ steps.test_tasks (path_of at.now) k (optional_of test)
+        (tasks_of tasks.old.items)) }
 {
     match test {
         None => Ok(()),
@@ -191,7 +204,8 @@ pub(crate) fn step_tasks(
     k: u64,
     step: Option<Expression>,
 ) -> Result<(), Memory>
-    ensures { OnOk result (tasks_of tasks.new.items ≡ steps.step_tasks (path_of at.now) k (optional_of step) (tasks_of tasks.old.items)) }
+    ensures { OnOk result (tasks_of tasks.new.items ≡ steps.step_tasks (path_of at.now) k (optional_of step)
+        (tasks_of tasks.old.items)) }
 {
     match step {
         None => Ok(()),
@@ -221,7 +235,8 @@ pub(crate) fn put_loop(
     of: Repeated,
     begun: u64,
 ) -> Result<(), Memory>
-    ensures { OnOk result (tasks_of tasks.new.items ≡ model.InLoop (path_of at.now) of.site (optional_of of.test) (optional_of of.step) (statement_of of.body) begun ∷ tasks_of tasks.old.items) }
+    ensures { OnOk result (tasks_of tasks.new.items ≡ model.InLoop (path_of at.now) of.site (optional_of of.test)
+        (optional_of of.step) (statement_of of.body) begun ∷ tasks_of tasks.old.items) }
 {
     let at = same_way(alloc, at)?;
     let Repeated {
@@ -252,7 +267,10 @@ pub(crate) fn put_rest(
     k: u64,
 ) -> Result<(), Memory>
     ensures { OnOk result (tasks_of tasks.new.items
-        ≡ steps.step_tasks (path_of at.now) k (optional_of of.step) (steps.test_tasks (path_of at.now) k (optional_of of.test) (model.InLoop (path_of at.now) of.site (optional_of of.test) (optional_of of.step) (statement_of of.body) k ∷ tasks_of tasks.old.items))) }
+        ≡ steps.step_tasks (path_of at.now) k (optional_of of.step)
+        (steps.test_tasks (path_of at.now) k (optional_of of.test)
+        (model.InLoop (path_of at.now) of.site (optional_of of.test) (optional_of of.step) (statement_of of.body)
+        k ∷ tasks_of tasks.old.items))) }
 {
     let (test, of) = beside(copying::optional(alloc, &of.test), of)?;
     let (step, (of, test)) = beside(copying::optional(alloc, &of.step), (of, test))?;
@@ -269,7 +287,8 @@ pub(crate) fn iteration(
     of: Repeated,
     k: u64,
 ) -> Result<(), Memory>
-    ensures { OnOk result (tasks_of tasks.new.items ≡ steps.iteration (path_of at.now) of.site (optional_of of.test) (optional_of of.step) (statement_of of.body) k (tasks_of tasks.old.items)) }
+    ensures { OnOk result (tasks_of tasks.new.items ≡ steps.iteration (path_of at.now) of.site (optional_of of.test)
+        (optional_of of.step) (statement_of of.body) k (tasks_of tasks.old.items)) }
 {
     let (body, of) = beside(copying::statement(alloc, &of.body), of)?;
     let (_, body) = beside(put_rest(alloc, tasks, at, of, k), body)?;

@@ -1,5 +1,5 @@
-//! What holds of any kind of thing: lists to which something is put or from which something is taken in front, and what is
-//! kept beside a value while it is made.
+//! What holds of any kind of thing: lists to which something is put or from which something is taken in front, and
+//! what is kept beside a value while it is made.
 
 ghost use Rattle.std.specs.Prelude.{◌≡◌, ◌∷◌, [], ◌++◌, Ok, Err, IfOk, IfErr, OnOk, drop};
 

@@ -8,7 +8,17 @@ ghost use Rattle.cl_model.specs.Steps as model;
 ghost use Rattle.cl_model.specs.Calls.{function_at};
 ghost use Rattle.cl_model.specs.Task as way;
 ghost use Rattle.cl_model.specs.View.{launch_of};
-ghost use Rattle.cl_interpreter.specs.Trees.{action_of, array_of, expression_of, expressions_of, optional_of, statement_of, statements_of, arms_of, program_of};
+ghost use Rattle.cl_interpreter.specs.Trees.{
+  action_of,
+  array_of,
+  expression_of,
+  expressions_of,
+  optional_of,
+  statement_of,
+  statements_of,
+  arms_of,
+  program_of,
+};
 ghost use Rattle.cl_interpreter.specs.Tasks.{leg_of, path_of, task_of, tasks_of, item_of};
 ghost use Rattle.cl_interpreter.specs.Nexts.{next_of};
 
@@ -35,7 +45,9 @@ fn declare_next(
     x: u32,
     value: Option<Expression>,
 ) -> Result<Next, Memory>
-    ensures { IfOk result (λ n. (p : tree.Program) → next_of n ≡ model.run_next p (item_of item) (path_of at.items) (tree.Declare x (optional_of value)) (item_of item).tasks) }
+    ensures { IfOk result (λ n. (p : tree.Program) →
+        next_of n ≡ model.run_next p (item_of item) (path_of at.items) (tree.Declare x (optional_of value))
+        (item_of item).tasks) }
 {
     let mut item = item;
     match value {
@@ -66,7 +78,9 @@ fn fill_next(
     array: u32,
     values: Expressions,
 ) -> Result<Next, Memory>
-    ensures { IfOk result (λ n. (p : tree.Program) → next_of n ≡ model.run_next p (item_of item) (path_of at.items) (tree.Fill site array (expressions_of values)) (item_of item).tasks) }
+    ensures { IfOk result (λ n. (p : tree.Program) →
+        next_of n ≡ model.run_next p (item_of item) (path_of at.items)
+        (tree.Fill site array (expressions_of values)) (item_of item).tasks) }
 {
     let mut item = item;
     let count = count_of(&values)?;
@@ -92,7 +106,10 @@ fn loop_next(
     test_first: bool,
     of: Repeated,
 ) -> Result<Next, Memory>
-    ensures { IfOk result (λ n. (p : tree.Program) → next_of n ≡ model.run_next p (item_of item) (path_of at.items) (tree.Loop of.site test_first (optional_of of.test) (optional_of of.step) (statement_of of.body)) (item_of item).tasks) }
+    ensures { IfOk result (λ n. (p : tree.Program) →
+        next_of n ≡ model.run_next p (item_of item) (path_of at.items)
+        (tree.Loop of.site test_first (optional_of of.test) (optional_of of.step) (statement_of of.body))
+        (item_of item).tasks) }
 {
     let mut item = item;
     if test_first {
@@ -117,7 +134,9 @@ fn return_next(
     _site: u32,
     value: Option<Expression>,
 ) -> Result<Next, Memory>
-    ensures { IfOk result (λ n. (p : tree.Program) → next_of n ≡ model.run_next p (item_of item) (path_of at.items) (tree.Return _site (optional_of value)) (item_of item).tasks) }
+    ensures { IfOk result (λ n. (p : tree.Program) →
+        next_of n ≡ model.run_next p (item_of item) (path_of at.items) (tree.Return _site (optional_of value))
+        (item_of item).tasks) }
 {
     let mut item = item;
     match value {
@@ -143,7 +162,9 @@ fn return_next(
 
 /// The step of `break` and of `continue`.
 fn jump_next(alloc: Global, item: Item, ends: bool) -> Result<Next, Memory>
-    ensures { IfOk result (λ n. next_of n ≡ items.Goes (model.with_tasks (item_of item) (if ends then model.behind_break (item_of item).tasks else model.behind_continue (item_of item).tasks))) }
+    ensures { IfOk result (λ n. next_of n ≡
+        items.Goes (model.with_tasks (item_of item) (if ends then model.behind_break (item_of item).tasks else
+        model.behind_continue (item_of item).tasks))) }
 {
     let mut item = item;
     if ends {
@@ -156,7 +177,9 @@ fn jump_next(alloc: Global, item: Item, ends: bool) -> Result<Next, Memory>
 
 /// The step of statements that begin.
 fn block_next(alloc: Global, item: Item, at: Vec<Leg>, list: Statements) -> Result<Next, Memory>
-    ensures { IfOk result (λ n. next_of n ≡ items.Goes (model.with_tasks (item_of item) (model.in_order (path_of at.items) 0 (statements_of list) (item_of item).tasks))) }
+    ensures { IfOk result (λ n. next_of n ≡
+        items.Goes (model.with_tasks (item_of item) (model.in_order (path_of at.items) 0 (statements_of list)
+        (item_of item).tasks))) }
 {
     let mut item = item;
     in_order(alloc, &mut item.tasks, &at, 0, list)?;
@@ -170,7 +193,8 @@ pub(crate) fn run_next(
     at: Vec<Leg>,
     s: Statement,
 ) -> Result<Next, Memory>
-    ensures { IfOk result (λ n. (p : tree.Program) → next_of n ≡ model.run_next p (item_of item) (path_of at.items) (statement_of s) (item_of item).tasks) }
+    ensures { IfOk result (λ n. (p : tree.Program) →
+        next_of n ≡ model.run_next p (item_of item) (path_of at.items) (statement_of s) (item_of item).tasks) }
 {
     match s {
         Statement::Do(e) => {

@@ -8,7 +8,17 @@ ghost use Rattle.cl_model.specs.Steps as model;
 ghost use Rattle.cl_model.specs.Calls.{function_at};
 ghost use Rattle.cl_model.specs.Task as way;
 ghost use Rattle.cl_model.specs.View.{launch_of};
-ghost use Rattle.cl_interpreter.specs.Trees.{action_of, array_of, expression_of, expressions_of, optional_of, statement_of, statements_of, arms_of, program_of};
+ghost use Rattle.cl_interpreter.specs.Trees.{
+  action_of,
+  array_of,
+  expression_of,
+  expressions_of,
+  optional_of,
+  statement_of,
+  statements_of,
+  arms_of,
+  program_of,
+};
 ghost use Rattle.cl_interpreter.specs.Tasks.{leg_of, path_of, task_of, tasks_of, item_of};
 ghost use Rattle.cl_interpreter.specs.Nexts.{next_of};
 ghost use Rattle.cl_interpreter.specs.Entries.{found_of};
@@ -43,7 +53,8 @@ struct Entry {
 
 /// The arm at which a `switch` is entered by this test of its labels and of its `default`.
 fn entered(v: i128, by_label: bool, k: u64, arms: Arms) -> Result<Option<Entry>, Memory>
-    ensures { IfOk result (λ o. found_of o ≡ (if by_label then model.labelled v k (arms_of arms) else model.defaulted k (arms_of arms))) }
+    ensures { IfOk result (λ o. found_of o ≡
+        (if by_label then model.labelled v k (arms_of arms) else model.defaulted k (arms_of arms))) }
 {
     match arms {
         Arms::End => Ok(None),
@@ -92,7 +103,9 @@ pub(crate) fn select_next(
     site: u32,
     arms: Arms,
 ) -> Result<Next, Memory>
-    ensures { IfOk result (λ n. (p : tree.Program) (l : sizes.Launch) → next_of n ≡ model.task_next p l (item_of item) (way.Select (path_of at.items) site (arms_of arms)) (item_of item).tasks) }
+    ensures { IfOk result (λ n. (p : tree.Program) (l : sizes.Launch) →
+        next_of n ≡ model.task_next p l (item_of item) (way.Select (path_of at.items) site (arms_of arms))
+        (item_of item).tasks) }
 {
     let mut item = item;
     let v = pop(&mut item.values);

@@ -1,6 +1,22 @@
 //! The sizes of a launch, and what the work-item functions give (OpenCL 1.2, sections 3.2 and 6.12.1).
 
-ghost use Rattle.std.specs.Prelude.{◌≡◌, ◌*◌, ◌/◌, ◌%◌, ◌^◌, ◌<◌, ◌≤◌, ◌∷◌, [], ℕ, pos, ◌≤ℤ◌, IfOk, IfErr, take};
+ghost use Rattle.std.specs.Prelude.{
+  ◌≡◌,
+  ◌*◌,
+  ◌/◌,
+  ◌%◌,
+  ◌^◌,
+  ◌<◌,
+  ◌≤◌,
+  ◌∷◌,
+  [],
+  ℕ,
+  pos,
+  ◌≤ℤ◌,
+  IfOk,
+  IfErr,
+  take,
+};
 ghost use Rattle.cl_model.specs.Sizes as model;
 ghost use Rattle.cl_model.specs.View.{launch_of, three_of};
 ghost use Rattle.cl_interpreter.specs.Reasons.{IsReason};
@@ -158,7 +174,8 @@ fn answer_outside(launch: &Launch, what: Query) -> u64
 /// What a work-item function gives an item for an argument.
 pub(crate) fn answer(launch: &Launch, item: u64, what: Query, argument: i128) -> Result<i128, Error>
     ensures value { IfOk result (λ v. v ≡ model.answer_of (launch_of launch.now) item what argument) }
-    ensures reason { IfErr result (IsReason (pos (2 ^ 64) ≤ℤ model.answer_of (launch_of launch.now) item what argument) ⊥) }
+    ensures reason { IfErr result (IsReason (pos (2 ^ 64) ≤ℤ model.answer_of (launch_of launch.now) item what
+        argument) ⊥) }
 {
     match argument {
         0 => Ok(i128::from(answer_within(launch, item, what, 0)?)),

@@ -66,7 +66,8 @@ fn kernel_frame(
     launch: &Launch,
     number: u64,
 ) -> Result<Frame, Memory>
-    ensures { IfOk result (λ f. frame_of f ≡ meaning.kernel_frame (program_of program.now) (typed.launch_of launch.now) number) }
+    ensures { IfOk result (λ f. frame_of f ≡ meaning.kernel_frame (program_of program.now)
+        (typed.launch_of launch.now) number) }
 {
     let path = Vec::new(alloc);
     let objects = kernel_objects(alloc, program, launch, number)?;
@@ -86,7 +87,8 @@ fn start_item(
     launch: &Launch,
     number: u64,
 ) -> Result<Item, Memory>
-    ensures { IfOk result (λ i. item_of i ≡ meaning.start_item (program_of program.now) (typed.launch_of launch.now) number) }
+    ensures { IfOk result (λ i. item_of i ≡ meaning.start_item (program_of program.now)
+        (typed.launch_of launch.now) number) }
 {
     let body = kernel_body(alloc, program)?;
     let task = Task::Run {
@@ -114,7 +116,8 @@ pub(crate) fn start_items(
     program: &Program,
     launch: &Launch,
 ) -> Result<Vec<Item>, Memory>
-    ensures { IfOk result (λ v. map item_of v.items ≡ meaning.start_items (program_of program.now) (typed.launch_of launch.now) 0 (sizes.item_count (typed.launch_of launch.now))) }
+    ensures { IfOk result (λ v. map item_of v.items ≡ meaning.start_items (program_of program.now)
+        (typed.launch_of launch.now) 0 (sizes.item_count (typed.launch_of launch.now))) }
 {
     let mut items = Vec::new(alloc);
     for number in 0..item_count(launch)? {
@@ -149,7 +152,8 @@ fn put_size(sizes: &mut Vec<u64>, size: u64) -> Result<(), Memory>
 
 /// How many bytes each of these arrays has, behind other sizes.
 fn put_array_sizes(sizes: &mut Vec<u64>, arrays: &[PlacedArray]) -> Result<(), Memory>
-    ensures { OnOk result (sizes.new.items ≡ sizes.old.items ++ map (λ (a : objects.PlacedArray). objects.array_bytes a.array) (map placed_of arrays.now)) }
+    ensures { OnOk result (sizes.new.items ≡ sizes.old.items ++
+        map (λ (a : objects.PlacedArray). objects.array_bytes a.array) (map placed_of arrays.now)) }
 {
     for placed in arrays {
         put_size(sizes, array_bytes(placed.array)?)?;
@@ -171,7 +175,8 @@ fn put_argument_sizes(sizes: &mut Vec<u64>, args: &[Bound]) -> Result<(), Memory
 
 /// The sizes of the local objects of a group.
 fn local_sizes(alloc: Global, program: &Program, launch: &Launch) -> Result<Vec<u64>, Memory>
-    ensures { IfOk result (λ v. v.items ≡ objects.local_sizes (program_of program.now) (typed.launch_of launch.now)) }
+    ensures { IfOk result (λ v. v.items ≡ objects.local_sizes (program_of program.now)
+        (typed.launch_of launch.now)) }
 {
     let arrays = arrays_in(alloc, program, true)?;
     let mut sizes = Vec::new(alloc);
@@ -208,7 +213,8 @@ fn put_copies(
     count: u64,
     sizes: &[u64],
 ) -> Result<(), Memory>
-    ensures { OnOk result (bytes_in memory.new.items ≡ bytes_in memory.old.items ++ objects.copies count (map objects.zeros sizes.now)) }
+    ensures { OnOk result (bytes_in memory.new.items ≡ bytes_in memory.old.items ++
+        objects.copies count (map objects.zeros sizes.now)) }
 {
     for _k in 0..count {
         put_zeros(alloc, memory, sizes)?;
@@ -218,7 +224,8 @@ fn put_copies(
 
 /// The constant tables behind other objects.
 fn put_tables(alloc: Global, memory: &mut Vec<Vec<u8>>, tables: &[Table]) -> Result<(), Memory>
-    ensures { OnOk result (bytes_in memory.new.items ≡ bytes_in memory.old.items ++ map (λ (t : tree.Table). t.bytes) (map table_of tables.now)) }
+    ensures { OnOk result (bytes_in memory.new.items ≡ bytes_in memory.old.items ++
+        map (λ (t : tree.Table). t.bytes) (map table_of tables.now)) }
 {
     for table in tables {
         match table.bytes.as_slice().to_vec(alloc) {
@@ -236,7 +243,8 @@ pub(crate) fn start_memory(
     launch: &Launch,
     buffers: &Buffers,
 ) -> Result<Vec<Vec<u8>>, Memory>
-    ensures { IfOk result (λ m. bytes_in m.items ≡ objects.start_memory (program_of program.now) (typed.launch_of launch.now) (typed.buffers_of buffers.now)) }
+    ensures { IfOk result (λ m. bytes_in m.items ≡ objects.start_memory (program_of program.now)
+        (typed.launch_of launch.now) (typed.buffers_of buffers.now)) }
 {
     let Buffers { list: mut memory } = buffers.copy(alloc)?;
     put_tables(alloc, &mut memory, &program.tables)?;

@@ -8,7 +8,17 @@ ghost use Rattle.cl_model.specs.Steps as model;
 ghost use Rattle.cl_model.specs.Calls.{function_at};
 ghost use Rattle.cl_model.specs.Task as way;
 ghost use Rattle.cl_model.specs.View.{launch_of};
-ghost use Rattle.cl_interpreter.specs.Trees.{action_of, array_of, expression_of, expressions_of, optional_of, statement_of, statements_of, arms_of, program_of};
+ghost use Rattle.cl_interpreter.specs.Trees.{
+  action_of,
+  array_of,
+  expression_of,
+  expressions_of,
+  optional_of,
+  statement_of,
+  statements_of,
+  arms_of,
+  program_of,
+};
 ghost use Rattle.cl_interpreter.specs.Tasks.{leg_of, path_of, task_of, tasks_of, item_of};
 ghost use Rattle.cl_interpreter.specs.Nexts.{next_of};
 ghost use Rattle.cl_interpreter.specs.Reasons.{IsReasonAt, IsReasonOf};
@@ -39,8 +49,12 @@ fn alter_next(
     item: Item,
     how: Altered,
 ) -> Result<Next, Error>
-    ensures next { IfOk result (λ n. (at : way.Point) → next_of n ≡ model.task_next (program_of program.now) (launch_of launch.now) (item_of item) (way.Alter at how.site how.element how.root how.op how.of how.back how.old) (item_of item).tasks) }
-    ensures reason { IfErr result (λ e. (at : way.Point) → IsReasonAt (launch_of launch.now) (item_of item) (way.Alter at how.site how.element how.root how.op how.of how.back how.old) e) }
+    ensures next { IfOk result (λ n. (at : way.Point) →
+        next_of n ≡ model.task_next (program_of program.now) (launch_of launch.now) (item_of item)
+        (way.Alter at how.site how.element how.root how.op how.of how.back how.old) (item_of item).tasks) }
+    ensures reason { IfErr result (λ e. (at : way.Point) →
+        IsReasonAt (launch_of launch.now) (item_of item) (way.Alter at how.site how.element how.root how.op how.of
+        how.back how.old) e) }
 {
     let mut item = item;
     let right = pop(&mut item.values);
@@ -64,7 +78,9 @@ fn decide_next(
     chosen: Expression,
     other: Expression,
 ) -> Result<Next, Memory>
-    ensures { IfOk result (λ n. (p : tree.Program) (l : sizes.Launch) → next_of n ≡ model.task_next p l (item_of item) (way.Decide (path_of at.items) (expression_of chosen) (expression_of other)) (item_of item).tasks) }
+    ensures { IfOk result (λ n. (p : tree.Program) (l : sizes.Launch) →
+        next_of n ≡ model.task_next p l (item_of item) (way.Decide (path_of at.items) (expression_of chosen)
+        (expression_of other)) (item_of item).tasks) }
 {
     let mut item = item;
     if pop(&mut item.values) == 0 {
@@ -84,7 +100,9 @@ fn branch_next(
     chosen: Statements,
     other: Statements,
 ) -> Result<Next, Memory>
-    ensures { IfOk result (λ n. (p : tree.Program) (l : sizes.Launch) → next_of n ≡ model.task_next p l (item_of item) (way.Branch (path_of at.items) (statements_of chosen) (statements_of other)) (item_of item).tasks) }
+    ensures { IfOk result (λ n. (p : tree.Program) (l : sizes.Launch) →
+        next_of n ≡ model.task_next p l (item_of item) (way.Branch (path_of at.items) (statements_of chosen)
+        (statements_of other)) (item_of item).tasks) }
 {
     let mut item = item;
     if pop(&mut item.values) == 0 {
@@ -105,8 +123,13 @@ fn turn_next(
     of: Repeated,
     begun: u64,
 ) -> Result<Next, Error>
-    ensures next { IfOk result (λ n. (p : tree.Program) (l : sizes.Launch) → next_of n ≡ model.task_next p l (item_of item) (way.InLoop (path_of at.items) of.site (optional_of of.test) (optional_of of.step) (statement_of of.body) begun) (item_of item).tasks) }
-    ensures reason { IfErr result (λ e. (l : sizes.Launch) → IsReasonAt l (item_of item) (way.InLoop (path_of at.items) of.site (optional_of of.test) (optional_of of.step) (statement_of of.body) begun) e) }
+    ensures next { IfOk result (λ n. (p : tree.Program) (l : sizes.Launch) →
+        next_of n ≡ model.task_next p l (item_of item)
+        (way.InLoop (path_of at.items) of.site (optional_of of.test) (optional_of of.step) (statement_of of.body)
+        begun) (item_of item).tasks) }
+    ensures reason { IfErr result (λ e. (l : sizes.Launch) →
+        IsReasonAt l (item_of item) (way.InLoop (path_of at.items) of.site (optional_of of.test)
+        (optional_of of.step) (statement_of of.body) begun) e) }
 {
     let mut item = item;
     if of.test.is_some() && pop(&mut item.values) == 0 {
@@ -128,7 +151,8 @@ fn turn_next(
 
 /// The step of a value that nothing uses.
 fn discard_next(item: Item) -> Next
-    ensures { (p : tree.Program) (l : sizes.Launch) (at : way.Point) → next_of result ≡ model.task_next p l (item_of item) (way.Discard at) (item_of item).tasks }
+    ensures { (p : tree.Program) (l : sizes.Launch) (at : way.Point) →
+        next_of result ≡ model.task_next p l (item_of item) (way.Discard at) (item_of item).tasks }
 {
     let mut item = item;
     pop(&mut item.values);
@@ -137,7 +161,8 @@ fn discard_next(item: Item) -> Next
 
 /// The step that sets a declared variable to its value.
 fn keep_next(item: Item, x: u32) -> Result<Next, Memory>
-    ensures { IfOk result (λ n. (p : tree.Program) (l : sizes.Launch) (at : way.Point) → next_of n ≡ model.task_next p l (item_of item) (way.Keep at x) (item_of item).tasks) }
+    ensures { IfOk result (λ n. (p : tree.Program) (l : sizes.Launch) (at : way.Point) →
+        next_of n ≡ model.task_next p l (item_of item) (way.Keep at x) (item_of item).tasks) }
 {
     let mut item = item;
     let v = pop(&mut item.values);
@@ -154,8 +179,11 @@ fn finish_next(
     action: Action,
     count: u64,
 ) -> Result<Next, Error>
-    ensures next { IfOk result (λ n. (at : way.Point) → next_of n ≡ model.task_next (program_of program.now) (launch_of launch.now) (item_of item) (way.Finish at (action_of action) count) (item_of item).tasks) }
-    ensures reason { IfErr result (λ e. (at : way.Point) → IsReasonAt (launch_of launch.now) (item_of item) (way.Finish at (action_of action) count) e) }
+    ensures next { IfOk result (λ n. (at : way.Point) →
+        next_of n ≡ model.task_next (program_of program.now) (launch_of launch.now) (item_of item)
+        (way.Finish at (action_of action) count) (item_of item).tasks) }
+    ensures reason { IfErr result (λ e. (at : way.Point) →
+        IsReasonAt (launch_of launch.now) (item_of item) (way.Finish at (action_of action) count) e) }
 {
     let mut item = item;
     let args = memory_only(take(alloc, &mut item.values, count))?;
@@ -170,7 +198,8 @@ fn task_next(
     item: Item,
     task: Task,
 ) -> Result<Next, Error>
-    ensures next { IfOk result (λ n. next_of n ≡ model.task_next (program_of program.now) (launch_of launch.now) (item_of item) (task_of task) (item_of item).tasks) }
+    ensures next { IfOk result (λ n. next_of n ≡ model.task_next (program_of program.now) (launch_of launch.now)
+        (item_of item) (task_of task) (item_of item).tasks) }
     ensures reason { IfErr result (IsReasonAt (launch_of launch.now) (item_of item) (task_of task)) }
 {
     match task {
@@ -287,7 +316,8 @@ fn task_next(
 /// iteration that it begins, is 2 to the 64 or more, and `Error::Operand` only where an operand of its first task is no
 /// value of the type in which the operator computes.
 pub fn step(alloc: Global, program: &Program, launch: &Launch, item: &Item) -> Result<Next, Error>
-    ensures next { IfOk result (λ n. next_of n ≡ model.item_next (program_of program.now) (launch_of launch.now) (item_of item.now)) }
+    ensures next { IfOk result (λ n. next_of n ≡ model.item_next (program_of program.now) (launch_of launch.now)
+        (item_of item.now)) }
     ensures reason { IfErr result (IsReasonOf (launch_of launch.now) (item_of item.now)) }
 {
     let mut item = memory_only(copying::item(alloc, item))?;

@@ -1,6 +1,16 @@
 //! The values of a work-item, the last first, and its variables.
 
-ghost use Rattle.std.specs.Prelude.{◌≡◌, ◌∷◌, ◌<◌, ℕ, IfOk, OnOk, length, nat_eq, if◌then◌else◌};
+ghost use Rattle.std.specs.Prelude.{
+  ◌≡◌,
+  ◌∷◌,
+  ◌<◌,
+  ℕ,
+  IfOk,
+  OnOk,
+  length,
+  nat_eq,
+  if◌then◌else◌,
+};
 ghost use Rattle.cl_model.specs.Steps as model;
 ghost use Rattle.cl_interpreter.specs.Tasks.{frames_of};
 
@@ -103,7 +113,8 @@ fn reach(variables: &mut Vec<i128>, x: u32) -> Result<(), Memory>
 
 /// Sets a variable.
 fn set_variable(variables: &mut Vec<i128>, x: u32, v: i128) -> Result<(), Memory>
-    ensures { OnOk result ((y : ℕ) → model.nth variables.new.items y ≡ (if nat_eq x y then v else model.nth variables.old.items y)) }
+    ensures { OnOk result ((y : ℕ) →
+        model.nth variables.new.items y ≡ (if nat_eq x y then v else model.nth variables.old.items y)) }
 {
     reach(variables, x)?;
     variables[x as usize] = v;

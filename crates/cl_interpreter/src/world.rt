@@ -1,6 +1,23 @@
 //! A launch under given moves: its memory, its work-items and its fault, if there is one.
 
-ghost use Rattle.std.specs.Prelude.{◌≡◌, ◌<◌, ◌/◌, ◌⊎◌, ℕ, IfOk, IfErr, MatchOption, Option, map, length, vec_len, slice_get, nat_eq, true, false};
+ghost use Rattle.std.specs.Prelude.{
+  ◌≡◌,
+  ◌<◌,
+  ◌/◌,
+  ◌⊎◌,
+  ℕ,
+  IfOk,
+  IfErr,
+  MatchOption,
+  Option,
+  map,
+  length,
+  vec_len,
+  slice_get,
+  nat_eq,
+  true,
+  false,
+};
 ghost use Rattle.work_items.specs.Items as acts;
 ghost use Rattle.cl_model.specs.Meaning as meaning;
 ghost use Rattle.cl_model.specs.Task as way;
@@ -9,7 +26,16 @@ ghost use Rattle.cl_model.specs.View as typed;
 ghost use Rattle.cl_interpreter.specs.Trees.{program_of};
 ghost use Rattle.cl_interpreter.specs.Tasks.{item_of, path_of};
 ghost use Rattle.cl_interpreter.specs.Nexts.{next_of};
-ghost use Rattle.cl_interpreter.specs.Worlds.{move_of, world_of, barrier_of as barrier_at, StandTogether, gone, gone_from, IsMade, IsPlayed};
+ghost use Rattle.cl_interpreter.specs.Worlds.{
+  move_of,
+  world_of,
+  barrier_of as barrier_at,
+  StandTogether,
+  gone,
+  gone_from,
+  IsMade,
+  IsPlayed,
+};
 ghost use Rattle.cl_interpreter.specs.Reasons.{IsReasonOfMove, IsReasonOfMoves};
 
 use crate::access::{Stepped, outcome};
@@ -71,7 +97,8 @@ pub fn start_world(
     buffers: &Buffers,
 ) -> Result<Start, Memory>
     ensures tree { IfOk result (λ s. program_of s.program ≡ typed.program_of program.now) }
-    ensures world { IfOk result (λ s. world_of s.world ≡ meaning.start_world (typed.program_of program.now) (typed.launch_of launch.now) (typed.buffers_of buffers.now)) }
+    ensures world { IfOk result (λ s. world_of s.world ≡ meaning.start_world (typed.program_of program.now)
+        (typed.launch_of launch.now) (typed.buffers_of buffers.now)) }
 {
     let program = making::program(alloc, program)?;
     let memory = start_memory(alloc, &program, launch, buffers)?;
@@ -88,7 +115,10 @@ pub fn start_world(
 fn take_step(world: &mut World, item: usize, next: Next) -> Result<bool, Memory>
     requires there { item < vec_len world.old.items }
     requires running { world.old.fault ≡ None }
-    ensures made { IfOk result (λ made. (machine : acts.Machine way.Item (Option way.Point)) (state : way.Item) → slice_get (map item_of world.old.items.items) item ≡ Some state → next_of next ≡ machine.next state → IsMade machine (world_of world.old) (acts.Step item) made (world_of world.new)) }
+    ensures made { IfOk result (λ made. (machine : acts.Machine way.Item (Option way.Point)) (state : way.Item) →
+        slice_get (map item_of world.old.items.items) item ≡ Some state →
+        next_of next ≡ machine.next state →
+        IsMade machine (world_of world.old) (acts.Step item) made (world_of world.new)) }
     ensures kept { IfErr result (λ e. world_of world.new ≡ world_of world.old) }
 {
     match outcome(&mut world.memory, next)? {
@@ -113,7 +143,9 @@ fn step_item(
     item: usize,
 ) -> Result<bool, Error>
     requires { world.old.fault ≡ None }
-    ensures made { IfOk result (λ made. IsMade (meaning.machine_of (program_of program.now) (typed.launch_of launch.now)) (world_of world.old) (acts.Step item) made (world_of world.new)) }
+    ensures made { IfOk result (λ made.
+        IsMade (meaning.machine_of (program_of program.now) (typed.launch_of launch.now)) (world_of world.old)
+        (acts.Step item) made (world_of world.new)) }
     ensures kept { IfErr result (λ e. world_of world.new ≡ world_of world.old) }
     ensures reason { IfErr result (IsReasonOfMove (typed.launch_of launch.now) (world_of world.old) (acts.Step item)) }
 {
@@ -140,7 +172,8 @@ fn is_in(item: usize, size: u64, group: u64) -> bool
 
 /// The first item of a group, if it has one.
 fn first_of(count: usize, size: u64, group: u64) -> Option<usize>
-    ensures { MatchOption result ((k : ℕ) → k < count → k / size ≡ group → ⊥) (λ k. (k < count) × (k / size ≡ group)) }
+    ensures { MatchOption result ((k : ℕ) → k < count → k / size ≡ group → ⊥) (λ k. (k < count) ×
+        (k / size ≡ group)) }
 {
     for item in 0..count {
         if is_in(item, size, group) {
@@ -219,7 +252,8 @@ fn same_way(way: &[Leg], other: &[Leg]) -> bool
 
 /// The way to the barrier at which an item stands, if it does.
 fn barrier_of(item: &Item) -> Option<&[Leg]>
-    ensures { MatchOption result (barrier_at (item_of item.now).tasks ≡ None) (λ way. barrier_at (item_of item.now).tasks ≡ Some (path_of way.now)) }
+    ensures { MatchOption result (barrier_at (item_of item.now).tasks ≡ None)
+        (λ way. barrier_at (item_of item.now).tasks ≡ Some (path_of way.now)) }
 {
     match item.tasks.front() {
         Some(
@@ -249,7 +283,11 @@ fn stands_with(item: &Item, other: &Item) -> bool
 /// The first item of a group that does not stand at a barrier at the point of one item, if there is such an item.
 fn parted(items: &[Item], size: u64, group: u64, one: usize) -> Option<usize>
     requires { one < length items.now }
-    ensures { let list = map item_of items.now in MatchOption result ((k : ℕ) (i j : way.Item) → k / size ≡ group → slice_get list k ≡ Some i → slice_get list one ≡ Some j → StandTogether i j) (λ k. (k < length items.now) × (k / size ≡ group) × ((i j : way.Item) → slice_get list k ≡ Some i → slice_get list one ≡ Some j → StandTogether i j → ⊥)) }
+    ensures { let list = map item_of items.now in
+        MatchOption result ((k : ℕ) (i j : way.Item) → k / size ≡ group → slice_get list k ≡ Some i →
+        slice_get list one ≡ Some j → StandTogether i j) (λ k. (k < length items.now) ×
+        (k / size ≡ group) × ((i j : way.Item) → slice_get list k ≡ Some i →
+        slice_get list one ≡ Some j → StandTogether i j → ⊥)) }
 {
     for k in 0..items.len() {
         if is_in(k, size, group) && !stands_with(&items[k], &items[one]) {
@@ -283,7 +321,9 @@ fn let_all_go(items: &mut Vec<Item>, size: u64, group: u64)
 /// Releases a group; false where not all its items wait at one point, or it has none.
 fn release(launch: &Launch, world: &mut World, group: u64) -> Result<bool, Memory>
     requires { world.old.fault ≡ None }
-    ensures made { IfOk result (λ made. (program : tree.Program) → IsMade (meaning.machine_of program (typed.launch_of launch.now)) (world_of world.old) (acts.Release group) made (world_of world.new)) }
+    ensures made { IfOk result (λ made. (program : tree.Program) →
+        IsMade (meaning.machine_of program (typed.launch_of launch.now)) (world_of world.old) (acts.Release group)
+        made (world_of world.new)) }
     ensures kept { IfErr result (λ e. world_of world.new ≡ world_of world.old) }
 {
     let size = group_size(launch)?;
@@ -311,7 +351,9 @@ pub fn make_move(
     world: &mut World,
     what: Move,
 ) -> Result<bool, Error>
-    ensures made { IfOk result (λ made. IsMade (meaning.machine_of (program_of program.now) (typed.launch_of launch.now)) (world_of world.old) (move_of what) made (world_of world.new)) }
+    ensures made { IfOk result (λ made.
+        IsMade (meaning.machine_of (program_of program.now) (typed.launch_of launch.now)) (world_of world.old)
+        (move_of what) made (world_of world.new)) }
     ensures kept { IfErr result (λ e. world_of world.new ≡ world_of world.old) }
     ensures reason { IfErr result (IsReasonOfMove (typed.launch_of launch.now) (world_of world.old) (move_of what)) }
 {
@@ -335,8 +377,11 @@ fn play(
     world: World,
     moves: &[Move],
 ) -> Result<Played, Error>
-    ensures played { IfOk result (IsPlayed (meaning.machine_of (program_of program.now) (typed.launch_of launch.now)) (world_of world) (map move_of moves.now)) }
-    ensures reason { IfErr result (IsReasonOfMoves (meaning.machine_of (program_of program.now) (typed.launch_of launch.now)) (typed.launch_of launch.now) (world_of world) (map move_of moves.now)) }
+    ensures played { IfOk result (IsPlayed (meaning.machine_of (program_of program.now) (typed.launch_of launch.now))
+        (world_of world) (map move_of moves.now)) }
+    ensures reason { IfErr result (IsReasonOfMoves
+        (meaning.machine_of (program_of program.now) (typed.launch_of launch.now)) (typed.launch_of launch.now)
+        (world_of world) (map move_of moves.now)) }
 {
     let mut world = world;
     for (number, what) in moves.iter().enumerate() {
@@ -357,8 +402,13 @@ pub fn run_moves(
     buffers: &Buffers,
     moves: &[Move],
 ) -> Result<Played, Error>
-    ensures played { IfOk result (IsPlayed (meaning.machine_of (typed.program_of program.now) (typed.launch_of launch.now)) (meaning.start_world (typed.program_of program.now) (typed.launch_of launch.now) (typed.buffers_of buffers.now)) (map move_of moves.now)) }
-    ensures reason { IfErr result (IsReasonOfMoves (meaning.machine_of (typed.program_of program.now) (typed.launch_of launch.now)) (typed.launch_of launch.now) (meaning.start_world (typed.program_of program.now) (typed.launch_of launch.now) (typed.buffers_of buffers.now)) (map move_of moves.now)) }
+    ensures played { IfOk result (IsPlayed (meaning.machine_of (typed.program_of program.now)
+        (typed.launch_of launch.now)) (meaning.start_world (typed.program_of program.now)
+        (typed.launch_of launch.now) (typed.buffers_of buffers.now)) (map move_of moves.now)) }
+    ensures reason { IfErr result (IsReasonOfMoves (meaning.machine_of (typed.program_of program.now)
+        (typed.launch_of launch.now)) (typed.launch_of launch.now)
+        (meaning.start_world (typed.program_of program.now) (typed.launch_of launch.now)
+        (typed.buffers_of buffers.now)) (map move_of moves.now)) }
 {
     let start = memory_only(start_world(alloc, program, launch, buffers))?;
     let Start { program, world } = start;

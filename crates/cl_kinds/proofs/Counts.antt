@@ -48,4 +48,5 @@ two_alone [] h = absurd (omega arith)
 two_alone (t ∷ []) h = absurd (omega arith)
 two_alone (t ∷ (u ∷ ts)) h = refl
 
-pub ruleset flag_parts = (no_variable, none_inside, two_inside, no_variables, no_flag_inside, flags_inside, one_joined, three_joined)
+pub ruleset flag_parts =
+    (no_variable, none_inside, two_inside, no_variables, no_flag_inside, flags_inside, one_joined, three_joined)

@@ -13,14 +13,17 @@ some_more k (Some x) = refl
 pub all_known_more : (k : Kind) (ks : List (Option Kind)) → is_some (all_known (Some k ∷ ks)) ≡ is_some (all_known ks)
 all_known_more k ks = some_more k (all_known ks)
 
-none_then : (k : Kind) (o : Option (List Kind)) → is_some (on_one o (λ x. Some (k ∷ x))) ≡ false → on_one o (λ x. Some (k ∷ x)) ≡ None
+none_then : (k : Kind) (o : Option (List Kind)) → is_some (on_one o (λ x. Some (k ∷ x))) ≡ false →
+    on_one o (λ x. Some (k ∷ x)) ≡ None
 none_then k None h = refl
 none_then k (Some x) h = absurd cc
 
 pub all_known_when : (ks : List (Option Kind)) → is_some (all_known ks) ≡ true → all_known ks ≡ Some (known ks)
 all_known_when [] h = refl
 all_known_when (None ∷ ks) h = absurd cc
-all_known_when (Some k ∷ ks) h = ap (λ (o : Option (List Kind)). on_one o (λ x. Some (k ∷ x))) (all_known_when ks (sym (some_more k (all_known ks)) ∙ h))
+all_known_when (Some k ∷ ks) h =
+    ap (λ (o : Option (List Kind)). on_one o (λ x. Some (k ∷ x)))
+    (all_known_when ks (sym (some_more k (all_known ks)) ∙ h))
 
 pub all_known_unless : (ks : List (Option Kind)) → is_some (all_known ks) ≡ false → all_known ks ≡ None
 all_known_unless [] h = absurd cc

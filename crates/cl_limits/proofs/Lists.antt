@@ -1,5 +1,7 @@
 -- Lists of counts, by the number of a function.
-use Rattle.std.proofs.Common.{◌≡◌, ℕ, zero, suc, ◌≤◌, ◌<◌, min, Bool, true, false, List, [], ◌∷◌, length, map, get_or, set, replicate, refl, ap, sym, ◌∙◌, arith, if◌then◌else◌, length-set, get_or-set_same, get_or-set_other}
+use Rattle.std.proofs.Common.{◌≡◌, ℕ, zero, suc, ◌≤◌, ◌<◌, min, Bool, true, false, List, [], ◌∷◌, length, map, get_or}
+use Rattle.std.proofs.Common.{set, replicate, refl, ap, sym, ◌∙◌, arith, if◌then◌else◌, length-set, get_or-set_same}
+use Rattle.std.proofs.Common.{get_or-set_other}
 
 pub chosen : {A : Type 0} (b : Bool) (x y : A) → b ≡ true → (if b then x else y) ≡ x
 chosen true x y h = refl
@@ -39,11 +41,13 @@ pub set_length : (b : Bool) (xs : List ℕ) (i v : ℕ) → length (if b then se
 set_length true xs i v = length-set xs i v
 set_length false xs i v = refl
 
-pub set_here : (b : Bool) (xs : List ℕ) (i v f : ℕ) → b ≡ true → i ≡ f → f < length xs → get_or (if b then set xs i v else xs) f 0 ≡ v
+pub set_here : (b : Bool) (xs : List ℕ) (i v f : ℕ) → b ≡ true → i ≡ f → f < length xs →
+    get_or (if b then set xs i v else xs) f 0 ≡ v
 set_here true xs i v f t e h = ap (λ k. get_or (set xs i v) k 0) (sym e) ∙ get_or-set_same xs i v 0 (omega arith)
 set_here false xs i v f t e h = absurd cc
 
-pub set_elsewhere : (b : Bool) (xs : List ℕ) (i v f : ℕ) → (i ≡ f → ⊥) → get_or (if b then set xs i v else xs) f 0 ≡ get_or xs f 0
+pub set_elsewhere : (b : Bool) (xs : List ℕ) (i v f : ℕ) → (i ≡ f → ⊥) →
+    get_or (if b then set xs i v else xs) f 0 ≡ get_or xs f 0
 set_elsewhere true xs i v f e = get_or-set_other xs i f v 0 (λ k. e (sym k))
 set_elsewhere false xs i v f e = refl
 

@@ -1,7 +1,8 @@
--- How deep barriers stand in functions. A height is 0 where there is no barrier, and else one more than the number of `if`,
--- loop and `switch` statements around the deepest one. A statement is around all of its parts: a `for` around its first
--- part, its test and its step as around its body. A call stands for the function of that name.
-use Rattle.std.specs.Prelude.{ℕ, zero, suc, ◌+◌, max, Bool, true, false, List, [], ◌∷◌, length, Option, None, Some, slice_get, if◌then◌else◌}
+-- How deep barriers stand in functions. A height is 0 where there is no barrier, and else one more than the number of
+-- `if`, loop and `switch` statements around the deepest one. A statement is around all of its parts: a `for` around
+-- its first part, its test and its step as around its body. A call stands for the function of that name.
+use Rattle.std.specs.Prelude.{ℕ, zero, suc, ◌+◌, max, Bool, true, false, List, [], ◌∷◌, length, Option, None, Some}
+use Rattle.std.specs.Prelude.{slice_get, if◌then◌else◌}
 use Rattle.std.specs.Str.{bytes_eq}
 use Rattle.cl_tree.specs.declared.tree.Form.{Form}
 use Rattle.cl_tree.specs.declared.tree.Form.TheVariants as forms
@@ -17,7 +18,8 @@ is_function form = false
 
 abbrev pub functions_among : Forest → List Syntax
 functions_among none = []
-functions_among (more (node form word first last parts) ts) = if is_function form then node form word first last parts ∷ functions_among ts else functions_among ts
+functions_among (more (node form word first last parts) ts) =
+    if is_function form then node form word first last parts ∷ functions_among ts else functions_among ts
 
 abbrev pub functions_in : Syntax → List Syntax
 functions_in (node form word first last parts) = functions_among parts
@@ -43,7 +45,8 @@ number_height g (Some f) = g f
 
 -- the height of what a name calls among some functions, where `g` is that of the function of each number
 abbrev pub called_height : (ℕ → ℕ) → List Syntax → List ℕ → ℕ
-called_height g functions name = if is_barrier (intrinsic_in name) then 1 else number_height g (number_from name 0 functions)
+called_height g functions name =
+    if is_barrier (intrinsic_in name) then 1 else number_height g (number_from name 0 functions)
 
 -- ---- heights
 
@@ -72,7 +75,8 @@ own_height g form word = 0
 
 abbrev mutual
   pub height_of : (List ℕ → ℕ) → Syntax → ℕ
-  height_of g (node form word first last parts) = inside (is_branch form) (max (own_height g form word) (height_of_all g parts))
+  height_of g (node form word first last parts) =
+      inside (is_branch form) (max (own_height g form word) (height_of_all g parts))
 
   pub height_of_all : (List ℕ → ℕ) → Forest → ℕ
   height_of_all g none = 0

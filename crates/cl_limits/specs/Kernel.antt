@@ -19,7 +19,8 @@ block_nodes (more t (more u ts)) = block_nodes (more u ts)
 -- the nodes of the block of each function that some trees define, in order
 abbrev pub blocks_in : Forest → List ℕ
 blocks_in none = []
-blocks_in (more (node form word first last parts) ts) = if is_function form then block_nodes parts ∷ blocks_in ts else blocks_in ts
+blocks_in (more (node form word first last parts) ts) =
+    if is_function form then block_nodes parts ∷ blocks_in ts else blocks_in ts
 
 abbrev pub weights_of : Syntax → List ℕ
 weights_of (node form word first last parts) = blocks_in parts
@@ -56,4 +57,10 @@ limit_of u =
 
 -- what they look at in a unit
 abbrev pub sized_of : Syntax → List Call → rust_program.Program → Sized
-sized_of unit calls p = record { weights = weights_of unit; trees = functions_in unit; calls = calls; functions = map function_of p.functions.items; kernel = p.kernel }
+sized_of unit calls p = record {
+  weights = weights_of unit;
+  trees = functions_in unit;
+  calls = calls;
+  functions = map function_of p.functions.items;
+  kernel = p.kernel;
+}

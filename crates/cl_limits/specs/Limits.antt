@@ -1,5 +1,6 @@
 -- What a function counts with all that it calls: nodes of its block, or bytes.
-use Rattle.std.specs.Prelude.{ℕ, zero, suc, ◌+◌, ◌*◌, nat_eq, List, [], ◌∷◌, length, Option, None, Some, slice_get, if◌then◌else◌}
+use Rattle.std.specs.Prelude.{ℕ, zero, suc, ◌+◌, ◌*◌, nat_eq, List, [], ◌∷◌, length, Option, None, Some, slice_get}
+use Rattle.std.specs.Prelude.{if◌then◌else◌}
 use Rattle.wg_num.specs.Bytes.{size_of}
 use Rattle.cl_model.specs.declared.program.Space.{Space}
 use Rattle.cl_model.specs.declared.program.Space.TheVariants as spaces
@@ -58,7 +59,8 @@ abbrev pub local_arrays : List Array → ℕ
 local_arrays [] = 0
 local_arrays (a ∷ as') = in_local a.space (array_bytes a) + local_arrays as'
 
--- the private bytes of a function without those of the functions that it calls: 8 for each variable and parameter, and its private arrays
+-- the private bytes of a function without those of the functions that it calls: 8 for each variable and parameter,
+-- and its private arrays
 abbrev pub private_bytes : Function → ℕ
 private_bytes g = 8 * length g.variables + private_arrays g.arrays
 

@@ -74,7 +74,8 @@ fn next_heights(
 /// one. A barrier in any part of a statement has it around itself, the first part of a `for` too.
 pub fn heights(alloc: Global, cap: u32, trees: &[Tree]) -> Result<Vec<u64>, Memory>
     ensures size { IfOk result (λ v. length v.items ≡ length (functions_among (views trees.now))) }
-    ensures each { IfOk result (λ v. (f : ℕ) → slice_index v.items f ≡ min (full_height (functions_among (views trees.now)) f) cap) }
+    ensures each { IfOk result (λ v. (f : ℕ) →
+        slice_index v.items f ≡ min (full_height (functions_among (views trees.now)) f) cap) }
 {
     let points = points_of(alloc, cap, trees)?;
     let count = count_functions(trees);

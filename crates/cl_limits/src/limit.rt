@@ -47,7 +47,8 @@ fn weights_of(alloc: Global, unit: &Tree) -> Result<Vec<u64>, Memory>
 
 /// The private bytes of each function, as far as 64 bits count them.
 fn all_private_bytes(alloc: Global, functions: &[Function]) -> Result<Vec<u64>, Memory>
-    ensures { IfOk result (λ v. v.items ≡ map (λ n. min n 18446744073709551615) (map private_bytes_of (map function_of functions.now))) }
+    ensures { IfOk result (λ v. v.items ≡ map (λ n. min n 18446744073709551615)
+        (map private_bytes_of (map function_of functions.now))) }
 {
     let mut bytes = Vec::new(alloc);
     for function in functions {
@@ -61,7 +62,8 @@ fn all_private_bytes(alloc: Global, functions: &[Function]) -> Result<Vec<u64>, 
 
 /// Whether the weight of the kernel is above 16,384: the nodes of its block, with those of all that it calls.
 fn is_too_large(alloc: Global, unit: &Tree, calls: &[Call], kernel: u32) -> Result<bool, Memory>
-    ensures { IfOk result (λ b. b ≡ nat_lt 16384 (whole (spec.weights_of (view unit.now)) (map call_of calls.now) kernel)) }
+    ensures { IfOk result (λ b. b ≡
+        nat_lt 16384 (whole (spec.weights_of (view unit.now)) (map call_of calls.now) kernel)) }
 {
     let own = weights_of(alloc, unit)?;
     let weights = totals(alloc, 16385, &own, calls)?;
@@ -75,7 +77,8 @@ fn is_private_over(
     calls: &[Call],
     kernel: u32,
 ) -> Result<bool, Memory>
-    ensures { IfOk result (λ b. b ≡ nat_lt 16384 (whole (map private_bytes_of (map function_of functions.now)) (map call_of calls.now) kernel)) }
+    ensures { IfOk result (λ b. b ≡
+        nat_lt 16384 (whole (map private_bytes_of (map function_of functions.now)) (map call_of calls.now) kernel)) }
 {
     let own = all_private_bytes(alloc, functions)?;
     let bytes = totals(alloc, 16385, &own, calls)?;
@@ -108,7 +111,8 @@ pub fn limit_of(
     calls: &[Call],
     program: &Program,
 ) -> Result<Option<Fault>, Memory>
-    ensures { IfOk result (λ k. k ≡ spec.limit_of (spec.sized_of (view unit.now) (map call_of calls.now) program.now)) }
+    ensures { IfOk result (λ k. k ≡
+        spec.limit_of (spec.sized_of (view unit.now) (map call_of calls.now) program.now)) }
 {
     if is_too_large(alloc, unit, calls, program.kernel)? {
         return Ok(Some(Fault::KernelTooLarge));

@@ -125,7 +125,8 @@ fn put(points: &mut Vec<Point>, at: Spot, called: Option<usize>) -> Result<(), M
 
 /// Puts the point of a call of that name behind the points; `unit` are the trees of the unit.
 fn put_call(points: &mut Vec<Point>, at: Spot, name: &[u8], unit: &[Tree]) -> Result<(), Memory>
-    ensures { OnOk result (points.new.items ≡ spec.call_onto (heights.functions_among (views unit.now)) at name.now points.old.items) }
+    ensures { OnOk result (points.new.items ≡ spec.call_onto (heights.functions_among (views unit.now)) at name.now
+        points.old.items) }
 {
     if is_barrier(name) {
         return put(points, at, None);
@@ -138,7 +139,8 @@ fn put_call(points: &mut Vec<Point>, at: Spot, name: &[u8], unit: &[Tree]) -> Re
 
 /// Puts the point of a node without its parts behind the points.
 fn put_own(points: &mut Vec<Point>, at: Spot, tree: &Tree, unit: &[Tree]) -> Result<(), Memory>
-    ensures { OnOk result (points.new.items ≡ spec.own_onto (heights.functions_among (views unit.now)) at (form_of (view tree.now)) (word_of (view tree.now)) points.old.items) }
+    ensures { OnOk result (points.new.items ≡ spec.own_onto (heights.functions_among (views unit.now)) at
+        (form_of (view tree.now)) (word_of (view tree.now)) points.old.items) }
 {
     match tree.form {
         Form::CallNode => put_call(points, at, name_of(tree.word.bytes()), unit),
@@ -148,7 +150,8 @@ fn put_own(points: &mut Vec<Point>, at: Spot, tree: &Tree, unit: &[Tree]) -> Res
 
 #[cycle(points)]
 fn put_trees(points: &mut Vec<Point>, at: Spot, trees: &[Tree], unit: &[Tree]) -> Result<(), Memory>
-    ensures { OnOk result (points.new.items ≡ spec.all_onto (heights.functions_among (views unit.now)) at (views trees.now) points.old.items) }
+    ensures { OnOk result (points.new.items ≡ spec.all_onto (heights.functions_among (views unit.now)) at
+        (views trees.now) points.old.items) }
 {
     for tree in trees {
         put_tree(points, at, tree, unit)?;
@@ -159,7 +162,8 @@ fn put_trees(points: &mut Vec<Point>, at: Spot, trees: &[Tree], unit: &[Tree]) -
 /// Puts the points of a tree behind the points.
 #[cycle(points)]
 fn put_tree(points: &mut Vec<Point>, at: Spot, tree: &Tree, unit: &[Tree]) -> Result<(), Memory>
-    ensures { OnOk result (points.new.items ≡ spec.onto (heights.functions_among (views unit.now)) at (view tree.now) points.old.items) }
+    ensures { OnOk result (points.new.items ≡ spec.onto (heights.functions_among (views unit.now)) at
+        (view tree.now) points.old.items) }
 {
     let at = entered(at, tree.form);
     put_own(points, at, tree, unit)?;
@@ -169,7 +173,8 @@ fn put_tree(points: &mut Vec<Point>, at: Spot, tree: &Tree, unit: &[Tree]) -> Re
 /// The points of the functions that some trees define, in the order of the text; the statements around each are
 /// counted as far as the cap.
 pub fn points_of(alloc: Global, cap: u32, trees: &[Tree]) -> Result<Vec<Point>, Memory>
-    ensures { IfOk result (λ v. v.items ≡ spec.functions_onto (heights.functions_among (views trees.now)) cap 0 (heights.functions_among (views trees.now)) []) }
+    ensures { IfOk result (λ v. v.items ≡ spec.functions_onto (heights.functions_among (views trees.now)) cap 0
+        (heights.functions_among (views trees.now)) []) }
 {
     let mut points = Vec::new(alloc);
     let mut caller = 0usize;

@@ -1,6 +1,18 @@
 //! What functions count with all that they call.
 
-ghost use Rattle.std.specs.Prelude.{◌≡◌, ◌+◌, ℕ, ◌↔◌, IsTrue, IfOk, min, map, length, slice_index, replicate};
+ghost use Rattle.std.specs.Prelude.{
+  ◌≡◌,
+  ◌+◌,
+  ℕ,
+  ◌↔◌,
+  IsTrue,
+  IfOk,
+  min,
+  map,
+  length,
+  slice_index,
+  replicate,
+};
 ghost use Rattle.cl_limits.specs.Limits.{whole};
 ghost use Rattle.cl_limits.specs.Rounds as rounds;
 ghost use Rattle.cl_meaning.specs.Calls.{call_of};
@@ -82,7 +94,8 @@ fn next_totals(
 /// function has itself.
 pub fn totals(alloc: Global, cap: u64, own: &[u64], calls: &[Call]) -> Result<Vec<u64>, Memory>
     ensures size { IfOk result (λ v. length v.items ≡ length own.now) }
-    ensures each { IfOk result (λ v. (f : ℕ) → slice_index v.items f ≡ min (whole own.now (map call_of calls.now) f) cap) }
+    ensures each { IfOk result (λ v. (f : ℕ) →
+        slice_index v.items f ≡ min (whole own.now (map call_of calls.now) f) cap) }
 {
     let mut counts = zeros(alloc, own.len())?;
     for _round in 0..own.len() {

@@ -1,5 +1,6 @@
 -- The literal of a word is what its reading gives, and is a value of its type.
-use Rattle.std.proofs.Common.{ℕ, List, [], ◌∷◌, Bool, true, false, ◌⊎◌, inl, inr, ◌≡◌, refl, sym, ap, ◌∙◌, arith, None, Some}
+use Rattle.std.proofs.Common.{ℕ, List, [], ◌∷◌, Bool, true, false, ◌⊎◌, inl, inr, ◌≡◌, refl, sym, ap, ◌∙◌, arith}
+use Rattle.std.proofs.Common.{None, Some}
 use Rattle.std.specs.Prelude.{pos}
 use Rattle.std.proofs.lemmas.Bool.Decides.{nat_tests}
 use Rattle.std.specs.List.{find}
@@ -59,7 +60,8 @@ unfolding literal_in
 literal_in_value w l e = found (outcome_of w) refl e
   where
     found : (r : Result Literal LiteralError) → outcome_of w ≡ r → literal_from r ≡ Some l → IsValue l.0 (pos l.1)
-    found (Ok a) k h = (let same : (a.of, a.value) ≡ l = cc in subst (λ (x : IntType × ℕ). IsValue x.0 (pos x.1)) same (literal_value w a.of a.value (literal_sound w a k)))
+    found (Ok a) k h = (let same : (a.of, a.value) ≡ l = cc in
+        subst (λ (x : IntType × ℕ). IsValue x.0 (pos x.1)) same (literal_value w a.of a.value (literal_sound w a k)))
     found (Err e) k h = absurd cc
 
 pub ruleset numbers = (literal_is, malformed_none, large_none, literal_value)

@@ -24,7 +24,9 @@ use Rattle.cl_meaning.specs.Spelling.{declared_in, binary_in, prefix_in, truth_i
 use Rattle.cl_meaning.proofs.Numbers.{literal_in_value}
 use Rattle.cl_meaning.specs.declared.constant.Constant.{Constant}
 use Rattle.cl_meaning.specs.Conversions.{promoted, operand_type, unary_type, binary_type}
-use Rattle.cl_meaning.specs.Constants.{number_constant, int_constant, binary_constant, both_constant, either_constant, chosen_constant, cast_constant, prefix_constant, word_constant, prefixed_constant, joined_constant, selected_constant, constant_of}
+use Rattle.cl_meaning.specs.Constants.{number_constant, int_constant, binary_constant, both_constant, either_constant}
+use Rattle.cl_meaning.specs.Constants.{chosen_constant, cast_constant, prefix_constant, word_constant}
+use Rattle.cl_meaning.specs.Constants.{prefixed_constant, joined_constant, selected_constant, constant_of}
 
 -- it is a value of its type, if there is one
 abbrev pub IsFit : Option Constant → Type 0
@@ -119,7 +121,8 @@ prefix_fits (Some prefix.Address) d a = tt
 prefix_fits (Some prefix.Content) d a = tt
 prefix_fits None d a = tt
 
-prefixed_fits : (form : Form) (w : List ℕ) (d : Option Declared) (a : Option Constant) → IsFit a → IsFit (prefixed_constant form w d a)
+prefixed_fits : (form : Form) (w : List ℕ) (d : Option Declared) (a : Option Constant) → IsFit a →
+    IsFit (prefixed_constant form w d a)
 prefixed_fits forms.ParenNode w d a h = h
 prefixed_fits forms.UnaryNode w d a h = prefix_fits (prefix_in w) d a
 prefixed_fits _ w d a h = tt
@@ -145,7 +148,8 @@ cast_fits (Some d) (Some a) = IsValue-wrap d.of a.value
 cast_fits None a = tt
 cast_fits (Some d) None = tt
 
-joined_fits : (form : Form) (w : List ℕ) (d : Option Declared) (a b : Option Constant) → IsFit (joined_constant form w d a b)
+joined_fits : (form : Form) (w : List ℕ) (d : Option Declared) (a b : Option Constant) →
+    IsFit (joined_constant form w d a b)
 joined_fits forms.CastNode w d a b = cast_fits d b
 joined_fits forms.TermNode w d a b = binary_fits (binary_in w) a b
 joined_fits forms.SumNode w d a b = binary_fits (binary_in w) a b
@@ -172,8 +176,10 @@ selected_fits _ t a b = tt
 pub constant_fits : (t : Syntax) → IsFit (constant_of t)
 constant_fits (node form w f l none) = word_fits form w
 constant_fits (node form w f l (more a none)) = prefixed_fits form w (declared_in a) (constant_of a) (constant_fits a)
-constant_fits (node form w f l (more a (more b none))) = joined_fits form w (declared_in a) (constant_of a) (constant_of b)
-constant_fits (node form w f l (more t (more a (more b none)))) = selected_fits form (constant_of t) (constant_of a) (constant_of b)
+constant_fits (node form w f l (more a (more b none))) =
+    joined_fits form w (declared_in a) (constant_of a) (constant_of b)
+constant_fits (node form w f l (more t (more a (more b none)))) =
+    selected_fits form (constant_of t) (constant_of a) (constant_of b)
 constant_fits (node form w f l (more t (more a (more b (more c others))))) = tt
 
 fit_is : (o : Option Constant) → IsFit o → IfSome o (λ c. IsValue c.of c.value)
@@ -182,4 +188,5 @@ fit_is (Some c) h = h
 
 -- what is the value of a tree is a value of its type
 pub same_fits : (t : Syntax) (o : Option Constant) → o ≡ constant_of t → IfSome o (λ c. IsValue c.of c.value)
-same_fits t o e = subst (λ (x : Option Constant). IfSome x (λ c. IsValue c.of c.value)) (sym e) (fit_is (constant_of t) (constant_fits t))
+same_fits t o e = subst (λ (x : Option Constant). IfSome x (λ c. IsValue c.of c.value)) (sym e)
+    (fit_is (constant_of t) (constant_fits t))

@@ -34,13 +34,17 @@ int_constant (Some z) = Some (record { of = Int; value = z })
 -- an operator on one operand, which is promoted
 abbrev pub unary_constant : Un → Option Constant → Option Constant
 unary_constant op None = None
-unary_constant op (Some a) = Some (record { of = unary_type op (promoted a.of); value = unary_of op (promoted a.of) (wrap_of (promoted a.of) a.value) })
+unary_constant op (Some a) = Some (record {
+  of = unary_type op (promoted a.of);
+  value = unary_of op (promoted a.of) (wrap_of (promoted a.of) a.value);
+})
 
 -- an operator on two operands, each of which is converted to its type
 abbrev pub binary_result : Bin → Constant → Constant → Constant
 binary_result op a b = record {
   of = binary_type op (operand_type op a.of b.of);
-  value = binary_of op (operand_type op a.of b.of) (wrap_of (operand_type op a.of b.of) a.value) (wrap_of (right_type op a.of b.of) b.value);
+  value = binary_of op (operand_type op a.of b.of) (wrap_of (operand_type op a.of b.of) a.value)
+      (wrap_of (right_type op a.of b.of) b.value);
 }
 
 abbrev pub binary_constant : Option Bin → Option Constant → Option Constant → Option Constant
@@ -59,7 +63,11 @@ either_constant _ _ = None
 
 -- the chosen one of two, converted to their common type
 abbrev pub chosen_constant : Option Constant → Option Constant → Option Constant → Option Constant
-chosen_constant (Some t) (Some a) (Some b) = Some (record { of = common a.of b.of; value = wrap_of (common a.of b.of) (if is_true t.value then a.value else b.value) })
+chosen_constant (Some t) (Some a) (Some b) =
+    Some (record {
+      of = common a.of b.of;
+      value = wrap_of (common a.of b.of) (if is_true t.value then a.value else b.value);
+    })
 chosen_constant _ _ _ = None
 
 -- a conversion to a type of the profile
@@ -110,11 +118,13 @@ abbrev pub selected_constant : Form → Option Constant → Option Constant → 
 selected_constant forms.CondNode t a b = chosen_constant t a b
 selected_constant _ t a b = None
 
--- The value of a constant expression: of numbers, truth words, operators, casts and `sizeof`, without assignments, commas,
--- names and calls.
+-- The value of a constant expression: of numbers, truth words, operators, casts and `sizeof`, without assignments,
+-- commas, names and calls.
 abbrev pub constant_of : Syntax → Option Constant
 constant_of (node form word first last none) = word_constant form word
 constant_of (node form word first last (more a none)) = prefixed_constant form word (declared_in a) (constant_of a)
-constant_of (node form word first last (more a (more b none))) = joined_constant form word (declared_in a) (constant_of a) (constant_of b)
-constant_of (node form word first last (more t (more a (more b none)))) = selected_constant form (constant_of t) (constant_of a) (constant_of b)
+constant_of (node form word first last (more a (more b none))) =
+    joined_constant form word (declared_in a) (constant_of a) (constant_of b)
+constant_of (node form word first last (more t (more a (more b none)))) =
+    selected_constant form (constant_of t) (constant_of a) (constant_of b)
 constant_of (node form word first last (more t (more a (more b (more c others))))) = None

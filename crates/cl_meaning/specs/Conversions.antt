@@ -3,14 +3,16 @@ use Rattle.std.specs.Prelude.{nat_lt, ◌==◌, if◌then◌else◌}
 use Rattle.std.specs.Prelude.{Bool as Test, true, false}
 use Rattle.wg_num.specs.declared.types.IntType.{IntType}
 use Rattle.wg_num.specs.declared.types.Bin.{Bin}
-use Rattle.wg_num.specs.declared.types.Bin.TheVariants.{Add, Sub, Mul, Div, Rem, Shl, Shr, And, Or, Xor, Eq, Ne, Lt, Le, Gt, Ge}
+use Rattle.wg_num.specs.declared.types.Bin.TheVariants.{Add, Sub, Mul, Div, Rem, Shl, Shr, And, Or, Xor, Eq, Ne, Lt}
+use Rattle.wg_num.specs.declared.types.Bin.TheVariants.{Le, Gt, Ge}
 use Rattle.wg_num.specs.Wrap.{width_bits, is_signed}
 use Rattle.wg_num.specs.Operators.{is_shift}
 pub use Rattle.cl_model.specs.Valid.{promoted, unary_type, binary_type}
 
 -- of two promoted types the wider one, or of one width the unsigned one
 abbrev pub common_promoted : IntType → IntType → IntType
-common_promoted a b = if width_bits a == width_bits b then (if is_signed a then b else a) else (if nat_lt (width_bits a) (width_bits b) then b else a)
+common_promoted a b = if width_bits a == width_bits b then (if is_signed a then b else a) else
+    (if nat_lt (width_bits a) (width_bits b) then b else a)
 
 -- the common type of two operands
 abbrev pub common : IntType → IntType → IntType

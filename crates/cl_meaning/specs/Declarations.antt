@@ -1,5 +1,6 @@
 -- What declarations declare.
-use Rattle.std.specs.Prelude.{ℕ, ℤ, pos, suc, ◌*◌, ◌-◌, Bool, true, false, ◌&&◌, ◌||◌, nat_eq, nat_le, List, [], ◌∷◌, ◌++◌, length, map, replicate, Option, None, Some, if◌then◌else◌}
+use Rattle.std.specs.Prelude.{ℕ, ℤ, pos, suc, ◌*◌, ◌-◌, Bool, true, false, ◌&&◌, ◌||◌, nat_eq, nat_le, List, [], ◌∷◌}
+use Rattle.std.specs.Prelude.{◌++◌, length, map, replicate, Option, None, Some, if◌then◌else◌}
 use Rattle.wg_num.specs.declared.types.IntType.{IntType}
 use Rattle.wg_num.specs.Wrap.{wrap_of}
 use Rattle.wg_num.specs.Bytes.{bytes_of, size_of}
@@ -145,7 +146,8 @@ allowed (Some ns) = if nat_le (length ns) 3 && nat_le (product ns) most_elements
 
 -- the length of an array whose brackets are empty: the number of its initialisers
 abbrev pub counted_length : Declarator → Option (List ℕ)
-counted_length d = if nat_eq d.dimensions 1 && is_list d.init && is_length (length (initialisers d.init)) then Some (length (initialisers d.init) ∷ []) else None
+counted_length d = if nat_eq d.dimensions 1 && is_list d.init && is_length (length (initialisers d.init)) then Some
+    (length (initialisers d.init) ∷ []) else None
 
 -- the lengths of an array; none where they are at fault
 abbrev pub dims_of : Declarator → Option (List ℕ)
@@ -185,7 +187,14 @@ firm m = record { meaning = m; firm = true }
 
 -- one more variable of the function, which the name stands for
 abbrev pub with_variable : Env → List ℕ → ℕ → VarKind → Meaning → Env
-with_variable env name token kind m = declare (record env { variables = env.variables ++ record { name = name; kind = kind; place = place_of env token } ∷ [] }) name (firm m)
+with_variable env name token kind m =
+    declare (record env {
+      variables = env.variables ++ record {
+        name = name;
+        kind = kind;
+        place = place_of env token;
+      } ∷ [];
+    }) name (firm m)
 
 -- one more array of the function, or table of the unit
 abbrev pub with_array : Env → Array → List ℕ → Meaning → Env
@@ -236,15 +245,21 @@ array_in env s d x dims = record { name = x.name; space = s; element = d.of; dim
 
 -- a pointer variable, whose root is that of its initialiser
 abbrev pub with_pointer : Env → Declared → Declarator → Bool → Root → Env
-with_pointer env d x fixed r = with_variable env x.name x.token (var_kinds.Pointer (pointed_space d) d.of r) (meanings.Pointer (pointed_space d) d.of d.constant r fixed (length env.variables))
+with_pointer env d x fixed r =
+    with_variable env x.name x.token (var_kinds.Pointer (pointed_space d) d.of r)
+    (meanings.Pointer (pointed_space d) d.of d.constant r fixed (length env.variables))
 
 -- a scalar: a variable of the function, or an object of one element
 abbrev pub with_scalar : Env → Declared → Declarator → Space → Env
-with_scalar env d x spaces.Private = with_variable env x.name x.token (var_kinds.Scalar d.of) (meanings.Scalar d.of d.constant (length env.variables))
-with_scalar env d x s = with_array env (array_in env s d x (1 ∷ [])) (table_bytes d (1 ∷ []) x) (meanings.Object s d.of d.constant (next_root env s))
+with_scalar env d x spaces.Private =
+    with_variable env x.name x.token (var_kinds.Scalar d.of) (meanings.Scalar d.of d.constant (length env.variables))
+with_scalar env d x s = with_array env (array_in env s d x (1 ∷ [])) (table_bytes d (1 ∷ []) x)
+    (meanings.Object s d.of d.constant (next_root env s))
 
 abbrev pub with_elements : Env → Declared → Declarator → Space → List ℕ → Env
-with_elements env d x s dims = with_array env (array_in env s d x dims) (table_bytes d dims x) (meanings.Array s d.of d.constant (next_root env s) (each_of dims))
+with_elements env d x s dims =
+    with_array env (array_in env s d x dims) (table_bytes d dims x)
+    (meanings.Array s d.of d.constant (next_root env s) (each_of dims))
 
 -- behind a declarator, whose last part has that kind
 abbrev pub with_declarator : Env → Option Declared → Declarator → Option Kind → Env
@@ -253,7 +268,8 @@ with_declarator env (Some d) x k = by_star x.star
   where
     by_star : Option Bool → Env
     by_star (Some fixed) = with_pointer env d x fixed (root_of k)
-    by_star None = if nat_eq x.dimensions 0 then with_scalar env d x (kept_in env d) else with_elements env d x (kept_in env d) (or_none (dims_of x))
+    by_star None = if nat_eq x.dimensions 0 then with_scalar env d x (kept_in env d) else with_elements env d x
+        (kept_in env d) (or_none (dims_of x))
 
 -- ---- parameters and functions
 
@@ -277,10 +293,12 @@ parameter_of parts = parameter_by (first_type parts) (second_star parts)
 -- behind a parameter
 abbrev pub with_parameter : Env → List ℕ → ℕ → Option Declared → Option Bool → Env
 with_parameter env name token None star = env
-with_parameter env name token (Some d) None = with_variable env name token (var_kinds.Scalar d.of) (meanings.Scalar d.of d.constant (length env.variables))
+with_parameter env name token (Some d) None =
+    with_variable env name token (var_kinds.Scalar d.of) (meanings.Scalar d.of d.constant (length env.variables))
 with_parameter env name token (Some d) (Some fixed) =
     with_variable env name token (var_kinds.Pointer (pointed_space d) d.of (roots.Param (length env.variables)))
-    (meanings.Pointer (pointed_space d) d.of d.constant (roots.Param (length env.variables)) fixed (length env.variables))
+    (meanings.Pointer (pointed_space d) d.of d.constant (roots.Param (length env.variables)) fixed
+    (length env.variables))
 
 abbrev pub parameters_of : Forest → List Parameter
 parameters_of none = []
@@ -310,7 +328,8 @@ with_parts g none = g
 with_parts g (more p ps) = with_parts (with_part g (form_of p) p) ps
 
 abbrev pub signature_in : List ℕ → Forest → Signature
-signature_in w parts = with_parts (record { name = name_in w; kernel = false; result = yields.Nothing; parameters = [] }) parts
+signature_in w parts =
+    with_parts (record { name = name_in w; kernel = false; result = yields.Nothing; parameters = [] }) parts
 
 -- the functions that a unit defines, in order
 abbrev pub definitions_in : Forest → List Signature

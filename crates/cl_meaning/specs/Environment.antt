@@ -1,5 +1,6 @@
 -- What is visible at a node and what is around it.
-use Rattle.std.specs.Prelude.{ℕ, ℤ, Bool, true, false, List, [], ◌∷◌, slice_get, Option, None, Some, if◌then◌else◌, length}
+use Rattle.std.specs.Prelude.{ℕ, ℤ, Bool, true, false, List, [], ◌∷◌, slice_get, Option, None, Some, if◌then◌else◌}
+use Rattle.std.specs.Prelude.{length}
 use Rattle.std.specs.Str.{bytes_eq}
 use Rattle.wg_num.specs.declared.types.IntType.{IntType}
 use Rattle.wg_num.specs.declared.types.Place.{Place}
@@ -42,8 +43,8 @@ pub record Signature : Type 0 where
   pub result : Yield
   pub parameters : List Parameter
 
--- the function or prototype around a node: the number of its definition, and whether it is one; a prototype has the number
--- of none
+-- the function or prototype around a node: the number of its definition, and whether it is one; a prototype has the
+-- number of none
 pub record Owner : Type 0 where
   pub number : ℕ
   pub kernel : Bool

@@ -1,6 +1,7 @@
 -- What expressions stand for, from what their parts stand for: names are numbers, conversions are written out, and each
 -- operation that can be named has a site. Sites are numbered in the order of the nodes that take one.
-use Rattle.std.specs.Prelude.{ℕ, ℤ, pos, ◌*◌, Bool, true, false, List, [], ◌∷◌, ◌++◌, length, map, Option, None, Some, if◌then◌else◌}
+use Rattle.std.specs.Prelude.{ℕ, ℤ, pos, ◌*◌, Bool, true, false, List, [], ◌∷◌, ◌++◌, length, map, Option, None, Some}
+use Rattle.std.specs.Prelude.{if◌then◌else◌}
 use Rattle.wg_num.specs.declared.types.IntType.{IntType}
 use Rattle.wg_num.specs.declared.types.Place.{Place}
 use Rattle.wg_num.specs.declared.types.IntType.TheVariants as types
@@ -29,9 +30,11 @@ use Rattle.cl_meaning.specs.declared.kind.Meaning.TheVariants as meanings
 use Rattle.cl_meaning.specs.declared.kind.Parameter.{Parameter}
 use Rattle.cl_meaning.specs.declared.kind.Parameter.TheVariants as parameters
 use Rattle.cl_meaning.specs.Environment.{Env, meaning_of}
-use Rattle.cl_meaning.specs.Kinds.{same_type, type_of, is_flag, counted, builtin_type, Callee, defined, undefined, known}
+use Rattle.cl_meaning.specs.Kinds.{same_type, type_of, is_flag, counted, builtin_type, Callee, defined, undefined}
+use Rattle.cl_meaning.specs.Kinds.{known}
 use Rattle.cl_meaning.specs.Declarations.{first_type}
-use Rattle.cl_meaning.specs.Typed.{Target, variable, element, What, nothing, value, target, offset, barrier, fence, Piece, Built}
+use Rattle.cl_meaning.specs.Typed.{Target, variable, element, What, nothing, value, target, offset, barrier, fence}
+use Rattle.cl_meaning.specs.Typed.{Piece, Built}
 
 -- ---- pieces
 
@@ -99,7 +102,8 @@ moved_by i (Some o) = joined_by bins.Add types.Long i o
 abbrev pub name_made : Place → List Place → Option Meaning → Built
 name_made place sites (Some (meanings.Scalar t c x)) = made (target (variable x)) sites
 name_made place sites (Some (meanings.Pointer s e c r fixed x)) = made (target (variable x)) sites
-name_made place sites (Some (meanings.Object s e c r)) = sited place sites (λ site. target (element site e r zero_offset))
+name_made place sites (Some (meanings.Object s e c r)) =
+    sited place sites (λ site. target (element site e r zero_offset))
 name_made place sites (Some (meanings.Array s e c r i)) = made (offset None) sites
 name_made place sites m = made nothing sites
 
@@ -111,12 +115,16 @@ is_sub op = false
 
 -- a number moves a pointer forward, or back
 abbrev pub pointer_moved : Bin → Piece → Piece → What
-pointer_moved op a b = if is_sub op then offset (Some (joined_by bins.Sub types.Long (read a.what) (operand types.Long b))) else offset (Some (moved (way a.what) (operand types.Long b)))
+pointer_moved op a b = if is_sub op then offset
+    (Some (joined_by bins.Sub types.Long (read a.what) (operand types.Long b))) else offset
+    (Some (moved (way a.what) (operand types.Long b)))
 
 abbrev pub binary_what : Bin → Piece → Piece → Option Kind → Option Kind → What
-binary_what op a b (Some (kinds.Number t p)) (Some (kinds.Number u q)) = value (joined_by op (operand_type op t u) (operand (operand_type op t u) a) (operand (right_type op t u) b))
+binary_what op a b (Some (kinds.Number t p)) (Some (kinds.Number u q)) =
+    value (joined_by op (operand_type op t u) (operand (operand_type op t u) a) (operand (right_type op t u) b))
 binary_what op a b (Some (kinds.Pointer s e c r i p)) (Some (kinds.Number u q)) = pointer_moved op a b
-binary_what op a b (Some (kinds.Number t p)) (Some (kinds.Pointer s e c r i q)) = offset (Some (moved_by (operand types.Long a) (way b.what)))
+binary_what op a b (Some (kinds.Number t p)) (Some (kinds.Pointer s e c r i q)) =
+    offset (Some (moved_by (operand types.Long a) (way b.what)))
 binary_what op a b j k = nothing
 
 abbrev pub binary_made : List Place → Option Bin → List Piece → Built
@@ -128,16 +136,20 @@ abbrev pub logical : Piece → Expression
 logical p = operand (promoted (type_in p.kind)) p
 
 abbrev pub and_made : Place → List Place → List Piece → Built
-and_made place sites (a ∷ b ∷ []) = sited place sites (λ site. value (tree.Choose site (logical a) (truth_of (logical b)) (decided false)))
+and_made place sites (a ∷ b ∷ []) =
+    sited place sites (λ site. value (tree.Choose site (logical a) (truth_of (logical b)) (decided false)))
 and_made place sites ps = made nothing sites
 
 abbrev pub or_made : Place → List Place → List Piece → Built
-or_made place sites (a ∷ b ∷ []) = sited place sites (λ site. value (tree.Choose site (logical a) (decided true) (truth_of (logical b))))
+or_made place sites (a ∷ b ∷ []) =
+    sited place sites (λ site. value (tree.Choose site (logical a) (decided true) (truth_of (logical b))))
 or_made place sites ps = made nothing sites
 
 abbrev pub choice_made : Place → List Place → List Piece → Built
 choice_made place sites (c ∷ a ∷ b ∷ []) =
-    sited place sites (λ site. value (tree.Choose site (read c.what) (operand (common (type_in a.kind) (type_in b.kind)) a) (operand (common (type_in a.kind) (type_in b.kind)) b)))
+    sited place sites (λ site. value
+    (tree.Choose site (read c.what) (operand (common (type_in a.kind) (type_in b.kind)) a)
+    (operand (common (type_in a.kind) (type_in b.kind)) b)))
 choice_made place sites ps = made nothing sites
 
 abbrev pub comma_made : List Place → List Piece → Built
@@ -157,7 +169,8 @@ assigned w v = nothing
 
 -- the target set to the result of an operator, which computes in a type, on its old value and another
 abbrev pub updated : What → Bin → (of back : IntType) → (old : Bool) → Expression → What
-updated (target (variable x)) op of back old v = value (Apply (tree.Change x op of back old) (pair (Apply (tree.Variable x) tree.none) v))
+updated (target (variable x)) op of back old v =
+    value (Apply (tree.Change x op of back old) (pair (Apply (tree.Variable x) tree.none) v))
 updated (target (element s t r i)) op of back old v = value (tree.Update s t r op of back old i v)
 updated w op of back old v = nothing
 
@@ -165,7 +178,8 @@ updated w op of back old v = nothing
 abbrev pub set_what : Setting → Piece → Piece → Option Kind → What
 set_what settings.Plain a b (Some (kinds.Number t p)) = assigned a.what (operand t b)
 set_what settings.Plain a b k = assigned a.what (read b.what)
-set_what (settings.With op) a b (Some (kinds.Number t p)) = updated a.what op (operand_type op t (type_in b.kind)) t false (operand (right_type op t (type_in b.kind)) b)
+set_what (settings.With op) a b (Some (kinds.Number t p)) =
+    updated a.what op (operand_type op t (type_in b.kind)) t false (operand (right_type op t (type_in b.kind)) b)
 set_what (settings.With op) a b k = updated a.what op types.Long types.Long false (operand types.Long b)
 
 abbrev pub set_made : List Place → Option Setting → List Piece → Built
@@ -174,7 +188,8 @@ set_made sites s ps = made nothing sites
 
 -- ++ and --
 abbrev pub step_what : Bin → Bool → Piece → Option Kind → What
-step_what op old a (Some (kinds.Number t p)) = updated a.what op (operand_type op t types.Int) t old (literal (pos 1) (operand_type op t types.Int))
+step_what op old a (Some (kinds.Number t p)) =
+    updated a.what op (operand_type op t types.Int) t old (literal (pos 1) (operand_type op t types.Int))
 step_what op old a k = updated a.what op types.Long types.Long old (literal (pos 1) types.Long)
 
 -- ---- elements
@@ -183,14 +198,18 @@ abbrev pub scaled : Expression → ℕ → Expression
 scaled i n = joined_by bins.Mul types.Long i (literal (pos n) types.Long)
 
 abbrev pub index_made : Place → List Place → Piece → Piece → Option Kind → Built
-index_made place sites a b (Some (kinds.Pointer s e c r each.Element p)) = sited place sites (λ site. target (element site e r (moved (way a.what) (operand types.Long b))))
-index_made place sites a b (Some (kinds.Pointer s e c r (each.Row n) p)) = made (offset (Some (moved (way a.what) (scaled (operand types.Long b) n)))) sites
-index_made place sites a b (Some (kinds.Pointer s e c r (each.Plane m n) p)) = made (offset (Some (moved (way a.what) (scaled (operand types.Long b) (m * n))))) sites
+index_made place sites a b (Some (kinds.Pointer s e c r each.Element p)) =
+    sited place sites (λ site. target (element site e r (moved (way a.what) (operand types.Long b))))
+index_made place sites a b (Some (kinds.Pointer s e c r (each.Row n) p)) =
+    made (offset (Some (moved (way a.what) (scaled (operand types.Long b) n)))) sites
+index_made place sites a b (Some (kinds.Pointer s e c r (each.Plane m n) p)) =
+    made (offset (Some (moved (way a.what) (scaled (operand types.Long b) (m * n))))) sites
 index_made place sites a b j = made nothing sites
 
 -- the first element, or the first row
 abbrev pub content_made : Place → List Place → Piece → Option Kind → Built
-content_made place sites a (Some (kinds.Pointer s e c r each.Element p)) = sited place sites (λ site. target (element site e r (read a.what)))
+content_made place sites a (Some (kinds.Pointer s e c r each.Element p)) =
+    sited place sites (λ site. target (element site e r (read a.what)))
 content_made place sites a (Some (kinds.Pointer s e c r i p)) = made (offset (way a.what)) sites
 content_made place sites a j = made nothing sites
 
@@ -204,7 +223,8 @@ size_what (Some d) = value (literal (pos (size_of d.of)) types.Ulong)
 
 abbrev pub prefix_made : Place → List Place → Forest → Option Prefix → List Piece → Built
 prefix_made place sites parts (Some (prefixes.Step op)) (a ∷ []) = made (step_what op false a a.kind) sites
-prefix_made place sites parts (Some (prefixes.Operator op)) (a ∷ []) = made (value (Apply (tree.Unary op (promoted (type_in a.kind))) (single (logical a)))) sites
+prefix_made place sites parts (Some (prefixes.Operator op)) (a ∷ []) =
+    made (value (Apply (tree.Unary op (promoted (type_in a.kind))) (single (logical a)))) sites
 prefix_made place sites parts (Some prefixes.Address) (a ∷ []) = made (address_what a.what) sites
 prefix_made place sites parts (Some prefixes.Content) (a ∷ []) = content_made place sites a a.kind
 prefix_made place sites parts (Some prefixes.Size) ps = made (size_what (first_type parts)) sites
@@ -252,13 +272,16 @@ dimension [] = literal (pos 0) types.Uint
 dimension (a ∷ as') = operand types.Uint a
 
 abbrev pub known_made : Place → List Place → List Piece → Intrinsic → Built
-known_made place sites ps (intrinsics.Function f) = made (value (Apply (tree.Builtin f (builtin_type (types_in ps))) (expressions (operands (builtin_type (types_in ps)) ps)))) sites
+known_made place sites ps (intrinsics.Function f) =
+    made (value (Apply (tree.Builtin f (builtin_type (types_in ps)))
+    (expressions (operands (builtin_type (types_in ps)) ps)))) sites
 known_made place sites ps (intrinsics.Query q) = made (value (Apply (tree.Ask q) (single (dimension ps)))) sites
 known_made place sites ps intrinsics.Barrier = sited place sites barrier
 known_made place sites ps intrinsics.Fence = made fence sites
 
 abbrev pub call_made : Place → List Place → List Piece → Option Callee → Built
-call_made place sites ps (Some (defined n g)) = sited place sites (λ site. value (tree.Call site n (roots_passed g.parameters ps) (all_passed g.parameters ps)))
+call_made place sites ps (Some (defined n g)) =
+    sited place sites (λ site. value (tree.Call site n (roots_passed g.parameters ps) (all_passed g.parameters ps)))
 call_made place sites ps (Some undefined) = made nothing sites
 call_made place sites ps (Some (known i)) = known_made place sites ps i
 call_made place sites ps None = made nothing sites
@@ -278,4 +301,6 @@ only_made sites (a ∷ []) = made a.what sites
 only_made sites ps = made nothing sites
 
 abbrev pub flagged_made : Env → Place → List Place → List ℕ → Built
-flagged_made env place sites name = if is_flag env name then made (value (literal (pos 0) types.Uint)) sites else name_made place sites (meaning_of env name)
+flagged_made env place sites name =
+    if is_flag env name then made (value (literal (pos 0) types.Uint)) sites else name_made place sites
+    (meaning_of env name)

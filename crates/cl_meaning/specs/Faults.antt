@@ -1,6 +1,7 @@
--- When a node is at fault: one condition for each number, on the node, what is visible at it, its place in its parent and
--- the kinds of its parts. And which node of a unit is the first at fault.
-use Rattle.std.specs.Prelude.{◌≡◌, ℕ, ℤ, suc, zero, ◌<◌, Bool, true, false, not, ◌&&◌, ◌||◌, nat_eq, nat_le, List, [], ◌∷◌, ◌++◌, length, Option, None, Some, ◌⊎◌, if◌then◌else◌}
+-- When a node is at fault: one condition for each number, on the node, what is visible at it, its place in its parent
+-- and the kinds of its parts. And which node of a unit is the first at fault.
+use Rattle.std.specs.Prelude.{◌≡◌, ℕ, ℤ, suc, zero, ◌<◌, Bool, true, false, not, ◌&&◌, ◌||◌, nat_eq, nat_le, List, []}
+use Rattle.std.specs.Prelude.{◌∷◌, ◌++◌, length, Option, None, Some, ◌⊎◌, if◌then◌else◌}
 use Rattle.std.specs.Str.{bytes_eq}
 use Rattle.std.specs.List.{list_any}
 use Rattle.std.specs.Ordering.{int_eq}
@@ -38,8 +39,14 @@ use Rattle.cl_meaning.specs.declared.kind.Role.{Role}
 use Rattle.cl_meaning.specs.declared.kind.Role.TheVariants as roles
 use Rattle.cl_meaning.specs.Numbers.{number_of}
 use Rattle.cl_meaning.specs.Environment.{Env, Labels, Signature, is_declared, at_unit, at_outermost}
-use Rattle.cl_meaning.specs.Kinds.{same_type, same_space, is_some, name_kind, binary_kind, logic_kind, choice_kind, comma_kind, cast_kind, operator_kind, address_kind, element_kind, index_kind, is_number, is_target, is_fixed, is_constant_memory, value_fits, root_changes, all_known, Callee, defined, undefined, known, is_fence, callee_of, arity_fits, call_fits, are_flags_alone, first_part, kind_step}
-use Rattle.cl_meaning.specs.Declarations.{Declarator, declarator_in, is_list, initialisers, initial_values, last_kind, dims_of, product, natural, pointed_space, first_type, second_star, signature_in, listed, form_of, word_of}
+use Rattle.cl_meaning.specs.Kinds.{same_type, same_space, is_some, name_kind, binary_kind, logic_kind, choice_kind}
+use Rattle.cl_meaning.specs.Kinds.{comma_kind, cast_kind, operator_kind, address_kind, element_kind, index_kind}
+use Rattle.cl_meaning.specs.Kinds.{is_number, is_target, is_fixed, is_constant_memory, value_fits, root_changes}
+use Rattle.cl_meaning.specs.Kinds.{all_known, Callee, defined, undefined, known, is_fence, callee_of, arity_fits}
+use Rattle.cl_meaning.specs.Kinds.{call_fits, are_flags_alone, first_part, kind_step}
+use Rattle.cl_meaning.specs.Declarations.{Declarator, declarator_in, is_list, initialisers, initial_values, last_kind}
+use Rattle.cl_meaning.specs.Declarations.{dims_of, product, natural, pointed_space, first_type, second_star}
+use Rattle.cl_meaning.specs.Declarations.{signature_in, listed, form_of, word_of}
 use Rattle.cl_meaning.specs.Visible.{Node, inside, kinds_of, visible_at}
 
 -- ---- what a unit is judged by
@@ -59,7 +66,8 @@ pub record Asked : Type 0 where
 -- the function `from` leads to `to` by at most so many calls
 unfoldable pub leads : ℕ → List Call → (from to : ℕ) → Bool
 leads zero calls from to = nat_eq from to
-leads (suc n) calls from to = nat_eq from to || list_any (λ (c : Call). nat_eq c.caller from && leads n calls c.called to) calls
+leads (suc n) calls from to =
+    nat_eq from to || list_any (λ (c : Call). nat_eq c.caller from && leads n calls c.called to) calls
 
 abbrev pub leads_back : List Call → (from to : ℕ) → Bool
 leads_back calls from to = leads (length calls) calls from to
@@ -147,7 +155,8 @@ is_tested r = false
 -- a call without a value elsewhere than as the whole of a statement, with as many arguments as are taken
 abbrev pub valueless : Looked → Option Callee → Bool
 valueless n None = false
-valueless n (Some c) = given (all_known n.kinds') (λ as'. arity_fits c (length as')) && (yields_nothing c && not (is_whole n.role))
+valueless n (Some c) =
+    given (all_known n.kinds') (λ as'. arity_fits c (length as')) && (yields_nothing c && not (is_whole n.role))
 
 abbrev pub prefix_misfits : List (Option Kind) → Prefix → Bool
 prefix_misfits ks (prefixes.Operator op) = lacks (operator_kind op) ks
@@ -212,7 +221,8 @@ misfits n forms.CastNode = cast_misfits n.parts n.kinds'
 misfits n forms.UnaryNode = given (prefix_in n.word) (prefix_misfits n.kinds')
 misfits n forms.PostfixNode = given (postfix_in n.word) (postfix_misfits n.kinds')
 misfits n forms.CallNode = valueless n (callee_of n.env (name_in n.word))
-misfits n forms.DeclaratorNode = declarator_misfits n.env.declared (declarator_in n.word n.first n.parts) (last_kind n.kinds')
+misfits n forms.DeclaratorNode =
+    declarator_misfits n.env.declared (declarator_in n.word n.first n.parts) (last_kind n.kinds')
 misfits n form = false
 
 -- a value that a statement tests, and that is no number
@@ -226,7 +236,8 @@ miscounted n forms.CallNode = given (callee_of n.env (name_in n.word)) (λ c. no
 miscounted n form = false
 
 abbrev pub mispassed : Looked → Form → Bool
-mispassed n forms.CallNode = given (callee_of n.env (name_in n.word)) (λ c. given (all_known n.kinds') (λ as'. arity_fits c (length as') && not (call_fits c as')))
+mispassed n forms.CallNode = given (callee_of n.env (name_in n.word))
+    (λ c. given (all_known n.kinds') (λ as'. arity_fits c (length as') && not (call_fits c as')))
 mispassed n form = false
 
 -- ---- E406 and E407: what is assigned, or counted up or down
@@ -268,7 +279,9 @@ is_misplaced n x (Some spaces.Constant) = not (at_unit n.env)
 is_misplaced n x s = false
 
 abbrev pub local_misplaced : Looked → Form → Bool
-local_misplaced n forms.DeclaratorNode = given n.env.declared (λ d. not (is_some (declarator_in n.word n.first n.parts).star) && is_misplaced n (declarator_in n.word n.first n.parts) d.space)
+local_misplaced n forms.DeclaratorNode =
+    given n.env.declared (λ d. not (is_some (declarator_in n.word n.first n.parts).star) &&
+    is_misplaced n (declarator_in n.word n.first n.parts) d.space)
 local_misplaced n form = false
 
 abbrev pub is_constant_space : Option Space → Bool
@@ -280,10 +293,12 @@ all_constant [] = true
 all_constant (t ∷ ts) = is_some (constant_of t) && all_constant ts
 
 abbrev pub no_program_variable : Declared → Declarator → Bool
-no_program_variable d x = not (is_constant_space d.space) || (is_some x.star || (not (is_some x.init) || not (all_constant (initial_values x.init))))
+no_program_variable d x = not (is_constant_space d.space) ||
+    (is_some x.star || (not (is_some x.init) || not (all_constant (initial_values x.init))))
 
 abbrev pub program_variable : Looked → Form → Bool
-program_variable n forms.DeclaratorNode = at_unit n.env && given n.env.declared (λ d. no_program_variable d (declarator_in n.word n.first n.parts))
+program_variable n forms.DeclaratorNode =
+    at_unit n.env && given n.env.declared (λ d. no_program_variable d (declarator_in n.word n.first n.parts))
 program_variable n form = false
 
 -- ---- E411: the parameters and the result of a kernel
@@ -305,7 +320,8 @@ abbrev pub no_kernel_function : Signature → Bool
 no_kernel_function g = g.kernel && gives_something g.result
 
 abbrev pub kernel_signature : Looked → Form → Bool
-kernel_signature n forms.ParamNode = n.env.owner.kernel && given (first_type n.parts) (λ d. no_kernel_parameter d (second_star n.parts))
+kernel_signature n forms.ParamNode =
+    n.env.owner.kernel && given (first_type n.parts) (λ d. no_kernel_parameter d (second_star n.parts))
 kernel_signature n forms.FunctionNode = no_kernel_function (signature_in n.word n.parts)
 kernel_signature n form = false
 
@@ -324,8 +340,12 @@ recursion asked n form = false
 -- ---- E413: the root of a pointer variable
 
 abbrev pub pointer_root : Looked → Form → Bool
-pointer_root n forms.DeclaratorNode = is_some (declarator_in n.word n.first n.parts).star && (nat_eq (declarator_in n.word n.first n.parts).dimensions 0 && not (is_some (declarator_in n.word n.first n.parts).init))
-pointer_root n forms.AssignNode = given (setting_in n.word) (λ s. given_pair n.kinds' (λ a b. is_target a && root_changes s a b))
+pointer_root n forms.DeclaratorNode =
+    is_some (declarator_in n.word n.first n.parts).star &&
+    (nat_eq (declarator_in n.word n.first n.parts).dimensions 0 &&
+    not (is_some (declarator_in n.word n.first n.parts).init))
+pointer_root n forms.AssignNode =
+    given (setting_in n.word) (λ s. given_pair n.kinds' (λ a b. is_target a && root_changes s a b))
 pointer_root n form = false
 
 -- ---- E414: lengths and sizes
@@ -343,7 +363,9 @@ all_positive [] = true
 all_positive (t ∷ ts) = is_positive (constant_of t) && all_positive ts
 
 abbrev pub array_length : Looked → Form → Bool
-array_length n forms.DeclaratorNode = nat_le 1 (declarator_in n.word n.first n.parts).dimensions && too_many_initialisers (declarator_in n.word n.first n.parts) (dims_of (declarator_in n.word n.first n.parts))
+array_length n forms.DeclaratorNode =
+    nat_le 1 (declarator_in n.word n.first n.parts).dimensions &&
+    too_many_initialisers (declarator_in n.word n.first n.parts) (dims_of (declarator_in n.word n.first n.parts))
 array_length n forms.AttributeNode = not (all_positive (listed n.parts))
 array_length n form = false
 
@@ -368,7 +390,8 @@ is_repeated None c = false
 is_repeated (Some l) c = is_among (wrap_of l.of c.value) l.values
 
 abbrev pub case_value : Looked → Form → Bool
-case_value n forms.CaseNode = not (is_some (constant_of (first_part n.parts))) || given (constant_of (first_part n.parts)) (is_repeated n.env.labels)
+case_value n forms.CaseNode = not (is_some (constant_of (first_part n.parts))) ||
+    given (constant_of (first_part n.parts)) (is_repeated n.env.labels)
 case_value n forms.DefaultNode = given n.env.labels (λ l. l.other)
 case_value n form = false
 
@@ -390,7 +413,9 @@ is_fence_call (known i) = is_fence i
 is_fence_call c = false
 
 abbrev pub barrier_flags : Looked → Form → Bool
-barrier_flags n forms.CallNode = given (callee_of n.env (name_in n.word)) (λ c. is_fence_call c && (arity_fits c (length n.kinds') && not (are_flags_alone n.parts)))
+barrier_flags n forms.CallNode =
+    given (callee_of n.env (name_in n.word)) (λ c. is_fence_call c &&
+    (arity_fits c (length n.kinds') && not (are_flags_alone n.parts)))
 barrier_flags n form = false
 
 -- ---- E422: the kernel that is asked for
@@ -417,7 +442,8 @@ same_truth false b = not b
 
 abbrev pub same_parameter : Parameter → Parameter → Bool
 same_parameter (parameters.Number t) (parameters.Number u) = same_type t u
-same_parameter (parameters.Pointer s e c) (parameters.Pointer s' e' c') = same_space s s' && (same_type e e' && same_truth c c')
+same_parameter (parameters.Pointer s e c) (parameters.Pointer s' e' c') =
+    same_space s s' && (same_type e e' && same_truth c c')
 same_parameter parameters.Outside parameters.Outside = true
 same_parameter a b = false
 
@@ -438,7 +464,8 @@ prototype_misfits asked p None = is_called asked.missing p.name
 prototype_misfits asked p (Some g) = not (same_signature p g)
 
 abbrev pub prototype_match : Asked → Looked → Form → Bool
-prototype_match asked n forms.PrototypeNode = prototype_misfits asked (signature_in n.word n.parts) (signature_of (name_in n.word) n.env.functions)
+prototype_match asked n forms.PrototypeNode =
+    prototype_misfits asked (signature_in n.word n.parts) (signature_of (name_in n.word) n.env.functions)
 prototype_match asked n form = false
 
 -- ---- all of them
@@ -472,7 +499,15 @@ at_fault asked n faults.PrototypeMatch = prototype_match asked n n.form
 
 -- a node with the kinds of its parts, and what is visible at it behind them
 abbrev pub looked_at : Env → Role → Syntax → Looked
-looked_at env role (node form w f l parts) = record { env = visible_at env (node form w f l parts); role = role; form = form; word = w; first = f; parts = parts; kinds' = kinds_of (inside env form w) form true parts }
+looked_at env role (node form w f l parts) = record {
+  env = visible_at env (node form w f l parts);
+  role = role;
+  form = form;
+  word = w;
+  first = f;
+  parts = parts;
+  kinds' = kinds_of (inside env form w) form true parts;
+}
 
 abbrev pub looked : Node → Looked
 looked n = looked_at n.visible n.role n.tree
@@ -490,8 +525,8 @@ abbrev pub token_of : ℕ → Fault → ℕ → ℕ
 token_of end faults.NoSuchKernel first = end
 token_of end k first = first
 
--- The fault stands at the node, no fault of a smaller number does, and the token is the node's first; for a unit without
--- the kernel it is the end of the source.
+-- The fault stands at the node, no fault of a smaller number does, and the token is the node's first; for a unit
+-- without the kernel it is the end of the source.
 pub record Stands (asked : Asked) (end : ℕ) (n : Node) (k : Fault) (token : ℕ) : Type 0 where
   pub at : AtFault asked n k
   pub least : (j : Fault) → number_of j < number_of k → at_fault asked (looked n) j ≡ false

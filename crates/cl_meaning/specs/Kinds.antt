@@ -1,5 +1,6 @@
 -- The kind of an expression from the kinds of its parts: none where the expression or a part of it is at fault.
-use Rattle.std.specs.Prelude.{ℕ, Bool, true, false, not, ◌&&◌, ◌||◌, nat_eq, List, [], ◌∷◌, length, slice_get, Option, None, Some, if◌then◌else◌}
+use Rattle.std.specs.Prelude.{ℕ, Bool, true, false, not, ◌&&◌, ◌||◌, nat_eq, List, [], ◌∷◌, length, slice_get, Option}
+use Rattle.std.specs.Prelude.{None, Some, if◌then◌else◌}
 use Rattle.wg_num.specs.declared.types.IntType.{IntType}
 use Rattle.wg_num.specs.declared.types.IntType.TheVariants as types
 use Rattle.wg_num.specs.declared.types.Bin.{Bin}
@@ -27,7 +28,8 @@ use Rattle.cl_meaning.specs.declared.names.Intrinsic.{Intrinsic}
 use Rattle.cl_meaning.specs.declared.names.Intrinsic.TheVariants as intrinsics
 use Rattle.cl_meaning.specs.declared.names.Flag.{Flag}
 use Rattle.cl_meaning.specs.declared.names.Flag.TheVariants as flags
-use Rattle.cl_meaning.specs.Spelling.{name_in, declared_in, binary_in, setting_in, prefix_in, postfix_in, intrinsic_in, flag_in, literal_in}
+use Rattle.cl_meaning.specs.Spelling.{name_in, declared_in, binary_in, setting_in, prefix_in, postfix_in}
+use Rattle.cl_meaning.specs.Spelling.{intrinsic_in, flag_in, literal_in}
 use Rattle.cl_meaning.specs.Conversions.{promoted, common, operand_type}
 use Rattle.cl_meaning.specs.declared.kind.Each.TheVariants as each
 use Rattle.cl_meaning.specs.declared.kind.Reach.TheVariants as reach
@@ -112,9 +114,12 @@ name_kind env name = if is_flag env name then Some (number types.Uint) else on_o
 -- numbers; a pointer and a number added, in either order; a number taken from a pointer
 abbrev pub binary_kind : Bin → Kind → Kind → Option Kind
 binary_kind op (kinds.Number t p) (kinds.Number u q) = Some (number (binary_type op (operand_type op t u)))
-binary_kind bins.Add (kinds.Pointer s e c r each.Element p) (kinds.Number u q) = Some (kinds.Pointer s e c r each.Element reach.Value)
-binary_kind bins.Add (kinds.Number t p) (kinds.Pointer s e c r each.Element q) = Some (kinds.Pointer s e c r each.Element reach.Value)
-binary_kind bins.Sub (kinds.Pointer s e c r each.Element p) (kinds.Number u q) = Some (kinds.Pointer s e c r each.Element reach.Value)
+binary_kind bins.Add (kinds.Pointer s e c r each.Element p) (kinds.Number u q) =
+    Some (kinds.Pointer s e c r each.Element reach.Value)
+binary_kind bins.Add (kinds.Number t p) (kinds.Pointer s e c r each.Element q) =
+    Some (kinds.Pointer s e c r each.Element reach.Value)
+binary_kind bins.Sub (kinds.Pointer s e c r each.Element p) (kinds.Number u q) =
+    Some (kinds.Pointer s e c r each.Element reach.Value)
 binary_kind op a b = None
 
 -- && and ||
@@ -199,7 +204,8 @@ assignable a = is_target a && not (is_fixed a || is_constant_memory a)
 -- whether the value fits the target, its root aside
 abbrev pub value_fits : Setting → Kind → Kind → Bool
 value_fits s (kinds.Number t p) (kinds.Number u q) = true
-value_fits settings.Plain (kinds.Pointer s e c r i p) (kinds.Pointer s' e' c' r' each.Element q) = same_space s s' && same_type e e'
+value_fits settings.Plain (kinds.Pointer s e c r i p) (kinds.Pointer s' e' c' r' each.Element q) =
+    same_space s s' && same_type e e'
 value_fits (settings.With bins.Add) (kinds.Pointer s e c r i p) (kinds.Number u q) = true
 value_fits (settings.With bins.Sub) (kinds.Pointer s e c r i p) (kinds.Number u q) = true
 value_fits s a b = false

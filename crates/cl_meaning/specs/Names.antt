@@ -1,4 +1,5 @@
--- Names that need no declaration (OpenCL 1.2, sections 6.12.1, 6.12.3, 6.12.8 and 6.12.9), and the words of declarations.
+-- Names that need no declaration (OpenCL 1.2, sections 6.12.1, 6.12.3, 6.12.8 and 6.12.9), and the words of
+-- declarations.
 use Rattle.std.specs.Prelude.{ℕ, Bool, List, [], ◌∷◌, Option, nat_eq, codes}
 use Rattle.std.specs.List.{count_by}
 use lib.Pointwise.{pointwise}

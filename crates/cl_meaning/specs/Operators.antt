@@ -2,7 +2,8 @@
 use Rattle.std.specs.Prelude.{ℕ, List, [], ◌∷◌, Option, codes}
 use Rattle.wg_num.specs.declared.types.Un.TheVariants.{Plus, Minus, Flip, Not}
 use Rattle.wg_num.specs.declared.types.Bin.{Bin}
-use Rattle.wg_num.specs.declared.types.Bin.TheVariants.{Add, Sub, Mul, Div, Rem, Shl, Shr, And, Or, Xor, Eq, Ne, Lt, Le, Gt, Ge}
+use Rattle.wg_num.specs.declared.types.Bin.TheVariants.{Add, Sub, Mul, Div, Rem, Shl, Shr, And, Or, Xor, Eq, Ne, Lt}
+use Rattle.wg_num.specs.declared.types.Bin.TheVariants.{Le, Gt, Ge}
 use Rattle.cl_meaning.specs.declared.operators.Prefix.{Prefix}
 use Rattle.cl_meaning.specs.declared.operators.Prefix.TheVariants as prefix
 use Rattle.cl_meaning.specs.declared.operators.Postfix.{Postfix}

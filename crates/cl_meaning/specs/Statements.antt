@@ -1,5 +1,6 @@
 -- What declarations, statements and functions stand for, from what their parts stand for.
-use Rattle.std.specs.Prelude.{ℤ, suc, nat_eq, Bool, true, false, List, [], ◌∷◌, ◌++◌, length, map, Option, None, Some, if◌then◌else◌}
+use Rattle.std.specs.Prelude.{ℤ, suc, nat_eq, Bool, true, false, List, [], ◌∷◌, ◌++◌, length, map, Option, None, Some}
+use Rattle.std.specs.Prelude.{if◌then◌else◌}
 use Rattle.wg_num.specs.declared.types.IntType.{IntType}
 use Rattle.wg_num.specs.declared.types.Place.{Place}
 use Rattle.wg_num.specs.Wrap.{wrap_of}
@@ -16,7 +17,8 @@ use Rattle.cl_meaning.specs.declared.kind.Yield.TheVariants as yields
 use Rattle.cl_meaning.specs.Environment.{Env, Labels, Signature}
 use Rattle.cl_meaning.specs.Kinds.{first_part}
 use Rattle.cl_meaning.specs.Declarations.{Declarator, kept_in}
-use Rattle.cl_meaning.specs.Typed.{What, nothing, values, barrier, fence, lines, statement, labelled, function, Piece, Built, Function}
+use Rattle.cl_meaning.specs.Typed.{What, nothing, values, barrier, fence, lines, statement, labelled, function, Piece}
+use Rattle.cl_meaning.specs.Typed.{Built, Function}
 use Rattle.cl_meaning.specs.Expressions.{made, sited, read, operand, expressions}
 
 -- ---- lists of statements
@@ -86,7 +88,8 @@ variable_declared env v = lines (alone (tree.Declare (length env.variables) v))
 
 -- an array of the item's own is filled where it is declared; other objects are not touched
 abbrev pub array_made : Env → Place → List Place → List Expression → Space → Built
-array_made env place sites vs spaces.Private = sited place sites (λ site. lines (alone (tree.Fill site (length env.arrays) (expressions vs))))
+array_made env place sites vs spaces.Private =
+    sited place sites (λ site. lines (alone (tree.Fill site (length env.arrays) (expressions vs))))
 array_made env place sites vs s = made (lines empty) sites
 
 abbrev pub scalar_made : Env → List Place → Option Expression → Space → Built
@@ -120,19 +123,24 @@ else_of [] = empty
 else_of (p ∷ ps) = alone (body_of p.what)
 
 abbrev pub if_made : Place → List Place → List Piece → Built
-if_made place sites (c ∷ a ∷ others) = sited place sites (λ site. statement (tree.If site (read c.what) (alone (body_of a.what)) (else_of others)))
+if_made place sites (c ∷ a ∷ others) =
+    sited place sites (λ site. statement (tree.If site (read c.what) (alone (body_of a.what)) (else_of others)))
 if_made place sites ps = made nothing sites
 
 abbrev pub while_made : Place → List Place → List Piece → Built
-while_made place sites (c ∷ a ∷ []) = sited place sites (λ site. statement (tree.Loop site true (Some (read c.what)) None (body_of a.what)))
+while_made place sites (c ∷ a ∷ []) =
+    sited place sites (λ site. statement (tree.Loop site true (Some (read c.what)) None (body_of a.what)))
 while_made place sites ps = made nothing sites
 
 abbrev pub do_made : Place → List Place → List Piece → Built
-do_made place sites (a ∷ c ∷ []) = sited place sites (λ site. statement (tree.Loop site false (Some (read c.what)) None (body_of a.what)))
+do_made place sites (a ∷ c ∷ []) =
+    sited place sites (λ site. statement (tree.Loop site false (Some (read c.what)) None (body_of a.what)))
 do_made place sites ps = made nothing sites
 
 abbrev pub for_made : Place → List Place → Piece → Option Expression → Option Expression → Piece → Built
-for_made place sites i test step a = sited place sites (λ site. statement (tree.Block (followed (lines_of i.what) (alone (tree.Loop site true test step (body_of a.what))))))
+for_made place sites i test step a =
+    sited place sites (λ site. statement
+    (tree.Block (followed (lines_of i.what) (alone (tree.Loop site true test step (body_of a.what))))))
 
 -- whether the second part of a `for` is its test: then it stands directly behind the first part
 abbrev pub second_is_test : Forest → Bool
@@ -141,12 +149,14 @@ second_is_test parts = false
 
 abbrev pub loop_made : Place → List Place → Forest → List Piece → Built
 loop_made place sites parts (i ∷ a ∷ []) = for_made place sites i None None a
-loop_made place sites parts (i ∷ e ∷ a ∷ []) = if second_is_test parts then for_made place sites i (Some (read e.what)) None a else for_made place sites i None (Some (read e.what)) a
+loop_made place sites parts (i ∷ e ∷ a ∷ []) =
+    if second_is_test parts then for_made place sites i (Some (read e.what)) None a else for_made place sites i None
+    (Some (read e.what)) a
 loop_made place sites parts (i ∷ c ∷ e ∷ a ∷ []) = for_made place sites i (Some (read c.what)) (Some (read e.what)) a
 loop_made place sites parts ps = made nothing sites
 
--- the arms from a statement on, which begins an arm if it has labels and else belongs to the arm that has these labels and
--- begins with these statements; `rest` are the arms behind it
+-- the arms from a statement on, which begins an arm if it has labels and else belongs to the arm that has these
+-- labels and begins with these statements; `rest` are the arms behind it
 abbrev pub arms_by : List ℤ → Bool → Statements → What → (List ℤ → Bool → Statements → Arms) → Arms
 arms_by ls other body (labelled ls' other' s) rest = arm ls other body (rest ls' other' (alone s))
 arms_by ls other body w rest = rest ls other (followed body (alone (body_of w)))
@@ -183,7 +193,8 @@ labelled_by ls other (labelled ls' other' s) = labelled (ls ++ ls') (or_other ot
 labelled_by ls other w = labelled ls other (body_of w)
 
 abbrev pub case_made : Env → List Place → Forest → List Piece → Built
-case_made env sites parts (v ∷ a ∷ []) = made (labelled_by (label_of env.labels (constant_of (first_part parts))) false a.what) sites
+case_made env sites parts (v ∷ a ∷ []) =
+    made (labelled_by (label_of env.labels (constant_of (first_part parts))) false a.what) sites
 case_made env sites parts ps = made nothing sites
 
 abbrev pub default_made : List Place → List Piece → Built

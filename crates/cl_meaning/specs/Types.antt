@@ -59,7 +59,8 @@ integers =
 
 -- whether the word names a type outside the profile: one of floating point, a vector, an image, an event or the like
 unfoldable pub names_outside : List ℕ → Test
-names_outside w = list_any (λ (r : words.Row). list_any (spells w) r.words) outside_words || list_any (λ (r : words.Row). list_any (spells w) r.words) vector_words
+names_outside w = list_any (λ (r : words.Row). list_any (spells w) r.words) outside_words ||
+    list_any (λ (r : words.Row). list_any (spells w) r.words) vector_words
 
 -- the base type of a type's word
 unfoldable pub base_in : List ℕ → Option Base
@@ -94,7 +95,8 @@ space_among (more _ others) = None
 abbrev pub declared_as : Option Base → Test → Option Space → Option Declared
 declared_as None constant space = None
 declared_as (Some Outside) constant space = None
-declared_as (Some (Integer of size)) constant space = Some (record { of = of; size = size; constant = constant; space = space })
+declared_as (Some (Integer of size)) constant space =
+    Some (record { of = of; size = size; constant = constant; space = space })
 
 -- what a type of the profile declares
 abbrev pub declared_in : Syntax → Option Declared

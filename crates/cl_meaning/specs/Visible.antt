@@ -1,5 +1,6 @@
 -- What is visible at each node of a tree, and the nodes in their order. All of it is a function of the tree alone.
-use Rattle.std.specs.Prelude.{ℕ, suc, nat_eq, Bool, true, false, ◌&&◌, ◌||◌, List, [], ◌∷◌, ◌++◌, length, take, slice_get, Option, None, Some, if◌then◌else◌}
+use Rattle.std.specs.Prelude.{ℕ, suc, nat_eq, Bool, true, false, ◌&&◌, ◌||◌, List, [], ◌∷◌, ◌++◌, length, take}
+use Rattle.std.specs.Prelude.{slice_get, Option, None, Some, if◌then◌else◌}
 use Rattle.std.specs.Str.{bytes_eq}
 use Rattle.wg_num.specs.declared.types.IntType.{IntType}
 use Rattle.wg_num.specs.declared.types.IntType.TheVariants as types
@@ -18,9 +19,11 @@ use Rattle.cl_meaning.specs.declared.kind.Meaning.TheVariants as meanings
 use Rattle.cl_meaning.specs.declared.kind.Role.{Role}
 use Rattle.cl_meaning.specs.declared.kind.Role.TheVariants as roles
 use Rattle.cl_meaning.specs.declared.kind.Yield.TheVariants as yields
-use Rattle.cl_meaning.specs.Environment.{Env, Scope, Owner, Labels, Signature, empty_scope, with_entry, declare, in_last}
+use Rattle.cl_meaning.specs.Environment.{Env, Scope, Owner, Labels, Signature, empty_scope, with_entry, declare}
+use Rattle.cl_meaning.specs.Environment.{in_last}
 use Rattle.cl_meaning.specs.Kinds.{Callee, known, is_fence, callee_of, kind_step, type_of}
-use Rattle.cl_meaning.specs.Declarations.{form_of, parts_of, declarator_in, with_declarator, last_kind, first_type, second_star, with_parameter, yield_of, is_kernel_head, sizes_in, firm}
+use Rattle.cl_meaning.specs.Declarations.{form_of, parts_of, declarator_in, with_declarator, last_kind, first_type}
+use Rattle.cl_meaning.specs.Declarations.{second_star, with_parameter, yield_of, is_kernel_head, sizes_in, firm}
 
 -- ---- on the way in: what is visible at the first part of a node
 
@@ -83,7 +86,8 @@ announced env name = is_free (in_last env.scopes name) && unknown (intrinsic_in 
     unknown (Some i) = false
 
 abbrev pub with_prototype : Env → List ℕ → Env
-with_prototype env name = if announced env name then declare env name (record { meaning = defined_meaning (definition_of env name); firm = false }) else env
+with_prototype env name = if announced env name then declare env name
+    (record { meaning = defined_meaning (definition_of env name); firm = false }) else env
 
 -- the number of a definition; where there is none, that of none of the unit's functions
 abbrev pub number_in : Env → Option (ℕ × Bool) → ℕ
@@ -92,7 +96,18 @@ number_in env (Some (n, kernel)) = n
 
 -- in a function or prototype: its heads and its result stand in the scope around it
 abbrev pub in_function : Env → ℕ → Bool → Env
-in_function env number defining = record env { owner = record { number = number; kernel = false; defining = defining; result = yields.Nothing; sizes = None }; variables = []; arrays = [] }
+in_function env number defining =
+    record env {
+      owner = record {
+        number = number;
+        kernel = false;
+        defining = defining;
+        result = yields.Nothing;
+        sizes = None;
+      };
+      variables = [];
+      arrays = [];
+    }
 
 abbrev pub in_definition : Env → List ℕ → Env
 in_definition env name = in_function env (number_in env (definition_of env name)) true
@@ -134,22 +149,28 @@ head_sizes none = None
 head_sizes (more p ps) = sizes_in p
 
 abbrev pub behind_head : Env → Syntax → Env
-behind_head env p = in_owner env (record env.owner { kernel = env.owner.kernel || is_kernel_head p; sizes = or_sizes env.owner.sizes (head_sizes (parts_of p)) })
+behind_head env p = in_owner env (record env.owner {
+  kernel = env.owner.kernel || is_kernel_head p;
+  sizes = or_sizes env.owner.sizes (head_sizes (parts_of p));
+})
 
 abbrev pub behind_result : Env → Syntax → Env
 behind_result env p = in_owner env (record env.owner { result = yield_of (parts_of p) })
 
--- The own name of a function, where that number is one's. It hides nothing: what stands for it already, as a name of the unit or
--- one that is known without a declaration, does so in the function too.
+-- The own name of a function, where that number is one's. It hides nothing: what stands for it already, as a name of
+-- the unit or one that is known without a declaration, does so in the function too.
 abbrev pub own_scope : Env → ℕ → Option Signature → Scope
 own_scope env number None = empty_scope
-own_scope env number (Some g) = if announced env g.name then with_entry empty_scope g.name (firm (function_meaning g.kernel number)) else empty_scope
+own_scope env number (Some g) =
+    if announced env g.name then with_entry empty_scope g.name (firm (function_meaning g.kernel number)) else
+    empty_scope
 
 abbrev pub with_own : Env → Env
-with_own env = record env { scopes = env.scopes ++ own_scope env env.owner.number (slice_get env.functions env.owner.number) ∷ [] }
+with_own env =
+    record env { scopes = env.scopes ++ own_scope env env.owner.number (slice_get env.functions env.owner.number) ∷ [] }
 
--- A function is visible from its name on, which stands behind its result, where a prototype of it would declare it there; its
--- parameters and its block share the scope inside.
+-- A function is visible from its name on, which stands behind its result, where a prototype of it would declare it
+-- there; its parameters and its block share the scope inside.
 abbrev pub named : Env → Env
 named env = opened (with_own env)
 
@@ -241,7 +262,8 @@ unfoldable pub left : Env → Env → Form → List ℕ → (first last : ℕ) �
 left env inner forms.FunctionNode w f l parts ks = with_function env (name_in w)
 left env inner forms.PrototypeNode w f l parts ks = with_prototype env (name_in w)
 left env inner forms.ParamNode w f l parts ks = with_parameter env (name_in w) l (first_type parts) (second_star parts)
-left env inner forms.DeclaratorNode w f l parts ks = with_declarator env env.declared (declarator_in w f parts) (last_kind ks)
+left env inner forms.DeclaratorNode w f l parts ks =
+    with_declarator env env.declared (declarator_in w f parts) (last_kind ks)
 left env inner forms.CaseNode w f l parts ks = record env { labels = inner.labels }
 left env inner forms.DefaultNode w f l parts ks = record env { labels = inner.labels }
 left env inner form w f l parts ks = env
@@ -252,26 +274,32 @@ unfoldable mutual
   -- what is visible behind a tree
   pub behind : Env → Syntax → Env
   behind env (node form w f l parts) =
-      left (restored form env (behind_parts (inside env form w) form true parts)) (behind_parts (inside env form w) form true parts) form w f l parts (kinds_of (inside env form w) form true parts)
+      left (restored form env (behind_parts (inside env form w) form true parts))
+      (behind_parts (inside env form w) form true parts) form w f l parts
+      (kinds_of (inside env form w) form true parts)
 
   pub behind_parts : Env → Form → Bool → Forest → Env
   behind_parts env form front none = env
-  behind_parts env form front (more p ps) = behind_parts (later (behind env p) form front p (kind_of env p)) form false ps
+  behind_parts env form front (more p ps) =
+      behind_parts (later (behind env p) form front p (kind_of env p)) form false ps
 
   -- the kind of an expression; none of another tree
   pub kind_of : Env → Syntax → Option Kind
   kind_of env (node form w f l parts) =
-      kind_step (restored form env (behind_parts (inside env form w) form true parts)) form w parts (kinds_of (inside env form w) form true parts)
+      kind_step (restored form env (behind_parts (inside env form w) form true parts)) form w parts
+      (kinds_of (inside env form w) form true parts)
 
   pub kinds_of : Env → Form → Bool → Forest → List (Option Kind)
   kinds_of env form front none = []
-  kinds_of env form front (more p ps) = kind_of env p ∷ kinds_of (later (behind env p) form front p (kind_of env p)) form false ps
+  kinds_of env form front (more p ps) =
+      kind_of env p ∷ kinds_of (later (behind env p) form front p (kind_of env p)) form false ps
 
 -- what is visible at the end of the parts of a tree
 abbrev pub inner_of : Env → Syntax → Env
 inner_of env (node form w f l parts) = behind_parts (inside env form w) form true parts
 
--- what is visible at a tree behind its parts; only what statements and functions declare in it can set it apart from env
+-- what is visible at a tree behind its parts; only what statements and functions declare in it can set it apart from
+-- env
 abbrev pub visible_at : Env → Syntax → Env
 visible_at env (node form w f l parts) = restored form env (behind_parts (inside env form w) form true parts)
 
@@ -318,9 +346,14 @@ is_front (Some l) = false
 unfoldable mutual
   pub in_order : Env → Role → Syntax → List Node → List Node
   in_order env role (node form w f l parts) others =
-      parts_in_order (inside env form w) form None parts (record { visible = env; role = role; tree = node form w f l parts } ∷ others)
+      parts_in_order (inside env form w) form None parts (record {
+        visible = env;
+        role = role;
+        tree = node form w f l parts;
+      } ∷ others)
 
   pub parts_in_order : Env → Form → Before → Forest → List Node → List Node
   parts_in_order env form b none others = others
   parts_in_order env form b (more p ps) others =
-      in_order env (role_of form b p) p (parts_in_order (later (behind env p) form (is_front b) p (kind_of env p)) form (Some (last_of p)) ps others)
+      in_order env (role_of form b p) p (parts_in_order (later (behind env p) form (is_front b) p (kind_of env p))
+      form (Some (last_of p)) ps others)

@@ -77,7 +77,8 @@ fn is_one_spelled(word: &[u8], texts: &[&str]) -> bool
 
 /// The base with that spelling, qualifiers aside.
 fn look_up_base(word: &[u8], table: &[(&str, Base)]) -> Option<Base>
-    ensures { result ≡ first_row (spec.spells word.now) (map (λ r. record { word = r.0.now; value = r.1 }) table.now) }
+    ensures { result ≡ first_row (spec.spells word.now) (map (λ r. record { word = r.0.now; value = r.1 })
+        table.now) }
 {
     for (text, base) in table {
         if is_spelled(word, text) {

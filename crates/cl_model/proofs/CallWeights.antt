@@ -1,10 +1,14 @@
 -- What a call of each function weighs: its body, where calls end.
 use Rattle.std.proofs.Common.{◌≡◌, ℕ, zero, suc, List, [], ◌∷◌, ◌++◌, Option, Some, None, refl, ap, arith}
 use Rattle.cl_model.specs.Lists.{Each}
-use Rattle.cl_model.specs.Tree.{Expression, Apply, Update, Choose, Call, Expressions, none, more, Statement, Do, Declare, Fill, Block, If, Loop, Switch, Break, Continue, Return, Barrier, Statements, empty, also, Arms, no_arm, arm, Program}
-use Rattle.cl_model.specs.Calls.{CallSite, calls_in, calls_among, calls_in_optional, calls_of, calls_of_all, calls_of_arms, function_at}
+use Rattle.cl_model.specs.Tree.{Expression, Apply, Update, Choose, Call, Expressions, none, more, Statement, Do}
+use Rattle.cl_model.specs.Tree.{Declare, Fill, Block, If, Loop, Switch, Break, Continue, Return, Barrier, Statements}
+use Rattle.cl_model.specs.Tree.{empty, also, Arms, no_arm, arm, Program}
+use Rattle.cl_model.specs.Calls.{CallSite, calls_in, calls_among, calls_in_optional, calls_of, calls_of_all}
+use Rattle.cl_model.specs.Calls.{calls_of_arms, function_at}
 use Rattle.cl_model.specs.Valid.{CallsEnd}
-use Rattle.cl_model.proofs.Weights.{expression_weight, operands_weight, optional_weight, statement_weight, statements_weight, arms_weight}
+use Rattle.cl_model.proofs.Weights.{expression_weight, operands_weight, optional_weight, statement_weight}
+use Rattle.cl_model.proofs.Weights.{statements_weight, arms_weight}
 
 pub each-left : {A : Type 0} (P : A → Type 0) (xs ys : List A) → Each P (xs ++ ys) → Each P xs
 each-left P [] ys e = tt
@@ -65,7 +69,8 @@ module _ (v w : ℕ → ℕ) where
         let d = same_statements c other (each-right At (calls_of_all chosen) (calls_of_all other) r) in
         omega arith
     same_statement c (Loop site test_first test step body) h =
-        let a = same_optional test (each-left At (calls_in_optional test) (calls_in_optional step ++ calls_of body) h) in
+        let a =
+        same_optional test (each-left At (calls_in_optional test) (calls_in_optional step ++ calls_of body) h) in
         omega arith
     same_statement c (Switch site value arms) h =
         let a = same_expression value (each-left At (calls_in value) (calls_of_arms arms) h) in
@@ -76,7 +81,8 @@ module _ (v w : ℕ → ℕ) where
     same_statement c (Return site value) h = let a = same_optional value h in omega arith
     same_statement c (Barrier site) h = refl
 
-    same_statements : (c : ℕ) (list : Statements) → SameAt v w (calls_of_all list) → statements_weight v c list ≡ statements_weight w c list
+    same_statements : (c : ℕ) (list : Statements) → SameAt v w (calls_of_all list) →
+        statements_weight v c list ≡ statements_weight w c list
     same_statements c empty h = refl
     same_statements c (also s rest) h =
         let a = same_statement c s (each-left At (calls_of s) (calls_of_all rest) h) in
@@ -90,25 +96,31 @@ module _ (v w : ℕ → ℕ) where
         let b = same_arms c rest (each-right At (calls_of_all body) (calls_of_arms rest) h) in
         omega arith
 
-  pub same_body : (c : ℕ) (list : Statements) → SameAt v w (calls_of_all list) → statements_weight v c list ≡ statements_weight w c list
+  pub same_body : (c : ℕ) (list : Statements) → SameAt v w (calls_of_all list) →
+      statements_weight v c list ≡ statements_weight w c list
   same_body c list h = same_statements c list h
 
 -- what a call weighs, with calls nested less deep than the depth
 abbrev pub call_weight : Program → ℕ → ℕ → ℕ
 call_weight program zero f = 0
-call_weight program (suc depth) f = suc (suc (statements_weight (call_weight program depth) 0 (function_at program f).body))
+call_weight program (suc depth) f =
+    suc (suc (statements_weight (call_weight program depth) 0 (function_at program f).body))
 
 each-map : {A : Type 0} {P Q : A → Type 0} (f : (x : A) → P x → Q x) (xs : List A) → Each P xs → Each Q xs
 each-map f [] e = tt
 each-map f (x ∷ xs) e = (f x e.0, each-map f xs e.1)
 
 -- where calls end, a greater depth changes nothing
-deeper : (program : Program) (depth f : ℕ) → CallsEnd program depth f → call_weight program depth f ≡ call_weight program (suc depth) f
+deeper : (program : Program) (depth f : ℕ) → CallsEnd program depth f →
+    call_weight program depth f ≡ call_weight program (suc depth) f
 deeper program zero f e = absurd e
 deeper program (suc depth) f e =
-    ap (λ n. suc (suc n)) (same_body (call_weight program depth) (call_weight program (suc depth)) 0 (function_at program f).body
+    ap (λ n. suc (suc n)) (same_body (call_weight program depth) (call_weight program (suc depth)) 0
+    (function_at program f).body
     (each-map (λ (c : CallSite) h. deeper program depth c.function h) (calls_of_all (function_at program f).body) e))
 
 -- a call weighs more than the body of its function, with the end of it
-pub call_weighs : (program : Program) (depth f : ℕ) → CallsEnd program depth f → call_weight program depth f ≡ suc (suc (statements_weight (call_weight program depth) 0 (function_at program f).body))
+pub call_weighs : (program : Program) (depth f : ℕ) → CallsEnd program depth f →
+    call_weight program depth f ≡ suc
+    (suc (statements_weight (call_weight program depth) 0 (function_at program f).body))
 call_weighs program depth f e = deeper program depth f e

@@ -1,5 +1,7 @@
--- The exchange in two phases: each item writes its own element of local memory, and behind the barrier its own element of the buffer.
-use Rattle.std.proofs.Common.{◌≡◌, ◌≢◌, ◌⊎◌, ℕ, zero, suc, ◌-◌, ◌/◌, ◌<◌, pos, true, List, [], ◌∷◌, length, Option, Some, slice_get, refl, sym, subst, inl, inr, arith, le-leb}
+-- The exchange in two phases: each item writes its own element of local memory, and behind the barrier its own
+-- element of the buffer.
+use Rattle.std.proofs.Common.{◌≡◌, ◌≢◌, ◌⊎◌, ℕ, zero, suc, ◌-◌, ◌/◌, ◌<◌, pos, true, List, [], ◌∷◌, length, Option}
+use Rattle.std.proofs.Common.{Some, slice_get, refl, sym, subst, inl, inr, arith, le-leb}
 use Rattle.std.proofs.lemmas.Option.{none-some, same_Some}
 use Rattle.wg_num.specs.Wrap.{wrap_of, modulus, half}
 use Rattle.wg_num.specs.Operators.{binary_of}
@@ -63,21 +65,34 @@ writes_apart i j (suc p') zero a b lt lt' ne same p q o = let e = same (one_grou
 
 reads_apart : KeepApart machine.group 2 Writes Reads
 reads_apart i j zero zero a b lt lt' ne same p q o = other_object 1 0 i j (omega arith) (overlap_at a b _ _ p q o)
-reads_apart i j (suc p') (suc q') a b lt lt' ne same p q o = other_object 0 1 i (1 - j) (omega arith) (overlap_at a b _ _ p q o)
+reads_apart i j (suc p') (suc q') a b lt lt' ne same p q o =
+    other_object 0 1 i (1 - j) (omega arith) (overlap_at a b _ _ p q o)
 reads_apart i j zero (suc q') a b lt lt' ne same p q o = let e = same (one_group i j lt lt') in absurd (omega arith)
 reads_apart i j (suc p') zero a b lt lt' ne same p q o = let e = same (one_group i j lt lt') in absurd (omega arith)
 
 -- the launch is clean on each buffer that is long enough
-pub exchange_clean : (buffer : List ℕ) → length buffer ≡ 8 → IsCleanLaunch exchange_program exchange_launch (buffer ∷ [])
-exchange_clean buffer room = phases_ahead_clean machine phases 2 writes_apart reads_apart (start_world exchange_program exchange_launch (buffer ∷ [])) 0 80 refl refl on in_range
+pub exchange_clean : (buffer : List ℕ) → length buffer ≡ 8 →
+    IsCleanLaunch exchange_program exchange_launch (buffer ∷ [])
+exchange_clean buffer room = phases_ahead_clean machine phases 2 writes_apart reads_apart
+    (start_world exchange_program exchange_launch (buffer ∷ [])) 0 80 refl refl on in_range
   where
-    on : (i : ℕ) (s : Item) → slice_get (start_items exchange_program exchange_launch 0 2) i ≡ Some s → FollowsAhead machine phases 80 0 i s
+    on : (i : ℕ) (s : Item) → slice_get (start_items exchange_program exchange_launch 0 2) i ≡ Some s →
+        FollowsAhead machine phases 80 0 i s
     on zero s at = subst (λ x. FollowsAhead machine phases 80 0 0 x) (same_Some _ _ at) first_item
     on (suc zero) s at = subst (λ x. FollowsAhead machine phases 80 0 1 x) (same_Some _ _ at) second_item
     on (suc (suc i)) s at = absurd (none-some s at)
 
-    in_range : (p i : ℕ) (a : Access) → i < 2 → Reads p i a ⊎ Writes p i a → is_in_range (start_world exchange_program exchange_launch (buffer ∷ [])).memory a ≡ true
-    in_range zero i a lt (inl e) = subst (λ x. is_in_range (start_world exchange_program exchange_launch (buffer ∷ [])).memory x ≡ true) (sym e) (le-leb _ _ (omega (arith, room)))
-    in_range zero i a lt (inr e) = subst (λ x. is_in_range (start_world exchange_program exchange_launch (buffer ∷ [])).memory x ≡ true) (sym e) (le-leb _ _ (omega arith))
-    in_range (suc p) i a lt (inl e) = subst (λ x. is_in_range (start_world exchange_program exchange_launch (buffer ∷ [])).memory x ≡ true) (sym e) (le-leb _ _ (omega arith))
-    in_range (suc p) i a lt (inr e) = subst (λ x. is_in_range (start_world exchange_program exchange_launch (buffer ∷ [])).memory x ≡ true) (sym e) (le-leb _ _ (omega (arith, room)))
+    in_range : (p i : ℕ) (a : Access) → i < 2 → Reads p i a ⊎ Writes p i a →
+        is_in_range (start_world exchange_program exchange_launch (buffer ∷ [])).memory a ≡ true
+    in_range zero i a lt (inl e) =
+        subst (λ x. is_in_range (start_world exchange_program exchange_launch (buffer ∷ [])).memory x ≡ true) (sym e)
+        (le-leb _ _ (omega (arith, room)))
+    in_range zero i a lt (inr e) =
+        subst (λ x. is_in_range (start_world exchange_program exchange_launch (buffer ∷ [])).memory x ≡ true) (sym e)
+        (le-leb _ _ (omega arith))
+    in_range (suc p) i a lt (inl e) =
+        subst (λ x. is_in_range (start_world exchange_program exchange_launch (buffer ∷ [])).memory x ≡ true) (sym e)
+        (le-leb _ _ (omega arith))
+    in_range (suc p) i a lt (inr e) =
+        subst (λ x. is_in_range (start_world exchange_program exchange_launch (buffer ∷ [])).memory x ≡ true) (sym e)
+        (le-leb _ _ (omega (arith, room)))

@@ -1,5 +1,6 @@
 -- The programs of the laws are valid, and their launches fit.
-use Rattle.std.proofs.Common.{◌≡◌, ℕ, zero, suc, ◌*◌, ◌<◌, ◌≤◌, pos, List, [], ◌∷◌, length, replicate, Some, slice_get, refl, sym, subst, inl, inr, arith}
+use Rattle.std.proofs.Common.{◌≡◌, ℕ, zero, suc, ◌*◌, ◌<◌, ◌≤◌, pos, List, [], ◌∷◌, length, replicate, Some}
+use Rattle.std.proofs.Common.{slice_get, refl, sym, subst, inl, inr, arith}
 use Rattle.std.proofs.lemmas.Int.{ints}
 use Rattle.std.proofs.lemmas.List.{length-replicate}
 use Rattle.std.proofs.lemmas.Option.{none-some, same_Some}
@@ -13,13 +14,15 @@ use Rattle.cl_model.specs.declared.program.VarKind.TheVariants.{Pointer}
 use Rattle.cl_model.specs.Lists.{AllDiffer}
 use Rattle.cl_model.specs.Tree.{Function, Program}
 use Rattle.cl_model.specs.Sizes.{Launch}
-use Rattle.cl_model.specs.Valid.{HasType, NamesIn, KindFits, CallsEnd, AllFit, all_declarations, parameter_kinds, IsValidFunction, IsValid}
+use Rattle.cl_model.specs.Valid.{HasType, NamesIn, KindFits, CallsEnd, AllFit, all_declarations, parameter_kinds}
+use Rattle.cl_model.specs.Valid.{IsValidFunction, IsValid}
 use Rattle.cl_model.specs.Meaning.{IsCleanLaunch}
 use Rattle.cl_model.proofs.IncrementItems.{increment_clean}
 use Rattle.cl_model.proofs.ExchangeItems.{exchange_clean}
 use Rattle.cl_model.specs.Fitting.{DimensionFits, FitsProgram}
 use Rattle.cl_model.specs.Increment.{IsFlat, own_offset, increment_kernel, increment_program, flat_launch}
-use Rattle.cl_model.specs.Exchange.{own_number, own_element, other_number, exchange_kernel, exchange_program, exchange_launch}
+use Rattle.cl_model.specs.Exchange.{own_number, own_element, other_number, exchange_kernel, exchange_program}
+use Rattle.cl_model.specs.Exchange.{exchange_launch}
 
 -- the literals of these programs are ints
 int_zero : IsValue Int (pos 0)
@@ -46,7 +49,20 @@ increment_types = (
     Int,
     (
       Long ∷ Int ∷ [],
-      (own_offset_type, ((Int ∷ Int ∷ [], ((Long ∷ [], (own_offset_type, tt), (refl, (space.Global, (_, refl)), refl)), (([], tt, (int_one, refl)), tt)), (refl, (λ e. refl), refl)), tt)),
+      (
+        own_offset_type,
+        (
+          (
+            Int ∷ Int ∷ [],
+            (
+              (Long ∷ [], (own_offset_type, tt), (refl, (space.Global, (_, refl)), refl)),
+              (([], tt, (int_one, refl)), tt),
+            ),
+            (refl, (λ e. refl), refl),
+          ),
+          tt,
+        ),
+      ),
       (refl, refl, (space.Global, (_, refl), (λ e. cc e)), refl),
     ),
   ),
@@ -67,8 +83,12 @@ increment_function = record {
   exits = (tt, tt);
 }
   where
-    kinds : (x : ℕ) (kind : VarKind) → slice_get increment_kernel.variables x ≡ Some kind → KindFits increment_program increment_kernel x kind
-    kinds zero kind e = subst (λ k. KindFits increment_program increment_kernel 0 k) (same_Some _ _ e) ((λ lt. refl), (λ le. absurd (omega (arith, le))))
+    kinds : (x : ℕ) (kind : VarKind) → slice_get increment_kernel.variables x ≡ Some kind →
+        KindFits increment_program increment_kernel x kind
+    kinds zero kind e = subst (λ k. KindFits increment_program increment_kernel 0 k) (same_Some _ _ e) (
+      (λ lt. refl),
+      (λ le. absurd (omega (arith, le))),
+    )
     kinds (suc x) kind e = absurd (none-some kind e)
 
 pub increment_valid : IsValid increment_program
@@ -82,7 +102,8 @@ increment_valid = record {
   size = omega arith;
 }
   where
-    functions : (n : ℕ) (f : Function) → slice_get increment_program.functions n ≡ Some f → IsValidFunction increment_program f
+    functions : (n : ℕ) (f : Function) → slice_get increment_program.functions n ≡ Some f →
+        IsValidFunction increment_program f
     functions zero f e = subst (λ g. IsValidFunction increment_program g) (same_Some _ _ e) increment_function
     functions (suc n) f e = absurd (none-some f e)
 
@@ -90,13 +111,33 @@ increment_valid = record {
     calls zero h = tt
     calls (suc n) h = absurd (omega (arith, h))
 
-dimension : (global local bytes : ℕ) → IsFlat global local → (d : ℕ) → d < 3 → DimensionFits (flat_launch global local bytes) d
-dimension global local bytes h zero lt = record { some_local = h.0; some_global = h.2; divides = h.4; offset = omega arith; absent = λ le. absurd (omega (arith, le)) }
-dimension global local bytes h (suc zero) lt = record { some_local = omega arith; some_global = omega arith; divides = refl; offset = omega arith; absent = λ le. (refl, refl, refl) }
-dimension global local bytes h (suc (suc zero)) lt = record { some_local = omega arith; some_global = omega arith; divides = refl; offset = omega arith; absent = λ le. (refl, refl, refl) }
+dimension : (global local bytes : ℕ) → IsFlat global local → (d : ℕ) → d < 3 →
+    DimensionFits (flat_launch global local bytes) d
+dimension global local bytes h zero lt = record {
+  some_local = h.0;
+  some_global = h.2;
+  divides = h.4;
+  offset = omega arith;
+  absent = λ le. absurd (omega (arith, le));
+}
+dimension global local bytes h (suc zero) lt = record {
+  some_local = omega arith;
+  some_global = omega arith;
+  divides = refl;
+  offset = omega arith;
+  absent = λ le. (refl, refl, refl);
+}
+dimension global local bytes h (suc (suc zero)) lt = record {
+  some_local = omega arith;
+  some_global = omega arith;
+  divides = refl;
+  offset = omega arith;
+  absent = λ le. (refl, refl, refl);
+}
 dimension global local bytes h (suc (suc (suc d))) lt = absurd (omega (arith, lt))
 
-pub increment_fits : (global local bytes : ℕ) → IsFlat global local → FitsProgram increment_program (flat_launch global local bytes)
+pub increment_fits : (global local bytes : ℕ) → IsFlat global local →
+    FitsProgram increment_program (flat_launch global local bytes)
 increment_fits global local bytes h = record {
   arguments = (omega arith, tt);
   apart = λ n m b element element' root root' e f g k. no_constant n element root e;
@@ -109,7 +150,8 @@ increment_fits global local bytes h = record {
   local_limit = omega arith;
 }
   where
-    no_constant : (n : ℕ) (element : IntType) (root : Root) → slice_get increment_kernel.variables n ≡ Some (Pointer space.Constant element root) → ⊥
+    no_constant : (n : ℕ) (element : IntType) (root : Root) →
+        slice_get increment_kernel.variables n ≡ Some (Pointer space.Constant element root) → ⊥
     no_constant zero element root e = cc e
     no_constant (suc n) element root e = none-some _ e
 
@@ -120,11 +162,23 @@ own_element_type : HasType exchange_program exchange_kernel own_element Long
 own_element_type = (Long ∷ Long ∷ [], (([], tt, (_, refl, refl)), (own_number_type, tt)), (refl, (λ e. refl), refl))
 
 other_number_type : HasType exchange_program exchange_kernel other_number Long
-other_number_type = (Int ∷ [], ((Int ∷ Int ∷ [], (([], tt, (int_one, refl)), (([], tt, (_, refl, refl)), tt)), (refl, (λ e. refl), refl)), tt), refl)
+other_number_type = (
+  Int ∷ [],
+  ((Int ∷ Int ∷ [], (([], tt, (int_one, refl)), (([], tt, (_, refl, refl)), tt)), (refl, (λ e. refl), refl)), tt),
+  refl,
+)
 
 exchange_types : AllFit exchange_program exchange_kernel exchange_kernel.body
 exchange_types = (
-  (Int, (_, refl, refl), (Ulong ∷ [], ((Uint ∷ [], ((Int ∷ [], (([], tt, (int_zero, refl)), tt), refl), tt), (refl, refl)), tt), refl)),
+  (
+    Int,
+    (_, refl, refl),
+    (
+      Ulong ∷ [],
+      ((Uint ∷ [], ((Int ∷ [], (([], tt, (int_zero, refl)), tt), refl), tt), (refl, refl)), tt),
+      refl,
+    ),
+  ),
   (
     inl (
       Int,
@@ -141,7 +195,17 @@ exchange_types = (
           Int,
           (
             Long ∷ Int ∷ [],
-            (own_element_type, ((Long ∷ [], (other_number_type, tt), (refl, (space.Local, (_, refl, refl, refl, refl)), refl)), tt)),
+            (
+              own_element_type,
+              (
+                (
+                  Long ∷ [],
+                  (other_number_type, tt),
+                  (refl, (space.Local, (_, refl, refl, refl, refl)), refl),
+                ),
+                tt,
+              ),
+            ),
             (refl, refl, (space.Global, (_, refl), (λ e. cc e)), refl),
           ),
         ),
@@ -172,8 +236,12 @@ exchange_function = record {
   exits = (tt, (tt, (tt, (tt, tt))));
 }
   where
-    kinds : (x : ℕ) (kind : VarKind) → slice_get exchange_kernel.variables x ≡ Some kind → KindFits exchange_program exchange_kernel x kind
-    kinds zero kind e = subst (λ k. KindFits exchange_program exchange_kernel 0 k) (same_Some _ _ e) ((λ lt. refl), (λ le. absurd (omega (arith, le))))
+    kinds : (x : ℕ) (kind : VarKind) → slice_get exchange_kernel.variables x ≡ Some kind →
+        KindFits exchange_program exchange_kernel x kind
+    kinds zero kind e = subst (λ k. KindFits exchange_program exchange_kernel 0 k) (same_Some _ _ e) (
+      (λ lt. refl),
+      (λ le. absurd (omega (arith, le))),
+    )
     kinds (suc zero) kind e = subst (λ k. KindFits exchange_program exchange_kernel 1 k) (same_Some _ _ e) tt
     kinds (suc (suc x)) kind e = absurd (none-some kind e)
 
@@ -197,7 +265,8 @@ exchange_valid = record {
   size = omega arith;
 }
   where
-    functions : (n : ℕ) (f : Function) → slice_get exchange_program.functions n ≡ Some f → IsValidFunction exchange_program f
+    functions : (n : ℕ) (f : Function) → slice_get exchange_program.functions n ≡ Some f →
+        IsValidFunction exchange_program f
     functions zero f e = subst (λ g. IsValidFunction exchange_program g) (same_Some _ _ e) exchange_function
     functions (suc n) f e = absurd (none-some f e)
 
@@ -207,10 +276,21 @@ exchange_valid = record {
 
     apart : AllDiffer {A = ℕ} (0 ∷ 1 ∷ 2 ∷ 3 ∷ 4 ∷ [])
     apart = (
-      (λ h. elim h [ inl e ↦ cc e | inr h ↦ elim h [ inl e ↦ cc e | inr h ↦ elim h [ inl e ↦ cc e | inr h ↦ elim h [ inl e ↦ cc e | inr n ↦ n ] ] ] ]),
+      (λ h. elim h [
+        | inl e ↦ cc e
+        | inr h ↦
+            elim h [
+              | inl e ↦ cc e
+              | inr h ↦
+                  elim h [ inl e ↦ cc e | inr h ↦ elim h [ inl e ↦ cc e | inr n ↦ n ] ]
+            ]
+      ]),
       (
         (λ h. elim h [ inl e ↦ cc e | inr h ↦ elim h [ inl e ↦ cc e | inr h ↦ elim h [ inl e ↦ cc e | inr n ↦ n ] ] ]),
-        ((λ h. elim h [ inl e ↦ cc e | inr h ↦ elim h [ inl e ↦ cc e | inr n ↦ n ] ]), ((λ h. elim h [ inl e ↦ cc e | inr n ↦ n ]), ((λ h. h), tt))),
+        (
+          (λ h. elim h [ inl e ↦ cc e | inr h ↦ elim h [ inl e ↦ cc e | inr n ↦ n ] ]),
+          ((λ h. elim h [ inl e ↦ cc e | inr n ↦ n ]), ((λ h. h), tt)),
+        ),
       ),
     )
 
@@ -227,24 +307,30 @@ exchange_fits = record {
   local_limit = omega arith;
 }
   where
-    no_constant : (n : ℕ) (element : IntType) (root : Root) → slice_get (parameter_kinds exchange_kernel) n ≡ Some (Pointer space.Constant element root) → ⊥
+    no_constant : (n : ℕ) (element : IntType) (root : Root) →
+        slice_get (parameter_kinds exchange_kernel) n ≡ Some (Pointer space.Constant element root) → ⊥
     no_constant zero element root e = cc e
     no_constant (suc n) element root e = none-some _ e
 
 -- the whole of what the laws say of a program, a launch and buffers
-pub increment_whole : (global local : ℕ) → IsFlat global local → IsCleanLaunch increment_program (flat_launch global local (global * 4)) (replicate (global * 4) 0 ∷ [])
+pub increment_whole : (global local : ℕ) → IsFlat global local →
+    IsCleanLaunch increment_program (flat_launch global local (global * 4)) (replicate (global * 4) 0 ∷ [])
 increment_whole global local h =
     let buffer : List ℕ = replicate (global * 4) 0 in
     let sized : length buffer ≡ global * 4 = length-replicate (global * 4) 0 in
     subst (λ n. IsCleanLaunch increment_program (flat_launch global local n) (replicate (global * 4) 0 ∷ [])) sized
-    (increment_clean global local (replicate (global * 4) 0) (omega (arith, h.0)) h.4 (omega (arith, h.3)) (omega (arith, sized)))
+    (increment_clean global local (replicate (global * 4) 0) (omega (arith, h.0)) h.4 (omega (arith, h.3))
+    (omega (arith, sized)))
 
 pub exchange_whole : IsCleanLaunch exchange_program exchange_launch (replicate 8 0 ∷ [])
 exchange_whole = exchange_clean (replicate 8 0) refl
 
 -- what holds of a launch holds of an equal one
-pub clean_at : (p p' : Program) (l l' : Launch) (b b' : List (List ℕ)) → p ≡ p' → l ≡ l' → b ≡ b' → IsCleanLaunch p' l' b' → IsCleanLaunch p l b
-clean_at p p' l l' b b' e f g h = subst (λ p. IsCleanLaunch p l b) (sym e) (subst (λ l. IsCleanLaunch p' l b) (sym f) (subst (λ b. IsCleanLaunch p' l' b) (sym g) h))
+pub clean_at : (p p' : Program) (l l' : Launch) (b b' : List (List ℕ)) → p ≡ p' → l ≡ l' → b ≡ b' →
+    IsCleanLaunch p' l' b' → IsCleanLaunch p l b
+clean_at p p' l l' b b' e f g h =
+    subst (λ p. IsCleanLaunch p l b) (sym e)
+    (subst (λ l. IsCleanLaunch p' l b) (sym f) (subst (λ b. IsCleanLaunch p' l' b) (sym g) h))
 
 pub valid_at : (p p' : Program) → p ≡ p' → IsValid p' → IsValid p
 valid_at p p' e h = subst (λ p. IsValid p) (sym e) h

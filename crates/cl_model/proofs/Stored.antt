@@ -6,14 +6,21 @@ use Rattle.cl_model.specs.declared.program.Space.{Space}
 use Rattle.cl_model.specs.declared.program.Root.{Root}
 use Rattle.cl_model.specs.declared.program.VarKind.{VarKind}
 use Rattle.cl_model.specs.declared.program.VarKind.TheVariants.{Scalar, Pointer}
-use Rattle.cl_model.specs.Tree.{Action, Literal, Variable, Unary, Binary, Builtin, Convert, Ask, Second, Truth, Decided, Set, Change, Load, Store, Expression, Apply, Update, Choose, Call, Expressions, none, more, Statement, Do, Declare, Fill, Block, If, Loop, Switch, Break, Continue, Return, Barrier, Statements, empty, also, Arms, no_arm, arm, Function, Program}
+use Rattle.cl_model.specs.Tree.{Action, Literal, Variable, Unary, Binary, Builtin, Convert, Ask, Second, Truth}
+use Rattle.cl_model.specs.Tree.{Decided, Set, Change, Load, Store, Expression, Apply, Update, Choose, Call}
+use Rattle.cl_model.specs.Tree.{Expressions, none, more, Statement, Do, Declare, Fill, Block, If, Loop, Switch, Break}
+use Rattle.cl_model.specs.Tree.{Continue, Return, Barrier, Statements, empty, also, Arms, no_arm, arm, Function}
+use Rattle.cl_model.specs.Tree.{Program}
 use Rattle.cl_model.specs.Calls.{function_at}
-use Rattle.cl_model.specs.Valid.{parameter_kinds, RootIs, CanStore, ActionFits, ArgumentsFit, HasType, HaveTypes, IsPlainCall, OptionalFits, DeclaredFits, ReturnFits, AllHaveType, StatementFits, AllFit, ArmsFit}
+use Rattle.cl_model.specs.Valid.{parameter_kinds, RootIs, CanStore, ActionFits, ArgumentsFit, HasType, HaveTypes}
+use Rattle.cl_model.specs.Valid.{IsPlainCall, OptionalFits, DeclaredFits, ReturnFits, AllHaveType, StatementFits}
+use Rattle.cl_model.specs.Valid.{AllFit, ArmsFit}
 
 -- a pointer is passed to each parameter that is one, of its space
 abbrev pub PassesFit : Program → Function → ℕ → List (Option Root) → Type 0
 PassesFit program f g roots =
-    (n : ℕ) (at : Space) (element : IntType) (own : Root) → slice_get (parameter_kinds (function_at program g)) n ≡ Some (Pointer at element own)
+    (n : ℕ) (at : Space) (element : IntType) (own : Root) → slice_get (parameter_kinds (function_at program g)) n ≡
+    Some (Pointer at element own)
     → (root : Root) × (slice_get roots n ≡ Some (Some root)) × RootIs program f root at element
 
 abbrev pub ActionStores : Program → Function → Action → Type 0
@@ -35,8 +42,10 @@ ActionStores program f (Load site element root) = Unit {0}
 abbrev mutual
   pub StoresIn : Program → Function → Expression → Type 0
   StoresIn program f (Apply action operands) = ActionStores program f action × StoresAmong program f operands
-  StoresIn program f (Update site element root op of back old index value) = CanStore program f root element × StoresIn program f index × StoresIn program f value
-  StoresIn program f (Choose site test chosen other) = StoresIn program f test × StoresIn program f chosen × StoresIn program f other
+  StoresIn program f (Update site element root op of back old index value) =
+      CanStore program f root element × StoresIn program f index × StoresIn program f value
+  StoresIn program f (Choose site test chosen other) =
+      StoresIn program f test × StoresIn program f chosen × StoresIn program f other
   StoresIn program f (Call site g roots arguments) = PassesFit program f g roots × StoresAmong program f arguments
 
   pub StoresAmong : Program → Function → Expressions → Type 0
@@ -53,8 +62,10 @@ abbrev mutual
   StoresOf program f (Declare x value) = StoresInOptional program f value
   StoresOf program f (Fill site array values) = StoresAmong program f values
   StoresOf program f (Block list) = StoresOfAll program f list
-  StoresOf program f (If site test chosen other) = StoresIn program f test × StoresOfAll program f chosen × StoresOfAll program f other
-  StoresOf program f (Loop site test_first test step body) = StoresInOptional program f test × StoresInOptional program f step × StoresOf program f body
+  StoresOf program f (If site test chosen other) =
+      StoresIn program f test × StoresOfAll program f chosen × StoresOfAll program f other
+  StoresOf program f (Loop site test_first test step body) =
+      StoresInOptional program f test × StoresInOptional program f step × StoresOf program f body
   StoresOf program f (Switch site value arms) = StoresIn program f value × StoresOfArms program f arms
   StoresOf program f (Break site) = Unit {0}
   StoresOf program f (Continue site) = Unit {0}
@@ -69,7 +80,8 @@ abbrev mutual
   StoresOfArms program f no_arm = Unit {0}
   StoresOfArms program f (arm labels other body rest) = StoresOfAll program f body × StoresOfArms program f rest
 
-action_stores : (program : Program) (f : Function) (action : Action) (ts : List IntType) (t : IntType) → ActionFits program f action ts t → ActionStores program f action
+action_stores : (program : Program) (f : Function) (action : Action) (ts : List IntType) (t : IntType) →
+    ActionFits program f action ts t → ActionStores program f action
 action_stores program f (Store site element root) (i ∷ a ∷ []) t h = h.2
 action_stores program f (Store site element root) [] t h = absurd h
 action_stores program f (Store site element root) (i ∷ []) t h = absurd h
@@ -89,16 +101,21 @@ action_stores program f (Change x op of back old) ts t h = tt
 action_stores program f (Load site element root) ts t h = tt
 
 -- arguments that fit pass pointers that fit
-passes : (program : Program) (f : Function) (kinds : List VarKind) (roots : List (Option Root)) (ts : List IntType) → ArgumentsFit program f kinds roots ts
-    → (n : ℕ) (at : Space) (element : IntType) (own : Root) → slice_get kinds n ≡ Some (Pointer at element own) → (root : Root) × (slice_get roots n ≡ Some (Some root)) × RootIs program f root at element
+passes : (program : Program) (f : Function) (kinds : List VarKind) (roots : List (Option Root)) (ts : List IntType) →
+    ArgumentsFit program f kinds roots ts
+    → (n : ℕ) (at : Space) (element : IntType) (own : Root) → slice_get kinds n ≡ Some (Pointer at element own) →
+    (root : Root) × (slice_get roots n ≡ Some (Some root)) × RootIs program f root at element
 passes program f [] roots ts h n at element own e = absurd (none-some _ e)
 passes program f (Pointer at' element' own' ∷ kinds) (Some root ∷ roots) (t ∷ ts) h zero at element own e =
     let one : at' ≡ at = cc (same_Some _ _ e) in
     let two : element' ≡ element = cc (same_Some _ _ e) in
     (root, refl, subst (λ s. RootIs program f root s element) one (subst (λ d. RootIs program f root at' d) two h.1))
-passes program f (Scalar s ∷ kinds) (None ∷ roots) (t ∷ ts) h zero at element own e = let d : Scalar s ≡ Pointer at element own = same_Some _ _ e in cc d
-passes program f (Pointer at' element' own' ∷ kinds) (Some root ∷ roots) (t ∷ ts) h (suc n) at element own e = passes program f kinds roots ts h.2 n at element own e
-passes program f (Scalar s ∷ kinds) (None ∷ roots) (t ∷ ts) h (suc n) at element own e = passes program f kinds roots ts h.1 n at element own e
+passes program f (Scalar s ∷ kinds) (None ∷ roots) (t ∷ ts) h zero at element own e =
+    let d : Scalar s ≡ Pointer at element own = same_Some _ _ e in cc d
+passes program f (Pointer at' element' own' ∷ kinds) (Some root ∷ roots) (t ∷ ts) h (suc n) at element own e =
+    passes program f kinds roots ts h.2 n at element own e
+passes program f (Scalar s ∷ kinds) (None ∷ roots) (t ∷ ts) h (suc n) at element own e =
+    passes program f kinds roots ts h.1 n at element own e
 passes program f (Scalar s ∷ kinds) [] ts h n at element own e = absurd h
 passes program f (Scalar s ∷ kinds) (Some root ∷ roots) ts h n at element own e = absurd h
 passes program f (Scalar s ∷ kinds) (None ∷ roots) [] h n at element own e = absurd h
@@ -110,9 +127,14 @@ module _ (program : Program) (f : Function) where
   mutual
     stores_in : (e : Expression) (t : IntType) → HasType program f e t → StoresIn program f e
     stores_in (Apply action operands) t h = (action_stores program f action h.0 t h.2, stores_among operands h.0 h.1)
-    stores_in (Update site element root op of back old index value) t h = (h.2, stores_in index _ h.0, stores_in value h.1.0 h.1.1)
-    stores_in (Choose site test chosen other) t h = (stores_in test h.0.0 h.0.1, stores_in chosen t h.1, stores_in other t h.2)
-    stores_in (Call site g roots arguments) t h = (passes program f (parameter_kinds (function_at program g)) roots h.1.0 h.1.2, stores_among arguments h.1.0 h.1.1)
+    stores_in (Update site element root op of back old index value) t h =
+        (h.2, stores_in index _ h.0, stores_in value h.1.0 h.1.1)
+    stores_in (Choose site test chosen other) t h =
+        (stores_in test h.0.0 h.0.1, stores_in chosen t h.1, stores_in other t h.2)
+    stores_in (Call site g roots arguments) t h = (
+      passes program f (parameter_kinds (function_at program g)) roots h.1.0 h.1.2,
+      stores_among arguments h.1.0 h.1.1,
+    )
 
     stores_among : (es : Expressions) (ts : List IntType) → HaveTypes program f es ts → StoresAmong program f es
     stores_among none ts h = tt
@@ -120,7 +142,8 @@ module _ (program : Program) (f : Function) where
     stores_among (more e rest) (t ∷ ts) h = (stores_in e t h.0, stores_among rest ts h.1)
 
   stores_plain : (e : Expression) → IsPlainCall program f e → StoresIn program f e
-  stores_plain (Call site g roots arguments) h = (passes program f (parameter_kinds (function_at program g)) roots h.1.0 h.1.2, stores_among arguments h.1.0 h.1.1)
+  stores_plain (Call site g roots arguments) h =
+      (passes program f (parameter_kinds (function_at program g)) roots h.1.0 h.1.2, stores_among arguments h.1.0 h.1.1)
   stores_plain (Apply action operands) h = absurd h
   stores_plain (Update site element root op of back old index value) h = absurd h
   stores_plain (Choose site test chosen other) h = absurd h
@@ -133,7 +156,8 @@ module _ (program : Program) (f : Function) where
   stores_declared x None h = tt
   stores_declared x (Some e) h = stores_in e h.0 h.2
 
-  stores_returned : (r : Option IntType) (e : Option Expression) → ReturnFits program f r e → StoresInOptional program f e
+  stores_returned : (r : Option IntType) (e : Option Expression) → ReturnFits program f r e →
+      StoresInOptional program f e
   stores_returned r None h = tt
   stores_returned None (Some e) h = absurd h
   stores_returned (Some t) (Some e) h = stores_in e t h
@@ -149,8 +173,10 @@ module _ (program : Program) (f : Function) where
     stores_of (Declare x value) h = stores_declared x value h
     stores_of (Fill site array values) h = stores_values values _ h.3
     stores_of (Block list) h = stores_of_all list h
-    stores_of (If site test chosen other) h = (stores_in test h.0.0 h.0.1, stores_of_all chosen h.1, stores_of_all other h.2)
-    stores_of (Loop site test_first test step body) h = (stores_optional test h.0, stores_optional step h.1, stores_of body h.2)
+    stores_of (If site test chosen other) h =
+        (stores_in test h.0.0 h.0.1, stores_of_all chosen h.1, stores_of_all other h.2)
+    stores_of (Loop site test_first test step body) h =
+        (stores_optional test h.0, stores_optional step h.1, stores_of body h.2)
     stores_of (Switch site value arms) h = (stores_in value h.0.0 h.0.1, stores_of_arms arms h.3)
     stores_of (Break site) h = tt
     stores_of (Continue site) h = tt

@@ -1,6 +1,9 @@
 -- The calls that a function makes, in the order of the text, and the instances of functions that a kernel runs.
-use Rattle.std.specs.Prelude.{ℕ, zero, suc, ◌∷◌, ◌++◌, List, [], Option, Some, None, length, unwrap_or, slice_get, flat_map}
-use Rattle.cl_model.specs.Tree.{Expression, Apply, Update, Choose, Call, Expressions, none, more, Statement, Do, Declare, Fill, Block, If, Loop, Switch, Break, Continue, Return, Barrier, Statements, empty, also, Arms, no_arm, arm, Function, Program}
+use Rattle.std.specs.Prelude.{ℕ, zero, suc, ◌∷◌, ◌++◌, List, [], Option, Some, None, length, unwrap_or, slice_get}
+use Rattle.std.specs.Prelude.{flat_map}
+use Rattle.cl_model.specs.Tree.{Expression, Apply, Update, Choose, Call, Expressions, none, more, Statement, Do}
+use Rattle.cl_model.specs.Tree.{Declare, Fill, Block, If, Loop, Switch, Break, Continue, Return, Barrier, Statements}
+use Rattle.cl_model.specs.Tree.{empty, also, Arms, no_arm, arm, Function, Program}
 
 -- a call: its site and the function that it calls
 pub record CallSite : Type 0 where
@@ -13,7 +16,8 @@ abbrev mutual
   calls_in (Apply action operands) = calls_among operands
   calls_in (Update site element root op of back old index value) = calls_in index ++ calls_in value
   calls_in (Choose site test chosen other) = calls_in test ++ (calls_in chosen ++ calls_in other)
-  calls_in (Call site function roots arguments) = calls_among arguments ++ (record { site = site; function = function } ∷ [])
+  calls_in (Call site function roots arguments) =
+      calls_among arguments ++ (record { site = site; function = function } ∷ [])
 
   pub calls_among : Expressions → List CallSite
   calls_among none = []
@@ -63,13 +67,16 @@ pub record Instance : Type 0 where
   pub path : List ℕ
   pub function : ℕ
 
--- the instance of a function behind these calls, and those of the functions that it calls, with calls nested less deep than the depth
+-- the instance of a function behind these calls, and those of the functions that it calls, with calls nested less
+-- deep than the depth
 abbrev pub instances_below : Program → ℕ → List ℕ → ℕ → List Instance
 instances_below program zero path f = []
 instances_below program (suc depth) path f =
     record { path = path; function = f }
-    ∷ flat_map (λ (c : CallSite). instances_below program depth (path ++ c.site ∷ []) c.function) (calls_of_all (function_at program f).body)
+    ∷ flat_map (λ (c : CallSite). instances_below program depth (path ++ c.site ∷ []) c.function)
+    (calls_of_all (function_at program f).body)
 
--- all instances of a launch, the kernel's first; no function leads back to itself, so calls nest less deep than there are functions
+-- all instances of a launch, the kernel's first; no function leads back to itself, so calls nest less deep than there
+-- are functions
 abbrev pub instances : Program → List Instance
 instances program = instances_below program (length program.functions) [] program.kernel

@@ -14,7 +14,8 @@ use Rattle.cl_model.specs.Calls.{kernel_of}
 use Rattle.cl_model.specs.Objects.{local_sizes}
 use Rattle.cl_model.specs.Valid.{parameter_kinds}
 
--- what is bound to a parameter is of its kind and type: a value for a number, a buffer for a pointer to global or constant memory, bytes for one to local memory
+-- what is bound to a parameter is of its kind and type: a value for a number, a buffer for a pointer to global or
+-- constant memory, bytes for one to local memory
 abbrev pub ArgumentFits : Launch → VarKind → Bound → Type 0
 ArgumentFits launch (Scalar t) (bound.Value v) = IsValue t v
 ArgumentFits launch (Pointer space.Global element root) (bound.Buffer b) = b < length launch.lengths
@@ -35,15 +36,18 @@ pub record DimensionFits (launch : Launch) (d : ℕ) : Type 0 where
   pub divides : size_at launch.global d % size_at launch.local d ≡ 0
   pub offset : offset_at launch.offset d ≤ 9223372036854775807
   -- a dimension that the launch does not have
-  pub absent : launch.dims ≤ d → (size_at launch.global d ≡ 1) × (size_at launch.local d ≡ 1) × (offset_at launch.offset d ≡ 0)
+  pub absent : launch.dims ≤ d → (size_at launch.global d ≡ 1) × (size_at launch.local d ≡ 1) ×
+      (offset_at launch.offset d ≡ 0)
 
 -- the launch fits the program
 pub record FitsProgram (program : Program) (launch : Launch) : Type 0 where
   pub arguments : ArgumentsFit launch (parameter_kinds (kernel_of program)) launch.args
   -- no buffer is bound both to a constant and to a global parameter
   pub apart : (n m b : ℕ) (element element' : IntType) (root root' : Root)
-      → slice_get (parameter_kinds (kernel_of program)) n ≡ Some (Pointer space.Constant element root) → slice_get launch.args n ≡ Some (bound.Buffer b)
-      → slice_get (parameter_kinds (kernel_of program)) m ≡ Some (Pointer space.Global element' root') → slice_get launch.args m ≡ Some (bound.Buffer b) → ⊥
+      → slice_get (parameter_kinds (kernel_of program)) n ≡ Some (Pointer space.Constant element root) →
+      slice_get launch.args n ≡ Some (bound.Buffer b)
+      → slice_get (parameter_kinds (kernel_of program)) m ≡ Some (Pointer space.Global element' root') →
+      slice_get launch.args m ≡ Some (bound.Buffer b) → ⊥
   pub few_dims : (1 ≤ launch.dims) × (launch.dims ≤ 3)
   pub dimensions : (d : ℕ) → d < 3 → DimensionFits launch d
   pub group_limit : product launch.local ≤ 1024

@@ -29,7 +29,12 @@ named_array a = record { name = a.name; lengths = a.dims.items; place = a.place 
 
 -- a function's
 abbrev pub head_of : rust_function.Function → Head
-head_of f = record { name = f.name; variables = map (λ v. record { name = v.name; place = v.place }) f.vars.items; arrays = map named_array f.arrays.items; sizes = f.sizes }
+head_of f = record {
+  name = f.name;
+  variables = map (λ v. record { name = v.name; place = v.place }) f.vars.items;
+  arrays = map named_array f.arrays.items;
+  sizes = f.sizes;
+}
 
 -- the heads of a program's functions
 abbrev pub heads_of : rust_program.Program → List Head

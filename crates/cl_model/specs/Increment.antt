@@ -7,18 +7,23 @@ use Rattle.cl_model.specs.declared.program.Root.TheVariants.{Param}
 use Rattle.cl_model.specs.declared.program.VarKind.TheVariants.{Pointer}
 use Rattle.cl_model.specs.declared.program.Query.TheVariants.{GlobalId}
 use Rattle.cl_model.specs.declared.launch.Bound.TheVariants.{Buffer}
-use Rattle.cl_model.specs.Tree.{Literal, Variable, Binary, Convert, Ask, Load, Store, Expression, Apply, none, single, pair, Do, empty, also, Function, Program}
+use Rattle.cl_model.specs.Tree.{Literal, Variable, Binary, Convert, Ask, Load, Store, Expression, Apply, none, single}
+use Rattle.cl_model.specs.Tree.{pair, Do, empty, also, Function, Program}
 use Rattle.cl_model.specs.Heads.{Named, Head}
 use Rattle.cl_model.specs.Sizes.{Launch}
 
 -- the element offset of `a[get_global_id(0)]`
 abbrev pub own_offset : Expression
 own_offset =
-    Apply (Binary Add Long) (pair (Apply (Variable 0) none) (Apply (Convert Long) (single (Apply (Ask GlobalId) (single (Apply (Convert Uint) (single (Apply (Literal (pos 0) Int) none))))))))
+    Apply (Binary Add Long) (pair (Apply (Variable 0) none)
+    (Apply (Convert Long) (single (Apply (Ask GlobalId)
+    (single (Apply (Convert Uint) (single (Apply (Literal (pos 0) Int) none))))))))
 
 -- `a[get_global_id(0)] = a[get_global_id(0)] + 1`
 abbrev pub increment_assignment : Expression
-increment_assignment = Apply (Store 0 Int (Param 0)) (pair own_offset (Apply (Binary Add Int) (pair (Apply (Load 1 Int (Param 0)) (single own_offset)) (Apply (Literal (pos 1) Int) none))))
+increment_assignment = Apply (Store 0 Int (Param 0))
+    (pair own_offset (Apply (Binary Add Int) (pair (Apply (Load 1 Int (Param 0)) (single own_offset))
+    (Apply (Literal (pos 1) Int) none))))
 
 -- __kernel void inc(__global int *a) { a[get_global_id(0)] = a[get_global_id(0)] + 1; }
 abbrev pub increment_kernel : Function

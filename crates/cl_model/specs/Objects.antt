@@ -1,6 +1,7 @@
--- The objects of a launch: each buffer; each constant table; per group, one for each local array and each argument of local memory;
--- per item and path of calls, one for each private array (OpenCL 1.2, section 3.3).
-use Rattle.std.specs.Prelude.{◌≡◌, ℕ, zero, suc, ◌+◌, ◌*◌, List, [], ◌∷◌, ◌++◌, Option, Some, None, length, map, filter, flat_map, replicate, take, slice_get, nat_eq, nat_lt, ◌&&◌, if◌then◌else◌}
+-- The objects of a launch: each buffer; each constant table; per group, one for each local array and each argument of
+-- local memory; per item and path of calls, one for each private array (OpenCL 1.2, section 3.3).
+use Rattle.std.specs.Prelude.{◌≡◌, ℕ, zero, suc, ◌+◌, ◌*◌, List, [], ◌∷◌, ◌++◌, Option, Some, None, length, map}
+use Rattle.std.specs.Prelude.{filter, flat_map, replicate, take, slice_get, nat_eq, nat_lt, ◌&&◌, if◌then◌else◌}
 use Rattle.std.specs.Prelude.{Bool as Test, true, false}
 use Rattle.work_items.specs.Memory.{Memory}
 use Rattle.cl_model.specs.declared.program.Space.{Space}
@@ -43,11 +44,13 @@ pub record PlacedArray : Type 0 where
 -- the arrays of a function behind these calls, the first of them with this number
 abbrev pub placed_from : List ℕ → ℕ → List Array → List PlacedArray
 placed_from path number [] = []
-placed_from path number (a ∷ rest) = record { path = path; number = number; array = a } ∷ placed_from path (suc number) rest
+placed_from path number (a ∷ rest) =
+    record { path = path; number = number; array = a } ∷ placed_from path (suc number) rest
 
 -- the arrays of all instances
 abbrev pub placed_arrays : Program → List PlacedArray
-placed_arrays program = flat_map (λ (i : Instance). placed_from i.path 0 (function_at program i.function).arrays) (instances program)
+placed_arrays program =
+    flat_map (λ (i : Instance). placed_from i.path 0 (function_at program i.function).arrays) (instances program)
 
 -- those in local memory
 abbrev pub local_arrays : Program → List PlacedArray
@@ -67,7 +70,8 @@ same_path (x ∷ xs) (y ∷ ys) = nat_eq x y && same_path xs ys
 -- the place of an array in a list of arrays, which is the list's length where it isn't there
 abbrev pub place_among : List PlacedArray → List ℕ → ℕ → ℕ
 place_among [] path number = 0
-place_among (a ∷ rest) path number = if same_path a.path path && nat_eq a.number number then 0 else suc (place_among rest path number)
+place_among (a ∷ rest) path number =
+    if same_path a.path path && nat_eq a.number number then 0 else suc (place_among rest path number)
 
 -- the bytes of each argument of local memory
 abbrev pub local_arguments : List Bound → List ℕ
@@ -78,7 +82,8 @@ local_arguments (bound.Local n ∷ args) = n ∷ local_arguments args
 
 -- the bytes of each local object of a group, and of each private object of an item
 abbrev pub local_sizes : Program → Launch → List ℕ
-local_sizes program launch = map (λ (a : PlacedArray). array_bytes a.array) (local_arrays program) ++ local_arguments launch.args
+local_sizes program launch =
+    map (λ (a : PlacedArray). array_bytes a.array) (local_arrays program) ++ local_arguments launch.args
 
 -- and of each private object of an item
 abbrev pub private_sizes : Program → List ℕ
@@ -106,17 +111,20 @@ first_table launch = length launch.lengths
 
 -- the number of the first local object of a group
 abbrev pub first_local : Program → Launch → ℕ → ℕ
-first_local program launch group = first_table launch + length program.tables + group * length (local_sizes program launch)
+first_local program launch group =
+    first_table launch + length program.tables + group * length (local_sizes program launch)
 
 -- the number of the first private object of an item
 abbrev pub first_private : Program → Launch → ℕ → ℕ
-first_private program launch item = first_local program launch (group_count launch) + item * length (private_sizes program)
+first_private program launch item =
+    first_local program launch (group_count launch) + item * length (private_sizes program)
 
 -- the object that an argument of the kernel names, where the item is of this group
 abbrev pub argument_object : Program → Launch → ℕ → ℕ → Option Bound → ℕ
 argument_object program launch group parameter (Some (bound.Buffer b)) = b
 argument_object program launch group parameter (Some (bound.Local n)) =
-    first_local program launch group + length (local_arrays program) + length (local_arguments (take parameter launch.args))
+    first_local program launch group + length (local_arrays program) +
+    length (local_arguments (take parameter launch.args))
 argument_object program launch group parameter (Some (bound.Value v)) = 0
 argument_object program launch group parameter None = 0
 
@@ -152,5 +160,8 @@ is_buffer (Some (bound.Local n)) object = false
 
 -- the object is constant memory: a table, or a buffer that a parameter names which points to constant memory
 pub data IsConstant (program : Program) (launch : Launch) (object : ℕ) : Type 0 where
-  a_table : (n : ℕ) → nat_lt n (length program.tables) ≡ true → object ≡ first_table launch + n → IsConstant program launch object
-  a_buffer : (parameter : ℕ) → is_constant_pointer (slice_get (take (kernel_of program).parameters (kernel_of program).variables) parameter) ≡ true → is_buffer (slice_get launch.args parameter) object ≡ true → IsConstant program launch object
+  a_table : (n : ℕ) → nat_lt n (length program.tables) ≡ true → object ≡ first_table launch + n →
+      IsConstant program launch object
+  a_buffer : (parameter : ℕ) → is_constant_pointer
+      (slice_get (take (kernel_of program).parameters (kernel_of program).variables) parameter) ≡ true →
+      is_buffer (slice_get launch.args parameter) object ≡ true → IsConstant program launch object

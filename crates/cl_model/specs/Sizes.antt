@@ -1,10 +1,14 @@
--- A launch: its sizes, its groups and items, and what the work-item functions give (OpenCL 1.2, sections 3.2 and 6.12.1).
-use Rattle.std.specs.Prelude.{ℕ, ◌+◌, ◌*◌, ◌/◌, ◌%◌, ℤ, pos, negsuc, List, [], ◌∷◌, take, unwrap_or, slice_get, nat_lt, if◌then◌else◌}
+-- A launch: its sizes, its groups and items, and what the work-item functions give (OpenCL 1.2, sections 3.2 and
+-- 6.12.1).
+use Rattle.std.specs.Prelude.{ℕ, ◌+◌, ◌*◌, ◌/◌, ◌%◌, ℤ, pos, negsuc, List, [], ◌∷◌, take, unwrap_or, slice_get}
+use Rattle.std.specs.Prelude.{nat_lt, if◌then◌else◌}
 use Rattle.cl_model.specs.declared.launch.Bound.{Bound}
 use Rattle.cl_model.specs.declared.program.Query.{Query}
-use Rattle.cl_model.specs.declared.program.Query.TheVariants.{WorkDim, GlobalId, LocalId, GroupId, GlobalSize, LocalSize, NumGroups, GlobalOffset}
+use Rattle.cl_model.specs.declared.program.Query.TheVariants.{WorkDim, GlobalId, LocalId, GroupId, GlobalSize}
+use Rattle.cl_model.specs.declared.program.Query.TheVariants.{LocalSize, NumGroups, GlobalOffset}
 
--- a launch: sizes and offsets in three dimensions, the most turns, what is bound to each parameter, the length of each buffer, and how many files it names
+-- a launch: sizes and offsets in three dimensions, the most turns, what is bound to each parameter, the length of
+-- each buffer, and how many files it names
 pub record Launch : Type 0 where
   pub dims : ℕ
   pub global : List ℕ
@@ -67,7 +71,8 @@ group_id launch item d = group_of launch item / product (take d (groups_of launc
 
 -- and its number in the whole launch, from the offset on
 abbrev pub global_id : Launch → ℕ → ℕ → ℕ
-global_id launch item d = offset_at launch.offset d + group_id launch item d * size_at launch.local d + local_id launch item d
+global_id launch item d =
+    offset_at launch.offset d + group_id launch item d * size_at launch.local d + local_id launch item d
 
 -- what a work-item function gives an item in a dimension below 3
 abbrev pub answer_within : Launch → ℕ → Query → ℕ → ℕ
@@ -93,5 +98,6 @@ answer_outside launch GlobalOffset = 0
 
 -- what a work-item function gives an item for an argument, a uint
 abbrev pub answer_of : Launch → ℕ → Query → ℤ → ℤ
-answer_of launch item what (pos d) = pos (if nat_lt d 3 then answer_within launch item what d else answer_outside launch what)
+answer_of launch item what (pos d) =
+    pos (if nat_lt d 3 then answer_within launch item what d else answer_outside launch what)
 answer_of launch item what (negsuc d) = pos (answer_outside launch what)

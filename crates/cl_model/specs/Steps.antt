@@ -1,5 +1,6 @@
 -- What a work-item does next: the first task decides, one step for each kind of task and node.
-use Rattle.std.specs.Prelude.{ℕ, zero, suc, ℤ, pos, List, [], ◌∷◌, ◌++◌, Option, Some, None, slice_get, unwrap_or, nat_eq, if◌then◌else◌}
+use Rattle.std.specs.Prelude.{ℕ, zero, suc, ℤ, pos, List, [], ◌∷◌, ◌++◌, Option, Some, None, slice_get, unwrap_or}
+use Rattle.std.specs.Prelude.{nat_eq, if◌then◌else◌}
 use Rattle.std.specs.Prelude.{Bool as Test, true, false}
 use Rattle.std.specs.Ordering.{int_eq}
 use Rattle.work_items.specs.Memory.{Access}
@@ -13,13 +14,18 @@ use Rattle.wg_num.specs.Builtins.{builtin_of}
 use Rattle.cl_model.specs.declared.program.Space.TheVariants as space
 use Rattle.cl_model.specs.declared.program.Root.{Root}
 use Rattle.cl_model.specs.declared.program.Root.TheVariants.{Private}
-use Rattle.cl_model.specs.Tree.{Action, Literal, Variable, Unary, Binary, Builtin, Convert, Ask, Second, Truth, Decided, Set, Change, Load, Store, Expression, Apply, Update, Choose, Call, Expressions, none, more, Statement, Do, Declare, Fill, Block, If, Loop, Switch, Break, Continue, Return, Barrier, Statements, empty, also, Arms, no_arm, arm, Array, Program}
+use Rattle.cl_model.specs.Tree.{Action, Literal, Variable, Unary, Binary, Builtin, Convert, Ask, Second, Truth}
+use Rattle.cl_model.specs.Tree.{Decided, Set, Change, Load, Store, Expression, Apply, Update, Choose, Call}
+use Rattle.cl_model.specs.Tree.{Expressions, none, more, Statement, Do, Declare, Fill, Block, If, Loop, Switch, Break}
+use Rattle.cl_model.specs.Tree.{Continue, Return, Barrier, Statements, empty, also, Arms, no_arm, arm, Array, Program}
 use Rattle.wg_num.specs.Bytes.{size_of, bytes_of, value_of_bytes}
 use Rattle.cl_model.specs.Values.{is_zero, number_of}
 use Rattle.cl_model.specs.Sizes.{Launch, answer_of}
 use Rattle.cl_model.specs.Calls.{function_at}
 use Rattle.cl_model.specs.Objects.{object_of, array_bytes, zeros}
-use Rattle.cl_model.specs.Task.{Operand, Own, Tested, Chosen, Other, Nth, Turn, Body, Step, Arm, Into, Point, Task, Run, Evaluate, Finish, Peek, Alter, Decide, Enter, InCall, Discard, Keep, Clear, Initialise, Branch, InLoop, Select, InSwitch, Leave, Frame, Item}
+use Rattle.cl_model.specs.Task.{Operand, Own, Tested, Chosen, Other, Nth, Turn, Body, Step, Arm, Into, Point, Task}
+use Rattle.cl_model.specs.Task.{Run, Evaluate, Finish, Peek, Alter, Decide, Enter, InCall, Discard, Keep, Clear}
+use Rattle.cl_model.specs.Task.{Initialise, Branch, InLoop, Select, InSwitch, Leave, Frame, Item}
 
 -- the last value, and those before it
 abbrev pub last : List ℤ → ℤ
@@ -86,7 +92,8 @@ with_variable i tasks values x v = record i { tasks = tasks; values = values; fr
 
 -- the object that a root names to the item
 abbrev pub object_at : Program → Launch → Item → Root → ℕ
-object_at program launch i root = object_of program launch i.number (frame_of i.frames).path (frame_of i.frames).objects root
+object_at program launch i root =
+    object_of program launch i.number (frame_of i.frames).path (frame_of i.frames).objects root
 
 -- expressions from left to right, the first with this number, before other tasks
 abbrev pub each_operand : Point → ℕ → Expressions → List Task → List Task
@@ -116,7 +123,8 @@ step_tasks at k (Some e) tasks = Evaluate (at ++ (Turn k ∷ Step ∷ [])) e ∷
 -- the iteration of a loop with this number, counted from 1: body, step expression, test
 abbrev pub iteration : Point → ℕ → Option Expression → Option Expression → Statement → ℕ → List Task → List Task
 iteration at site test step body k tasks =
-    Run (at ++ (Turn k ∷ Body ∷ [])) body ∷ step_tasks at k step (test_tasks at k test (InLoop at site test step body k ∷ tasks))
+    Run (at ++ (Turn k ∷ Body ∷ [])) body ∷
+    step_tasks at k step (test_tasks at k test (InLoop at site test step body k ∷ tasks))
 
 -- `break`: the tasks behind the nearest loop or switch; it never leaves its function
 abbrev pub behind_break : List Task → List Task
@@ -137,7 +145,8 @@ behind_continue (_ ∷ tasks) = behind_continue tasks
 -- `return`: the item behind the nearest call, without its frame, or in the kernel with no task left
 abbrev pub behind_return : Item → List Task → List ℤ → Item
 behind_return i [] values = with_values i [] values
-behind_return i (InCall at site ∷ tasks) values = record i { tasks = tasks; values = values; frames = frames_below i.frames }
+behind_return i (InCall at site ∷ tasks) values =
+    record i { tasks = tasks; values = values; frames = frames_below i.frames }
 behind_return i (_ ∷ tasks) values = behind_return i tasks values
 
 -- the value is one of the labels
@@ -153,12 +162,14 @@ pub data Entry : Type 0 where
 -- at the arm with the value as a label
 abbrev pub labelled : ℤ → ℕ → Arms → Entry
 labelled v k no_arm = nowhere
-labelled v k (arm labels other body rest) = if has_label v labels then entry k (arm labels other body rest) else labelled v (suc k) rest
+labelled v k (arm labels other body rest) =
+    if has_label v labels then entry k (arm labels other body rest) else labelled v (suc k) rest
 
 -- at the arm with `default`
 abbrev pub defaulted : ℕ → Arms → Entry
 defaulted k no_arm = nowhere
-defaulted k (arm labels other body rest) = if other then entry k (arm labels other body rest) else defaulted (suc k) rest
+defaulted k (arm labels other body rest) =
+    if other then entry k (arm labels other body rest) else defaulted (suc k) rest
 
 -- the first entry, or else the second
 abbrev pub or_else : Entry → Entry → Entry
@@ -185,53 +196,75 @@ changed op of back a b = wrap_of back (binary_of op of (wrap_of of a) b)
 
 -- an access to the element with this number of a root
 abbrev pub access_at : Program → Launch → Item → IntType → Root → ℤ → Access
-access_at program launch i element root index = record { object = object_at program launch i root; size = size_of element; index = index }
+access_at program launch i element root index =
+    record { object = object_at program launch i root; size = size_of element; index = index }
 
 -- the step of an action on the values of its operands, where these values are below them
 abbrev pub action_next : Program → Launch → Item → Action → List ℤ → List ℤ → List Task → Next Item
 action_next program launch i (Literal value of) args values rest = Goes (with_values i rest (value ∷ values))
-action_next program launch i (Variable x) args values rest = Goes (with_values i rest ((frame_of i.frames).variables x ∷ values))
-action_next program launch i (Unary op of) args values rest = Goes (with_values i rest (unary_of op of (nth args 0) ∷ values))
-action_next program launch i (Binary op of) args values rest = Goes (with_values i rest (binary_of op of (nth args 0) (nth args 1) ∷ values))
-action_next program launch i (Builtin f of) args values rest = Goes (with_values i rest (builtin_of f of (nth args 0) (nth args 1) (nth args 2) ∷ values))
-action_next program launch i (Convert to) args values rest = Goes (with_values i rest (wrap_of to (nth args 0) ∷ values))
-action_next program launch i (Ask what) args values rest = Goes (with_values i rest (answer_of launch i.number what (nth args 0) ∷ values))
+action_next program launch i (Variable x) args values rest =
+    Goes (with_values i rest ((frame_of i.frames).variables x ∷ values))
+action_next program launch i (Unary op of) args values rest =
+    Goes (with_values i rest (unary_of op of (nth args 0) ∷ values))
+action_next program launch i (Binary op of) args values rest =
+    Goes (with_values i rest (binary_of op of (nth args 0) (nth args 1) ∷ values))
+action_next program launch i (Builtin f of) args values rest =
+    Goes (with_values i rest (builtin_of f of (nth args 0) (nth args 1) (nth args 2) ∷ values))
+action_next program launch i (Convert to) args values rest =
+    Goes (with_values i rest (wrap_of to (nth args 0) ∷ values))
+action_next program launch i (Ask what) args values rest =
+    Goes (with_values i rest (answer_of launch i.number what (nth args 0) ∷ values))
 action_next program launch i Second args values rest = Goes (with_values i rest (nth args 1 ∷ values))
-action_next program launch i Truth args values rest = Goes (with_values i rest ((if is_zero (nth args 0) then pos 0 else pos 1) ∷ values))
+action_next program launch i Truth args values rest =
+    Goes (with_values i rest ((if is_zero (nth args 0) then pos 0 else pos 1) ∷ values))
 action_next program launch i (Decided answer) args values rest = Goes (with_values i rest (number_of answer ∷ values))
 action_next program launch i (Set x) args values rest = Goes (with_variable i rest (nth args 0 ∷ values) x (nth args 0))
 action_next program launch i (Change x op of back old) args values rest =
-    Goes (with_variable i rest ((if old then nth args 0 else changed op of back (nth args 0) (nth args 1)) ∷ values) x (changed op of back (nth args 0) (nth args 1)))
+    Goes (with_variable i rest ((if old then nth args 0 else changed op of back (nth args 0) (nth args 1)) ∷ values) x
+    (changed op of back (nth args 0) (nth args 1)))
 action_next program launch i (Load site element root) args values rest =
-    Loads site (access_at program launch i element root (nth args 0)) (λ bytes. with_values i rest (value_of_bytes element bytes ∷ values))
+    Loads site (access_at program launch i element root (nth args 0))
+    (λ bytes. with_values i rest (value_of_bytes element bytes ∷ values))
 action_next program launch i (Store site element root) args values rest =
-    Stores site (object_at program launch i root) (nth args 0) (bytes_of element (nth args 1)) (with_values i rest (nth args 1 ∷ values))
+    Stores site (object_at program launch i root) (nth args 0) (bytes_of element (nth args 1))
+    (with_values i rest (nth args 1 ∷ values))
 
 -- the step of an expression that begins
 abbrev pub evaluate_next : Program → Launch → Item → Point → Expression → List Task → Next Item
 evaluate_next program launch i at (Apply action none) rest = action_next program launch i action [] i.values rest
-evaluate_next program launch i at (Apply action (more e es)) rest = Goes (with_tasks i (each_operand at 0 (more e es) (Finish at action (count_of (more e es)) ∷ rest)))
+evaluate_next program launch i at (Apply action (more e es)) rest =
+    Goes (with_tasks i (each_operand at 0 (more e es) (Finish at action (count_of (more e es)) ∷ rest)))
 evaluate_next program launch i at (Update site element root op of back old index value) rest =
-    Goes (with_tasks i (Evaluate (at ++ Operand 0 ∷ []) index ∷ Peek at site element root ∷ Evaluate (at ++ Operand 1 ∷ []) value ∷ Alter at site element root op of back old ∷ rest))
-evaluate_next program launch i at (Choose site test chosen other) rest = Goes (with_tasks i (Evaluate (at ++ Tested ∷ []) test ∷ Decide at chosen other ∷ rest))
+    Goes (with_tasks i (Evaluate (at ++ Operand 0 ∷ []) index ∷ Peek at site element root ∷
+    Evaluate (at ++ Operand 1 ∷ []) value ∷ Alter at site element root op of back old ∷ rest))
+evaluate_next program launch i at (Choose site test chosen other) rest =
+    Goes (with_tasks i (Evaluate (at ++ Tested ∷ []) test ∷ Decide at chosen other ∷ rest))
 evaluate_next program launch i at (Call site function roots arguments) rest =
     Goes (with_tasks i (each_operand at 0 arguments (Enter at site function roots (count_of arguments) ∷ rest)))
 
 -- the step of a statement that begins
 abbrev pub run_next : Program → Item → Point → Statement → List Task → Next Item
-run_next program i at (Do e) rest = Goes (with_tasks i (Evaluate (at ++ Operand 0 ∷ []) e ∷ Discard (at ++ Own 0 ∷ []) ∷ rest))
+run_next program i at (Do e) rest =
+    Goes (with_tasks i (Evaluate (at ++ Operand 0 ∷ []) e ∷ Discard (at ++ Own 0 ∷ []) ∷ rest))
 run_next program i at (Declare x None) rest = Goes (with_variable i rest i.values x (pos 0))
-run_next program i at (Declare x (Some e)) rest = Goes (with_tasks i (Evaluate (at ++ Operand 0 ∷ []) e ∷ Keep at x ∷ rest))
-run_next program i at (Fill site array values) rest = Goes (with_tasks i (each_operand at 0 values (Clear at site array (count_of values) ∷ rest)))
+run_next program i at (Declare x (Some e)) rest =
+    Goes (with_tasks i (Evaluate (at ++ Operand 0 ∷ []) e ∷ Keep at x ∷ rest))
+run_next program i at (Fill site array values) rest =
+    Goes (with_tasks i (each_operand at 0 values (Clear at site array (count_of values) ∷ rest)))
 run_next program i at (Block list) rest = Goes (with_tasks i (in_order at 0 list rest))
-run_next program i at (If site test chosen other) rest = Goes (with_tasks i (Evaluate (at ++ Tested ∷ []) test ∷ Branch at chosen other ∷ rest))
-run_next program i at (Loop site true test step body) rest = Goes (with_tasks i (test_tasks at 0 test (InLoop at site test step body 0 ∷ rest)))
-run_next program i at (Loop site false test step body) rest = Begins (with_tasks i (iteration at site test step body 1 rest))
-run_next program i at (Switch site value arms) rest = Goes (with_tasks i (Evaluate (at ++ Tested ∷ []) value ∷ Select at site arms ∷ rest))
+run_next program i at (If site test chosen other) rest =
+    Goes (with_tasks i (Evaluate (at ++ Tested ∷ []) test ∷ Branch at chosen other ∷ rest))
+run_next program i at (Loop site true test step body) rest =
+    Goes (with_tasks i (test_tasks at 0 test (InLoop at site test step body 0 ∷ rest)))
+run_next program i at (Loop site false test step body) rest =
+    Begins (with_tasks i (iteration at site test step body 1 rest))
+run_next program i at (Switch site value arms) rest =
+    Goes (with_tasks i (Evaluate (at ++ Tested ∷ []) value ∷ Select at site arms ∷ rest))
 run_next program i at (Break site) rest = Goes (with_tasks i (behind_break rest))
 run_next program i at (Continue site) rest = Goes (with_tasks i (behind_continue rest))
 run_next program i at (Return site None) rest = Goes (behind_return i rest (pos 0 ∷ i.values))
-run_next program i at (Return site (Some e)) rest = Goes (with_tasks i (Evaluate (at ++ Operand 0 ∷ []) e ∷ Leave at ∷ rest))
+run_next program i at (Return site (Some e)) rest =
+    Goes (with_tasks i (Evaluate (at ++ Operand 0 ∷ []) e ∷ Leave at ∷ rest))
 run_next program i at (Barrier site) rest = Waits site (with_tasks i rest)
 
 -- the array of the function that is under way
@@ -240,12 +273,14 @@ no_array = record { space = space.Private; element = Long; count = 0 }
 
 -- the array with this number of the function that is under way
 abbrev pub array_at : Program → Item → ℕ → Array
-array_at program i array = unwrap_or (slice_get (function_at program (frame_of i.frames).function).arrays array) no_array
+array_at program i array =
+    unwrap_or (slice_get (function_at program (frame_of i.frames).function).arrays array) no_array
 
 -- one task for each value of an array, the first for the element with this number, before other tasks
 abbrev pub initial_tasks : Point → ℕ → ℕ → ℕ → List ℤ → List Task → List Task
 initial_tasks at site array k [] tasks = tasks
-initial_tasks at site array k (v ∷ values) tasks = Initialise at site array k v ∷ initial_tasks at site array (suc k) values tasks
+initial_tasks at site array k (v ∷ values) tasks =
+    Initialise at site array k v ∷ initial_tasks at site array (suc k) values tasks
 
 -- the objects that the parameters of a called function name
 abbrev pub passed_object : Program → Launch → Item → Option (Option Root) → ℕ
@@ -271,33 +306,40 @@ alter_next program launch i site element root index new value values rest =
 abbrev pub task_next : Program → Launch → Item → Task → List Task → Next Item
 task_next program launch i (Run at s) rest = run_next program i at s rest
 task_next program launch i (Evaluate at e) rest = evaluate_next program launch i at e rest
-task_next program launch i (Finish at action count) rest = action_next program launch i action (taken count i.values) (below count i.values) rest
+task_next program launch i (Finish at action count) rest =
+    action_next program launch i action (taken count i.values) (below count i.values) rest
 task_next program launch i (Peek at site element root) rest =
-    Loads site (access_at program launch i element root (last i.values)) (λ bytes. with_values i rest (value_of_bytes element bytes ∷ i.values))
+    Loads site (access_at program launch i element root (last i.values))
+    (λ bytes. with_values i rest (value_of_bytes element bytes ∷ i.values))
 task_next program launch i (Alter at site element root op of back old) rest =
     let index = last (before (before i.values)) in
     let was = last (before i.values) in
     let new = changed op of back was (last i.values) in
     alter_next program launch i site element root index new (if old then was else new) (below 3 i.values) rest
 task_next program launch i (Decide at chosen other) rest =
-    Goes (with_values i ((if is_zero (last i.values) then Evaluate (at ++ Other ∷ []) other else Evaluate (at ++ Chosen ∷ []) chosen) ∷ rest) (before i.values))
+    Goes (with_values i ((if is_zero (last i.values) then Evaluate (at ++ Other ∷ []) other else Evaluate
+    (at ++ Chosen ∷ []) chosen) ∷ rest) (before i.values))
 task_next program launch i (Enter at site function roots count) rest =
     Goes (record i {
       tasks = Run (at ++ Into ∷ []) (Block (function_at program function).body) ∷ InCall at site ∷ rest;
       values = below count i.values;
       frames = new_frame program launch i site function roots (taken count i.values) ∷ i.frames;
     })
-task_next program launch i (InCall at site) rest = Goes (record i { tasks = rest; values = pos 0 ∷ i.values; frames = frames_below i.frames })
+task_next program launch i (InCall at site) rest =
+    Goes (record i { tasks = rest; values = pos 0 ∷ i.values; frames = frames_below i.frames })
 task_next program launch i (Discard at) rest = Goes (with_values i rest (before i.values))
 task_next program launch i (Keep at x) rest = Goes (with_variable i rest (before i.values) x (last i.values))
 task_next program launch i (Clear at site array count) rest =
     Stores 0 (object_at program launch i (Private array)) (pos 0) (zeros (array_bytes (array_at program i array)))
     (with_values i (initial_tasks at site array 0 (taken count i.values) rest) (below count i.values))
 task_next program launch i (Initialise at site array index value) rest =
-    Stores site (object_at program launch i (Private array)) (pos index) (bytes_of (array_at program i array).element value) (with_tasks i rest)
+    Stores site (object_at program launch i (Private array)) (pos index)
+    (bytes_of (array_at program i array).element value) (with_tasks i rest)
 task_next program launch i (Branch at chosen other) rest =
-    Goes (with_values i (if is_zero (last i.values) then in_order (at ++ Other ∷ []) 0 other rest else in_order (at ++ Chosen ∷ []) 0 chosen rest) (before i.values))
-task_next program launch i (InLoop at site None step body begun) rest = Begins (with_tasks i (iteration at site None step body (suc begun) rest))
+    Goes (with_values i (if is_zero (last i.values) then in_order (at ++ Other ∷ []) 0 other rest else in_order
+    (at ++ Chosen ∷ []) 0 chosen rest) (before i.values))
+task_next program launch i (InLoop at site None step body begun) rest =
+    Begins (with_tasks i (iteration at site None step body (suc begun) rest))
 task_next program launch i (InLoop at site (Some test) step body begun) rest =
     if is_zero (last i.values)
     then Goes (with_values i rest (before i.values))

@@ -1,4 +1,5 @@
--- A work-item: tasks, values and frames. A task names a node by the way that leads to it, and the part of it that is done.
+-- A work-item: tasks, values and frames. A task names a node by the way that leads to it, and the part of it that is
+-- done.
 use Rattle.std.specs.Prelude.{ℕ, suc, ℤ, List, [], ◌∷◌, ◌++◌, Option, Some, None}
 use Rattle.std.specs.Prelude.{Bool as Test}
 use Rattle.wg_num.specs.declared.types.IntType.{IntType}
@@ -59,7 +60,8 @@ pub data Task : Type 0 where
   Initialise : (at : Point) (site array index : ℕ) (value : ℤ) → Task
   -- the test of an if is there
   Branch : (at : Point) (chosen other : Statements) → Task
-  -- the marker of a loop that has begun so many iterations; as the first task, the value of its test is there, or it has no test
+  -- the marker of a loop that has begun so many iterations; as the first task, the value of its test is there, or it
+  -- has no test
   InLoop : (at : Point) (site : ℕ) (test step : Option Expression) (body : Statement) (begun : ℕ) → Task
   -- the value of a switch is there
   Select : (at : Point) (site : ℕ) (arms : Arms) → Task
@@ -93,8 +95,8 @@ abbrev pub first_point : List Task → Option Point
 first_point [] = None
 first_point (task ∷ rest) = Some (point_of task)
 
--- a function under way: the sites of the calls that lead to it, the object that each of its parameters names, and its variables;
--- that of a pointer is its element offset from its root
+-- a function under way: the sites of the calls that lead to it, the object that each of its parameters names, and its
+-- variables; that of a pointer is its element offset from its root
 pub record Frame : Type 0 where
   pub function : ℕ
   pub path : List ℕ

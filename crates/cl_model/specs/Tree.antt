@@ -39,7 +39,8 @@ mutual
     -- the operands from left to right, then a step on their values
     Apply : (action : Action) (operands : Expressions) → Expression
     -- a compound assignment to an element, ++ or --
-    Update : (site : ℕ) (element : IntType) (root : Root) (op : Bin) (of back : IntType) (old : Test) (index value : Expression) → Expression
+    Update : (site : ℕ) (element : IntType) (root : Root) (op : Bin) (of back : IntType) (old : Test)
+        (index value : Expression) → Expression
     -- the test, then one of the two others: ?:, && and ||
     Choose : (site : ℕ) (test chosen other : Expression) → Expression
     -- a call, with the root of each argument that is a pointer, whose value is its element offset

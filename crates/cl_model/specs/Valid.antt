@@ -1,5 +1,7 @@
--- Which typed programs are valid: numbers name something, types fit, scopes, exits, calls and sites are as a checked source gives them.
-use Rattle.std.specs.Prelude.{◌≡◌, ◌≢◌, ℕ, zero, suc, ◌+◌, ◌<◌, ◌≤◌, ℤ, List, [], ◌∷◌, ◌++◌, Option, Some, None, length, flat_map, take, slice_get, sum_by, replicate, nat_eq, ◌⊎◌, if◌then◌else◌}
+-- Which typed programs are valid: numbers name something, types fit, scopes, exits, calls and sites are as a checked
+-- source gives them.
+use Rattle.std.specs.Prelude.{◌≡◌, ◌≢◌, ℕ, zero, suc, ◌+◌, ◌<◌, ◌≤◌, ℤ, List, [], ◌∷◌, ◌++◌, Option, Some, None}
+use Rattle.std.specs.Prelude.{length, flat_map, take, slice_get, sum_by, replicate, nat_eq, ◌⊎◌, if◌then◌else◌}
 use Rattle.std.specs.Prelude.{Bool as Test, true, false}
 use Rattle.wg_num.specs.declared.types.IntType.{IntType}
 use Rattle.wg_num.specs.declared.types.IntType.TheVariants.{Bool, Char, Uchar, Short, Ushort, Int, Uint, Long, Ulong}
@@ -19,8 +21,13 @@ use Rattle.cl_model.specs.declared.program.Root.TheVariants.{Param, Constant, Lo
 use Rattle.cl_model.specs.declared.program.VarKind.{VarKind}
 use Rattle.cl_model.specs.declared.program.VarKind.TheVariants.{Scalar, Pointer}
 use Rattle.cl_model.specs.declared.program.Query.{Query}
-use Rattle.cl_model.specs.declared.program.Query.TheVariants.{WorkDim, GlobalId, LocalId, GroupId, GlobalSize, LocalSize, NumGroups, GlobalOffset}
-use Rattle.cl_model.specs.Tree.{Action, Literal, Variable, Unary, Binary, Builtin, Convert, Ask, Second, Truth, Decided, Set, Change, Load, Store, Expression, Apply, Update, Choose, Call, Expressions, none, more, Statement, Do, Declare, Fill, Block, If, Loop, Switch, Break, Continue, Return, Barrier, Statements, empty, also, Arms, no_arm, arm, Array, Table, Function, Program}
+use Rattle.cl_model.specs.declared.program.Query.TheVariants.{WorkDim, GlobalId, LocalId, GroupId, GlobalSize}
+use Rattle.cl_model.specs.declared.program.Query.TheVariants.{LocalSize, NumGroups, GlobalOffset}
+use Rattle.cl_model.specs.Tree.{Action, Literal, Variable, Unary, Binary, Builtin, Convert, Ask, Second, Truth}
+use Rattle.cl_model.specs.Tree.{Decided, Set, Change, Load, Store, Expression, Apply, Update, Choose, Call}
+use Rattle.cl_model.specs.Tree.{Expressions, none, more, Statement, Do, Declare, Fill, Block, If, Loop, Switch, Break}
+use Rattle.cl_model.specs.Tree.{Continue, Return, Barrier, Statements, empty, also, Arms, no_arm, arm, Array, Table}
+use Rattle.cl_model.specs.Tree.{Function, Program}
 use Rattle.cl_model.specs.Lists.{Each, AllDiffer}
 use Rattle.cl_model.specs.Calls.{CallSite, calls_of_all, function_at, Instance, instances}
 use Rattle.cl_model.specs.Objects.{is_local, array_bytes}
@@ -105,10 +112,14 @@ parameter_kinds f = take f.parameters f.variables
 
 -- the root leads, in a function, to elements of this type in this space
 abbrev pub RootIs : Program → Function → Root → Space → IntType → Type 0
-RootIs program f (Param n) at element = (root : Root) × (slice_get (parameter_kinds f) n ≡ Some (Pointer at element root))
-RootIs program f (Constant n) at element = (table : Table) × (slice_get program.tables n ≡ Some table) × (table.array.element ≡ element) × (at ≡ space.Constant)
-RootIs program f (Local n) at element = (array : Array) × (slice_get f.arrays n ≡ Some array) × (array.space ≡ space.Local) × (array.element ≡ element) × (at ≡ space.Local)
-RootIs program f (Private n) at element = (array : Array) × (slice_get f.arrays n ≡ Some array) × (array.space ≡ space.Private) × (array.element ≡ element) × (at ≡ space.Private)
+RootIs program f (Param n) at element =
+    (root : Root) × (slice_get (parameter_kinds f) n ≡ Some (Pointer at element root))
+RootIs program f (Constant n) at element = (table : Table) × (slice_get program.tables n ≡ Some table) ×
+    (table.array.element ≡ element) × (at ≡ space.Constant)
+RootIs program f (Local n) at element = (array : Array) × (slice_get f.arrays n ≡ Some array) ×
+    (array.space ≡ space.Local) × (array.element ≡ element) × (at ≡ space.Local)
+RootIs program f (Private n) at element = (array : Array) × (slice_get f.arrays n ≡ Some array) ×
+    (array.space ≡ space.Private) × (array.element ≡ element) × (at ≡ space.Private)
 
 -- elements of this type can be loaded from the root, and stored there: not to constant memory
 abbrev pub CanLoad : Program → Function → Root → IntType → Type 0
@@ -135,33 +146,41 @@ ActionFits program f Second (a ∷ b ∷ []) t = t ≡ b
 ActionFits program f Truth (a ∷ []) t = t ≡ Int
 ActionFits program f (Decided answer) [] t = t ≡ Int
 ActionFits program f (Set x) (a ∷ []) t = HasVariable f x t × (a ≡ t)
-ActionFits program f (Change x op of back old) (a ∷ b ∷ []) t = HasVariable f x back × (a ≡ back) × RightFits op of b × (t ≡ back)
+ActionFits program f (Change x op of back old) (a ∷ b ∷ []) t =
+    HasVariable f x back × (a ≡ back) × RightFits op of b × (t ≡ back)
 ActionFits program f (Load site element root) (i ∷ []) t = (i ≡ Long) × CanLoad program f root element × (t ≡ element)
-ActionFits program f (Store site element root) (i ∷ a ∷ []) t = (i ≡ Long) × (a ≡ element) × CanStore program f root element × (t ≡ element)
+ActionFits program f (Store site element root) (i ∷ a ∷ []) t =
+    (i ≡ Long) × (a ≡ element) × CanStore program f root element × (t ≡ element)
 ActionFits program f _ args t = ⊥
 
 -- arguments of these types, with these roots, fit parameters of these kinds
 abbrev pub ArgumentsFit : Program → Function → List VarKind → List (Option Root) → List IntType → Type 0
 ArgumentsFit program f [] [] [] = Unit {0}
 ArgumentsFit program f (Scalar s ∷ kinds) (None ∷ roots) (t ∷ ts) = (t ≡ s) × ArgumentsFit program f kinds roots ts
-ArgumentsFit program f (Pointer at element own ∷ kinds) (Some root ∷ roots) (t ∷ ts) = (t ≡ Long) × RootIs program f root at element × ArgumentsFit program f kinds roots ts
+ArgumentsFit program f (Pointer at element own ∷ kinds) (Some root ∷ roots) (t ∷ ts) =
+    (t ≡ Long) × RootIs program f root at element × ArgumentsFit program f kinds roots ts
 ArgumentsFit program f _ _ _ = ⊥
 
 -- a function that is called is one of the program's, has this result and no local array
 pub record CanBeCalled (program : Program) (g : ℕ) (result : Option IntType) : Type 0 where
   pub within : g < length program.functions
   pub same_result : (function_at program g).result ≡ result
-  pub no_local : (n : ℕ) (array : Array) → slice_get (function_at program g).arrays n ≡ Some array → is_local array.space ≡ false
+  pub no_local : (n : ℕ) (array : Array) → slice_get (function_at program g).arrays n ≡ Some array →
+      is_local array.space ≡ false
 
 -- the expression has a value of the type
 abbrev mutual
   pub HasType : Program → Function → Expression → IntType → Type 0
-  HasType program f (Apply action operands) t = (ts : List IntType) × HaveTypes program f operands ts × ActionFits program f action ts t
+  HasType program f (Apply action operands) t =
+      (ts : List IntType) × HaveTypes program f operands ts × ActionFits program f action ts t
   HasType program f (Update site element root op of back old index value) t =
-      HasType program f index Long × ((s : IntType) × HasType program f value s × RightFits op of s) × CanStore program f root element × (back ≡ element) × (t ≡ back)
-  HasType program f (Choose site test chosen other) t = ((s : IntType) × HasType program f test s) × HasType program f chosen t × HasType program f other t
+      HasType program f index Long × ((s : IntType) × HasType program f value s × RightFits op of s) ×
+      CanStore program f root element × (back ≡ element) × (t ≡ back)
+  HasType program f (Choose site test chosen other) t =
+      ((s : IntType) × HasType program f test s) × HasType program f chosen t × HasType program f other t
   HasType program f (Call site g roots arguments) t =
-      CanBeCalled program g (Some t) × ((ts : List IntType) × HaveTypes program f arguments ts × ArgumentsFit program f (parameter_kinds (function_at program g)) roots ts)
+      CanBeCalled program g (Some t) × ((ts : List IntType) × HaveTypes program f arguments ts ×
+      ArgumentsFit program f (parameter_kinds (function_at program g)) roots ts)
 
   pub HaveTypes : Program → Function → Expressions → List IntType → Type 0
   HaveTypes program f none [] = Unit {0}
@@ -176,7 +195,8 @@ HasValue program f e = (t : IntType) × HasType program f e t
 -- a call of a function that gives none
 abbrev pub IsPlainCall : Program → Function → Expression → Type 0
 IsPlainCall program f (Call site g roots arguments) =
-    CanBeCalled program g None × ((ts : List IntType) × HaveTypes program f arguments ts × ArgumentsFit program f (parameter_kinds (function_at program g)) roots ts)
+    CanBeCalled program g None × ((ts : List IntType) × HaveTypes program f arguments ts ×
+    ArgumentsFit program f (parameter_kinds (function_at program g)) roots ts)
 IsPlainCall program f _ = ⊥
 
 -- the expression has a value, where it is there
@@ -222,12 +242,16 @@ abbrev mutual
   StatementFits program f (Do e) = HasValue program f e ⊎ IsPlainCall program f e
   StatementFits program f (Declare x value) = DeclaredFits program f x value
   StatementFits program f (Fill site array values) =
-      (a : Array) × (slice_get f.arrays array ≡ Some a) × (a.space ≡ space.Private) × AllHaveType program f values a.element × (number_of_values values ≤ a.count)
+      (a : Array) × (slice_get f.arrays array ≡ Some a) × (a.space ≡ space.Private) ×
+      AllHaveType program f values a.element × (number_of_values values ≤ a.count)
   StatementFits program f (Block list) = AllFit program f list
-  StatementFits program f (If site test chosen other) = HasValue program f test × AllFit program f chosen × AllFit program f other
-  StatementFits program f (Loop site test_first test step body) = OptionalFits program f test × OptionalFits program f step × StatementFits program f body
+  StatementFits program f (If site test chosen other) =
+      HasValue program f test × AllFit program f chosen × AllFit program f other
+  StatementFits program f (Loop site test_first test step body) =
+      OptionalFits program f test × OptionalFits program f step × StatementFits program f body
   StatementFits program f (Switch site value arms) =
-      ((t : IntType) × HasType program f value t × Each (λ v. IsValue (promoted t) v) (labels_of arms)) × AllDiffer (labels_of arms) × (defaults_of arms ≤ 1) × ArmsFit program f arms
+      ((t : IntType) × HasType program f value t × Each (λ v. IsValue (promoted t) v) (labels_of arms)) ×
+      AllDiffer (labels_of arms) × (defaults_of arms ≤ 1) × ArmsFit program f arms
   StatementFits program f (Break site) = Unit {0}
   StatementFits program f (Continue site) = Unit {0}
   StatementFits program f (Return site value) = ReturnFits program f f.result value
@@ -306,7 +330,8 @@ abbrev mutual
   IsScoped scope (Fill site array values) = NamesAmong scope values
   IsScoped scope (Block list) = IsScopedList scope list
   IsScoped scope (If site test chosen other) = NamesIn scope test × AreScoped scope chosen × AreScoped scope other
-  IsScoped scope (Loop site test_first test step body) = NamesInOptional scope test × NamesInOptional scope step × IsScoped scope body
+  IsScoped scope (Loop site test_first test step body) =
+      NamesInOptional scope test × NamesInOptional scope step × IsScoped scope body
   IsScoped scope (Switch site value arms) = NamesIn scope value × AreScopedArms scope arms
   IsScoped scope (Break site) = Unit {0}
   IsScoped scope (Continue site) = Unit {0}
@@ -316,7 +341,8 @@ abbrev mutual
   -- of the list of a body or block
   pub IsScopedList : Scope → Statements → Type 0
   IsScopedList scope empty = Unit {0}
-  IsScopedList scope (also (Declare x value) rest) = (Has scope x → ⊥) × NamesInOptional scope value × IsScopedList (x ∷ scope) rest
+  IsScopedList scope (also (Declare x value) rest) =
+      (Has scope x → ⊥) × NamesInOptional scope value × IsScopedList (x ∷ scope) rest
   IsScopedList scope (also s rest) = IsScoped scope s × IsScopedList scope rest
 
   -- of a branch or an arm
@@ -358,7 +384,8 @@ abbrev mutual
   ExitsFit in_loop in_either (Declare x value) = Unit {0}
   ExitsFit in_loop in_either (Fill site array values) = Unit {0}
   ExitsFit in_loop in_either (Block list) = AllExitsFit in_loop in_either list
-  ExitsFit in_loop in_either (If site test chosen other) = AllExitsFit in_loop in_either chosen × AllExitsFit in_loop in_either other
+  ExitsFit in_loop in_either (If site test chosen other) =
+      AllExitsFit in_loop in_either chosen × AllExitsFit in_loop in_either other
   ExitsFit in_loop in_either (Loop site test_first test step body) = ExitsFit true true body
   ExitsFit in_loop in_either (Switch site value arms) = ArmsExitsFit in_loop true arms
   ExitsFit in_loop in_either (Break site) = in_either ≡ true
@@ -372,7 +399,8 @@ abbrev mutual
 
   pub ArmsExitsFit : (in_loop in_either : Test) → Arms → Type 0
   ArmsExitsFit in_loop in_either no_arm = Unit {0}
-  ArmsExitsFit in_loop in_either (arm labels other body rest) = AllExitsFit in_loop in_either body × ArmsExitsFit in_loop in_either rest
+  ArmsExitsFit in_loop in_either (arm labels other body rest) =
+      AllExitsFit in_loop in_either body × ArmsExitsFit in_loop in_either rest
 
 -- the sites of an action
 abbrev pub action_sites : Action → List ℕ
@@ -415,7 +443,8 @@ abbrev mutual
   sites_of (Fill site array values) = site ∷ sites_among values
   sites_of (Block list) = sites_of_all list
   sites_of (If site test chosen other) = site ∷ (sites_in test ++ (sites_of_all chosen ++ sites_of_all other))
-  sites_of (Loop site test_first test step body) = site ∷ (sites_in_optional test ++ (sites_in_optional step ++ sites_of body))
+  sites_of (Loop site test_first test step body) =
+      site ∷ (sites_in_optional test ++ (sites_in_optional step ++ sites_of body))
   sites_of (Switch site value arms) = site ∷ (sites_in value ++ sites_of_arms arms)
   sites_of (Break site) = site ∷ []
   sites_of (Continue site) = site ∷ []
@@ -430,7 +459,8 @@ abbrev mutual
   sites_of_arms no_arm = []
   sites_of_arms (arm labels other body rest) = sites_of_all body ++ sites_of_arms rest
 
--- how many nodes of the typed program an action stands for: those of && and || that the view adds count nothing, and a compound assignment counts as its target
+-- how many nodes of the typed program an action stands for: those of && and || that the view adds count nothing, and
+-- a compound assignment counts as its target
 abbrev pub action_nodes : Action → ℕ
 action_nodes Truth = 0
 action_nodes (Decided answer) = 0
@@ -471,7 +501,8 @@ abbrev mutual
   nodes_of (Fill site array values) = suc (nodes_among values)
   nodes_of (Block list) = suc (nodes_of_all list)
   nodes_of (If site test chosen other) = suc (nodes_in test + (nodes_of_all chosen + nodes_of_all other))
-  nodes_of (Loop site test_first test step body) = suc (nodes_in_optional test + (nodes_in_optional step + nodes_of body))
+  nodes_of (Loop site test_first test step body) =
+      suc (nodes_in_optional test + (nodes_in_optional step + nodes_of body))
   nodes_of (Switch site value arms) = suc (nodes_in value + nodes_of_arms arms)
   nodes_of (Break site) = 1
   nodes_of (Continue site) = 1
@@ -489,17 +520,20 @@ abbrev mutual
 -- calls of the function nest less deep than the depth
 abbrev pub CallsEnd : Program → ℕ → ℕ → Type 0
 CallsEnd program zero f = ⊥
-CallsEnd program (suc depth) f = Each (λ (c : CallSite). CallsEnd program depth c.function) (calls_of_all (function_at program f).body)
+CallsEnd program (suc depth) f =
+    Each (λ (c : CallSite). CallsEnd program depth c.function) (calls_of_all (function_at program f).body)
 
 -- the numbers from one on, so many of them, the last first in the list
 abbrev pub numbers_below : ℕ → List ℕ
 numbers_below zero = []
 numbers_below (suc n) = n ∷ numbers_below n
 
--- the kind of a variable: the root of a pointer parameter is that parameter, that of another pointer leads to its space and elements
+-- the kind of a variable: the root of a pointer parameter is that parameter, that of another pointer leads to its
+-- space and elements
 abbrev pub KindFits : Program → Function → ℕ → VarKind → Type 0
 KindFits program f x (Scalar t) = Unit {0}
-KindFits program f x (Pointer at element root) = (x < f.parameters → root ≡ Param x) × (f.parameters ≤ x → RootIs program f root at element)
+KindFits program f x (Pointer at element root) =
+    (x < f.parameters → root ≡ Param x) × (f.parameters ≤ x → RootIs program f root at element)
 
 -- the function of a program is valid
 pub record IsValidFunction (program : Program) (f : Function) : Type 0 where
@@ -526,5 +560,6 @@ pub record IsValid (program : Program) : Type 0 where
   pub calls : (n : ℕ) → n < length program.functions → CallsEnd program (length program.functions) n
   -- no two nodes have one site, and each site has a place
   pub sites : AllDiffer (flat_map (λ (f : Function). sites_of_all f.body) program.functions)
-  pub places : Each (λ site. site < length program.sites) (flat_map (λ (f : Function). sites_of_all f.body) program.functions)
+  pub places : Each (λ site. site < length program.sites) (flat_map (λ (f : Function). sites_of_all f.body)
+      program.functions)
   pub size : sum_by (λ (i : Instance). nodes_of_all (function_at program i.function).body) (instances program) ≤ 4194304

@@ -1,13 +1,19 @@
 -- Which variables vary: the least relation on expressions, variables and results of functions that obeys the rules.
-use Rattle.std.specs.Prelude.{◌≡◌, ◌≢◌, ℕ, zero, suc, List, [], ◌∷◌, ◌++◌, Option, Some, None, slice_get, nat_eq, ◌||◌, ◌⊎◌}
+use Rattle.std.specs.Prelude.{◌≡◌, ◌≢◌, ℕ, zero, suc, List, [], ◌∷◌, ◌++◌, Option, Some, None, slice_get, nat_eq}
+use Rattle.std.specs.Prelude.{◌||◌, ◌⊎◌}
 use Rattle.std.specs.Prelude.{Bool as Test, true, false}
 use Rattle.wg_num.specs.declared.types.IntType.{IntType}
 use Rattle.wg_num.specs.declared.types.Bin.{Bin}
 use Rattle.cl_model.specs.declared.program.Root.{Root}
 use Rattle.cl_model.specs.declared.program.Root.TheVariants.{Param, Constant, Local, Private}
 use Rattle.cl_model.specs.declared.program.Query.{Query}
-use Rattle.cl_model.specs.declared.program.Query.TheVariants.{WorkDim, GlobalId, LocalId, GroupId, GlobalSize, LocalSize, NumGroups, GlobalOffset}
-use Rattle.cl_model.specs.Tree.{Action, Literal, Variable, Unary, Binary, Builtin, Convert, Ask, Second, Truth, Decided, Set, Change, Load, Store, Expression, Apply, Update, Choose, Call, Expressions, none, more, single, Statement, Do, Declare, Fill, Block, If, Loop, Switch, Break, Continue, Return, Barrier, Statements, empty, also, Arms, no_arm, arm, Function, Program}
+use Rattle.cl_model.specs.declared.program.Query.TheVariants.{WorkDim, GlobalId, LocalId, GroupId, GlobalSize}
+use Rattle.cl_model.specs.declared.program.Query.TheVariants.{LocalSize, NumGroups, GlobalOffset}
+use Rattle.cl_model.specs.Tree.{Action, Literal, Variable, Unary, Binary, Builtin, Convert, Ask, Second, Truth}
+use Rattle.cl_model.specs.Tree.{Decided, Set, Change, Load, Store, Expression, Apply, Update, Choose, Call}
+use Rattle.cl_model.specs.Tree.{Expressions, none, more, single, Statement, Do, Declare, Fill, Block, If, Loop}
+use Rattle.cl_model.specs.Tree.{Switch, Break, Continue, Return, Barrier, Statements, empty, also, Arms, no_arm, arm}
+use Rattle.cl_model.specs.Tree.{Function, Program}
 use Rattle.cl_model.specs.Lists.{IsOneOf}
 use Rattle.cl_model.specs.Calls.{function_at}
 use Rattle.cl_model.specs.Objects.{is_constant_pointer}
@@ -55,7 +61,8 @@ abbrev mutual
   assigns (Fill site array values) x = assigns_among values x
   assigns (Block list) x = some_assigns list x
   assigns (If site test chosen other) x = assigns_in test x || (some_assigns chosen x || some_assigns other x)
-  assigns (Loop site test_first test step body) x = assigns_in_optional test x || (assigns_in_optional step x || assigns body x)
+  assigns (Loop site test_first test step body) x =
+      assigns_in_optional test x || (assigns_in_optional step x || assigns body x)
   assigns (Switch site value arms) x = assigns_in value x || arms_assign arms x
   assigns (Break site) x = false
   assigns (Continue site) x = false
@@ -116,8 +123,8 @@ abbrev mutual
   arms_return no_arm = false
   arms_return (arm labels other body rest) = some_returns body || arms_return rest
 
--- a condition: the variables in whose scope it stands, after their declarations; its test or value; and of what stands under it:
--- which variables it assigns, whether it holds a way out, and whether it holds a return
+-- a condition: the variables in whose scope it stands, after their declarations; its test or value; and of what
+-- stands under it: which variables it assigns, whether it holds a way out, and whether it holds a return
 pub record Condition : Type 0 where
   pub scope : Scope
   pub test : Expression
@@ -129,9 +136,16 @@ pub record Condition : Type 0 where
 abbrev mutual
   pub conditions_in : Scope → Expression → List Condition
   conditions_in scope (Apply action operands) = conditions_among scope operands
-  conditions_in scope (Update site element root op of back old index value) = conditions_in scope index ++ conditions_in scope value
+  conditions_in scope (Update site element root op of back old index value) =
+      conditions_in scope index ++ conditions_in scope value
   conditions_in scope (Choose site test chosen other) =
-      record { scope = scope; test = test; assigns = λ x. assigns_in chosen x || assigns_in other x; exits = false; returns = false }
+      record {
+        scope = scope;
+        test = test;
+        assigns = λ x. assigns_in chosen x || assigns_in other x;
+        exits = false;
+        returns = false;
+      }
       ∷ (conditions_in scope test ++ (conditions_in scope chosen ++ conditions_in scope other))
   conditions_in scope (Call site g roots arguments) = conditions_among scope arguments
 
@@ -148,9 +162,16 @@ conditions_in_optional scope (Some e) = conditions_in scope e
 abbrev pub loop_condition : Scope → Option Expression → Option Expression → Statement → List Condition
 loop_condition scope None step body = []
 loop_condition scope (Some test) step body =
-    record { scope = scope; test = test; assigns = λ x. assigns_in test x || (assigns_in_optional step x || assigns body x); exits = exits body; returns = returns body } ∷ []
+    record {
+      scope = scope;
+      test = test;
+      assigns = λ x. assigns_in test x || (assigns_in_optional step x || assigns body x);
+      exits = exits body;
+      returns = returns body;
+    } ∷ []
 
--- the conditions in a statement: the branches of an if, the body of a switch, and the test, step and body of a loop stand under its test or value
+-- the conditions in a statement: the branches of an if, the body of a switch, and the test, step and body of a loop
+-- stand under its test or value
 abbrev mutual
   pub conditions_of : Scope → Statement → List Condition
   conditions_of scope (Do e) = conditions_in scope e
@@ -158,12 +179,25 @@ abbrev mutual
   conditions_of scope (Fill site array values) = conditions_among scope values
   conditions_of scope (Block list) = conditions_of_list scope list
   conditions_of scope (If site test chosen other) =
-      record { scope = scope; test = test; assigns = λ x. some_assigns chosen x || some_assigns other x; exits = some_exits chosen || some_exits other; returns = some_returns chosen || some_returns other }
+      record {
+        scope = scope;
+        test = test;
+        assigns = λ x. some_assigns chosen x || some_assigns other x;
+        exits = some_exits chosen || some_exits other;
+        returns = some_returns chosen || some_returns other;
+      }
       ∷ (conditions_in scope test ++ (conditions_of_list scope chosen ++ conditions_of_list scope other))
   conditions_of scope (Loop site test_first test step body) =
-      loop_condition scope test step body ++ (conditions_in_optional scope test ++ (conditions_in_optional scope step ++ conditions_of scope body))
+      loop_condition scope test step body ++
+      (conditions_in_optional scope test ++ (conditions_in_optional scope step ++ conditions_of scope body))
   conditions_of scope (Switch site value arms) =
-      record { scope = scope; test = value; assigns = λ x. arms_assign arms x; exits = arms_exit arms; returns = arms_return arms }
+      record {
+        scope = scope;
+        test = value;
+        assigns = λ x. arms_assign arms x;
+        exits = arms_exit arms;
+        returns = arms_return arms;
+      }
       ∷ (conditions_in scope value ++ conditions_of_arms scope arms)
   conditions_of scope (Break site) = []
   conditions_of scope (Continue site) = []
@@ -173,7 +207,8 @@ abbrev mutual
   -- behind a declaration its variable is in scope
   pub conditions_of_list : Scope → Statements → List Condition
   conditions_of_list scope empty = []
-  conditions_of_list scope (also (Declare x value) rest) = conditions_in_optional scope value ++ conditions_of_list (x ∷ scope) rest
+  conditions_of_list scope (also (Declare x value) rest) =
+      conditions_in_optional scope value ++ conditions_of_list (x ∷ scope) rest
   conditions_of_list scope (also s rest) = conditions_of scope s ++ conditions_of_list scope rest
 
   pub conditions_of_arms : Scope → Arms → List Condition
@@ -184,8 +219,10 @@ abbrev mutual
 abbrev mutual
   pub parts_of : Expression → List Expression
   parts_of (Apply action operands) = Apply action operands ∷ parts_among operands
-  parts_of (Update site element root op of back old index value) = Update site element root op of back old index value ∷ (parts_of index ++ parts_of value)
-  parts_of (Choose site test chosen other) = Choose site test chosen other ∷ (parts_of test ++ (parts_of chosen ++ parts_of other))
+  parts_of (Update site element root op of back old index value) =
+      Update site element root op of back old index value ∷ (parts_of index ++ parts_of value)
+  parts_of (Choose site test chosen other) =
+      Choose site test chosen other ∷ (parts_of test ++ (parts_of chosen ++ parts_of other))
   parts_of (Call site g roots arguments) = Call site g roots arguments ∷ parts_among arguments
 
   pub parts_among : Expressions → List Expression
@@ -209,8 +246,10 @@ abbrev mutual
   expressions_of (Declare x value) = declared x value ++ parts_of_optional value
   expressions_of (Fill site array values) = parts_among values
   expressions_of (Block list) = expressions_of_list list
-  expressions_of (If site test chosen other) = parts_of test ++ (expressions_of_list chosen ++ expressions_of_list other)
-  expressions_of (Loop site test_first test step body) = parts_of_optional test ++ (parts_of_optional step ++ expressions_of body)
+  expressions_of (If site test chosen other) =
+      parts_of test ++ (expressions_of_list chosen ++ expressions_of_list other)
+  expressions_of (Loop site test_first test step body) =
+      parts_of_optional test ++ (parts_of_optional step ++ expressions_of body)
   expressions_of (Switch site value arms) = parts_of value ++ expressions_of_arms arms
   expressions_of (Break site) = []
   expressions_of (Continue site) = []
@@ -312,34 +351,58 @@ is_store (Load site element root) = false
 -- it varies: one constructor for each rule
 pub data Varies (program : Program) : Subject → Type 0 where
   -- the ids of an item in the launch and in its group
-  own_id : {f : ℕ} {what : Query} {operands : Expressions} → is_own what ≡ true → Varies program (AnExpression f (Apply (Ask what) operands))
+  own_id : {f : ℕ} {what : Query} {operands : Expressions} → is_own what ≡ true →
+      Varies program (AnExpression f (Apply (Ask what) operands))
   -- a load that is not from constant memory; from constant memory it is as an operator on its index
-  loaded : {f site : ℕ} {element : IntType} {root : Root} {operands : Expressions} → is_constant_root (function_at program f) root ≡ false → Varies program (AnExpression f (Apply (Load site element root) operands))
+  loaded : {f site : ℕ} {element : IntType} {root : Root} {operands : Expressions} →
+      is_constant_root (function_at program f) root ≡ false →
+      Varies program (AnExpression f (Apply (Load site element root) operands))
   -- a variable that is named
-  named : {f x : ℕ} {operands : Expressions} → Varies program (AVariable f x) → Varies program (AnExpression f (Apply (Variable x) operands))
-  -- an operator, built-in, conversion, work-item function, comma, or assignment to a variable, with an operand that varies
-  operand : {f : ℕ} {action : Action} {operands : Expressions} {e : Expression} → is_store action ≡ false → IsAmong operands e → Varies program (AnExpression f e) → Varies program (AnExpression f (Apply action operands))
+  named : {f x : ℕ} {operands : Expressions} → Varies program (AVariable f x) →
+      Varies program (AnExpression f (Apply (Variable x) operands))
+  -- an operator, built-in, conversion, work-item function, comma, or assignment to a variable, with an operand that
+  -- varies
+  operand : {f : ℕ} {action : Action} {operands : Expressions} {e : Expression} → is_store action ≡ false →
+      IsAmong operands e → Varies program (AnExpression f e) → Varies program (AnExpression f (Apply action operands))
   -- an assignment to an element, by its right side
-  stored : {f site : ℕ} {element : IntType} {root : Root} {operands : Expressions} {e : Expression} → IsNth operands 1 e → Varies program (AnExpression f e) → Varies program (AnExpression f (Apply (Store site element root) operands))
+  stored : {f site : ℕ} {element : IntType} {root : Root} {operands : Expressions} {e : Expression} →
+      IsNth operands 1 e → Varies program (AnExpression f e) →
+      Varies program (AnExpression f (Apply (Store site element root) operands))
   -- a compound assignment to an element, whose old value is a load
-  updated : {f site : ℕ} {element : IntType} {root : Root} {op : Bin} {of back : IntType} {old : Test} {index value : Expression} → Varies program (AnExpression f (Update site element root op of back old index value))
+  updated : {f site : ℕ} {element : IntType} {root : Root} {op : Bin} {of back : IntType} {old : Test}
+      {index value : Expression} → Varies program (AnExpression f (Update site element root op of back old index value))
   -- ?:, && and || by each of their parts
-  tested : {f site : ℕ} {test chosen other : Expression} → Varies program (AnExpression f test) → Varies program (AnExpression f (Choose site test chosen other))
-  chosen : {f site : ℕ} {test chosen other : Expression} → Varies program (AnExpression f chosen) → Varies program (AnExpression f (Choose site test chosen other))
-  otherwise : {f site : ℕ} {test chosen other : Expression} → Varies program (AnExpression f other) → Varies program (AnExpression f (Choose site test chosen other))
+  tested : {f site : ℕ} {test chosen other : Expression} → Varies program (AnExpression f test) →
+      Varies program (AnExpression f (Choose site test chosen other))
+  chosen : {f site : ℕ} {test chosen other : Expression} → Varies program (AnExpression f chosen) →
+      Varies program (AnExpression f (Choose site test chosen other))
+  otherwise : {f site : ℕ} {test chosen other : Expression} → Varies program (AnExpression f other) →
+      Varies program (AnExpression f (Choose site test chosen other))
   -- a call of a function whose result varies
-  called : {f site g : ℕ} {roots : List (Option Root)} {arguments : Expressions} → Varies program (AResult g) → Varies program (AnExpression f (Call site g roots arguments))
+  called : {f site g : ℕ} {roots : List (Option Root)} {arguments : Expressions} → Varies program (AResult g) →
+      Varies program (AnExpression f (Call site g roots arguments))
   -- a parameter to which some call passes a value or offset that varies; not of the kernel
-  passed : {f g n : ℕ} {e : Expression} (site : ℕ) (roots : List (Option Root)) (arguments : Expressions) → g ≢ program.kernel → IsOneOf (expressions_of_list (function_at program f).body) (Call site g roots arguments) → IsNth arguments n e
+  passed : {f g n : ℕ} {e : Expression} (site : ℕ) (roots : List (Option Root)) (arguments : Expressions) →
+      g ≢ program.kernel → IsOneOf (expressions_of_list (function_at program f).body) (Call site g roots arguments) →
+      IsNth arguments n e
       → Varies program (AnExpression f e) → Varies program (AVariable g n)
   -- a returned value that varies, or a way out under a condition that varies
-  returning : {f : ℕ} {e : Expression} → IsOneOf (returned_list (function_at program f).body) e → Varies program (AnExpression f e) → Varies program (AResult f)
-  return_under : {f : ℕ} (c : Condition) → IsOneOf (conditions (function_at program f)) c → Varies program (AnExpression f c.test) → c.returns ≡ true → Varies program (AResult f)
-  return_beside : {f : ℕ} (c : Condition) → IsOneOf (conditions (function_at program f)) c → Varies program (AnExpression f c.test) → c.exits ≡ true → some_returns (function_at program f).body ≡ true → Varies program (AResult f)
+  returning : {f : ℕ} {e : Expression} → IsOneOf (returned_list (function_at program f).body) e →
+      Varies program (AnExpression f e) → Varies program (AResult f)
+  return_under : {f : ℕ} (c : Condition) → IsOneOf (conditions (function_at program f)) c →
+      Varies program (AnExpression f c.test) → c.returns ≡ true → Varies program (AResult f)
+  return_beside : {f : ℕ} (c : Condition) → IsOneOf (conditions (function_at program f)) c →
+      Varies program (AnExpression f c.test) → c.exits ≡ true → some_returns (function_at program f).body ≡ true →
+      Varies program (AResult f)
   -- a variable to which a value is assigned that varies, in its declaration or elsewhere
-  assigned : {f x : ℕ} {action : Action} {operands : Expressions} → IsOneOf (expressions_of_list (function_at program f).body) (Apply action operands) → sets action x ≡ true
+  assigned : {f x : ℕ} {action : Action} {operands : Expressions} →
+      IsOneOf (expressions_of_list (function_at program f).body) (Apply action operands) → sets action x ≡ true
       → Varies program (AnExpression f (Apply action operands)) → Varies program (AVariable f x)
   -- a variable that is assigned, other than by its declaration, under a condition in its scope that varies
-  assigned_under : {f x : ℕ} (c : Condition) → IsOneOf (conditions (function_at program f)) c → Varies program (AnExpression f c.test) → Has c.scope x → c.assigns x ≡ true → Varies program (AVariable f x)
-  -- a variable that is assigned, other than by its declaration, and whose scope holds, after its declaration, a way out under a condition in its scope that varies
-  exit_under : {f x : ℕ} (c : Condition) → IsOneOf (conditions (function_at program f)) c → Varies program (AnExpression f c.test) → Has c.scope x → c.exits ≡ true → some_assigns (function_at program f).body x ≡ true → Varies program (AVariable f x)
+  assigned_under : {f x : ℕ} (c : Condition) → IsOneOf (conditions (function_at program f)) c →
+      Varies program (AnExpression f c.test) → Has c.scope x → c.assigns x ≡ true → Varies program (AVariable f x)
+  -- a variable that is assigned, other than by its declaration, and whose scope holds, after its declaration, a way
+  -- out under a condition in its scope that varies
+  exit_under : {f x : ℕ} (c : Condition) → IsOneOf (conditions (function_at program f)) c →
+      Varies program (AnExpression f c.test) → Has c.scope x → c.exits ≡ true →
+      some_assigns (function_at program f).body x ≡ true → Varies program (AVariable f x)

@@ -10,13 +10,15 @@ use Rattle.cl_model.specs.declared.program.Array.{Array}
 use Rattle.cl_model.specs.declared.program.Table.{Table}
 use Rattle.cl_model.specs.declared.program.Function.{Function}
 use Rattle.cl_model.specs.declared.program.Program.{Program}
-use Rattle.cl_model.specs.declared.program.Expr.{Expr, Row_of-Expr, end_of-Expr, more_of-Expr, Row_of-Arg, end_of-Arg, more_of-Arg}
+use Rattle.cl_model.specs.declared.program.Expr.{Expr, Row_of-Expr, end_of-Expr, more_of-Expr, Row_of-Arg, end_of-Arg}
+use Rattle.cl_model.specs.declared.program.Expr.{more_of-Arg}
 use Rattle.cl_model.specs.declared.program.Expr.TheVariants as expr
 use Rattle.cl_model.specs.declared.program.Target.{Target}
 use Rattle.cl_model.specs.declared.program.Target.TheVariants as target
 use Rattle.cl_model.specs.declared.program.Arg.{Arg}
 use Rattle.cl_model.specs.declared.program.Arg.TheVariants as arg
-use Rattle.cl_model.specs.declared.program.Stmt.{Stmt, Row_of-Stmt, end_of-Stmt, more_of-Stmt, Row_of-SwitchArm, end_of-SwitchArm, more_of-SwitchArm, Held-Stmt-If-3, None', Some'}
+use Rattle.cl_model.specs.declared.program.Stmt.{Stmt, Row_of-Stmt, end_of-Stmt, more_of-Stmt, Row_of-SwitchArm}
+use Rattle.cl_model.specs.declared.program.Stmt.{end_of-SwitchArm, more_of-SwitchArm, Held-Stmt-If-3, None', Some'}
 use Rattle.cl_model.specs.declared.program.Stmt.TheVariants as stmt
 use Rattle.cl_model.specs.Tree as tree
 use Rattle.cl_model.specs.Sizes as sizes
@@ -27,12 +29,16 @@ abbrev mutual
   expression_of (expr.Literal value of) = tree.Apply (tree.Literal value of) tree.none
   expression_of (expr.Variable x) = tree.Apply (tree.Variable x) tree.none
   expression_of (expr.Unary' op of p a) = tree.Apply (tree.Unary op of) (tree.single (expression_of a))
-  expression_of (expr.Binary' op of p a q b) = tree.Apply (tree.Binary op of) (tree.pair (expression_of a) (expression_of b))
-  expression_of (expr.Both' site p a q b) = tree.Choose site (expression_of a) (tree.truth_of (expression_of b)) (tree.decided false)
-  expression_of (expr.Either' site p a q b) = tree.Choose site (expression_of a) (tree.decided true) (tree.truth_of (expression_of b))
+  expression_of (expr.Binary' op of p a q b) =
+      tree.Apply (tree.Binary op of) (tree.pair (expression_of a) (expression_of b))
+  expression_of (expr.Both' site p a q b) =
+      tree.Choose site (expression_of a) (tree.truth_of (expression_of b)) (tree.decided false)
+  expression_of (expr.Either' site p a q b) =
+      tree.Choose site (expression_of a) (tree.decided true) (tree.truth_of (expression_of b))
   expression_of (expr.Choose' site p t q a r b) = tree.Choose site (expression_of t) (expression_of a) (expression_of b)
   expression_of (expr.Convert' to p a) = tree.Apply (tree.Convert to) (tree.single (expression_of a))
-  expression_of (expr.Load' site element root p i) = tree.Apply (tree.Load site element root) (tree.single (expression_of i))
+  expression_of (expr.Load' site element root p i) =
+      tree.Apply (tree.Load site element root) (tree.single (expression_of i))
   expression_of (expr.Assign' target p value) = assigned target (expression_of value)
   expression_of (expr.Update' target op of back p value old) = updated target op of back old (expression_of value)
   expression_of (expr.Call' site function m row) = tree.Call site function (roots_of row) (arguments_of row)
@@ -42,11 +48,14 @@ abbrev mutual
 
   pub assigned : Target → tree.Expression → tree.Expression
   assigned (target.Var x) value = tree.Apply (tree.Set x) (tree.single value)
-  assigned (target.Element' site element root p i) value = tree.Apply (tree.Store site element root) (tree.pair (expression_of i) value)
+  assigned (target.Element' site element root p i) value =
+      tree.Apply (tree.Store site element root) (tree.pair (expression_of i) value)
 
   pub updated : Target → Bin → IntType → IntType → Test → tree.Expression → tree.Expression
-  updated (target.Var x) op of back old value = tree.Apply (tree.Change x op of back old) (tree.pair (tree.Apply (tree.Variable x) tree.none) value)
-  updated (target.Element' site element root p i) op of back old value = tree.Update site element root op of back old (expression_of i) value
+  updated (target.Var x) op of back old value =
+      tree.Apply (tree.Change x op of back old) (tree.pair (tree.Apply (tree.Variable x) tree.none) value)
+  updated (target.Element' site element root p i) op of back old value =
+      tree.Update site element root op of back old (expression_of i) value
 
   pub expressions_of : {m : _} → Row_of-Expr m → tree.Expressions
   expressions_of end_of-Expr = tree.none
@@ -85,8 +94,10 @@ abbrev mutual
   statement_of (stmt.Declare x value) = tree.Declare x (optional_expression value)
   statement_of (stmt.Fill site array values) = tree.Fill site array (listed_expressions values.items)
   statement_of (stmt.Block' m row) = tree.Block (statements_of row)
-  statement_of (stmt.If' site test p chosen other) = tree.If site (expression_of test) (tree.also (statement_of chosen) tree.empty) (other_of other)
-  statement_of (stmt.Loop' site test_first test step p body) = tree.Loop site test_first (optional_expression test) (optional_expression step) (statement_of body)
+  statement_of (stmt.If' site test p chosen other) =
+      tree.If site (expression_of test) (tree.also (statement_of chosen) tree.empty) (other_of other)
+  statement_of (stmt.Loop' site test_first test step p body) =
+      tree.Loop site test_first (optional_expression test) (optional_expression step) (statement_of body)
   statement_of (stmt.Switch' site value m row) = tree.Switch site (expression_of value) (arms_of row)
   statement_of (stmt.Break site) = tree.Break site
   statement_of (stmt.Continue site) = tree.Continue site

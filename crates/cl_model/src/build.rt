@@ -55,7 +55,8 @@ pub fn ask(alloc: Global, what: Query, dim: Expr) -> Result<Expr, Memory>
 
 /// A load of an int.
 pub fn load(alloc: Global, site: u32, root: Root, index: Expr) -> Result<Expr, Memory>
-    ensures { IfOk result (λ e. expression_of e ≡ Apply (Load site IntType.Int root) (single (expression_of index))) }
+    ensures { IfOk result (λ e. expression_of e ≡ Apply (Load site IntType.Int root)
+        (single (expression_of index))) }
 {
     let index = boxed(alloc, index)?;
     Ok(Expr::Load {
@@ -68,7 +69,8 @@ pub fn load(alloc: Global, site: u32, root: Root, index: Expr) -> Result<Expr, M
 
 /// An assignment to an int element.
 pub fn store(alloc: Global, site: u32, root: Root, index: Expr, value: Expr) -> Result<Expr, Memory>
-    ensures { IfOk result (λ e. expression_of e ≡ Apply (Store site IntType.Int root) (pair (expression_of index) (expression_of value))) }
+    ensures { IfOk result (λ e. expression_of e ≡ Apply (Store site IntType.Int root)
+        (pair (expression_of index) (expression_of value))) }
 {
     let index = boxed(alloc, index)?;
     let value = boxed(alloc, value)?;

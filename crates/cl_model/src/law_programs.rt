@@ -1,7 +1,15 @@
 //! The programs of the laws, with their launches and buffers.
 
 ghost use Rattle.std.specs.Prelude.{◌≡◌, [], ◌∷◌, ◌*◌, ◌<◌, ◌^◌, ◌≤◌, IfOk, replicate};
-ghost use Rattle.cl_model.specs.View.{expression_of, array_of, listed_statements, function_of, program_of, launch_of, buffers_of};
+ghost use Rattle.cl_model.specs.View.{
+  expression_of,
+  array_of,
+  listed_statements,
+  function_of,
+  program_of,
+  launch_of,
+  buffers_of,
+};
 ghost use Rattle.cl_model.specs.Heads.{named_array, head_of, heads_of};
 ghost use Rattle.cl_model.specs.Increment as increment;
 ghost use Rattle.cl_model.specs.Exchange as exchange;

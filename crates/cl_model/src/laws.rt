@@ -27,7 +27,9 @@ use wg_num::Memory;
 pub fn agree_law(program: &Program, launch: &Launch, buffers: &Buffers)
     requires { IsValid (program_of program.now) }
     ensures { IsCleanLaunch (program_of program.now) (launch_of launch.now) (buffers_of buffers.now)
-        → Agrees (machine_of (program_of program.now) (launch_of launch.now)) (ItemCanCome (program_of program.now) (launch_of launch.now) (buffers_of buffers.now)) (start_world (program_of program.now) (launch_of launch.now) (buffers_of buffers.now)) }
+        → Agrees (machine_of (program_of program.now) (launch_of launch.now))
+        (ItemCanCome (program_of program.now) (launch_of launch.now) (buffers_of buffers.now))
+        (start_world (program_of program.now) (launch_of launch.now) (buffers_of buffers.now)) }
 {}
 
 /// What each item does in a run is a history of it: its own steps from its start, whatever the
@@ -36,9 +38,13 @@ pub fn agree_law(program: &Program, launch: &Launch, buffers: &Buffers)
 pub fn history_law(program: &Program, launch: &Launch, buffers: &Buffers)
     requires valid { IsValid (program_of program.now) }
     requires fits { FitsProgram (program_of program.now) (launch_of launch.now) }
-    ensures { (moves : List Move) → IsRun (machine_of (program_of program.now) (launch_of launch.now)) (start_world (program_of program.now) (launch_of launch.now) (buffers_of buffers.now)) moves
-        → HasHistories (machine_of (program_of program.now) (launch_of launch.now)) (lengths_of (program_of program.now) (launch_of launch.now) (buffers_of buffers.now))
-        (MayBeTold (program_of program.now) (launch_of launch.now) (buffers_of buffers.now)) (start_world (program_of program.now) (launch_of launch.now) (buffers_of buffers.now)) moves }
+    ensures { (moves : List Move) →
+        IsRun (machine_of (program_of program.now) (launch_of launch.now))
+        (start_world (program_of program.now) (launch_of launch.now) (buffers_of buffers.now)) moves
+        → HasHistories (machine_of (program_of program.now) (launch_of launch.now))
+        (lengths_of (program_of program.now) (launch_of launch.now) (buffers_of buffers.now))
+        (MayBeTold (program_of program.now) (launch_of launch.now) (buffers_of buffers.now))
+        (start_world (program_of program.now) (launch_of launch.now) (buffers_of buffers.now)) moves }
 {}
 
 /// The premise of `agree_law` is met at every size: the program in which each item adds 1 to its own

@@ -5,7 +5,19 @@ ghost use Rattle.cl_tree.specs.Syntax.{view, views};
 ghost use Rattle.cl_tree.specs.declared.terminal.Terminal.TheVariants as terminals;
 ghost use Rattle.cl_read.specs.Gives.{Gives, spot_of};
 ghost use Rattle.cl_read.specs.Members.{members};
-ghost use Rattle.cl_read.specs.Reading.{is, readers, all_of, behind_comma, if_begun, unless, dimension_of, init_of, declared, declare_rest, element_of};
+ghost use Rattle.cl_read.specs.Reading.{
+  is,
+  readers,
+  all_of,
+  behind_comma,
+  if_begun,
+  unless,
+  dimension_of,
+  init_of,
+  declared,
+  declare_rest,
+  element_of,
+};
 
 use crate::expression::{assignment, conditional};
 use crate::types::{star, type_name};
@@ -20,7 +32,8 @@ use std::alloc::Global;
 
 /// The star of a pointer, if there is one.
 pub(crate) fn stars(alloc: Global, room: u32, items: &[Leaf]) -> Result<(Nodes, &[Leaf]), Fail>
-    ensures { Gives (λ x. (views x.0.trees.items, x.1.now)) result (if_begun (is terminals.Star) (readers room).star items.now) }
+    ensures { Gives (λ x. (views x.0.trees.items, x.1.now)) result (if_begun (is terminals.Star) (readers room).star
+        items.now) }
 {
     if !next_is(items, Terminal::Star) {
         return Ok((Nodes::new(alloc), items));
@@ -31,7 +44,8 @@ pub(crate) fn stars(alloc: Global, room: u32, items: &[Leaf]) -> Result<(Nodes, 
 
 /// The length between brackets, if there is one.
 fn length_of(alloc: Global, room: u32, items: &[Leaf]) -> Result<(Nodes, &[Leaf]), Fail>
-    ensures { Gives (λ x. (views x.0.trees.items, x.1.now)) result (unless (is terminals.CloseBracket) (readers room).cond' items.now) }
+    ensures { Gives (λ x. (views x.0.trees.items, x.1.now)) result
+        (unless (is terminals.CloseBracket) (readers room).cond' items.now) }
 {
     if next_is(items, Terminal::CloseBracket) {
         return Ok((Nodes::new(alloc), items));
@@ -54,7 +68,8 @@ fn dimension(alloc: Global, room: u32, items: &[Leaf]) -> Result<(Members<'_>, &
 /// The dimensions of an array.
 #[tactic(auto, using(cl_read::proofs::Loops::front_empty, cl_read::proofs::Loops::list_stops))]
 fn dimensions(alloc: Global, room: u32, items: &[Leaf]) -> Result<(Members<'_>, &[Leaf]), Fail>
-    ensures { Gives (λ x. (members x.0, x.1.now)) result (all_of (is terminals.OpenBracket) (dimension_of (readers room)) items.now) }
+    ensures { Gives (λ x. (members x.0, x.1.now)) result
+        (all_of (is terminals.OpenBracket) (dimension_of (readers room)) items.now) }
 {
     let mut list = nothing(alloc);
     let mut rest = items;
@@ -86,7 +101,8 @@ pub(crate) fn declared<'a>(
     name: &'a Leaf,
     items: &'a [Leaf],
 ) -> Result<(Node, &'a [Leaf]), Fail>
-    ensures { Gives (λ x. (view x.0.tree, x.1.now)) result (declared (readers room) (views marks.trees.items) (spot_of name.now) items.now) }
+    ensures { Gives (λ x. (view x.0.tree, x.1.now)) result (declared (readers room) (views marks.trees.items)
+        (spot_of name.now) items.now) }
 {
     let first = first_token_in(&marks, name.number);
     let (list, rest) = dimensions(alloc, room, items)?;
@@ -143,7 +159,8 @@ fn further_declarator(
 /// The declarators behind the first one.
 #[tactic(auto, using(cl_read::proofs::Loops::front_empty, cl_read::proofs::Loops::list_stops))]
 fn declarators(alloc: Global, room: u32, items: &[Leaf]) -> Result<(Members<'_>, &[Leaf]), Fail>
-    ensures { Gives (λ x. (members x.0, x.1.now)) result (all_of (is terminals.Comma) (behind_comma (readers room).declarator) items.now) }
+    ensures { Gives (λ x. (members x.0, x.1.now)) result
+        (all_of (is terminals.Comma) (behind_comma (readers room).declarator) items.now) }
 {
     let mut list = nothing(alloc);
     let mut rest = items;
@@ -164,7 +181,8 @@ pub(crate) fn declaration_behind(
     head: Node,
     items: &[Leaf],
 ) -> Result<(Node, &[Leaf]), Fail>
-    ensures { Gives (λ x. (view x.0.tree, x.1.now)) result (declare_rest (readers room) (view target.tree) (view head.tree) items.now) }
+    ensures { Gives (λ x. (view x.0.tree, x.1.now)) result (declare_rest (readers room) (view target.tree)
+        (view head.tree) items.now) }
 {
     let first = first_token(&target);
     let (list, rest) = declarators(alloc, room, items)?;
@@ -209,7 +227,8 @@ fn element(alloc: Global, room: u32, items: &[Leaf]) -> Result<((bool, Members<'
 /// The elements of a list behind the first one.
 #[tactic(auto, using(cl_read::proofs::Loops::front_empty, cl_read::proofs::Loops::list_stops))]
 fn elements(alloc: Global, room: u32, items: &[Leaf]) -> Result<(Members<'_>, &[Leaf]), Fail>
-    ensures { Gives (λ x. (members x.0, x.1.now)) result (all_of (is terminals.Comma) (element_of (readers room)) items.now) }
+    ensures { Gives (λ x. (members x.0, x.1.now)) result (all_of (is terminals.Comma) (element_of (readers room))
+        items.now) }
 {
     let mut list = nothing(alloc);
     let mut rest = items;

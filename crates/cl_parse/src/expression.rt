@@ -8,7 +8,23 @@ ghost use Rattle.cl_tree.specs.declared.terminal.Terminal.TheVariants as termina
 ghost use Rattle.cl_read.specs.Starts.{postfixes};
 ghost use Rattle.cl_read.specs.Gives.{Gives, spot_of};
 ghost use Rattle.cl_read.specs.Members.{members};
-ghost use Rattle.cl_read.specs.Reading.{is, readers, chain, all_of, behind_comma, level_step, expr_step, postfix_step, postfixed, paren_of, opened, sizeof_of, operand_of, primary_of, call_of};
+ghost use Rattle.cl_read.specs.Reading.{
+  is,
+  readers,
+  chain,
+  all_of,
+  behind_comma,
+  level_step,
+  expr_step,
+  postfix_step,
+  postfixed,
+  paren_of,
+  opened,
+  sizeof_of,
+  operand_of,
+  primary_of,
+  call_of,
+};
 
 use crate::types::type_name;
 use cl_read::cursor::{Fail, next_in, next_is, no_tree, take, take_in};
@@ -66,7 +82,8 @@ fn expression_chain(
     items: &[Leaf],
 ) -> Result<(Node, &[Leaf]), Fail>
     requires { room < 2 ^ 32 - 1 }
-    ensures { Gives (λ x. (view x.0.tree, x.1.now)) result (chain room (is terminals.Comma) (expr_step room (readers room)) room (view head.tree) items.now) }
+    ensures { Gives (λ x. (view x.0.tree, x.1.now)) result
+        (chain room (is terminals.Comma) (expr_step room (readers room)) room (view head.tree) items.now) }
 {
     let mut left = head;
     let mut rest = items;
@@ -173,7 +190,8 @@ fn level_chain(
 ) -> Result<(Node, &[Leaf]), Fail>
     requires operator { number < 10 }
     requires room { room < 2 ^ 32 - 1 }
-    ensures { Gives (λ x. (view x.0.tree, x.1.now)) result (chain room (joins number) (level_step room (readers room) number) room (view head.tree) items.now) }
+    ensures { Gives (λ x. (view x.0.tree, x.1.now)) result
+        (chain room (joins number) (level_step room (readers room) number) room (view head.tree) items.now) }
 {
     let mut left = head;
     let mut rest = items;
@@ -250,7 +268,8 @@ fn parenthesis<'a>(
     items: &'a [Leaf],
 ) -> Result<(Node, &'a [Leaf]), Fail>
     requires { room < 2 ^ 32 - 1 }
-    ensures { Gives (λ x. (view x.0.tree, x.1.now)) result (paren_of room (readers room) (spot_of mark.now) items.now) }
+    ensures { Gives (λ x. (view x.0.tree, x.1.now)) result (paren_of room (readers room) (spot_of mark.now)
+        items.now) }
 {
     let (inner, rest) = expression(alloc, room, items)?;
     let (close, rest) = take(rest, Terminal::Close)?;
@@ -381,7 +400,8 @@ fn postfix_part(
     left: Node,
     items: &[Leaf],
 ) -> Result<(Node, &[Leaf]), Fail>
-    ensures { Gives (λ x. (view x.0.tree, x.1.now)) result (postfix_step room (readers room) (view left.tree) items.now) }
+    ensures { Gives (λ x. (view x.0.tree, x.1.now)) result (postfix_step room (readers room) (view left.tree)
+        items.now) }
 {
     let first = first_token(&left);
     if !next_is(items, Terminal::OpenBracket) {
@@ -431,7 +451,8 @@ fn call<'a>(
     mark: &'a Leaf,
     items: &'a [Leaf],
 ) -> Result<(Node, &'a [Leaf]), Fail>
-    ensures { Gives (λ x. (view x.0.tree, x.1.now)) result (call_of room (readers room) (spot_of name.now) (spot_of mark.now) items.now) }
+    ensures { Gives (λ x. (view x.0.tree, x.1.now)) result (call_of room (readers room) (spot_of name.now)
+        (spot_of mark.now) items.now) }
 {
     let first = name.number;
     if next_is(items, Terminal::Close) {
@@ -461,7 +482,8 @@ fn call<'a>(
 #[cycle(expression)]
 #[tactic(auto, using(cl_read::proofs::Loops::front_empty, cl_read::proofs::Loops::list_stops))]
 fn arguments(alloc: Global, room: u32, items: &[Leaf]) -> Result<(Members<'_>, &[Leaf]), Fail>
-    ensures { Gives (λ x. (members x.0, x.1.now)) result (all_of (is terminals.Comma) (behind_comma (readers room).assign) items.now) }
+    ensures { Gives (λ x. (members x.0, x.1.now)) result
+        (all_of (is terminals.Comma) (behind_comma (readers room).assign) items.now) }
 {
     let mut list = nothing(alloc);
     let mut rest = items;

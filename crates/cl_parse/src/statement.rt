@@ -6,7 +6,28 @@ ghost use Rattle.cl_tree.specs.declared.terminal.Terminal.TheVariants as termina
 ghost use Rattle.cl_read.specs.Starts.{same};
 ghost use Rattle.cl_read.specs.Gives.{Gives};
 ghost use Rattle.cl_read.specs.Members.{members};
-ghost use Rattle.cl_read.specs.Reading.{is, readers, all_of, each, unless, line_of, block_of, if_of, while_of, do_of, start_of, for_of, switch_of, case_of, default_of, leave_of, return_of, leaving, labelled, simple_of};
+ghost use Rattle.cl_read.specs.Reading.{
+  is,
+  readers,
+  all_of,
+  each,
+  unless,
+  line_of,
+  block_of,
+  if_of,
+  while_of,
+  do_of,
+  start_of,
+  for_of,
+  switch_of,
+  case_of,
+  default_of,
+  leave_of,
+  return_of,
+  leaving,
+  labelled,
+  simple_of,
+};
 
 use crate::declaration::declaration;
 use crate::expression::{conditional, expression};
@@ -198,7 +219,8 @@ pub(crate) fn block(alloc: Global, budget: u32, items: &[Leaf]) -> Result<(Node,
 #[cycle(statement)]
 #[tactic(auto, using(cl_read::proofs::Loops::front_empty, cl_read::proofs::Loops::list_stops))]
 fn lines(alloc: Global, room: u32, items: &[Leaf]) -> Result<(Members<'_>, &[Leaf]), Fail>
-    ensures { Gives (λ x. (members x.0, x.1.now)) result (all_of (λ k. not (same k terminals.CloseBrace)) (each (line_of (readers room))) items.now) }
+    ensures { Gives (λ x. (members x.0, x.1.now)) result (all_of (λ k. not (same k terminals.CloseBrace))
+        (each (line_of (readers room))) items.now) }
 {
     let mut list = nothing(alloc);
     let mut rest = items;
@@ -371,7 +393,8 @@ fn switch_statement(alloc: Global, room: u32, items: &[Leaf]) -> Result<(Node, &
 #[cycle(statement)]
 #[tactic(auto, using(cl_read::proofs::Loops::front_empty, cl_read::proofs::Loops::list_stops))]
 fn statements(alloc: Global, room: u32, items: &[Leaf]) -> Result<(Members<'_>, &[Leaf]), Fail>
-    ensures { Gives (λ x. (members x.0, x.1.now)) result (all_of (λ k. not (same k terminals.CloseBrace)) (each (readers room).statement) items.now) }
+    ensures { Gives (λ x. (members x.0, x.1.now)) result (all_of (λ k. not (same k terminals.CloseBrace))
+        (each (readers room).statement) items.now) }
 {
     let mut list = nothing(alloc);
     let mut rest = items;

@@ -131,7 +131,8 @@ fn type_front<'a>(
     own: Vec<&'a Leaf>,
     items: &'a [Leaf],
 ) -> Result<(Node, &'a [Leaf]), Fail>
-    ensures { Gives (λ x. (view x.0.tree, x.1.now)) result (front_of (readers room) (spots own.entry.items) items.now) }
+    ensures { Gives (λ x. (view x.0.tree, x.1.now)) result (front_of (readers room) (spots own.entry.items)
+        items.now) }
 {
     let (space, rest) = space(alloc, room, items)?;
     let (before, rest) = qualifiers(alloc, false, rest)?;
@@ -157,7 +158,8 @@ fn type_behind<'a>(
     own: Vec<&'a Leaf>,
     items: &'a [Leaf],
 ) -> Result<(Node, &'a [Leaf]), Fail>
-    ensures { Gives (λ x. (view x.0.tree, x.1.now)) result (behind_of (readers room) (spots own.entry.items) items.now) }
+    ensures { Gives (λ x. (view x.0.tree, x.1.now)) result (behind_of (readers room) (spots own.entry.items)
+        items.now) }
 {
     let (base, rest) = base(alloc, items)?;
     let (before, rest) = qualifiers(alloc, false, rest)?;

@@ -7,7 +7,25 @@ ghost use Rattle.cl_tree.specs.Nodes.{alone_node, params_node};
 ghost use Rattle.cl_read.specs.Starts.{starts_head};
 ghost use Rattle.cl_read.specs.Gives.{Gives, spots, spot_of};
 ghost use Rattle.cl_read.specs.Members.{members};
-ghost use Rattle.cl_read.specs.Reading.{begins, is, readers, all_of, each, behind_comma, attribute_of, head_of, param_of, params_of, callable, named, result_of, typed, headed, item_of, unit_of};
+ghost use Rattle.cl_read.specs.Reading.{
+  begins,
+  is,
+  readers,
+  all_of,
+  each,
+  behind_comma,
+  attribute_of,
+  head_of,
+  param_of,
+  params_of,
+  callable,
+  named,
+  result_of,
+  typed,
+  headed,
+  item_of,
+  unit_of,
+};
 
 use crate::declaration::{declaration_behind, declarator, declared, stars};
 use crate::expression::conditional;
@@ -32,7 +50,8 @@ const PART_ROOM: u32 = 254;
 
 #[tactic(auto, unfolding(cl_read::specs::Reading::attribute_of))]
 fn attribute(alloc: Global, items: &[Leaf]) -> Result<(Node, &[Leaf]), Fail>
-    ensures { Gives (λ x. (view x.0.tree, x.1.now)) result (attribute_of (readers 252) (readers 253) (readers 254) items.now) }
+    ensures { Gives (λ x. (view x.0.tree, x.1.now)) result (attribute_of (readers 252) (readers 253) (readers 254)
+        items.now) }
 {
     let (word, rest) = take(items, Terminal::Attribute)?;
     let (outer, rest) = take(rest, Terminal::Open)?;
@@ -83,7 +102,8 @@ fn alone(alloc: Global, form: Form, part: Node) -> Result<Node, AllocError>
 
 #[tactic(auto, unfolding(cl_read::specs::Reading::head_of))]
 fn head(alloc: Global, items: &[Leaf]) -> Result<(Node, &[Leaf]), Fail>
-    ensures { Gives (λ x. (view x.0.tree, x.1.now)) result (head_of (readers 252) (readers 253) (readers 254) items.now) }
+    ensures { Gives (λ x. (view x.0.tree, x.1.now)) result (head_of (readers 252) (readers 253) (readers 254)
+        items.now) }
 {
     if next_is(items, Terminal::HeadWord) {
         let (word, rest) = take(items, Terminal::HeadWord)?;
@@ -94,7 +114,8 @@ fn head(alloc: Global, items: &[Leaf]) -> Result<(Node, &[Leaf]), Fail>
 }
 
 fn further_head(alloc: Global, items: &[Leaf]) -> Result<(Members<'_>, &[Leaf]), Fail>
-    ensures { Gives (λ x. ((true, members x.0), x.1.now)) result (each (head_of (readers 252) (readers 253) (readers 254)) items.now) }
+    ensures { Gives (λ x. ((true, members x.0), x.1.now)) result
+        (each (head_of (readers 252) (readers 253) (readers 254)) items.now) }
 {
     let (part, rest) = head(alloc, items)?;
     Ok((of_tree(alloc, part)?, rest))
@@ -103,7 +124,8 @@ fn further_head(alloc: Global, items: &[Leaf]) -> Result<(Members<'_>, &[Leaf]),
 /// The heads of a function.
 #[tactic(auto, using(cl_read::proofs::Loops::front_empty, cl_read::proofs::Loops::list_stops))]
 fn heads(alloc: Global, items: &[Leaf]) -> Result<(Members<'_>, &[Leaf]), Fail>
-    ensures { Gives (λ x. (members x.0, x.1.now)) result (all_of starts_head (each (head_of (readers 252) (readers 253) (readers 254))) items.now) }
+    ensures { Gives (λ x. (members x.0, x.1.now)) result
+        (all_of starts_head (each (head_of (readers 252) (readers 253) (readers 254))) items.now) }
 {
     let mut list = nothing(alloc);
     let mut rest = items;
@@ -117,7 +139,8 @@ fn heads(alloc: Global, items: &[Leaf]) -> Result<(Members<'_>, &[Leaf]), Fail>
 
 #[tactic(auto, unfolding(cl_read::specs::Reading::param_of))]
 fn parameter(alloc: Global, items: &[Leaf]) -> Result<(Node, &[Leaf]), Fail>
-    ensures { Gives (λ x. (view x.0.tree, x.1.now)) result (param_of (readers 252) (readers 253) (readers 254) items.now) }
+    ensures { Gives (λ x. (view x.0.tree, x.1.now)) result (param_of (readers 252) (readers 253) (readers 254)
+        items.now) }
 {
     let (target, rest) = type_name(alloc, INNER_ROOM, items)?;
     let (marks, rest) = stars(alloc, INNER_ROOM, rest)?;
@@ -129,7 +152,8 @@ fn parameter(alloc: Global, items: &[Leaf]) -> Result<(Node, &[Leaf]), Fail>
 }
 
 fn further_parameter(alloc: Global, items: &[Leaf]) -> Result<(Members<'_>, &[Leaf]), Fail>
-    ensures { Gives (λ x. ((true, members x.0), x.1.now)) result (behind_comma (param_of (readers 252) (readers 253) (readers 254)) items.now) }
+    ensures { Gives (λ x. ((true, members x.0), x.1.now)) result
+        (behind_comma (param_of (readers 252) (readers 253) (readers 254)) items.now) }
 {
     let (comma, rest) = take(items, Terminal::Comma)?;
     let (part, rest) = parameter(alloc, rest)?;
@@ -139,7 +163,8 @@ fn further_parameter(alloc: Global, items: &[Leaf]) -> Result<(Members<'_>, &[Le
 /// The parameters behind the first one.
 #[tactic(auto, using(cl_read::proofs::Loops::front_empty, cl_read::proofs::Loops::list_stops))]
 fn further_parameters(alloc: Global, items: &[Leaf]) -> Result<(Members<'_>, &[Leaf]), Fail>
-    ensures { Gives (λ x. (members x.0, x.1.now)) result (all_of (is terminals.Comma) (behind_comma (param_of (readers 252) (readers 253) (readers 254))) items.now) }
+    ensures { Gives (λ x. (members x.0, x.1.now)) result
+        (all_of (is terminals.Comma) (behind_comma (param_of (readers 252) (readers 253) (readers 254))) items.now) }
 {
     let mut list = nothing(alloc);
     let mut rest = items;
@@ -153,7 +178,8 @@ fn further_parameters(alloc: Global, items: &[Leaf]) -> Result<(Members<'_>, &[L
 
 #[tactic(auto, unfolding(cl_read::specs::Reading::params_of))]
 fn parameters(alloc: Global, items: &[Leaf]) -> Result<(Members<'_>, &[Leaf]), Fail>
-    ensures { Gives (λ x. (members x.0, x.1.now)) result (params_of (readers 252) (readers 253) (readers 254) items.now) }
+    ensures { Gives (λ x. (members x.0, x.1.now)) result (params_of (readers 252) (readers 253) (readers 254)
+        items.now) }
 {
     if next_is(items, Terminal::Close) {
         return Ok((nothing(alloc), items));
@@ -171,7 +197,8 @@ fn parameters(alloc: Global, items: &[Leaf]) -> Result<(Members<'_>, &[Leaf]), F
 
 /// The node of the parameters, before the token that closes them.
 fn parameters_node(alloc: Global, list: Members<'_>, close: &Leaf) -> Result<Node, AllocError>
-    ensures { IfOk result (λ x. view x.tree ≡ params_node (spots list.entry.own.items) (views list.entry.parts.trees.items) (spot_of close.now)) }
+    ensures { IfOk result (λ x. view x.tree ≡ params_node (spots list.entry.own.items)
+        (views list.entry.parts.trees.items) (spot_of close.now)) }
 {
     let at = close.number;
     let Members { own, parts } = list;
@@ -190,7 +217,8 @@ fn callable<'a>(
     mark: &'a Leaf,
     items: &'a [Leaf],
 ) -> Result<(Node, &'a [Leaf]), Fail>
-    ensures { Gives (λ x. (view x.0.tree, x.1.now)) result (callable (readers 252) (readers 253) (readers 254) (views front.trees.items) (view outcome.tree) (spot_of name.now) (spot_of mark.now) items.now) }
+    ensures { Gives (λ x. (view x.0.tree, x.1.now)) result (callable (readers 252) (readers 253) (readers 254)
+        (views front.trees.items) (view outcome.tree) (spot_of name.now) (spot_of mark.now) items.now) }
 {
     let (list, rest) = parameters(alloc, items)?;
     let (close, rest) = take(rest, Terminal::Close)?;
@@ -221,7 +249,8 @@ fn named(
     outcome: Node,
     items: &[Leaf],
 ) -> Result<(Node, &[Leaf]), Fail>
-    ensures { Gives (λ x. (view x.0.tree, x.1.now)) result (named (readers 252) (readers 253) (readers 254) (views front.trees.items) (view outcome.tree) items.now) }
+    ensures { Gives (λ x. (view x.0.tree, x.1.now)) result (named (readers 252) (readers 253) (readers 254)
+        (views front.trees.items) (view outcome.tree) items.now) }
 {
     let (name, rest) = take(items, Terminal::Name)?;
     let (mark, rest) = take(rest, Terminal::Open)?;
@@ -230,7 +259,8 @@ fn named(
 
 #[tactic(auto, unfolding(cl_read::specs::Reading::result_of))]
 fn result_type(alloc: Global, items: &[Leaf]) -> Result<(Node, &[Leaf]), Fail>
-    ensures { Gives (λ x. (view x.0.tree, x.1.now)) result (result_of (readers 252) (readers 253) (readers 254) items.now) }
+    ensures { Gives (λ x. (view x.0.tree, x.1.now)) result (result_of (readers 252) (readers 253) (readers 254)
+        items.now) }
 {
     if next_is(items, Terminal::Void) {
         let (word, rest) = take(items, Terminal::Void)?;
@@ -243,7 +273,8 @@ fn result_type(alloc: Global, items: &[Leaf]) -> Result<(Node, &[Leaf]), Fail>
 /// An item without heads, behind its type.
 #[tactic(auto, unfolding(cl_read::specs::Reading::typed))]
 fn typed(alloc: Global, target: Node, items: &[Leaf]) -> Result<(Node, &[Leaf]), Fail>
-    ensures { Gives (λ x. (view x.0.tree, x.1.now)) result (typed (readers 252) (readers 253) (readers 254) (view target.tree) items.now) }
+    ensures { Gives (λ x. (view x.0.tree, x.1.now)) result (typed (readers 252) (readers 253) (readers 254)
+        (view target.tree) items.now) }
 {
     if next_is(items, Terminal::Star) {
         let (first, rest) = declarator(alloc, PART_ROOM, items)?;
@@ -262,7 +293,8 @@ fn typed(alloc: Global, target: Node, items: &[Leaf]) -> Result<(Node, &[Leaf]),
 /// A function or a prototype with heads.
 #[tactic(auto, unfolding(cl_read::specs::Reading::headed))]
 fn headed(alloc: Global, items: &[Leaf]) -> Result<(Node, &[Leaf]), Fail>
-    ensures { Gives (λ x. (view x.0.tree, x.1.now)) result (headed (readers 252) (readers 253) (readers 254) items.now) }
+    ensures { Gives (λ x. (view x.0.tree, x.1.now)) result (headed (readers 252) (readers 253) (readers 254)
+        items.now) }
 {
     let (list, rest) = heads(alloc, items)?;
     let (kind, rest) = result_type(alloc, rest)?;
@@ -272,7 +304,8 @@ fn headed(alloc: Global, items: &[Leaf]) -> Result<(Node, &[Leaf]), Fail>
 /// A function, a prototype or a declaration.
 #[tactic(auto, unfolding(cl_read::specs::Reading::item_of))]
 fn item(alloc: Global, items: &[Leaf]) -> Result<(Node, &[Leaf]), Fail>
-    ensures { Gives (λ x. (view x.0.tree, x.1.now)) result (item_of (readers 252) (readers 253) (readers 254) items.now) }
+    ensures { Gives (λ x. (view x.0.tree, x.1.now)) result (item_of (readers 252) (readers 253) (readers 254)
+        items.now) }
 {
     if next_in(items, Set::Head) {
         return headed(alloc, items);
@@ -287,7 +320,8 @@ fn item(alloc: Global, items: &[Leaf]) -> Result<(Node, &[Leaf]), Fail>
 }
 
 fn further_item(alloc: Global, items: &[Leaf]) -> Result<(Members<'_>, &[Leaf]), Fail>
-    ensures { Gives (λ x. ((true, members x.0), x.1.now)) result (each (item_of (readers 252) (readers 253) (readers 254)) items.now) }
+    ensures { Gives (λ x. ((true, members x.0), x.1.now)) result
+        (each (item_of (readers 252) (readers 253) (readers 254)) items.now) }
 {
     let (part, rest) = item(alloc, items)?;
     Ok((of_tree(alloc, part)?, rest))
@@ -302,7 +336,8 @@ fn is_any_left(items: &[Leaf]) -> bool
 /// The items of a unit, through the end of the tokens.
 #[tactic(auto, using(cl_read::proofs::Loops::front_empty, cl_read::proofs::Loops::list_stops))]
 fn list_items(alloc: Global, items: &[Leaf]) -> Result<(Members<'_>, &[Leaf]), Fail>
-    ensures { Gives (λ x. (members x.0, x.1.now)) result (all_of (λ j. true) (each (item_of (readers 252) (readers 253) (readers 254))) items.now) }
+    ensures { Gives (λ x. (members x.0, x.1.now)) result
+        (all_of (λ j. true) (each (item_of (readers 252) (readers 253) (readers 254))) items.now) }
 {
     let mut list = nothing(alloc);
     let mut rest = items;

@@ -8,7 +8,8 @@ use Rattle.cl_model.specs.declared.program.SwitchArm.{SwitchArm}
 use Rattle.cl_model.specs.declared.program.Function as rust_function
 use Rattle.cl_model.specs.Tree as tree
 use Rattle.cl_model.specs.Tree.{Statements, empty, also, Arms}
-use Rattle.cl_model.specs.View.{expression_of, root_of, argument_of, statement_of, listed_expressions, listed_statements}
+use Rattle.cl_model.specs.View.{expression_of, root_of, argument_of, statement_of, listed_expressions}
+use Rattle.cl_model.specs.View.{listed_statements}
 use Rattle.program_build.specs.Lists.{listed_roots, listed_arguments, listed_arms}
 use Rattle.cl_meaning.specs.Typed.{Function}
 use Rattle.cl_meaning.specs.declared.kind.Parameter.{Parameter}
@@ -29,11 +30,14 @@ pub arguments_none : (es : tree.Expressions) → arguments_then es tree.none ≡
 arguments_none tree.none = refl
 arguments_none (tree.more e rest) = ap (tree.more e) (arguments_none rest)
 
-pub arguments_more : (as' : List Arg) (a : Arg) (later : tree.Expressions) → arguments_then (listed_arguments (as' ++ a ∷ [])) later ≡ arguments_then (listed_arguments as') (tree.more (argument_of a) later)
+pub arguments_more : (as' : List Arg) (a : Arg) (later : tree.Expressions) →
+    arguments_then (listed_arguments (as' ++ a ∷ [])) later ≡ arguments_then (listed_arguments as')
+    (tree.more (argument_of a) later)
 arguments_more [] a later = refl
 arguments_more (b ∷ bs) a later = ap (tree.more (argument_of b)) (arguments_more bs a later)
 
-pub roots_more : (as' : List Arg) (a : Arg) (later : List (Option Root)) → listed_roots (as' ++ a ∷ []) ++ later ≡ listed_roots as' ++ (root_of a ∷ later)
+pub roots_more : (as' : List Arg) (a : Arg) (later : List (Option Root)) →
+    listed_roots (as' ++ a ∷ []) ++ later ≡ listed_roots as' ++ (root_of a ∷ later)
 roots_more [] a later = refl
 roots_more (b ∷ bs) a later = ap (λ t. root_of b ∷ t) (roots_more bs a later)
 
@@ -49,7 +53,8 @@ pub followed_assoc : (a b c : Statements) → followed (followed a b) c ≡ foll
 followed_assoc empty b c = refl
 followed_assoc (also s ss) b c = ap (also s) (followed_assoc ss b c)
 
-pub listed_followed : (a b : List Stmt) → listed_statements (a ++ b) ≡ followed (listed_statements a) (listed_statements b)
+pub listed_followed : (a b : List Stmt) →
+    listed_statements (a ++ b) ≡ followed (listed_statements a) (listed_statements b)
 listed_followed [] b = refl
 listed_followed (s ∷ ss) b = ap (also (statement_of s)) (listed_followed ss b)
 
@@ -76,16 +81,22 @@ arguments_end (p ∷ ps) = refl
 
 -- ---- functions
 
-pub functions_more : (fs : List rust_function.Function) (f : rust_function.Function) (later : List Function) → map function_of (fs ++ f ∷ []) ++ later ≡ map function_of fs ++ (function_of f ∷ later)
+pub functions_more : (fs : List rust_function.Function) (f : rust_function.Function) (later : List Function) →
+    map function_of (fs ++ f ∷ []) ++ later ≡ map function_of fs ++ (function_of f ∷ later)
 functions_more [] f later = refl
 functions_more (g ∷ gs) f later = ap (λ t. function_of g ∷ t) (functions_more gs f later)
 
 -- ---- arms
 
-pub arms_listed : (done : List SwitchArm) (a : SwitchArm) (later : Arms) → arms_then (listed_arms (done ++ a ∷ [])) later ≡ arms_then (listed_arms done) (tree.arm a.labels.items a.other (listed_statements a.body.items) later)
+pub arms_listed : (done : List SwitchArm) (a : SwitchArm) (later : Arms) →
+    arms_then (listed_arms (done ++ a ∷ [])) later ≡
+    arms_then (listed_arms done) (tree.arm a.labels.items a.other (listed_statements a.body.items) later)
 arms_listed [] a later = refl
-arms_listed (d ∷ ds) a later = ap (tree.arm d.labels.items d.other (listed_statements d.body.items)) (arms_listed ds a later)
+arms_listed (d ∷ ds) a later =
+    ap (tree.arm d.labels.items d.other (listed_statements d.body.items)) (arms_listed ds a later)
 
-pub arms_alone : (done : List SwitchArm) (a : SwitchArm) → listed_arms (done ++ a ∷ []) ≡ arms_then (listed_arms done) (tree.arm a.labels.items a.other (listed_statements a.body.items) tree.no_arm)
+pub arms_alone : (done : List SwitchArm) (a : SwitchArm) →
+    listed_arms (done ++ a ∷ []) ≡
+    arms_then (listed_arms done) (tree.arm a.labels.items a.other (listed_statements a.body.items) tree.no_arm)
 arms_alone [] a = refl
 arms_alone (d ∷ ds) a = ap (tree.arm d.labels.items d.other (listed_statements d.body.items)) (arms_alone ds a)

@@ -29,11 +29,14 @@ unfoldable pub scalar_what : Space → ℕ → IntType → Option Piece → What
 scalar_what s n t p = kept_line s n (set_value (operand t) p)
 
 abbrev pub array_built : Place → List Place → Space → ℕ → Option Piece → Built
-array_built place sites spaces.Private n p = sited place sites (λ site. lines (alone (tree.Fill site n (expressions (list_values p)))))
+array_built place sites spaces.Private n p =
+    sited place sites (λ site. lines (alone (tree.Fill site n (expressions (list_values p)))))
 array_built place sites s n p = made (lines empty) sites
 
 abbrev pub value_built : Place → List Place → rust.Declaring → IntType → Option Piece → Built
-value_built place sites d t p = if nat_eq d.dimensions 0 then made (scalar_what d.kept d.variables t p) sites else array_built place sites d.kept d.arrays p
+value_built place sites d t p =
+    if nat_eq d.dimensions 0 then made (scalar_what d.kept d.variables t p) sites else array_built place sites d.kept
+    d.arrays p
 
 abbrev pub declared_built : Place → List Place → rust.Declaring → Option Declared → List Piece → Built
 declared_built place sites d None ps = made nothing sites

@@ -11,8 +11,8 @@ use Rattle.cl_meaning.specs.Meant.{make}
 use Rattle.cl_scope.specs.View.{env_of}
 use Rattle.cl_piece.specs.declared.make.Node as rust
 
--- what a tree is made into, where env is visible at it behind its parts and inner at the end of them, from what its parts
--- stand for, behind which the sites are these
+-- what a tree is made into, where env is visible at it behind its parts and inner at the end of them, from what its
+-- parts stand for, behind which the sites are these
 abbrev pub make_at : Env → Env → Syntax → List Place → List Piece → Built
 make_at env inner (node form w f l parts) sites ps = make env inner form w f parts sites ps
 

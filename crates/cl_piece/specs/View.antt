@@ -10,7 +10,9 @@ use Rattle.cl_piece.specs.declared.piece.What as rust_what
 use Rattle.cl_piece.specs.declared.piece.What.TheVariants as rust
 use Rattle.cl_piece.specs.declared.piece.Piece as rust_piece
 use Rattle.cl_scope.specs.View.{variable_of, array_of, table_of}
-use Rattle.cl_meaning.specs.Typed.{Function, Unit', Target, variable, element, What, nothing, value, target, offset, values, barrier, fence, lines, statement, labelled, function, functions, Piece, Built}
+use Rattle.cl_meaning.specs.Typed.{Function, Unit', Target, variable, element, What, nothing, value, target, offset}
+use Rattle.cl_meaning.specs.Typed.{values, barrier, fence, lines, statement, labelled, function, functions, Piece}
+use Rattle.cl_meaning.specs.Typed.{Built}
 
 abbrev pub target_of : rust_target.Target → Target
 target_of (rust_targets.Var x) = variable x

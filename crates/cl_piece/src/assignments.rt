@@ -82,7 +82,9 @@ fn set_plain(alloc: Global, a: Piece, b: Piece) -> Result<What, Memory>
 
 /// An assignment with an operator to a number of this type.
 fn set_number(alloc: Global, op: Bin, of: IntType, a: Piece, b: Piece) -> Result<What, Memory>
-    ensures { IfOk result (λ w. what_of w ≡ meaning.updated (what_of a.what) op (conversions.operand_type op of (meaning.type_in b.kind)) of false (meaning.operand (conversions.right_type op of (meaning.type_in b.kind)) (piece_of b))) }
+    ensures { IfOk result (λ w. what_of w ≡ meaning.updated (what_of a.what) op
+        (conversions.operand_type op of (meaning.type_in b.kind)) of false
+        (meaning.operand (conversions.right_type op of (meaning.type_in b.kind)) (piece_of b))) }
 {
     let right = type_in(b.kind);
     let (value, what) = operand_beside(alloc, right_type(op, of, right), b, a.what)?;
@@ -100,7 +102,8 @@ fn set_number(alloc: Global, op: Bin, of: IntType, a: Piece, b: Piece) -> Result
 
 /// An assignment with an operator to a pointer, whose offset is a `long`.
 fn set_offset(alloc: Global, op: Bin, a: Piece, b: Piece) -> Result<What, Memory>
-    ensures { IfOk result (λ w. what_of w ≡ meaning.updated (what_of a.what) op IntType.Long IntType.Long false (meaning.operand IntType.Long (piece_of b))) }
+    ensures { IfOk result (λ w. what_of w ≡ meaning.updated (what_of a.what) op IntType.Long IntType.Long false
+        (meaning.operand IntType.Long (piece_of b))) }
 {
     let (value, what) = operand_beside(alloc, IntType::Long, b, a.what)?;
     let what = updated(alloc, what, op, IntType::Long, IntType::Long, false, value)?;
@@ -123,7 +126,8 @@ pub(crate) fn set(
     setting: Option<Setting>,
     pieces: Vec<Piece>,
 ) -> Result<What, Memory>
-    ensures { IfOk result (λ w. (sites : List places.Place) → meaning.set_made sites setting (map piece_of pieces.items) ≡ built_of w sites) }
+    ensures { IfOk result (λ w. (sites : List places.Place) →
+        meaning.set_made sites setting (map piece_of pieces.items) ≡ built_of w sites) }
 {
     let Some(setting) = setting else {
         return Ok(What::Nothing);

@@ -45,8 +45,10 @@ fn all_passed(
     parameters: &[Parameter],
     pieces: Vec<Piece>,
 ) -> Result<Vec<Arg>, Memory>
-    ensures roots { IfOk result (λ v. listed_roots v.items ≡ meaning.roots_passed parameters.now (map piece_of pieces.items)) }
-    ensures values { IfOk result (λ v. listed_arguments v.items ≡ meaning.all_passed parameters.now (map piece_of pieces.items)) }
+    ensures roots { IfOk result (λ v. listed_roots v.items ≡ meaning.roots_passed parameters.now
+        (map piece_of pieces.items)) }
+    ensures values { IfOk result (λ v. listed_arguments v.items ≡ meaning.all_passed parameters.now
+        (map piece_of pieces.items)) }
 {
     let mut arguments = Vec::new(alloc);
     let mut rest = pieces.into_iter();
@@ -69,7 +71,10 @@ pub(crate) fn defined_call(
     parameters: &[Parameter],
     pieces: Vec<Piece>,
 ) -> Result<What, Memory>
-    ensures { IfOk result (λ w. meaning.sited place sites.old.items (λ site. typed.value (tree.Call site number (meaning.roots_passed parameters.now (map piece_of pieces.items)) (meaning.all_passed parameters.now (map piece_of pieces.items)))) ≡ built_of w sites.new.items) }
+    ensures { IfOk result (λ w. meaning.sited place sites.old.items
+        (λ site. typed.value (tree.Call site number
+        (meaning.roots_passed parameters.now (map piece_of pieces.items))
+        (meaning.all_passed parameters.now (map piece_of pieces.items)))) ≡ built_of w sites.new.items) }
 {
     let site = take_site(sites, place)?;
     let arguments = all_passed(alloc, parameters, pieces)?;
@@ -155,7 +160,10 @@ pub(crate) fn operands(alloc: Global, of: IntType, pieces: Vec<Piece>) -> Result
 /// A call of a built-in function (OpenCL 1.2, section 6.12.3).
 #[tactic(auto, using(crate::proofs::Lists::expressions_listed))]
 fn builtin_call(alloc: Global, f: Fun, pieces: Vec<Piece>) -> Result<What, Memory>
-    ensures { IfOk result (λ w. what_of w ≡ typed.value (Apply (tree.Builtin f (kinds.builtin_type (meaning.types_in (map piece_of pieces.items)))) (meaning.expressions (meaning.operands (kinds.builtin_type (meaning.types_in (map piece_of pieces.items))) (map piece_of pieces.items))))) }
+    ensures { IfOk result (λ w. what_of w ≡
+        typed.value (Apply (tree.Builtin f (kinds.builtin_type (meaning.types_in (map piece_of pieces.items))))
+        (meaning.expressions (meaning.operands (kinds.builtin_type (meaning.types_in (map piece_of pieces.items)))
+        (map piece_of pieces.items))))) }
 {
     let types = types_in(alloc, &pieces)?;
     let of = builtin_type(&types);
@@ -178,7 +186,8 @@ fn dimension(alloc: Global, mut pieces: Vec<Piece>) -> Result<Expr, Memory>
 
 /// A call of a work-item function (OpenCL 1.2, section 6.12.1).
 fn query_call(alloc: Global, what: Query, pieces: Vec<Piece>) -> Result<What, Memory>
-    ensures { IfOk result (λ w. what_of w ≡ typed.value (Apply (tree.Ask what) (single (meaning.dimension (map piece_of pieces.items))))) }
+    ensures { IfOk result (λ w. what_of w ≡
+        typed.value (Apply (tree.Ask what) (single (meaning.dimension (map piece_of pieces.items))))) }
 {
     let dim = dimension(alloc, pieces)?;
     let e = expression::ask(alloc, what, dim)?;
@@ -193,7 +202,8 @@ pub(crate) fn known_call(
     name: Intrinsic,
     pieces: Vec<Piece>,
 ) -> Result<What, Memory>
-    ensures { IfOk result (λ w. meaning.known_made place sites.old.items (map piece_of pieces.items) name ≡ built_of w sites.new.items) }
+    ensures { IfOk result (λ w. meaning.known_made place sites.old.items (map piece_of pieces.items) name ≡
+        built_of w sites.new.items) }
 {
     match name {
         Intrinsic::Function(f) => {

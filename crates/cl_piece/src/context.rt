@@ -38,7 +38,8 @@ pub(crate) fn name_at(
     sites: &mut Vec<Place>,
     of: &[u8],
 ) -> Result<What, Memory>
-    ensures { IfOk result (λ w. expressions.flagged_made (visible_in environment.now) place sites.old.items of.now ≡ built_of w sites.new.items) }
+    ensures { IfOk result (λ w. expressions.flagged_made (visible_in environment.now) place sites.old.items
+        of.now ≡ built_of w sites.new.items) }
 {
     if is_flag(environment, of) {
         return leaves::flag(alloc);
@@ -56,7 +57,8 @@ pub(crate) fn call_at(
     of: &[u8],
     pieces: Vec<Piece>,
 ) -> Result<What, Memory>
-    ensures { IfOk result (λ w. expressions.call_made place sites.old.items (map piece_of pieces.items) (kinds.callee_of (visible_in environment.now) of.now) ≡ built_of w sites.new.items) }
+    ensures { IfOk result (λ w. expressions.call_made place sites.old.items (map piece_of pieces.items)
+        (kinds.callee_of (visible_in environment.now) of.now) ≡ built_of w sites.new.items) }
 {
     match callee_of(environment, of) {
         Some(Callee::Defined { number, signature }) => {
@@ -99,7 +101,9 @@ pub(crate) fn case_at(
     parts: &[Tree],
     pieces: Vec<Piece>,
 ) -> Result<What, Memory>
-    ensures { IfOk result (λ w. (sites : List places.Place) → statements.case_made (visible_in environment.now) sites (views parts.now) (map piece_of pieces.items) ≡ built_of w sites) }
+    ensures { IfOk result (λ w. (sites : List places.Place) →
+        statements.case_made (visible_in environment.now) sites (views parts.now) (map piece_of pieces.items) ≡
+        built_of w sites) }
 {
     let of = label_type(environment);
     let constant = first_constant(parts);
@@ -130,7 +134,9 @@ pub(crate) fn declarator_at(
     of: &Declarator,
     pieces: Vec<Piece>,
 ) -> Result<What, Memory>
-    ensures { IfOk result (λ w. statements.declarator_made (visible_in environment.now) place sites.old.items (visible_in environment.now).declared (declarator_view of.now) (map piece_of pieces.items) ≡ built_of w sites.new.items) }
+    ensures { IfOk result (λ w. statements.declarator_made (visible_in environment.now) place sites.old.items
+        (visible_in environment.now).declared (declarator_view of.now) (map piece_of pieces.items) ≡
+        built_of w sites.new.items) }
 {
     let Some(declared) = environment.declared else {
         return Ok(What::Nothing);
@@ -156,7 +162,10 @@ pub(crate) fn function_at(
     parts: &[Tree],
     pieces: Vec<Piece>,
 ) -> Result<What, Memory>
-    ensures { IfOk result (λ w. (inner : Env) (sites : List places.Place) → option_map body_view body ≡ Some (body_of inner) → sizes ≡ inner.owner.sizes → statements.function_made inner sites (declarations.signature_in word.now (views parts.now)) (map piece_of pieces.items) ≡ built_of w sites) }
+    ensures { IfOk result (λ w. (inner : Env) (sites : List places.Place) →
+        option_map body_view body ≡ Some (body_of inner) → sizes ≡ inner.owner.sizes →
+        statements.function_made inner sites (declarations.signature_in word.now (views parts.now))
+        (map piece_of pieces.items) ≡ built_of w sites) }
 {
     let Some(body) = body else {
         return Ok(What::Nothing);

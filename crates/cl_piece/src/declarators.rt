@@ -5,7 +5,15 @@ ghost use Rattle.cl_model.specs.View.{expression_of, optional_expression, statem
 ghost use Rattle.cl_meaning.specs.Typed as typed;
 ghost use Rattle.cl_meaning.specs.Expressions as expressions;
 ghost use Rattle.cl_meaning.specs.Statements as meaning;
-ghost use Rattle.cl_piece.specs.Declares.{initial_in, variable_line, kept_line, scalar_what, array_built, value_built, declared_built};
+ghost use Rattle.cl_piece.specs.Declares.{
+  initial_in,
+  variable_line,
+  kept_line,
+  scalar_what,
+  array_built,
+  value_built,
+  declared_built,
+};
 ghost use Rattle.cl_piece.specs.View.{piece_of, what_of, built_of};
 
 use crate::beside::beside;
@@ -61,7 +69,8 @@ fn variable(alloc: Global, count: usize, value: Option<Expr>) -> Result<What, Me
 
 /// The value of a scalar, converted to its type.
 fn converted(alloc: Global, of: IntType, value: Option<Piece>) -> Result<Option<Expr>, Memory>
-    ensures { IfOk result (λ o. optional_expression o ≡ meaning.set_value (expressions.operand of) (option_map piece_of value)) }
+    ensures { IfOk result (λ o. optional_expression o ≡ meaning.set_value (expressions.operand of)
+        (option_map piece_of value)) }
 {
     match value {
         None => Ok(None),
@@ -134,7 +143,8 @@ fn array(
     count: usize,
     value: Option<Piece>,
 ) -> Result<What, Memory>
-    ensures { IfOk result (λ w. array_built place sites.old.items kept count (option_map piece_of value) ≡ built_of w sites.new.items) }
+    ensures { IfOk result (λ w. array_built place sites.old.items kept count (option_map piece_of value) ≡
+        built_of w sites.new.items) }
 {
     let values = list_values(alloc, value);
     match kept {
@@ -164,7 +174,8 @@ fn initial(initialized: bool, pieces: Vec<Piece>) -> Option<Piece>
 
 /// The offset of a pointer variable at first.
 fn offset(value: Option<Piece>) -> Option<Expr>
-    ensures { optional_expression result ≡ meaning.set_value (λ p. expressions.read p.what) (option_map piece_of value) }
+    ensures { optional_expression result ≡ meaning.set_value (λ p. expressions.read p.what)
+        (option_map piece_of value) }
 {
     match value {
         None => None,
@@ -181,7 +192,8 @@ fn declared_value(
     of: IntType,
     value: Option<Piece>,
 ) -> Result<What, Memory>
-    ensures { IfOk result (λ w. value_built place sites.old.items declaring of (option_map piece_of value) ≡ built_of w sites.new.items) }
+    ensures { IfOk result (λ w. value_built place sites.old.items declaring of (option_map piece_of value) ≡
+        built_of w sites.new.items) }
 {
     if declaring.dimensions == 0 {
         let what = scalar(alloc, declaring.kept, declaring.variables, of, value)?;
@@ -201,7 +213,8 @@ pub(crate) fn declarator(
     declared: Option<Declared>,
     pieces: Vec<Piece>,
 ) -> Result<What, Memory>
-    ensures { IfOk result (λ w. declared_built place sites.old.items declaring declared (map piece_of pieces.items) ≡ built_of w sites.new.items) }
+    ensures { IfOk result (λ w. declared_built place sites.old.items declaring declared
+        (map piece_of pieces.items) ≡ built_of w sites.new.items) }
 {
     let Some(declared) = declared else {
         return Ok(What::Nothing);

@@ -58,7 +58,10 @@ fn element_at(
     a: Piece,
     b: Piece,
 ) -> Result<What, Memory>
-    ensures { IfOk result (λ w. meaning.sited place sites.old.items (λ site. typed.target (typed.element site of root (meaning.moved (meaning.way (what_of a.what)) (meaning.operand IntType.Long (piece_of b))))) ≡ built_of w sites.new.items) }
+    ensures { IfOk result (λ w. meaning.sited place sites.old.items
+        (λ site. typed.target (typed.element site of root
+        (meaning.moved (meaning.way (what_of a.what)) (meaning.operand IntType.Long (piece_of b))))) ≡
+        built_of w sites.new.items) }
 {
     let (site, parts) = site_beside(sites, place, (a, b))?;
     let (a, b) = parts;
@@ -70,7 +73,9 @@ fn element_at(
 
 /// The row or plane of so many elements at an index behind a pointer.
 fn row_at(alloc: Global, count: u64, a: Piece, b: Piece) -> Result<What, Memory>
-    ensures { IfOk result (λ w. what_of w ≡ typed.offset (Some (meaning.moved (meaning.way (what_of a.what)) (meaning.scaled (meaning.operand IntType.Long (piece_of b)) count)))) }
+    ensures { IfOk result (λ w. what_of w ≡
+        typed.offset (Some (meaning.moved (meaning.way (what_of a.what))
+        (meaning.scaled (meaning.operand IntType.Long (piece_of b)) count)))) }
 {
     let (by, what) = operand_beside(alloc, IntType::Long, b, a.what)?;
     let (by, what) = scaled_beside(alloc, by, count, what)?;
@@ -87,7 +92,8 @@ fn index(
     a: Piece,
     b: Piece,
 ) -> Result<What, Memory>
-    ensures { IfOk result (λ w. meaning.index_made place sites.old.items (piece_of a) (piece_of b) a.kind ≡ built_of w sites.new.items) }
+    ensures { IfOk result (λ w. meaning.index_made place sites.old.items (piece_of a) (piece_of b) a.kind ≡
+        built_of w sites.new.items) }
 {
     let Some(
         Kind::Pointer {
@@ -118,7 +124,8 @@ fn index(
 
 /// What `*` in front of a pointer or array reaches: its first element or row (C99, section 6.5.3.2).
 fn content(alloc: Global, place: Place, sites: &mut Vec<Place>, a: Piece) -> Result<What, Memory>
-    ensures { IfOk result (λ w. meaning.content_made place sites.old.items (piece_of a) a.kind ≡ built_of w sites.new.items) }
+    ensures { IfOk result (λ w. meaning.content_made place sites.old.items (piece_of a) a.kind ≡
+        built_of w sites.new.items) }
 {
     let Piece { kind, what } = a;
     match kind {
@@ -172,7 +179,9 @@ fn size(alloc: Global, of: Option<Declared>) -> Result<What, Memory>
 
 /// An operator on one number (C99, section 6.5.3.3).
 fn unary(alloc: Global, op: Un, a: Piece) -> Result<What, Memory>
-    ensures { IfOk result (λ w. what_of w ≡ typed.value (Apply (tree.Unary op (conversions.promoted (meaning.type_in a.kind))) (single (meaning.logical (piece_of a))))) }
+    ensures { IfOk result (λ w. what_of w ≡
+        typed.value (Apply (tree.Unary op (conversions.promoted (meaning.type_in a.kind)))
+        (single (meaning.logical (piece_of a))))) }
 {
     let of = promoted(type_in(a.kind));
     let a = logical(alloc, a)?;
@@ -190,7 +199,9 @@ pub(crate) fn prefix(
     operator: Option<Prefix>,
     pieces: Vec<Piece>,
 ) -> Result<What, Memory>
-    ensures { IfOk result (λ w. (parts : syntax.Forest) → first_type parts ≡ of → meaning.prefix_made place sites.old.items parts operator (map piece_of pieces.items) ≡ built_of w sites.new.items) }
+    ensures { IfOk result (λ w. (parts : syntax.Forest) → first_type parts ≡ of →
+        meaning.prefix_made place sites.old.items parts operator (map piece_of pieces.items) ≡
+        built_of w sites.new.items) }
 {
     match operator {
         None => Ok(What::Nothing),
@@ -222,7 +233,8 @@ pub(crate) fn postfix(
     operator: Option<Postfix>,
     pieces: Vec<Piece>,
 ) -> Result<What, Memory>
-    ensures { IfOk result (λ w. meaning.postfix_made place sites.old.items operator (map piece_of pieces.items) ≡ built_of w sites.new.items) }
+    ensures { IfOk result (λ w. meaning.postfix_made place sites.old.items operator (map piece_of pieces.items) ≡
+        built_of w sites.new.items) }
 {
     match operator {
         None => Ok(What::Nothing),

@@ -80,7 +80,15 @@ pub(crate) fn function(
     inside: Inside,
     pieces: Vec<Piece>,
 ) -> Result<What, Memory>
-    ensures { IfOk result (λ w. what_of w ≡ typed.function (record { name = name; parameters = parameters; result = meaning.result_of gives; variables = map variable_of inside.variables.items; arrays = map array_of inside.arrays.items; body = meaning.body_in (map piece_of pieces.items); sizes = inside.sizes })) }
+    ensures { IfOk result (λ w. what_of w ≡ typed.function (record {
+      name = name;
+      parameters = parameters;
+      result = meaning.result_of gives;
+      variables = map variable_of inside.variables.items;
+      arrays = map array_of inside.arrays.items;
+      body = meaning.body_in (map piece_of pieces.items);
+      sizes = inside.sizes;
+    })) }
 {
     let params = number(parameters)?;
     Ok(What::Function(Function {
@@ -97,7 +105,9 @@ pub(crate) fn function(
 /// A function behind others; nothing else is one.
 #[tactic(auto, using(crate::proofs::Lists::functions_more))]
 fn put_function(all: &mut Vec<Function>, what: What) -> Result<(), Memory>
-    ensures { OnOk result ((later : List typed.Function) → map function_of all.new.items ++ later ≡ map function_of all.old.items ++ meaning.function_before (what_of what) later) }
+    ensures { OnOk result ((later : List typed.Function) →
+        map function_of all.new.items ++ later ≡ map function_of all.old.items ++
+        meaning.function_before (what_of what) later) }
 {
     match what {
         What::Function(function) => push(all, function),

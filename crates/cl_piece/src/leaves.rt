@@ -54,7 +54,8 @@ pub(crate) fn flag(alloc: Global) -> Result<What, Memory>
 
 /// What a number stands for.
 pub(crate) fn number(alloc: Global, literal_of: Option<Literal>) -> Result<What, Memory>
-    ensures { IfOk result (λ w. what_of w ≡ expressions.number_what (option_map (λ l. (l.of, l.value)) literal_of)) }
+    ensures { IfOk result (λ w. what_of w ≡
+        expressions.number_what (option_map (λ l. (l.of, l.value)) literal_of)) }
 {
     match literal_of {
         None => Ok(What::Nothing),
@@ -74,7 +75,8 @@ pub(crate) fn truth(alloc: Global, value: Option<i128>) -> Result<What, Memory>
 
 /// What an expression in parentheses stands for (C99, section 6.5.1).
 pub(crate) fn only_part(pieces: Vec<Piece>) -> What
-    ensures { (sites : List places.Place) → expressions.only_made sites (map piece_of pieces.items) ≡ built_of result sites }
+    ensures { (sites : List places.Place) → expressions.only_made sites (map piece_of pieces.items) ≡
+        built_of result sites }
 {
     match only(pieces) {
         None => What::Nothing,

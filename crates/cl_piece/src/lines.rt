@@ -23,7 +23,8 @@ use wg_num::Memory;
 /// A statement behind others.
 #[tactic(auto, using(crate::proofs::Lists::listed_followed))]
 pub(crate) fn put(lines: &mut Vec<Stmt>, line: Stmt) -> Result<(), Memory>
-    ensures { OnOk result (listed_statements lines.new.items ≡ meaning.followed (listed_statements lines.old.items) (meaning.alone (statement_of line))) }
+    ensures { OnOk result (listed_statements lines.new.items ≡ meaning.followed (listed_statements lines.old.items)
+        (meaning.alone (statement_of line))) }
 {
     push(lines, line)?;
     Ok(())
@@ -32,7 +33,8 @@ pub(crate) fn put(lines: &mut Vec<Stmt>, line: Stmt) -> Result<(), Memory>
 /// Statements behind others.
 #[tactic(auto, using(crate::proofs::Lists::listed_followed))]
 fn put_all(lines: &mut Vec<Stmt>, later: Vec<Stmt>) -> Result<(), Memory>
-    ensures { OnOk result (listed_statements lines.new.items ≡ meaning.followed (listed_statements lines.old.items) (listed_statements later.items)) }
+    ensures { OnOk result (listed_statements lines.new.items ≡ meaning.followed (listed_statements lines.old.items)
+        (listed_statements later.items)) }
 {
     append(lines, later)?;
     Ok(())
@@ -41,7 +43,8 @@ fn put_all(lines: &mut Vec<Stmt>, later: Vec<Stmt>) -> Result<(), Memory>
 /// The statements of a line of a block behind others.
 #[tactic(auto, using(crate::proofs::Lists::followed_none))]
 pub(crate) fn put_line(lines: &mut Vec<Stmt>, what: What) -> Result<(), Memory>
-    ensures { OnOk result (listed_statements lines.new.items ≡ meaning.followed (listed_statements lines.old.items) (meaning.lines_of (what_of what))) }
+    ensures { OnOk result (listed_statements lines.new.items ≡ meaning.followed (listed_statements lines.old.items)
+        (meaning.lines_of (what_of what))) }
 {
     match what {
         What::Lines(later) => put_all(lines, later),
@@ -90,7 +93,8 @@ pub(crate) fn declaration(alloc: Global, pieces: Vec<Piece>) -> Result<What, Mem
 
 /// What a block stands for (C99, section 6.8.2).
 pub(crate) fn block(alloc: Global, pieces: Vec<Piece>) -> Result<What, Memory>
-    ensures { IfOk result (λ w. what_of w ≡ typed.statement (tree.Block (meaning.all_lines (map piece_of pieces.items)))) }
+    ensures { IfOk result (λ w. what_of w ≡
+        typed.statement (tree.Block (meaning.all_lines (map piece_of pieces.items)))) }
 {
     let lines = all_lines(alloc, pieces)?;
     as_statement(alloc, statement::block(lines))
@@ -102,7 +106,8 @@ pub(crate) fn list(
     declared: Option<Declared>,
     pieces: Vec<Piece>,
 ) -> Result<What, Memory>
-    ensures { IfOk result (λ w. (sites : List places.Place) → meaning.list_made sites declared (map piece_of pieces.items) ≡ built_of w sites) }
+    ensures { IfOk result (λ w. (sites : List places.Place) →
+        meaning.list_made sites declared (map piece_of pieces.items) ≡ built_of w sites) }
 {
     match declared {
         None => Ok(What::Nothing),

@@ -6,7 +6,18 @@ ghost use Rattle.cl_scope.specs.View.{env_of};
 ghost use Rattle.cl_scope.specs.Walk.{inner_at, body_view};
 ghost use Rattle.cl_meaning.specs.Environment.{Env};
 ghost use Rattle.cl_meaning.specs.Declarations.{form_of};
-ghost use Rattle.cl_piece.specs.Making.{make_at, made_at, form_at, first_place, is_primary, is_joined, is_fixed, is_line, is_test, is_jump};
+ghost use Rattle.cl_piece.specs.Making.{
+  make_at,
+  made_at,
+  form_at,
+  first_place,
+  is_primary,
+  is_joined,
+  is_fixed,
+  is_line,
+  is_test,
+  is_jump,
+};
 ghost use Rattle.cl_piece.specs.View.{piece_of, what_of, built_of};
 
 use crate::boxes::as_statement;
@@ -43,7 +54,8 @@ fn primary(
     sites: &mut Vec<Place>,
     pieces: Vec<Piece>,
 ) -> Result<What, Memory>
-    ensures { IfOk result (λ w. (inner : Env) → is_primary (form_at node.entry) ≡ true → made_at node.entry inner sites.old.items (map piece_of pieces.items) ≡ built_of w sites.new.items) }
+    ensures { IfOk result (λ w. (inner : Env) → is_primary (form_at node.entry) ≡ true →
+        made_at node.entry inner sites.old.items (map piece_of pieces.items) ≡ built_of w sites.new.items) }
 {
     let place = place_at(node);
     let word = node.tree.word.bytes();
@@ -66,7 +78,8 @@ fn joined(
     sites: &mut Vec<Place>,
     pieces: Vec<Piece>,
 ) -> Result<What, Memory>
-    ensures { IfOk result (λ w. (inner : Env) → is_joined (form_at node.entry) ≡ true → made_at node.entry inner sites.old.items (map piece_of pieces.items) ≡ built_of w sites.new.items) }
+    ensures { IfOk result (λ w. (inner : Env) → is_joined (form_at node.entry) ≡ true →
+        made_at node.entry inner sites.old.items (map piece_of pieces.items) ≡ built_of w sites.new.items) }
 {
     let place = place_at(node);
     let word = node.tree.word.bytes();
@@ -96,7 +109,8 @@ fn fixed(
     sites: &mut Vec<Place>,
     pieces: Vec<Piece>,
 ) -> Result<What, Memory>
-    ensures { IfOk result (λ w. (inner : Env) → is_fixed (form_at node.entry) ≡ true → made_at node.entry inner sites.old.items (map piece_of pieces.items) ≡ built_of w sites.new.items) }
+    ensures { IfOk result (λ w. (inner : Env) → is_fixed (form_at node.entry) ≡ true →
+        made_at node.entry inner sites.old.items (map piece_of pieces.items) ≡ built_of w sites.new.items) }
 {
     let place = place_at(node);
     let word = node.tree.word.bytes();
@@ -119,7 +133,8 @@ fn line(
     sites: &mut Vec<Place>,
     pieces: Vec<Piece>,
 ) -> Result<What, Memory>
-    ensures { IfOk result (λ w. (inner : Env) → is_line (form_at node.entry) ≡ true → made_at node.entry inner sites.old.items (map piece_of pieces.items) ≡ built_of w sites.new.items) }
+    ensures { IfOk result (λ w. (inner : Env) → is_line (form_at node.entry) ≡ true →
+        made_at node.entry inner sites.old.items (map piece_of pieces.items) ≡ built_of w sites.new.items) }
 {
     let place = place_at(node);
     match node.tree.form {
@@ -143,7 +158,8 @@ fn test(
     sites: &mut Vec<Place>,
     pieces: Vec<Piece>,
 ) -> Result<What, Memory>
-    ensures { IfOk result (λ w. (inner : Env) → is_test (form_at node.entry) ≡ true → made_at node.entry inner sites.old.items (map piece_of pieces.items) ≡ built_of w sites.new.items) }
+    ensures { IfOk result (λ w. (inner : Env) → is_test (form_at node.entry) ≡ true →
+        made_at node.entry inner sites.old.items (map piece_of pieces.items) ≡ built_of w sites.new.items) }
 {
     let place = place_at(node);
     match node.tree.form {
@@ -167,7 +183,8 @@ fn jump(
     sites: &mut Vec<Place>,
     pieces: Vec<Piece>,
 ) -> Result<What, Memory>
-    ensures { IfOk result (λ w. (inner : Env) → is_jump (form_at node.entry) ≡ true → made_at node.entry inner sites.old.items (map piece_of pieces.items) ≡ built_of w sites.new.items) }
+    ensures { IfOk result (λ w. (inner : Env) → is_jump (form_at node.entry) ≡ true →
+        made_at node.entry inner sites.old.items (map piece_of pieces.items) ≡ built_of w sites.new.items) }
 {
     let environment = node.environment;
     let place = place_at(node);
@@ -198,7 +215,11 @@ pub fn make(
     sites: &mut Vec<Place>,
     pieces: Vec<Piece>,
 ) -> Result<What, Memory>
-    ensures { IfOk result (λ w. (inner : Env) → option_map body_view body ≡ (inner_at (form_of (view tree.now)) inner).body → sizes ≡ (inner_at (form_of (view tree.now)) inner).sizes → make_at (env_of places.now environment.now) inner (view tree.now) sites.old.items (map piece_of pieces.items) ≡ record { what = what_of w; sites = sites.new.items }) }
+    ensures { IfOk result (λ w. (inner : Env) →
+        option_map body_view body ≡ (inner_at (form_of (view tree.now)) inner).body →
+        sizes ≡ (inner_at (form_of (view tree.now)) inner).sizes →
+        make_at (env_of places.now environment.now) inner (view tree.now) sites.old.items
+        (map piece_of pieces.items) ≡ record { what = what_of w; sites = sites.new.items }) }
 {
     let node = Node {
         environment,

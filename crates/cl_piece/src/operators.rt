@@ -43,7 +43,9 @@ fn pointer_moved(alloc: Global, op: Bin, a: Piece, b: Piece) -> Result<What, Mem
 
 /// A pointer moved forward by the number in front of it (C99, section 6.5.6).
 fn number_moved(alloc: Global, a: Piece, b: Piece) -> Result<What, Memory>
-    ensures { IfOk result (λ w. what_of w ≡ typed.offset (Some (meaning.moved_by (meaning.operand IntType.Long (piece_of a)) (meaning.way (what_of b.what))))) }
+    ensures { IfOk result (λ w. what_of w ≡
+        typed.offset (Some (meaning.moved_by (meaning.operand IntType.Long (piece_of a))
+        (meaning.way (what_of b.what))))) }
 {
     let (by, what) = operand_beside(alloc, IntType::Long, a, b.what)?;
     let offset = moved_by(alloc, by, way(what))?;
@@ -59,7 +61,10 @@ fn numbers_joined(
     a: Piece,
     b: Piece,
 ) -> Result<What, Memory>
-    ensures { IfOk result (λ w. what_of w ≡ typed.value (meaning.joined_by op (conversions.operand_type op left right) (meaning.operand (conversions.operand_type op left right) (piece_of a)) (meaning.operand (conversions.right_type op left right) (piece_of b)))) }
+    ensures { IfOk result (λ w. what_of w ≡
+        typed.value (meaning.joined_by op (conversions.operand_type op left right)
+        (meaning.operand (conversions.operand_type op left right) (piece_of a))
+        (meaning.operand (conversions.right_type op left right) (piece_of b)))) }
 {
     let of = operand_type(op, left, right);
     let (a, b) = operand_beside(alloc, of, a, b)?;
@@ -88,7 +93,8 @@ fn joined(alloc: Global, op: Bin, a: Piece, b: Piece) -> Result<What, Memory>
 
 /// What an operator on two operands stands for.
 pub(crate) fn binary(alloc: Global, op: Option<Bin>, pieces: Vec<Piece>) -> Result<What, Memory>
-    ensures { IfOk result (λ w. (sites : List places.Place) → meaning.binary_made sites op (map piece_of pieces.items) ≡ built_of w sites) }
+    ensures { IfOk result (λ w. (sites : List places.Place) →
+        meaning.binary_made sites op (map piece_of pieces.items) ≡ built_of w sites) }
 {
     let Some(op) = op else {
         return Ok(What::Nothing);
@@ -109,7 +115,8 @@ pub(crate) fn and(
     sites: &mut Vec<Place>,
     pieces: Vec<Piece>,
 ) -> Result<What, Memory>
-    ensures { IfOk result (λ w. meaning.and_made place sites.old.items (map piece_of pieces.items) ≡ built_of w sites.new.items) }
+    ensures { IfOk result (λ w. meaning.and_made place sites.old.items (map piece_of pieces.items) ≡
+        built_of w sites.new.items) }
 {
     let Some(two) = pair(pieces) else {
         return Ok(What::Nothing);
@@ -128,7 +135,8 @@ pub(crate) fn or(
     sites: &mut Vec<Place>,
     pieces: Vec<Piece>,
 ) -> Result<What, Memory>
-    ensures { IfOk result (λ w. meaning.or_made place sites.old.items (map piece_of pieces.items) ≡ built_of w sites.new.items) }
+    ensures { IfOk result (λ w. meaning.or_made place sites.old.items (map piece_of pieces.items) ≡
+        built_of w sites.new.items) }
 {
     let Some(two) = pair(pieces) else {
         return Ok(What::Nothing);
@@ -147,7 +155,8 @@ pub(crate) fn choice(
     sites: &mut Vec<Place>,
     pieces: Vec<Piece>,
 ) -> Result<What, Memory>
-    ensures { IfOk result (λ w. meaning.choice_made place sites.old.items (map piece_of pieces.items) ≡ built_of w sites.new.items) }
+    ensures { IfOk result (λ w. meaning.choice_made place sites.old.items (map piece_of pieces.items) ≡
+        built_of w sites.new.items) }
 {
     let Some(three) = triple(pieces) else {
         return Ok(What::Nothing);
@@ -165,7 +174,8 @@ pub(crate) fn choice(
 
 /// What a comma stands for (C99, section 6.5.17).
 pub(crate) fn comma(alloc: Global, pieces: Vec<Piece>) -> Result<What, Memory>
-    ensures { IfOk result (λ w. (sites : List places.Place) → meaning.comma_made sites (map piece_of pieces.items) ≡ built_of w sites) }
+    ensures { IfOk result (λ w. (sites : List places.Place) →
+        meaning.comma_made sites (map piece_of pieces.items) ≡ built_of w sites) }
 {
     let Some(two) = pair(pieces) else {
         return Ok(What::Nothing);
@@ -176,7 +186,8 @@ pub(crate) fn comma(alloc: Global, pieces: Vec<Piece>) -> Result<What, Memory>
 
 /// What a cast to a type stands for (C99, section 6.5.4).
 pub(crate) fn cast(alloc: Global, to: Option<Declared>, pieces: Vec<Piece>) -> Result<What, Memory>
-    ensures { IfOk result (λ w. (sites : List places.Place) → meaning.cast_made sites to (map piece_of pieces.items) ≡ built_of w sites) }
+    ensures { IfOk result (λ w. (sites : List places.Place) →
+        meaning.cast_made sites to (map piece_of pieces.items) ≡ built_of w sites) }
 {
     let Some(to) = to else {
         return Ok(What::Nothing);

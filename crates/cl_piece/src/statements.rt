@@ -31,7 +31,8 @@ pub(crate) fn branch(
     sites: &mut Vec<Place>,
     mut pieces: Vec<Piece>,
 ) -> Result<What, Memory>
-    ensures { IfOk result (λ w. meaning.if_made place sites.old.items (map piece_of pieces.items) ≡ built_of w sites.new.items) }
+    ensures { IfOk result (λ w. meaning.if_made place sites.old.items (map piece_of pieces.items) ≡
+        built_of w sites.new.items) }
 {
     let Some(test) = next(&mut pieces) else {
         return Ok(What::Nothing);
@@ -57,7 +58,8 @@ pub(crate) fn while_loop(
     sites: &mut Vec<Place>,
     pieces: Vec<Piece>,
 ) -> Result<What, Memory>
-    ensures { IfOk result (λ w. meaning.while_made place sites.old.items (map piece_of pieces.items) ≡ built_of w sites.new.items) }
+    ensures { IfOk result (λ w. meaning.while_made place sites.old.items (map piece_of pieces.items) ≡
+        built_of w sites.new.items) }
 {
     let Some(two) = pair(pieces) else {
         return Ok(What::Nothing);
@@ -76,7 +78,8 @@ pub(crate) fn do_loop(
     sites: &mut Vec<Place>,
     pieces: Vec<Piece>,
 ) -> Result<What, Memory>
-    ensures { IfOk result (λ w. meaning.do_made place sites.old.items (map piece_of pieces.items) ≡ built_of w sites.new.items) }
+    ensures { IfOk result (λ w. meaning.do_made place sites.old.items (map piece_of pieces.items) ≡
+        built_of w sites.new.items) }
 {
     let Some(two) = pair(pieces) else {
         return Ok(What::Nothing);
@@ -186,7 +189,8 @@ pub(crate) fn for_loop(
     tested: bool,
     pieces: Vec<Piece>,
 ) -> Result<What, Memory>
-    ensures { IfOk result (λ w. loop_by place sites.old.items (heads_in tested (map piece_of pieces.items)) ≡ built_of w sites.new.items) }
+    ensures { IfOk result (λ w. loop_by place sites.old.items (heads_in tested (map piece_of pieces.items)) ≡
+        built_of w sites.new.items) }
 {
     match for_parts(pieces, tested) {
         None => Ok(What::Nothing),
@@ -199,7 +203,8 @@ pub(crate) fn for_loop(
 
 /// What `break` stands for (C99, section 6.8.6.3).
 pub(crate) fn leave(alloc: Global, place: Place, sites: &mut Vec<Place>) -> Result<What, Memory>
-    ensures { IfOk result (λ w. sited place sites.old.items (λ site. typed.statement (tree.Break site)) ≡ built_of w sites.new.items) }
+    ensures { IfOk result (λ w. sited place sites.old.items (λ site. typed.statement (tree.Break site)) ≡
+        built_of w sites.new.items) }
 {
     let site = take_site(sites, place)?;
     as_statement(alloc, Stmt::Break { site })
@@ -207,7 +212,8 @@ pub(crate) fn leave(alloc: Global, place: Place, sites: &mut Vec<Place>) -> Resu
 
 /// What `continue` stands for (C99, section 6.8.6.2).
 pub(crate) fn go_on(alloc: Global, place: Place, sites: &mut Vec<Place>) -> Result<What, Memory>
-    ensures { IfOk result (λ w. sited place sites.old.items (λ site. typed.statement (tree.Continue site)) ≡ built_of w sites.new.items) }
+    ensures { IfOk result (λ w. sited place sites.old.items (λ site. typed.statement (tree.Continue site)) ≡
+        built_of w sites.new.items) }
 {
     let site = take_site(sites, place)?;
     as_statement(alloc, Stmt::Continue { site })
@@ -215,7 +221,8 @@ pub(crate) fn go_on(alloc: Global, place: Place, sites: &mut Vec<Place>) -> Resu
 
 /// The value that a function returns, converted to the type of its result.
 fn returned(alloc: Global, result_of: Yield, mut pieces: Vec<Piece>) -> Result<Option<Expr>, Memory>
-    ensures { IfOk result (λ o. option_map expression_of o ≡ meaning.returned result_of (map piece_of pieces.items)) }
+    ensures { IfOk result (λ o. option_map expression_of o ≡
+        meaning.returned result_of (map piece_of pieces.items)) }
 {
     let Yield::Number(of) = result_of else {
         return Ok(None);
@@ -237,7 +244,9 @@ pub(crate) fn give_back(
     result_of: Yield,
     pieces: Vec<Piece>,
 ) -> Result<What, Memory>
-    ensures { IfOk result (λ w. sited place sites.old.items (λ site. typed.statement (tree.Return site (meaning.returned result_of (map piece_of pieces.items)))) ≡ built_of w sites.new.items) }
+    ensures { IfOk result (λ w. sited place sites.old.items
+        (λ site. typed.statement (tree.Return site (meaning.returned result_of (map piece_of pieces.items)))) ≡
+        built_of w sites.new.items) }
 {
     let value = returned(alloc, result_of, pieces)?;
     let (site, value) = site_beside(sites, place, value)?;

@@ -56,7 +56,8 @@ fn put_in_arm(
     mut last: SwitchArm,
     piece: Piece,
 ) -> Result<SwitchArm, Memory>
-    ensures { IfOk result (λ a. (later : List typed.Piece) → arms_with arms.new.items a later ≡ arms_with arms.old.items last (piece_of piece ∷ later)) }
+    ensures { IfOk result (λ a. (later : List typed.Piece) →
+        arms_with arms.new.items a later ≡ arms_with arms.old.items last (piece_of piece ∷ later)) }
 {
     let Piece { what, .. } = piece;
     match what {
@@ -105,7 +106,8 @@ pub(crate) fn switch(
     sites: &mut Vec<Place>,
     mut pieces: Vec<Piece>,
 ) -> Result<What, Memory>
-    ensures { IfOk result (λ w. meaning.switch_made place sites.old.items (map piece_of pieces.items) ≡ built_of w sites.new.items) }
+    ensures { IfOk result (λ w. meaning.switch_made place sites.old.items (map piece_of pieces.items) ≡
+        built_of w sites.new.items) }
 {
     let Some(value) = next(&mut pieces) else {
         return Ok(What::Nothing);
@@ -121,7 +123,8 @@ fn label(
     of: Option<IntType>,
     constant: Option<Constant>,
 ) -> Result<Vec<i128>, Memory>
-    ensures { IfOk result (λ v. (labels : Option visible.Labels) → option_map (λ l. l.of) labels ≡ of → meaning.label_of labels constant ≡ v.items) }
+    ensures { IfOk result (λ v. (labels : Option visible.Labels) → option_map (λ l. l.of) labels ≡ of →
+        meaning.label_of labels constant ≡ v.items) }
 {
     let mut labels = Vec::new(alloc);
     let (Some(of), Some(constant)) = (of, constant) else {
@@ -167,7 +170,9 @@ pub(crate) fn case(
     constant: Option<Constant>,
     pieces: Vec<Piece>,
 ) -> Result<What, Memory>
-    ensures { IfOk result (λ w. (env : visible.Env) (sites : List places.Place) (parts : Forest) → option_map (λ l. l.of) env.labels ≡ of → constants.constant_of (first_part parts) ≡ constant → meaning.case_made env sites parts (map piece_of pieces.items) ≡ built_of w sites) }
+    ensures { IfOk result (λ w. (env : visible.Env) (sites : List places.Place) (parts : Forest) →
+        option_map (λ l. l.of) env.labels ≡ of → constants.constant_of (first_part parts) ≡ constant →
+        meaning.case_made env sites parts (map piece_of pieces.items) ≡ built_of w sites) }
 {
     let Some(two) = pair(pieces) else {
         return Ok(What::Nothing);
@@ -181,7 +186,8 @@ pub(crate) fn case(
 
 /// What `default` stands for (C99, section 6.8.1).
 pub(crate) fn default(alloc: Global, pieces: Vec<Piece>) -> Result<What, Memory>
-    ensures { IfOk result (λ w. (sites : List places.Place) → meaning.default_made sites (map piece_of pieces.items) ≡ built_of w sites) }
+    ensures { IfOk result (λ w. (sites : List places.Place) →
+        meaning.default_made sites (map piece_of pieces.items) ≡ built_of w sites) }
 {
     let Some(a) = only(pieces) else {
         return Ok(What::Nothing);

@@ -93,7 +93,8 @@ pub(crate) fn logical(alloc: Global, piece: Piece) -> Result<Expr, Memory>
 
 /// An index behind an offset.
 pub(crate) fn moved(alloc: Global, offset: Option<Expr>, index: Expr) -> Result<Expr, Memory>
-    ensures { IfOk result (λ e. expression_of e ≡ meaning.moved (option_map expression_of offset) (expression_of index)) }
+    ensures { IfOk result (λ e. expression_of e ≡ meaning.moved (option_map expression_of offset)
+        (expression_of index)) }
 {
     match offset {
         None => Ok(index),
@@ -103,7 +104,8 @@ pub(crate) fn moved(alloc: Global, offset: Option<Expr>, index: Expr) -> Result<
 
 /// An offset behind an index.
 pub(crate) fn moved_by(alloc: Global, index: Expr, offset: Option<Expr>) -> Result<Expr, Memory>
-    ensures { IfOk result (λ e. expression_of e ≡ meaning.moved_by (expression_of index) (option_map expression_of offset)) }
+    ensures { IfOk result (λ e. expression_of e ≡ meaning.moved_by (expression_of index)
+        (option_map expression_of offset)) }
 {
     match offset {
         None => Ok(index),

@@ -1,5 +1,6 @@
 -- Finitely many names are in force, so what tokens give can be told.
-use Rattle.std.proofs.Common.{ℕ, zero, suc, List, [], ◌∷◌, ◌++◌, length, Bool, true, false, cond, ◌⊎◌, inl, inr, ◌≡◌, ◌+◌, refl, sym, subst, ◌∙◌, Option, None, Some, Vec, Global}
+use Rattle.std.proofs.Common.{ℕ, zero, suc, List, [], ◌∷◌, ◌++◌, length, Bool, true, false, cond, ◌⊎◌, inl, inr, ◌≡◌}
+use Rattle.std.proofs.Common.{◌+◌, refl, sym, subst, ◌∙◌, Option, None, Some, Vec, Global}
 use Rattle.std.specs.Prelude.{option_map}
 use Rattle.std.specs.Str.{bytes_eq}
 use Rattle.std.specs.Map.{lookup}
@@ -15,7 +16,8 @@ abbrev pub AtMost : ℕ → Names → Type 0
 AtMost zero names = (q : List ℕ) → names q ≡ None
 AtMost (suc n) names = (w : List ℕ) × AtMost n (with_name names w None)
 
-pub without_twice : (names : Names) (v w : List ℕ) → with_name (with_name names w None) v None ≡ with_name (with_name names v None) w None
+pub without_twice : (names : Names) (v w : List ℕ) →
+    with_name (with_name names w None) v None ≡ with_name (with_name names v None) w None
 without_twice names v w = λ i q. at q i
   where
     at : (q : List ℕ) → with_name (with_name names w None) v None q ≡ with_name (with_name names v None) w None q
@@ -34,7 +36,8 @@ at_most_without zero names w h = λ q. by (bytes_eq w q) q
     by : (b : Bool) (q : List ℕ) → cond b None (names q) ≡ None
     by true q = refl
     by false q = h q
-at_most_without (suc n) names w (v, h) = (v, subst (AtMost n) (without_twice names w v) (at_most_without n (with_name names v None) w h))
+at_most_without (suc n) names w (v, h) =
+    (v, subst (AtMost n) (without_twice names w v) (at_most_without n (with_name names v None) w h))
 
 some_none : {A : Type 0} (x : A) (o : Option A) → o ≡ Some x → o ≡ None → ⊥
 some_none x o h k = cc
@@ -43,14 +46,19 @@ other_name : (names : Names) (w v : List ℕ) → bytes_eq w v ≡ false → wit
 other_name names w v f = rw f refl
 
 -- without one that is in force, they are fewer
-pub fewer : (n : ℕ) (names : Names) (v : List ℕ) (b : List Lexeme) → AtMost (suc n) names → names v ≡ Some b → AtMost n (with_name names v None)
+pub fewer : (n : ℕ) (names : Names) (v : List ℕ) (b : List Lexeme) → AtMost (suc n) names → names v ≡ Some b →
+    AtMost n (with_name names v None)
 fewer zero names v b (w, h) e = elim (test_is (bytes_eq w v)) [
   | inl t ↦ subst (λ (x : List ℕ). AtMost zero (with_name names x None)) (same_bytes w v t) h
   | inr f ↦ absurd (some_none b (names v) e (sym (other_name names w v f) ∙ h v))
 ]
 fewer (suc n) names v b (w, h) e = elim (test_is (bytes_eq w v)) [
   | inl t ↦ subst (λ (x : List ℕ). AtMost (suc n) (with_name names x None)) (same_bytes w v t) h
-  | inr f ↦ (w, subst (AtMost n) (without_twice names v w) (fewer n (with_name names w None) v b h (other_name names w v f ∙ e)))
+  | inr f ↦ (
+    w,
+    subst (AtMost n) (without_twice names v w)
+        (fewer n (with_name names w None) v b h (other_name names w v f ∙ e)),
+  )
 ]
 
 -- ---- what tokens give
@@ -65,7 +73,8 @@ option_is None = inl refl
 option_is (Some x) = inr (x, refl)
 
 -- a token that is replaced is a name in force
-pub is_in_force : (names : Names) (x : Lexeme) (body : List Lexeme) → replacement names x ≡ Some body → names x.word ≡ Some body
+pub is_in_force : (names : Names) (x : Lexeme) (body : List Lexeme) → replacement names x ≡ Some body →
+    names x.word ≡ Some body
 is_in_force names x body h = of_kind x.kind h
   where
     of_kind : (k : Kind) → replacement names (record { kind = k; word = x.word }) ≡ Some body → names x.word ≡ Some body
@@ -75,16 +84,23 @@ is_in_force names x body h = of_kind x.kind h
     of_kind Hash g = absurd (cc)
 
 -- what each token gives, given what each replacement gives
-given_by : (names : Names) → ((x : Lexeme) (body : List Lexeme) → replacement names x ≡ Some body → Given (with_name names x.word None) body) → (xs : List Lexeme) → Given names xs
+given_by : (names : Names) → ((x : Lexeme) (body : List Lexeme) → replacement names x ≡ Some body →
+    Given (with_name names x.word None) body) → (xs : List Lexeme) → Given names xs
 given_by names each [] = record { tokens = []; count = 0; gives = none }
 given_by names each (x ∷ xs) = let g = given_by names each xs in elim (option_is (replacement names x)) [
   | inl h ↦ record { tokens = x ∷ g.tokens; count = g.count; gives = kept x h g.gives }
-  | inr w ↦ (let k = each x w.0 w.1 in record { tokens = k.tokens ++ g.tokens; count = suc (k.count + g.count); gives = replaced x w.0 w.1 k.gives g.gives })
+  | inr w ↦ (let k = each x w.0 w.1 in record {
+    tokens = k.tokens ++ g.tokens;
+    count = suc (k.count + g.count);
+    gives = replaced x w.0 w.1 k.gives g.gives;
+  })
 ]
 
 pub given : (n : ℕ) (names : Names) → AtMost n names → (xs : List Lexeme) → Given names xs
-given zero names h xs = given_by names (λ x body e. absurd (some_none body (names x.word) (is_in_force names x body e) (h x.word))) xs
-given (suc n) names h xs = given_by names (λ x body e. given n (with_name names x.word None) (fewer n names x.word body h (is_in_force names x body e)) body) xs
+given zero names h xs =
+    given_by names (λ x body e. absurd (some_none body (names x.word) (is_in_force names x body e) (h x.word))) xs
+given (suc n) names h xs = given_by names (λ x body e. given n (with_name names x.word None)
+    (fewer n names x.word body h (is_in_force names x body e)) body) xs
 
 -- ---- the names of a table
 
@@ -97,7 +113,8 @@ eq_symmetric v w f = elim (test_is (bytes_eq w v)) [
   | inr g ↦ g
 ]
 
-without_first : (e : Vec ℕ Global × Vec Token Global) (es : List (Vec ℕ Global × Vec Token Global)) → with_name (names_in (e ∷ es)) e.0.items None ≡ with_name (names_in es) e.0.items None
+without_first : (e : Vec ℕ Global × Vec Token Global) (es : List (Vec ℕ Global × Vec Token Global)) →
+    with_name (names_in (e ∷ es)) e.0.items None ≡ with_name (names_in es) e.0.items None
 without_first e es = λ i q. at q i
   where
     at : (q : List ℕ) → with_name (names_in (e ∷ es)) e.0.items None q ≡ with_name (names_in es) e.0.items None q
@@ -108,4 +125,8 @@ without_first e es = λ i q. at q i
 
 pub table_at_most : (es : List (Vec ℕ Global × Vec Token Global)) → AtMost (length es) (names_in es)
 table_at_most [] = λ q. refl
-table_at_most (e ∷ es) = (e.0.items, subst (AtMost (length es)) (sym (without_first e es)) (at_most_without (length es) (names_in es) e.0.items (table_at_most es)))
+table_at_most (e ∷ es) = (
+  e.0.items,
+  subst (AtMost (length es)) (sym (without_first e es)) (at_most_without (length es) (names_in es) e.0.items
+      (table_at_most es)),
+)

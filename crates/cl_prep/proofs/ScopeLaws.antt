@@ -1,5 +1,6 @@
 -- How many conditionals are not taken.
-use Rattle.std.proofs.Common.{ℕ, suc, List, [], ◌∷◌, length, Bool, true, false, cond, ◌&&◌, ◌==◌, ◌≡◌, ◌+◌, ◌≤◌, refl, arith}
+use Rattle.std.proofs.Common.{ℕ, suc, List, [], ◌∷◌, length, Bool, true, false, cond, ◌&&◌, ◌==◌, ◌≡◌, ◌+◌, ◌≤◌, refl}
+use Rattle.std.proofs.Common.{arith}
 use Rattle.std.proofs.lemmas.Bool.Decides.{nat_tests}
 use Rattle.cl_prep.specs.declared.directive.Conditional.{Conditional}
 use Rattle.cl_prep.specs.Scopes.{idle_of}

@@ -1,5 +1,6 @@
 -- The names that a table keeps, after a change.
-use Rattle.std.proofs.Common.{ℕ, suc, [], ◌∷◌, ◌+◌, ◌<◌, ◌≤◌, ◌&&◌, get_or, drop, List, Bool, true, false, Option, Some, Vec, Global, ◌≡◌, ◌⊎◌, inl, inr, refl, sym, ap, ◌∙◌}
+use Rattle.std.proofs.Common.{ℕ, suc, [], ◌∷◌, ◌+◌, ◌<◌, ◌≤◌, ◌&&◌, get_or, drop, List, Bool, true, false, Option}
+use Rattle.std.proofs.Common.{Some, Vec, Global, ◌≡◌, ◌⊎◌, inl, inr, refl, sym, ap, ◌∙◌}
 use Rattle.std.specs.Prelude.{option_map, length}
 use Rattle.std.specs.Str.{bytes_eq}
 use Rattle.std.specs.Map.{KeepsOthers}
@@ -28,9 +29,11 @@ key_eq x y = bytes_eq x.items y.items
 key_test : (q : List ℕ) (x y : Vec ℕ Global) → bytes_eq q x.items ≡ true → bytes_eq q y.items ≡ key_eq x y
 key_test q x y h = ap (λ (w : List ℕ). bytes_eq w y.items) (same_bytes q x.items h)
 
-apart : (name q : List ℕ) → bytes_eq name q ≡ false → (k : Vec ℕ Global) → bytes_eq name k.items ≡ true → bytes_eq q k.items ≡ false
+apart : (name q : List ℕ) → bytes_eq name q ≡ false → (k : Vec ℕ Global) → bytes_eq name k.items ≡ true →
+    bytes_eq q k.items ≡ false
 apart name q other k h = elim (test_is (bytes_eq q k.items)) [
-  | inl t ↦ (let same : bytes_eq name q ≡ true = bytes_same name q (same_bytes name k.items h ∙ sym (same_bytes q k.items t)) in absurd (cc))
+  | inl t ↦ (let same : bytes_eq name q ≡ true = bytes_same name q (same_bytes name k.items h ∙
+      sym (same_bytes q k.items t)) in absurd (cc))
   | inr f ↦ f
 ]
 
@@ -46,7 +49,8 @@ module _ {S : Type 0} where
     where
       at : (q : List ℕ) → names_of n q ≡ with_name (names_of m) name (body_lexemes w) q
       at q = elim (test_is (bytes_eq name q)) [
-        | inl t ↦ rw t (ap (λ (x : List ℕ). body_lexemes (get_by (λ k. bytes_eq x k.items) n)) (sym (same_bytes name q t)) ∙ ap body_lexemes u.1)
+        | inl t ↦ rw t (ap (λ (x : List ℕ). body_lexemes (get_by (λ k. bytes_eq x k.items) n))
+            (sym (same_bytes name q t)) ∙ ap body_lexemes u.1)
         | inr f ↦ rw f (ap body_lexemes (u.3 (λ k. bytes_eq q k.items) (key_test q) (apart name q f)))
       ]
 
@@ -76,14 +80,17 @@ other_lengths xs ys h = elim (test_is (same_words (words xs) (words ys))) [
   | inr f ↦ f
 ]
 
-pub same_from : (xs ys : List Token) (i : ℕ) (x y : Token) → i < length xs → i < length ys → x ≡ get_or xs i x → y ≡ get_or ys i y
-    → same_words (words (drop i xs)) (words (drop i ys)) ≡ (bytes_eq x.word y.word && same_words (words (drop (i + 1) xs)) (words (drop (i + 1) ys)))
+pub same_from : (xs ys : List Token) (i : ℕ) (x y : Token) → i < length xs → i < length ys → x ≡ get_or xs i x →
+    y ≡ get_or ys i y
+    → same_words (words (drop i xs)) (words (drop i ys)) ≡
+    (bytes_eq x.word y.word && same_words (words (drop (i + 1) xs)) (words (drop (i + 1) ys)))
 same_from xs ys i x y h k e f =
     let a : drop i xs ≡ x ∷ drop (i + 1) xs = drop_more xs i x h ∙ ap (λ (t : Token). t ∷ drop (i + 1) xs) (sym e) in
     let b : drop i ys ≡ y ∷ drop (i + 1) ys = drop_more ys i y k ∙ ap (λ (t : Token). t ∷ drop (i + 1) ys) (sym f) in
     rw (a, b) refl
 
-pub same_end : (xs ys : List Token) (i : ℕ) → length xs ≤ i → length ys ≤ i → same_words (words (drop i xs)) (words (drop i ys)) ≡ true
+pub same_end : (xs ys : List Token) (i : ℕ) → length xs ≤ i → length ys ≤ i →
+    same_words (words (drop i xs)) (words (drop i ys)) ≡ true
 same_end xs ys i h k = rw (drop_all i xs h, drop_all i ys k) refl
 
 -- a name is replaced by what the names have at it
@@ -91,5 +98,6 @@ pub name_replaced : (names : Names) (x : Lexeme) → x.kind ≡ Name → replace
 name_replaced names x h = rw h refl
 
 -- one name more, over names that are known
-pub more : (n k : Names) (name : List ℕ) (body : List Lexeme) (m : Names) → m ≡ with_name n name (Some body) → n ≡ k → m ≡ with_name k name (Some body)
+pub more : (n k : Names) (name : List ℕ) (body : List Lexeme) (m : Names) → m ≡ with_name n name (Some body) → n ≡ k →
+    m ≡ with_name k name (Some body)
 more n k name body m e f = e ∙ ap (λ (x : Names). with_name x name (Some body)) f

@@ -1,5 +1,6 @@
 -- What a directive does (C99, section 6.10).
-use Rattle.std.specs.Prelude.{ℕ, List, [], ◌∷◌, Bool, true, false, not, ◌&&◌, ◌==◌, ◌+◌, if◌then◌else◌, Option, None, Some, Result, Ok, Err, is_some, codes, drop, take}
+use Rattle.std.specs.Prelude.{ℕ, List, [], ◌∷◌, Bool, true, false, not, ◌&&◌, ◌==◌, ◌+◌, if◌then◌else◌, Option, None}
+use Rattle.std.specs.Prelude.{Some, Result, Ok, Err, is_some, codes, drop, take}
 use Rattle.std.specs.List.{list_all, prefix_len}
 use Rattle.std.specs.Str.{bytes_eq}
 use Rattle.cl_token.specs.Lexeme.{lexemes_of}
@@ -9,7 +10,8 @@ use Rattle.cl_token.specs.declared.token.Kind.TheVariants.{Name, Mark, Hash}
 use Rattle.cl_prep.specs.declared.prep.PrepError.{PrepError}
 use Rattle.cl_prep.specs.declared.prep.PrepError.TheVariants.{BadDirective, NoName, Redefined, NoOpening}
 use Rattle.cl_prep.specs.declared.directive.Directive.{Directive}
-use Rattle.cl_prep.specs.declared.directive.Directive.TheVariants.{Define, Undef, Ifdef, Ifndef, Else, Endif, If, Pragma, Other}
+use Rattle.cl_prep.specs.declared.directive.Directive.TheVariants.{Define, Undef, Ifdef, Ifndef, Else, Endif, If}
+use Rattle.cl_prep.specs.declared.directive.Directive.TheVariants.{Pragma, Other}
 use Rattle.cl_prep.specs.declared.directive.Conditional.{Conditional}
 use Rattle.cl_prep.specs.Names.{Names, with_name, defined}
 
@@ -84,7 +86,8 @@ with_names at s (Some names) = Ok (record { names = names; conditionals = s.cond
 
 -- a definition of a name, by the tokens behind it
 abbrev pub define_name : ℕ → Scope → Token → List Token → Outcome
-define_name at s n body = if has_parameters n body then Err (BadDirective at) else with_names at s (defined s.names n.word (lexemes_of body))
+define_name at s n body =
+    if has_parameters n body then Err (BadDirective at) else with_names at s (defined s.names n.word (lexemes_of body))
 
 abbrev pub define_in : ℕ → Scope → List Token → Option Token → Outcome
 define_in at s args None = Err (NoName at)
@@ -97,11 +100,23 @@ undef_in at s (Some n) = Ok (record { names = with_name s.names n.word None; con
 -- a conditional opens, and is taken where its name is in force, or where it is not
 abbrev pub open_in : Bool → ℕ → Scope → Option Token → Outcome
 open_in wanted at s None = Err (NoName at)
-open_in wanted at s (Some n) = Ok (record { names = s.names; conditionals = record { token = at; taken = if wanted then is_some (s.names n.word) else not (is_some (s.names n.word)); otherwise = false } ∷ s.conditionals })
+open_in wanted at s (Some n) =
+    Ok (record {
+      names = s.names;
+      conditionals = record {
+        token = at;
+        taken = if wanted then is_some (s.names n.word) else not (is_some (s.names n.word));
+        otherwise = false;
+      } ∷
+          s.conditionals;
+    })
 
 abbrev pub else_in : ℕ → Scope → List Conditional → Outcome
 else_in at s [] = Err (NoOpening at)
-else_in at s (c ∷ cs) = if c.otherwise then Err (NoOpening at) else Ok (record { names = s.names; conditionals = record { token = c.token; taken = not c.taken; otherwise = true } ∷ cs })
+else_in at s (c ∷ cs) = if c.otherwise then Err (NoOpening at) else Ok (record {
+  names = s.names;
+  conditionals = record { token = c.token; taken = not c.taken; otherwise = true } ∷ cs;
+})
 
 abbrev pub endif_in : ℕ → Scope → List Conditional → Outcome
 endif_in at s [] = Err (NoOpening at)

@@ -1,5 +1,6 @@
 -- How tokens expand: directives, conditionals and the replacement of names.
-use Rattle.std.specs.Prelude.{ℕ, suc, List, [], ◌∷◌, ◌++◌, length, true, false, ◌≡◌, ◌+◌, ◌<◌, ◌≤◌, ◌⊎◌, None, Some, Ok, Err, map}
+use Rattle.std.specs.Prelude.{ℕ, suc, List, [], ◌∷◌, ◌++◌, length, true, false, ◌≡◌, ◌+◌, ◌<◌, ◌≤◌, ◌⊎◌, None, Some}
+use Rattle.std.specs.Prelude.{Ok, Err, map}
 use Rattle.cl_token.specs.Lexeme.{Lexeme, lexeme_of}
 use Rattle.cl_token.specs.declared.token.Token.{Token}
 use Rattle.cl_prep.specs.declared.prep.Define.{Define}
@@ -32,30 +33,51 @@ pub record State : Type 0 where
 
 -- One directive or one token is read.
 pub data Step (s : State) : State → Type 0 where
-  directive : (h : Token) (ts : List Token) (scope : Scope) → s.rest ≡ h ∷ ts → begins_directive h ≡ true → effect s.at s.scope (line_of ts) ≡ Ok scope
-      → Step s (record { at = s.at + 1 + length (line_of ts); rest = behind_line ts; scope = scope; out = s.out; replaced = s.replaced })
-  skipped : (t : Token) (ts : List Token) → s.rest ≡ t ∷ ts → begins_directive t ≡ false → is_active s.scope.conditionals ≡ false
+  directive : (h : Token) (ts : List Token) (scope : Scope) → s.rest ≡ h ∷ ts → begins_directive h ≡ true →
+      effect s.at s.scope (line_of ts) ≡ Ok scope
+      → Step s (record {
+        at = s.at + 1 + length (line_of ts);
+        rest = behind_line ts;
+        scope = scope;
+        out = s.out;
+        replaced = s.replaced;
+      })
+  skipped : (t : Token) (ts : List Token) → s.rest ≡ t ∷ ts → begins_directive t ≡ false →
+      is_active s.scope.conditionals ≡ false
       → Step s (record { at = s.at + 1; rest = ts; scope = s.scope; out = s.out; replaced = s.replaced })
-  kept : (t : Token) (ts : List Token) → s.rest ≡ t ∷ ts → begins_directive t ≡ false → is_active s.scope.conditionals ≡ true
+  kept : (t : Token) (ts : List Token) → s.rest ≡ t ∷ ts → begins_directive t ≡ false →
+      is_active s.scope.conditionals ≡ true
       → replacement s.scope.names (lexeme_of t) ≡ None → length s.out + 1 ≤ token_limit
       → Step s (record { at = s.at + 1; rest = ts; scope = s.scope; out = s.out ++ t ∷ []; replaced = s.replaced })
-  replaced : (t : Token) (ts : List Token) (body zs : List Lexeme) (m : ℕ) → s.rest ≡ t ∷ ts → begins_directive t ≡ false → is_active s.scope.conditionals ≡ true
+  replaced : (t : Token) (ts : List Token) (body zs : List Lexeme) (m : ℕ) → s.rest ≡ t ∷ ts →
+      begins_directive t ≡ false → is_active s.scope.conditionals ≡ true
       → replacement s.scope.names (lexeme_of t) ≡ Some body → Gives (with_name s.scope.names t.word None) body zs m
       → length s.out + length zs ≤ token_limit → s.replaced + suc m ≤ replacement_limit
-      → Step s (record { at = s.at + 1; rest = ts; scope = s.scope; out = s.out ++ map (placed t) zs; replaced = s.replaced + suc m })
+      → Step s (record {
+        at = s.at + 1;
+        rest = ts;
+        scope = s.scope;
+        out = s.out ++ map (placed t) zs;
+        replaced = s.replaced + suc m;
+      })
 
 -- A rule fails at the next directive or token, or at the end.
 pub data Refuses (s : State) : PrepError → Type 0 where
-  directive_fails : (h : Token) (ts : List Token) (e : PrepError) → s.rest ≡ h ∷ ts → begins_directive h ≡ true → effect s.at s.scope (line_of ts) ≡ Err e → Refuses s e
-  not_closed : (c : Conditional) (cs : List Conditional) → s.rest ≡ [] → s.scope.conditionals ≡ c ∷ cs → Refuses s (NotClosed c.token)
-  one_too_many : (t : Token) (ts : List Token) → s.rest ≡ t ∷ ts → begins_directive t ≡ false → is_active s.scope.conditionals ≡ true
+  directive_fails : (h : Token) (ts : List Token) (e : PrepError) → s.rest ≡ h ∷ ts → begins_directive h ≡ true →
+      effect s.at s.scope (line_of ts) ≡ Err e → Refuses s e
+  not_closed : (c : Conditional) (cs : List Conditional) → s.rest ≡ [] → s.scope.conditionals ≡ c ∷ cs →
+      Refuses s (NotClosed c.token)
+  one_too_many : (t : Token) (ts : List Token) → s.rest ≡ t ∷ ts → begins_directive t ≡ false →
+      is_active s.scope.conditionals ≡ true
       → replacement s.scope.names (lexeme_of t) ≡ None → token_limit < length s.out + 1 → Refuses s (TooMany s.at)
-  too_many : (t : Token) (ts : List Token) (body zs : List Lexeme) (m : ℕ) → s.rest ≡ t ∷ ts → begins_directive t ≡ false → is_active s.scope.conditionals ≡ true
+  too_many : (t : Token) (ts : List Token) (body zs : List Lexeme) (m : ℕ) → s.rest ≡ t ∷ ts →
+      begins_directive t ≡ false → is_active s.scope.conditionals ≡ true
       → replacement s.scope.names (lexeme_of t) ≡ Some body → Gives (with_name s.scope.names t.word None) body zs m
       → (token_limit < length s.out + length zs) ⊎ (replacement_limit < s.replaced + suc m) → Refuses s (TooMany s.at)
 
 abbrev pub start_state : List Token → Names → State
-start_state tokens names = record { at = 0; rest = tokens; scope = record { names = names; conditionals = [] }; out = []; replaced = 0 }
+start_state tokens names =
+    record { at = 0; rest = tokens; scope = record { names = names; conditionals = [] }; out = []; replaced = 0 }
 
 -- one step after another
 pub data Leads (s : State) : State → Type 0 where
@@ -85,4 +107,5 @@ pub record Expands (tokens : List Token) (defines : List Define) (out : List Tok
 -- The tokens, with the given names, are refused with this error.
 pub data IsRefused (tokens : List Token) (defines : List Define) : PrepError → Type 0 where
   defined_twice : with_defines (Some start_names) defines ≡ None → IsRefused tokens defines (Redefined 0)
-  fails : (names : Names) (e : PrepError) → with_defines (Some start_names) defines ≡ Some names → Fails (start_state tokens names) e → IsRefused tokens defines e
+  fails : (names : Names) (e : PrepError) → with_defines (Some start_names) defines ≡ Some names →
+      Fails (start_state tokens names) e → IsRefused tokens defines e

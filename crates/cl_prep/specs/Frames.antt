@@ -1,5 +1,6 @@
 -- The replacements that are being read, as a contract sees them.
-use Rattle.std.specs.Prelude.{ℕ, List, [], ◌∷◌, ◌<◌, ◌≤◌, ◌≡◌, ◌+◌, ◌++◌, suc, Bool, true, false, Some, None, Vec, length, map, get_or, ◌⊎◌, position}
+use Rattle.std.specs.Prelude.{ℕ, List, [], ◌∷◌, ◌<◌, ◌≤◌, ◌≡◌, ◌+◌, ◌++◌, suc, Bool, true, false, Some, None, Vec}
+use Rattle.std.specs.Prelude.{length, map, get_or, ◌⊎◌, position}
 use Rattle.std.specs.Str.{bytes_eq}
 use Rattle.std.specs.declared.alloc.Global.{Global}
 use Rattle.std.specs.Map.{keys_of}
@@ -28,7 +29,8 @@ pendings_of fs = map pending_of fs
 -- A frame has its name's number, and its name is not replaced in it by a frame further out.
 abbrev pub AreFrames : Entries → List Frame → Type 0
 AreFrames es [] = Unit {0}
-AreFrames es (f ∷ fs) = IsNumber es f.number f.name.now × (is_member f.name.now (pendings_of fs) ≡ false) × AreFrames es fs
+AreFrames es (f ∷ fs) =
+    IsNumber es f.number f.name.now × (is_member f.name.now (pendings_of fs) ≡ false) × AreFrames es fs
 
 -- A name is marked where it is being replaced.
 pub record AreMarks (es : Entries) (marks : List Bool) (ps : List Pending) : Type 0 where
@@ -45,7 +47,8 @@ abbrev pub AreClear : List Bool → Type 0
 AreClear marks = (number : ℕ) → get_or marks number false ≡ false
 
 -- what a replaced token gives, and how many names that replaces
-pub record Replaces (names : Names) (t : Token) (body : List Lexeme) (before after : List Token) (count new : ℕ) : Type 0 where
+pub record Replaces (names : Names) (t : Token) (body : List Lexeme) (before after : List Token)
+    (count new : ℕ) : Type 0 where
   pub tokens : List Lexeme
   pub replacements : ℕ
   pub gives : Gives (with_name names t.word None) body tokens replacements
@@ -73,7 +76,8 @@ pub record IsReading (es : Entries) (names : Names) (t : Token) (body : List Lex
   pub replacements : ℕ
   pub given : out ≡ before ++ map (placed t) tokens
   pub counted : count ≡ start + suc replacements
-  pub going : (zs : List Lexeme) (m : ℕ) → Waits names (pendings_of frames) zs m → Gives (with_name names t.word None) body (tokens ++ zs) (replacements + m)
+  pub going : (zs : List Lexeme) (m : ℕ) → Waits names (pendings_of frames) zs m →
+      Gives (with_name names t.word None) body (tokens ++ zs) (replacements + m)
   pub open_frames : AreFrames es frames
   pub open_marks : AreMarks es marks (pendings_of frames)
   pub only_open : (number : ℕ) → get_or marks number false ≡ true → IsFrameOf number frames
@@ -82,13 +86,16 @@ pub record IsReading (es : Entries) (names : Names) (t : Token) (body : List Lex
 
 -- A token is no name in force, or one that is marked.
 abbrev pub IsNotFree : Entries → Names → List Bool → Token → Type 0
-IsNotFree es names marks x = (replacement names (lexeme_of x) ≡ None) ⊎ ((number : ℕ) × IsNumber es number x.word × (get_or marks number false ≡ true))
+IsNotFree es names marks x = (replacement names (lexeme_of x) ≡ None) ⊎
+    ((number : ℕ) × IsNumber es number x.word × (get_or marks number false ≡ true))
 
 -- A token of an active part is kept or replaced.
 abbrev pub IsRead : Names → Token → List Token → List Token → ℕ → ℕ → Type 0
 IsRead names t before after count new =
-    ((replacement names (lexeme_of t) ≡ None) × (after ≡ before ++ t ∷ []) × (new ≡ count) × (length before + 1 ≤ token_limit))
-    ⊎ ((body : List Lexeme) × (replacement names (lexeme_of t) ≡ Some body) × Replaces names t body before after count new)
+    ((replacement names (lexeme_of t) ≡ None) × (after ≡ before ++ t ∷ []) × (new ≡ count) ×
+    (length before + 1 ≤ token_limit))
+    ⊎ ((body : List Lexeme) × (replacement names (lexeme_of t) ≡ Some body) ×
+    Replaces names t body before after count new)
 
 -- A token of an active part is one too many, or its replacement is.
 abbrev pub IsTooMuch : Names → Token → List Token → ℕ → Type 0

@@ -1,5 +1,6 @@
 -- The names in force, and what a name is replaced by (C99, section 6.10.3).
-use Rattle.std.specs.Prelude.{ℕ, suc, List, [], ◌∷◌, ◌++◌, ◌+◌, Bool, true, false, ◌&&◌, ◌≡◌, Option, None, Some, map, if◌then◌else◌}
+use Rattle.std.specs.Prelude.{ℕ, suc, List, [], ◌∷◌, ◌++◌, ◌+◌, Bool, true, false, ◌&&◌, ◌≡◌, Option, None, Some, map}
+use Rattle.std.specs.Prelude.{if◌then◌else◌}
 use Rattle.std.specs.Str.{bytes_eq}
 use Rattle.cl_token.specs.Lexeme.{Lexeme}
 use Rattle.cl_token.specs.declared.token.Kind.{Kind}
@@ -40,13 +41,17 @@ abbrev pub redefined : Names → List ℕ → List Lexeme → Option (List Lexem
 redefined names name body None = Some (with_name names name (Some body))
 redefined names name body (Some old) = if same_words (words_of old) (words_of body) then Some names else None
 
--- The names after a definition. A name that has a replacement keeps it, and may be defined again with the same words alone.
+-- The names after a definition. A name that has a replacement keeps it, and may be defined again with the same words
+-- alone.
 abbrev pub defined : Names → List ℕ → List Lexeme → Option Names
 defined names name body = redefined names name body (names name)
 
 -- Tokens give these tokens, and so many names are replaced. In the replacement of a name that name is not in force.
 pub data Gives : Names → List Lexeme → List Lexeme → ℕ → Type 0 where
   none : {names : Names} → Gives names [] [] 0
-  kept : {names : Names} {xs zs : List Lexeme} {m : ℕ} (x : Lexeme) → replacement names x ≡ None → Gives names xs zs m → Gives names (x ∷ xs) (x ∷ zs) m
-  replaced : {names : Names} {xs ys zs : List Lexeme} {k m : ℕ} (x : Lexeme) (body : List Lexeme) → replacement names x ≡ Some body
-      → Gives (with_name names x.word None) body ys k → Gives names xs zs m → Gives names (x ∷ xs) (ys ++ zs) (suc (k + m))
+  kept : {names : Names} {xs zs : List Lexeme} {m : ℕ} (x : Lexeme) → replacement names x ≡ None →
+      Gives names xs zs m → Gives names (x ∷ xs) (x ∷ zs) m
+  replaced : {names : Names} {xs ys zs : List Lexeme} {k m : ℕ} (x : Lexeme) (body : List Lexeme) →
+      replacement names x ≡ Some body
+      → Gives (with_name names x.word None) body ys k → Gives names xs zs m →
+      Gives names (x ∷ xs) (ys ++ zs) (suc (k + m))

@@ -22,4 +22,5 @@ is_member word (p ∷ ps) = bytes_eq p.name word || is_member word ps
 -- what is left gives these tokens, and so many names are replaced
 abbrev pub Waits : Names → List Pending → List Lexeme → ℕ → Type 0
 Waits names [] zs m = (zs ≡ []) × (m ≡ 0)
-Waits names (p ∷ ps) zs m = (a b : List Lexeme) × (i j : ℕ) × Gives (inside names (p ∷ ps)) p.left a i × Waits names ps b j × (zs ≡ a ++ b) × (m ≡ i + j)
+Waits names (p ∷ ps) zs m = (a b : List Lexeme) × (i j : ℕ) × Gives (inside names (p ∷ ps)) p.left a i ×
+    Waits names ps b j × (zs ≡ a ++ b) × (m ≡ i + j)

@@ -14,7 +14,8 @@ mark word = record { kind = Mark; word = word }
 
 -- ( - WORD - 1 )
 abbrev pub lowest : List ℕ → List Lexeme
-lowest word = mark (codes "(") ∷ mark (codes "-") ∷ record { kind = Number; word = word } ∷ mark (codes "-") ∷ record { kind = Number; word = codes "1" } ∷ mark (codes ")") ∷ []
+lowest word = mark (codes "(") ∷ mark (codes "-") ∷ record { kind = Number; word = word } ∷ mark (codes "-") ∷
+    record { kind = Number; word = codes "1" } ∷ mark (codes ")") ∷ []
 
 -- the limits of the types of up to 16 bits that have a sign
 abbrev pub narrow_limits : List (List ℕ × List Lexeme)

@@ -1,5 +1,19 @@
 //! The expansion of tokens.
-ghost use Rattle.std.specs.Prelude.{◌≡◌, ◌+◌, ◌<◌, ◌≤◌, ◌^◌, [], ℕ, List, length, drop, All, IfOk, IfErr};
+ghost use Rattle.std.specs.Prelude.{
+  ◌≡◌,
+  ◌+◌,
+  ◌<◌,
+  ◌≤◌,
+  ◌^◌,
+  [],
+  ℕ,
+  List,
+  length,
+  drop,
+  All,
+  IfOk,
+  IfErr,
+};
 ghost use Rattle.cl_token.specs.declared.token.Token.{Token as AnyToken};
 ghost use Rattle.cl_prep.specs.declared.prep.PrepError.{PrepError as AnyError};
 ghost use Rattle.cl_prep.specs.Expands.{Expands, IsRefused, start_state, token_limit};
@@ -59,7 +73,8 @@ pub fn expand(alloc: Global, tokens: &[Token], defines: &Defines) -> Result<Vec<
     requires { length tokens.now + 1 < 2 ^ 32 }
     ensures expands { IfOk result (λ ts. Expands tokens.now defines.now.list.items ts.items) }
     ensures few { IfOk result (λ ts. length ts.items ≤ token_limit) }
-    ensures inside { (n : ℕ) → All (λ t. t.start ≤ n) tokens.now → IfOk result (λ ts. All (λ t. t.start ≤ n) ts.items) }
+    ensures inside { (n : ℕ) → All (λ t. t.start ≤ n) tokens.now →
+        IfOk result (λ ts. All (λ t. t.start ≤ n) ts.items) }
     ensures all { (out : List AnyToken) → Expands tokens.now defines.now.list.items out → IsTokens result out }
     ensures refused { IfErr result (λ e. IsRefusedOrMemory tokens.now defines.now.list.items e) }
     ensures fault { (e : AnyError) → IsRefused tokens.now defines.now.list.items e → IsFault result e }

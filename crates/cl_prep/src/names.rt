@@ -1,5 +1,21 @@
 //! The table of names.
-ghost use Rattle.std.specs.Prelude.{◌≡◌, ◌++◌, ◌∷◌, [], ℕ, Some, None, OnOk, IfOk, IfSome, option_map, length, slice_get, map, is_some};
+ghost use Rattle.std.specs.Prelude.{
+  ◌≡◌,
+  ◌++◌,
+  ◌∷◌,
+  [],
+  ℕ,
+  Some,
+  None,
+  OnOk,
+  IfOk,
+  IfSome,
+  option_map,
+  length,
+  slice_get,
+  map,
+  is_some,
+};
 ghost use Rattle.std.specs.Str.{bytes_eq};
 ghost use Rattle.indexmap.specs.IndexMap.{IsUnchanged};
 ghost use Rattle.cl_token.specs.Lexeme.{lexeme_of, lexemes_of};
@@ -38,7 +54,8 @@ pub(crate) fn set(
     name: &[u8],
     body: Vec<Token>,
 ) -> Result<(), Memory>
-    ensures { OnOk result (names_of names.new ≡ spec.with_name (names_of names.old) name.now (Some (lexemes_of body.items))) }
+    ensures { OnOk result (names_of names.new ≡ spec.with_name (names_of names.old) name.now
+        (Some (lexemes_of body.items))) }
 {
     let key = key_of(alloc, name)?;
     match names.insert(key, body) {

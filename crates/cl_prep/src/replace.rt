@@ -1,5 +1,32 @@
 //! The replacement of a name.
-ghost use Rattle.std.specs.Prelude.{◌≡◌, ◌++◌, ◌+◌, ◌<◌, ◌≤◌, ◌∷◌, [], ℕ, Some, None, Ok, Err, OnOk, IfOk, IfErr, IfSome, IfNone, MatchOption, MatchResult, option_map, length, set, true, false, get_or, option_to_list};
+ghost use Rattle.std.specs.Prelude.{
+  ◌≡◌,
+  ◌++◌,
+  ◌+◌,
+  ◌<◌,
+  ◌≤◌,
+  ◌∷◌,
+  [],
+  ℕ,
+  Some,
+  None,
+  Ok,
+  Err,
+  OnOk,
+  IfOk,
+  IfErr,
+  IfSome,
+  IfNone,
+  MatchOption,
+  MatchResult,
+  option_map,
+  length,
+  set,
+  true,
+  false,
+  get_or,
+  option_to_list,
+};
 ghost use Rattle.cl_token.specs.Lexeme.{lexeme_of, lexemes_of};
 ghost use Rattle.cl_prep.specs.Names.{replacement};
 ghost use Rattle.cl_prep.specs.Expands.{placed as placed_at, token_limit, replacement_limit};
@@ -36,7 +63,8 @@ pub(crate) enum Stop {
 /// The frame of a token that is a name in force.
 pub(crate) fn frame_of<'a>(names: &'a Names, token: &'a Token) -> Option<Frame<'a>>
     ensures none { IfNone result (replacement (names_of names.now) (lexeme_of token.now) ≡ None) }
-    ensures some { IfSome result (λ f. replacement (names_of names.now) (lexeme_of token.now) ≡ Some (lexemes_of f.left.now)) }
+    ensures some { IfSome result (λ f. replacement (names_of names.now) (lexeme_of token.now) ≡
+        Some (lexemes_of f.left.now)) }
     ensures name { IfSome result (λ f. f.name.now ≡ token.now.word) }
     ensures number { IfSome result (λ f. IsNumber names.now.entries f.number f.name.now) }
     ensures within { IfSome result (λ f. f.number < length names.now.entries) }
@@ -56,7 +84,8 @@ pub(crate) fn frame_of<'a>(names: &'a Names, token: &'a Token) -> Option<Frame<'
 fn free_frame_of<'a>(names: &'a Names, marks: &[bool], token: &'a Token) -> Option<Frame<'a>>
     requires { length names.now.entries ≤ length marks.now }
     ensures none { IfNone result (IsNotFree names.now.entries (names_of names.now) marks.now token.now) }
-    ensures some { IfSome result (λ f. replacement (names_of names.now) (lexeme_of token.now) ≡ Some (lexemes_of f.left.now)) }
+    ensures some { IfSome result (λ f. replacement (names_of names.now) (lexeme_of token.now) ≡
+        Some (lexemes_of f.left.now)) }
     ensures name { IfSome result (λ f. f.name.now ≡ token.now.word) }
     ensures number { IfSome result (λ f. IsNumber names.now.entries f.number f.name.now) }
     ensures free { IfSome result (λ f. get_or marks.now f.number false ≡ false) }
@@ -131,8 +160,10 @@ pub(crate) fn replace<'a>(
     requires few { length out.old.items ≤ token_limit }
     requires seldom { count ≤ replacement_limit }
     ensures clear { OnOk result (AreClear marks.new.items) }
-    ensures ok { IfOk result (λ n. Replaces (names_of names.now) token.now (lexemes_of frame.entry.left.now) out.old.items out.new.items count n) }
-    ensures err { IfErr result (λ e. StopsBy e (Exceeds (names_of names.now) token.now (lexemes_of frame.entry.left.now) out.old.items count)) }
+    ensures ok { IfOk result (λ n. Replaces (names_of names.now) token.now (lexemes_of frame.entry.left.now)
+        out.old.items out.new.items count n) }
+    ensures err { IfErr result (λ e.
+        StopsBy e (Exceeds (names_of names.now) token.now (lexemes_of frame.entry.left.now) out.old.items count)) }
 {
     if count >= REPLACEMENT_LIMIT {
         return Err(Stop::TooMany);

@@ -1,5 +1,21 @@
 //! The names in force and the open conditionals.
-ghost use Rattle.std.specs.Prelude.{◌≡◌, ◌+◌, ◌<◌, ◌∷◌, ◌^◌, ◌++◌, [], ℕ, OnOk, OnErr, IfErr, IfSome, IfNone, MatchResult, option_to_list};
+ghost use Rattle.std.specs.Prelude.{
+  ◌≡◌,
+  ◌+◌,
+  ◌<◌,
+  ◌∷◌,
+  ◌^◌,
+  ◌++◌,
+  [],
+  ℕ,
+  OnOk,
+  OnErr,
+  IfErr,
+  IfSome,
+  IfNone,
+  MatchResult,
+  option_to_list,
+};
 ghost use Rattle.cl_prep.specs.Directives as spec;
 ghost use Rattle.cl_prep.specs.Scopes.{idle_of, Follows, IsInnermost};
 ghost use Rattle.cl_prep.specs.Table.{names_of};
@@ -54,7 +70,10 @@ impl Scope {
     }
 
     fn open(&mut self, conditional: Conditional) -> Result<(), PrepError>
-        ensures ok { OnOk result (scope_of self.new ≡ record { names = (scope_of self.old).names; conditionals = conditional ∷ (scope_of self.old).conditionals }) }
+        ensures ok { OnOk result (scope_of self.new ≡ record {
+          names = (scope_of self.old).names;
+          conditionals = conditional ∷ (scope_of self.old).conditionals;
+        }) }
         ensures err { IfErr result (λ e. e ≡ PrepError.Memory) }
     {
         if self.conditionals.push_front(conditional).is_err() {
@@ -67,7 +86,8 @@ impl Scope {
     }
 
     fn close(&mut self) -> Option<Conditional>
-        ensures conditionals { (scope_of self.old).conditionals ≡ option_to_list result ++ (scope_of self.new).conditionals }
+        ensures conditionals { (scope_of self.old).conditionals ≡ option_to_list result ++
+            (scope_of self.new).conditionals }
         ensures names { (scope_of self.new).names ≡ (scope_of self.old).names }
         ensures none { IfNone result ((scope_of self.old).conditionals ≡ []) }
     {
@@ -80,7 +100,8 @@ impl Scope {
 
     fn define(&mut self, alloc: Global, at: u32, args: &[Token]) -> Result<(), PrepError>
         requires { at + 2 < 2 ^ 32 }
-        ensures { Follows (spec.define_in at (scope_of self.old) args.now (spec.name_in args.now)) result (scope_of self.new) }
+        ensures { Follows (spec.define_in at (scope_of self.old) args.now (spec.name_in args.now)) result
+            (scope_of self.new) }
     {
         let Some(name) = name_in(args) else {
             return Err(PrepError::NoName { token: at });
@@ -115,7 +136,8 @@ impl Scope {
     }
 
     fn open_if(&mut self, wanted: bool, at: u32, args: &[Token]) -> Result<(), PrepError>
-        ensures { Follows (spec.open_in wanted at (scope_of self.old) (spec.name_in args.now)) result (scope_of self.new) }
+        ensures { Follows (spec.open_in wanted at (scope_of self.old) (spec.name_in args.now)) result
+            (scope_of self.new) }
     {
         let Some(name) = name_in(args) else {
             return Err(PrepError::NoName { token: at });
@@ -129,7 +151,8 @@ impl Scope {
     }
 
     fn otherwise(&mut self, at: u32) -> Result<(), PrepError>
-        ensures { Follows (spec.else_in at (scope_of self.old) (scope_of self.old).conditionals) result (scope_of self.new) }
+        ensures { Follows (spec.else_in at (scope_of self.old) (scope_of self.old).conditionals) result
+            (scope_of self.new) }
     {
         match self.close() {
             Some(conditional) if !conditional.otherwise => self.open(Conditional {
@@ -142,7 +165,8 @@ impl Scope {
     }
 
     fn endif(&mut self, at: u32) -> Result<(), PrepError>
-        ensures { Follows (spec.endif_in at (scope_of self.old) (scope_of self.old).conditionals) result (scope_of self.new) }
+        ensures { Follows (spec.endif_in at (scope_of self.old) (scope_of self.old).conditionals) result
+            (scope_of self.new) }
     {
         match self.close() {
             Some(_) => Ok(()),

@@ -1,5 +1,19 @@
 //! The names that are in force from the start, and those that are given.
-ghost use Rattle.std.specs.Prelude.{◌≡◌, ◌++◌, ◌∷◌, [], ℕ, Some, None, OnOk, IfOk, MatchResult, option_map, codes, string_bytes};
+ghost use Rattle.std.specs.Prelude.{
+  ◌≡◌,
+  ◌++◌,
+  ◌∷◌,
+  [],
+  ℕ,
+  Some,
+  None,
+  OnOk,
+  IfOk,
+  MatchResult,
+  option_map,
+  codes,
+  string_bytes,
+};
 ghost use Rattle.std.specs.Fmt.{decimal as decimal_text};
 ghost use Rattle.cl_token.specs.Lexeme.{lexeme_of, lexemes_of};
 ghost use Rattle.cl_prep.specs.Names as spec;
@@ -16,7 +30,10 @@ use wg_num::{Memory, Word};
 
 /// A token that stands in no source.
 fn push_word(alloc: Global, tokens: &mut Vec<Token>, kind: Kind, word: &[u8]) -> Result<(), Memory>
-    ensures { OnOk result (lexemes_of tokens.new.items ≡ lexemes_of tokens.old.items ++ record { kind = kind; word = word.now } ∷ []) }
+    ensures { OnOk result (lexemes_of tokens.new.items ≡ lexemes_of tokens.old.items ++ record {
+      kind = kind;
+      word = word.now;
+    } ∷ []) }
 {
     let token = Token {
         kind,
@@ -52,13 +69,15 @@ fn lowest(alloc: Global, word: &[u8]) -> Result<Vec<Token>, Memory>
 }
 
 fn add_number(alloc: Global, names: &mut Names, name: &[u8], word: &[u8]) -> Result<(), Memory>
-    ensures { OnOk result (names_of names.new ≡ spec.with_name (names_of names.old) name.now (Some (begin.number word.now))) }
+    ensures { OnOk result (names_of names.new ≡ spec.with_name (names_of names.old) name.now
+        (Some (begin.number word.now))) }
 {
     set(alloc, names, name, number(alloc, word)?)
 }
 
 fn add_lowest(alloc: Global, names: &mut Names, name: &[u8], word: &[u8]) -> Result<(), Memory>
-    ensures { OnOk result (names_of names.new ≡ spec.with_name (names_of names.old) name.now (Some (begin.lowest word.now))) }
+    ensures { OnOk result (names_of names.new ≡ spec.with_name (names_of names.old) name.now
+        (Some (begin.lowest word.now))) }
 {
     set(alloc, names, name, lowest(alloc, word)?)
 }

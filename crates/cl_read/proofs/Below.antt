@@ -10,7 +10,15 @@ use Rattle.cl_tree.specs.Precedence.{joins}
 use Rattle.cl_tree.specs.Syntax.{Syntax, Forest, nesting}
 use Rattle.cl_tree.specs.Nodes.{Spot}
 use Rattle.cl_read.specs.Starts.{postfixes}
-use Rattle.cl_read.specs.Reading.{Out, Got, Wrong, Deep, Reader, after, ◌>>=◌, done, deep, begins, is, choose, within, chain, Listing, empty, appended, list_of, all_of, each, Readers, space_of, star_of, front_of, behind_of, type_of, dimension_of, init_of, declared, declarator_of, declare_rest, declare_of, element_of, initializers_of, line_of, block_of, simple_of, if_of, while_of, do_of, start_of, for_of, switch_of, case_of, default_of, leave_of, return_of, leaving, labelled, statement_of, call_of, primary_of, postfix_step, postfixed, paren_of, opened, sizeof_of, operand_of, unary_of, cast_of, level_step, level_of, cond_of, assign_of, expr_step, expr_of, next_readers, attribute_of, head_of, param_of, params_of, callable, named, result_of, typed, headed, item_of}
+use Rattle.cl_read.specs.Reading.{Out, Got, Wrong, Deep, Reader, after, ◌>>=◌, done, deep, begins, is, choose, within}
+use Rattle.cl_read.specs.Reading.{chain, Listing, empty, appended, list_of, all_of, each, Readers, space_of, star_of}
+use Rattle.cl_read.specs.Reading.{front_of, behind_of, type_of, dimension_of, init_of, declared, declarator_of}
+use Rattle.cl_read.specs.Reading.{declare_rest, declare_of, element_of, initializers_of, line_of, block_of, simple_of}
+use Rattle.cl_read.specs.Reading.{if_of, while_of, do_of, start_of, for_of, switch_of, case_of, default_of, leave_of}
+use Rattle.cl_read.specs.Reading.{return_of, leaving, labelled, statement_of, call_of, primary_of, postfix_step}
+use Rattle.cl_read.specs.Reading.{postfixed, paren_of, opened, sizeof_of, operand_of, unary_of, cast_of, level_step}
+use Rattle.cl_read.specs.Reading.{level_of, cond_of, assign_of, expr_step, expr_of, next_readers, attribute_of}
+use Rattle.cl_read.specs.Reading.{head_of, param_of, params_of, callable, named, result_of, typed, headed, item_of}
 
 abbrev pub Meets : {A : Type 0} → Out A → Out A → Type 0
 Meets (Got a rest) o = o ≡ Got a rest
@@ -28,19 +36,22 @@ meets_self (Deep n) = tt
 pub below_self : {A : Type 0} (p : Reader A) → Below p p
 below_self p ts = meets_self (p ts)
 
-meets_then : {A B : Type 0} (o u : Out A) (g h : A → Reader B) → Meets o u → ((a : A) → Below (g a) (h a)) → Meets (after o g) (after u h)
+meets_then : {A B : Type 0} (o u : Out A) (g h : A → Reader B) → Meets o u → ((a : A) → Below (g a) (h a)) →
+    Meets (after o g) (after u h)
 meets_then (Got a rest) u g h m b = rw m (b a rest)
 meets_then (Wrong n) u g h m b = rw m refl
 meets_then (Deep n) u g h m b = tt
 
-pub below_then : {A B : Type 0} (p q : Reader A) (g h : A → Reader B) → Below p q → ((a : A) → Below (g a) (h a)) → Below (p >>= g) (q >>= h)
+pub below_then : {A B : Type 0} (p q : Reader A) (g h : A → Reader B) → Below p q → ((a : A) → Below (g a) (h a)) →
+    Below (p >>= g) (q >>= h)
 below_then p q g h m b ts = meets_then (p ts) (q ts) g h (m ts) b
 
 meets_choose : {A : Type 0} (b : Bool) (o u v w : Out A) → Meets o u → Meets v w → Meets (cond b o v) (cond b u w)
 meets_choose true o u v w h k = h
 meets_choose false o u v w h k = k
 
-pub below_choose : {A : Type 0} (test : Terminal → Bool) (p q r s : Reader A) → Below p q → Below r s → Below (choose test p r) (choose test q s)
+pub below_choose : {A : Type 0} (test : Terminal → Bool) (p q r s : Reader A) → Below p q → Below r s →
+    Below (choose test p r) (choose test q s)
 below_choose test p q r s h k ts = meets_choose (begins test ts) (p ts) (q ts) (r ts) (s ts) (h ts) (k ts)
 
 below_cond : {A : Type 0} (b : Bool) (p q r : Reader A) → Below p q → Below (cond b p r) (cond b q r)
@@ -50,30 +61,45 @@ below_cond false p q r h = below_self r
 below_deep : {A : Type 0} (q : Reader A) → Below deep q
 below_deep q ts = tt
 
-below_within : {A : Type 0} (b c : Bool) (p q : Reader A) → (b ≡ true → c ≡ true) → Below p q → Below (within b p) (within c q)
+below_within : {A : Type 0} (b c : Bool) (p q : Reader A) → (b ≡ true → c ≡ true) → Below p q →
+    Below (within b p) (within c q)
 below_within true c p q h k ts = rw (h refl) (k ts)
 below_within false c p q h k ts = tt
 
 wider_room : (a n m : ℕ) → n ≤ m → nat_le a n ≡ true → nat_le a m ≡ true
 wider_room a n m d h = grind (arith, nat_tests)
 
-module _ (room more_room : ℕ) (wide : room ≤ more_room) (test : Terminal → Bool) (step other : Syntax → Reader Syntax) (each' : (l : Syntax) → Below (step l) (other l)) where
+module _ (room more_room : ℕ) (wide : room ≤ more_room) (test : Terminal → Bool) (step other : Syntax →
+    Reader Syntax) (each' : (l : Syntax) → Below (step l) (other l)) where
   pub below_chain : (n m : ℕ) → n ≤ m → (l : Syntax) → Below (chain room test step n l) (chain more_room test other m l)
   unfolding chain
   below_chain zero zero d l = below_self (choose test deep (done l))
-  below_chain zero (suc m) d l = below_choose test deep (within (nat_le (nesting l) more_room) (other l >>= chain more_room test other m)) (done l) (done l) (below_deep (within (nat_le (nesting l) more_room) (other l >>= chain more_room test other m))) (below_self (done l))
+  below_chain zero (suc m) d l =
+      below_choose test deep (within (nat_le (nesting l) more_room) (other l >>= chain more_room test other m))
+      (done l) (done l) (below_deep (within (nat_le (nesting l) more_room)
+      (other l >>= chain more_room test other m))) (below_self (done l))
   below_chain (suc n) zero d l = absurd (omega arith)
-  below_chain (suc n) (suc m) d l = below_choose test (within (nat_le (nesting l) room) (step l >>= chain room test step n)) (within (nat_le (nesting l) more_room) (other l >>= chain more_room test other m)) (done l) (done l)
-      (below_within (nat_le (nesting l) room) (nat_le (nesting l) more_room) (step l >>= chain room test step n) (other l >>= chain more_room test other m) (wider_room (nesting l) room more_room wide)
-      (below_then (step l) (other l) (chain room test step n) (chain more_room test other m) (each' l) (λ r. below_chain n m (omega arith) r))) (below_self (done l))
+  below_chain (suc n) (suc m) d l =
+      below_choose test (within (nat_le (nesting l) room) (step l >>= chain room test step n))
+      (within (nat_le (nesting l) more_room) (other l >>= chain more_room test other m)) (done l) (done l)
+      (below_within (nat_le (nesting l) room) (nat_le (nesting l) more_room) (step l >>= chain room test step n)
+      (other l >>= chain more_room test other m) (wider_room (nesting l) room more_room wide)
+      (below_then (step l) (other l) (chain room test step n) (chain more_room test other m) (each' l)
+      (λ r. below_chain n m (omega arith) r))) (below_self (done l))
 
 module _ (test : Terminal → Bool) (p q : Reader (Bool × Listing)) (h : Below p q) where
   below_list : (n : ℕ) → Below (list_of test p n) (list_of test q n)
   unfolding list_of
   below_list zero = below_self (choose test deep (done empty))
-  below_list (suc n) = below_choose test (p >>= λ a. cond a.0 (list_of test p n >>= λ l. done (appended a.1 l)) (done a.1)) (q >>= λ a. cond a.0 (list_of test q n >>= λ l. done (appended a.1 l)) (done a.1)) (done empty) (done empty)
-      (below_then p q (λ a. cond a.0 (list_of test p n >>= λ l. done (appended a.1 l)) (done a.1)) (λ a. cond a.0 (list_of test q n >>= λ l. done (appended a.1 l)) (done a.1)) h
-      (λ a. below_cond a.0 (list_of test p n >>= λ l. done (appended a.1 l)) (list_of test q n >>= λ l. done (appended a.1 l)) (done a.1) (below_then (list_of test p n) (list_of test q n) (λ l. done (appended a.1 l)) (λ l. done (appended a.1 l)) (below_list n) (λ l. below_self (done (appended a.1 l))))))
+  below_list (suc n) = below_choose test (p >>= λ a. cond a.0 (list_of test p n >>= λ l. done (appended a.1 l))
+      (done a.1)) (q >>= λ a. cond a.0 (list_of test q n >>= λ l. done (appended a.1 l)) (done a.1)) (done empty)
+      (done empty)
+      (below_then p q (λ a. cond a.0 (list_of test p n >>= λ l. done (appended a.1 l)) (done a.1))
+      (λ a. cond a.0 (list_of test q n >>= λ l. done (appended a.1 l)) (done a.1)) h
+      (λ a. below_cond a.0 (list_of test p n >>= λ l. done (appended a.1 l)) (list_of test q n >>= λ l.
+      done (appended a.1 l)) (done a.1) (below_then (list_of test p n) (list_of test q n)
+      (λ l. done (appended a.1 l)) (λ l. done (appended a.1 l)) (below_list n)
+      (λ l. below_self (done (appended a.1 l))))))
       (below_self (done empty))
 
   pub below_all : Below (all_of test p) (all_of test q)
@@ -204,7 +230,8 @@ module _ (r s : Readers) (b : AllBelow r s) where
 
   below_statement : Below (statement_of r) (statement_of s)
   unfolding statement_of
-  below_statement = search (below_choose, below_block, below_if, below_while, below_do, below_for, below_labelled) depth 14
+  below_statement =
+      search (below_choose, below_block, below_if, below_while, below_do, below_for, below_labelled) depth 14
 
 module _ (n m : ℕ) (d : n ≤ m) (r s : Readers) (b : AllBelow r s) where
   below_call : (i o : Spot) → Below (call_of n r i o) (call_of m s i o)
@@ -237,7 +264,16 @@ module _ (n m : ℕ) (d : n ≤ m) (r s : Readers) (b : AllBelow r s) where
 
   below_operand : Below (operand_of n r) (operand_of m s)
   unfolding operand_of
-  below_operand = search (below_choose, below_then, below_self, below_sizeof, below_primary, below_postfixed, b.unary, b.cast) depth 14
+  below_operand = search (
+    below_choose,
+    below_then,
+    below_self,
+    below_sizeof,
+    below_primary,
+    below_postfixed,
+    b.unary,
+    b.cast,
+  ) depth 14
 
   below_unary : Below (unary_of n r) (unary_of m s)
   unfolding unary_of
@@ -254,7 +290,9 @@ module _ (n m : ℕ) (d : n ≤ m) (r s : Readers) (b : AllBelow r s) where
   below_level : (k : ℕ) → Below (level_of n r k) (level_of m s k)
   unfolding level_of
   below_level zero = below_cast
-  below_level (suc k) = below_then (level_of n r k) (level_of m s k) (λ l. chain n (joins k) (level_step n r k) n l) (λ l. chain m (joins k) (level_step m s k) m l) (below_level k) (λ l. below_chain n m d (joins k) (level_step n r k) (level_step m s k) (below_level_step k) n m d l)
+  below_level (suc k) = below_then (level_of n r k) (level_of m s k) (λ l. chain n (joins k) (level_step n r k) n l)
+      (λ l. chain m (joins k) (level_step m s k) m l) (below_level k)
+      (λ l. below_chain n m d (joins k) (level_step n r k) (level_step m s k) (below_level_step k) n m d l)
 
   below_cond_of : Below (cond_of n r) (cond_of m s)
   unfolding cond_of
@@ -270,7 +308,9 @@ module _ (n m : ℕ) (d : n ≤ m) (r s : Readers) (b : AllBelow r s) where
 
   below_expr : Below (expr_of n r) (expr_of m s)
   unfolding expr_of
-  below_expr = below_then (assign_of n r) (assign_of m s) (λ l. chain n (is terminals.Comma) (expr_step n r) n l) (λ l. chain m (is terminals.Comma) (expr_step m s) m l) below_assign (λ l. below_chain n m d (is terminals.Comma) (expr_step n r) (expr_step m s) below_expr_step n m d l)
+  below_expr = below_then (assign_of n r) (assign_of m s) (λ l. chain n (is terminals.Comma) (expr_step n r) n l)
+      (λ l. chain m (is terminals.Comma) (expr_step m s) m l) below_assign
+      (λ l. below_chain n m d (is terminals.Comma) (expr_step n r) (expr_step m s) below_expr_step n m d l)
 
   pub below_above : AllBelow (next_readers n r) (next_readers m s)
   below_above = record {
@@ -310,7 +350,8 @@ module _ (r1 r2 r3 s1 s2 s3 : Readers) (a : AllBelow r1 s1) (b : AllBelow r2 s2)
   unfolding params_of
   below_params = search (below_choose, below_then, below_self, below_all, below_param) depth 14
 
-  below_callable : (heads : Forest) (t : Syntax) (m o : Spot) → Below (callable r1 r2 r3 heads t m o) (callable s1 s2 s3 heads t m o)
+  below_callable : (heads : Forest) (t : Syntax) (m o : Spot) →
+      Below (callable r1 r2 r3 heads t m o) (callable s1 s2 s3 heads t m o)
   unfolding callable
   below_callable heads t m o = search (below_choose, below_then, below_self, below_params, c.block) depth 14
 
@@ -324,7 +365,15 @@ module _ (r1 r2 r3 s1 s2 s3 : Readers) (a : AllBelow r1 s1) (b : AllBelow r2 s2)
 
   below_typed : (t : Syntax) → Below (typed r1 r2 r3 t) (typed s1 s2 s3 t)
   unfolding typed
-  below_typed t = search (below_choose, below_then, below_self, below_callable, below_declared r2 s2 b, below_declare_rest r3 s3 c, c.declarator) depth 14
+  below_typed t = search (
+    below_choose,
+    below_then,
+    below_self,
+    below_callable,
+    below_declared r2 s2 b,
+    below_declare_rest r3 s3 c,
+    c.declarator,
+  ) depth 14
 
   below_headed : Below (headed r1 r2 r3) (headed s1 s2 s3)
   unfolding headed

@@ -7,7 +7,9 @@ use Rattle.cl_tree.specs.declared.tree.Form.TheVariants as forms
 use Rattle.cl_tree.specs.Syntax.{Syntax, Forest, none, more, joined}
 use Rattle.cl_tree.specs.Nodes.{Spot, for_node}
 use Rattle.cl_tree.specs.Grammar.{closed, closed_last, is_empty}
-use Rattle.cl_read.specs.Reading.{Out, Got, Wrong, Deep, Reader, after, ◌>>=◌, done, deep, wrong, begins, is, choose, Readers, statement_of, block_of, if_of, while_of, do_of, for_of, labelled, switch_of, case_of, default_of, leaving, leave_of, return_of, simple_of, no_room}
+use Rattle.cl_read.specs.Reading.{Out, Got, Wrong, Deep, Reader, after, ◌>>=◌, done, deep, wrong, begins, is, choose}
+use Rattle.cl_read.specs.Reading.{Readers, statement_of, block_of, if_of, while_of, do_of, for_of, labelled}
+use Rattle.cl_read.specs.Reading.{switch_of, case_of, default_of, leaving, leave_of, return_of, simple_of, no_room}
 use Rattle.cl_read.proofs.Sound.{Ends}
 
 got_same : (a t : Syntax) (ts rest : List Leaf) → done a ts ≡ Got t rest → (a ≡ t) × (ts ≡ rest)
@@ -17,7 +19,8 @@ ends_done : (t : Syntax) → closed t ≡ true → Ends (done t)
 ends_done t h = λ ts rest u e b. subst (λ v. closed v ≡ true) (got_same t u ts rest e).0 h
 
 module _ {A : Type 0} (p : Reader A) (g : A → Reader Syntax) where
-  ends_then_at : ((a : A) → Ends (g a)) → (o : Out A) (rest : List Leaf) (t : Syntax) → after o g ≡ Got t rest → begins (is terminals.Else) rest ≡ true → closed t ≡ true
+  ends_then_at : ((a : A) → Ends (g a)) → (o : Out A) (rest : List Leaf) (t : Syntax) → after o g ≡ Got t rest →
+      begins (is terminals.Else) rest ≡ true → closed t ≡ true
   ends_then_at h (Got a mid) rest t e b = h a mid rest t e b
   ends_then_at h (Wrong k) rest t e b = absurd cc
   ends_then_at h (Deep k) rest t e b = absurd cc
@@ -25,28 +28,35 @@ module _ {A : Type 0} (p : Reader A) (g : A → Reader Syntax) where
   ends_then : ((a : A) → Ends (g a)) → Ends (p >>= g)
   ends_then h = λ ts rest t e b. ends_then_at h (p ts) rest t e b
 
-ends_map_at : (f : Syntax → Syntax) → ((u : Syntax) → closed u ≡ true → closed (f u) ≡ true) → (p : Reader Syntax) → Ends p → (ts : List Leaf) (o : Out Syntax) → p ts ≡ o → (rest : List Leaf) (t : Syntax) → after o (λ u. done (f u)) ≡ Got t rest → begins (is terminals.Else) rest ≡ true → closed t ≡ true
+ends_map_at : (f : Syntax → Syntax) → ((u : Syntax) → closed u ≡ true → closed (f u) ≡ true) → (p : Reader Syntax) →
+    Ends p → (ts : List Leaf) (o : Out Syntax) → p ts ≡ o → (rest : List Leaf) (t : Syntax) →
+    after o (λ u. done (f u)) ≡ Got t rest → begins (is terminals.Else) rest ≡ true → closed t ≡ true
 ends_map_at f c p h ts (Got a mid) q rest t e b =
     let s = got_same (f a) t mid rest e in
     subst (λ v. closed v ≡ true) s.0 (c a (h ts rest a (subst (λ m. p ts ≡ Got a m) s.1 q) b))
 ends_map_at f c p h ts (Wrong k) q rest t e b = absurd cc
 ends_map_at f c p h ts (Deep k) q rest t e b = absurd cc
 
-ends_map : (f : Syntax → Syntax) → ((u : Syntax) → closed u ≡ true → closed (f u) ≡ true) → (p : Reader Syntax) → Ends p → Ends (p >>= λ u. done (f u))
+ends_map : (f : Syntax → Syntax) → ((u : Syntax) → closed u ≡ true → closed (f u) ≡ true) → (p : Reader Syntax) →
+    Ends p → Ends (p >>= λ u. done (f u))
 ends_map f c p h = λ ts rest t e b. ends_map_at f c p h ts (p ts) refl rest t e b
 
 module _ (test : Terminal → Bool) (p q : Reader Syntax) where
-  ends_choose_at : Ends p → Ends q → (ts rest : List Leaf) (t : Syntax) (b : Bool) → cond b (p ts) (q ts) ≡ Got t rest → begins (is terminals.Else) rest ≡ true → closed t ≡ true
+  ends_choose_at : Ends p → Ends q → (ts rest : List Leaf) (t : Syntax) (b : Bool) →
+      cond b (p ts) (q ts) ≡ Got t rest → begins (is terminals.Else) rest ≡ true → closed t ≡ true
   ends_choose_at h k ts rest t true e b = h ts rest t e b
   ends_choose_at h k ts rest t false e b = k ts rest t e b
 
   ends_choose : Ends p → Ends q → Ends (choose test p q)
   ends_choose h k = λ ts rest t e b. ends_choose_at h k ts rest t (begins test ts) e b
 
-ends_last_at : (p : Reader Syntax) (a : Syntax) → Ends p → (ts rest : List Leaf) (t : Syntax) (b : Bool) → begins (is terminals.Else) ts ≡ b → cond b (p ts) (done a ts) ≡ Got t rest → begins (is terminals.Else) rest ≡ true → closed t ≡ true
+ends_last_at : (p : Reader Syntax) (a : Syntax) → Ends p → (ts rest : List Leaf) (t : Syntax) (b : Bool) →
+    begins (is terminals.Else) ts ≡ b → cond b (p ts) (done a ts) ≡ Got t rest →
+    begins (is terminals.Else) rest ≡ true → closed t ≡ true
 ends_last_at p a h ts rest t true q e b = h ts rest t e b
 ends_last_at p a h ts rest t false q e b =
-    let s : begins (is terminals.Else) ts ≡ begins (is terminals.Else) rest = ap (begins (is terminals.Else)) (got_same a t ts rest e).1 in
+    let s : begins (is terminals.Else) ts ≡ begins (is terminals.Else) rest =
+    ap (begins (is terminals.Else)) (got_same a t ts rest e).1 in
     absurd cc
 
 ends_last : (p : Reader Syntax) (a : Syntax) → Ends p → Ends (choose (is terminals.Else) p (done a))
@@ -69,10 +79,12 @@ joined_twice (more t f) g s = rw (not_empty f g s) (joined_twice f g s)
     not_empty none g s = last_empty g s
     not_empty (more t f) g s = refl
 
-pub for_closed : (f o : Spot) (d : Syntax) (ts : Forest) (s : Spot) (us : Forest) (c : Spot) (b : Syntax) → closed (for_node f o d ts s us c b) ≡ closed b
+pub for_closed : (f o : Spot) (d : Syntax) (ts : Forest) (s : Spot) (us : Forest) (c : Spot) (b : Syntax) →
+    closed (for_node f o d ts s us c b) ≡ closed b
 for_closed f o d ts s us c b = joined_twice (more d ts) us b
 
-pub for_ends : (f o : Spot) (d : Syntax) (ts : Forest) (s : Spot) (us : Forest) (c : Spot) (b : Syntax) → closed b ≡ true → closed (for_node f o d ts s us c b) ≡ true
+pub for_ends : (f o : Spot) (d : Syntax) (ts : Forest) (s : Spot) (us : Forest) (c : Spot) (b : Syntax) →
+    closed b ≡ true → closed (for_node f o d ts s us c b) ≡ true
 for_ends f o d ts s us c b h = for_closed f o d ts s us c b ∙ h
 
 module _ (low : Readers) (ends : Ends low.statement) where
@@ -126,9 +138,11 @@ module _ (low : Readers) (ends : Ends low.statement) where
 
   pub ends_statement : Ends (statement_of low)
   unfolding statement_of labelled leaving
-  ends_statement = ends_choose _ _ _ ends_block (ends_choose _ _ _ ends_if (ends_choose _ _ _ ends_while (ends_choose _ _ _ ends_do (ends_choose _ _ _ ends_for
+  ends_statement = ends_choose _ _ _ ends_block
+      (ends_choose _ _ _ ends_if (ends_choose _ _ _ ends_while (ends_choose _ _ _ ends_do (ends_choose _ _ _ ends_for
       (ends_choose _ _ _ ends_switch (ends_choose _ _ _ ends_case (ends_choose _ _ _ ends_default
-      (ends_choose _ _ _ ends_break (ends_choose _ _ _ ends_continue (ends_choose _ _ _ ends_return ends_simple))))))))))
+      (ends_choose _ _ _ ends_break (ends_choose _ _ _ ends_continue
+      (ends_choose _ _ _ ends_return ends_simple))))))))))
 
 pub no_room_ends : (test : Terminal → Bool) → Ends (no_room test)
 no_room_ends test = ends_choose test deep wrong (λ ts rest t e b. absurd cc) (λ ts rest t e b. absurd cc)

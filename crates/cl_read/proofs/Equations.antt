@@ -4,7 +4,9 @@ use Rattle.cl_tree.specs.declared.terminal.Leaf.{Leaf}
 use Rattle.cl_tree.specs.declared.terminal.Terminal.TheVariants as terminals
 use Rattle.cl_tree.specs.Precedence.{joins}
 use Rattle.cl_read.specs.Starts.{starts_expression, starts_simple, starts_statement, starts_type, starts_declarator}
-use Rattle.cl_read.specs.Reading.{readers, after, is, no_room, chain, space_of, star_of, type_of, declare_of, declarator_of, initializers_of, block_of, simple_of, statement_of, expr_of, expr_step, assign_of, cond_of, level_of, level_step, cast_of, unary_of}
+use Rattle.cl_read.specs.Reading.{readers, after, is, no_room, chain, space_of, star_of, type_of, declare_of}
+use Rattle.cl_read.specs.Reading.{declarator_of, initializers_of, block_of, simple_of, statement_of, expr_of}
+use Rattle.cl_read.specs.Reading.{expr_step, assign_of, cond_of, level_of, level_step, cast_of, unary_of}
 
 above : (b : ℕ) → 0 < b → b ≡ suc (b - 1)
 above b h = omega arith
@@ -53,7 +55,8 @@ pub none_initializers : (ts : List Leaf) → (readers 0).initializers ts ≡ no_
 unfolding readers
 none_initializers ts = refl
 
-pub open_initializers : (b : ℕ) (ts : List Leaf) → 0 < b → (readers b).initializers ts ≡ initializers_of (readers (b - 1)) ts
+pub open_initializers : (b : ℕ) (ts : List Leaf) → 0 < b →
+    (readers b).initializers ts ≡ initializers_of (readers (b - 1)) ts
 unfolding readers
 open_initializers b ts h = ap (λ n. (readers n).initializers ts) (above b h)
 
@@ -125,18 +128,58 @@ pub open_level_first : (b : ℕ) (ts : List Leaf) → 0 < b → (readers b).leve
 unfolding readers level_of
 open_level_first b ts h = ap (λ n. (readers n).level 0 ts) (above b h) ∙ ap (λ n. (readers n).cast ts) (sym (above b h))
 
-pub open_level_next : (b k : ℕ) (ts : List Leaf) → 0 < b → 0 < k → (readers b).level k ts ≡ after ((readers b).level (k - 1) ts) (λ l. chain (b - 1) (joins (k - 1)) (level_step (b - 1) (readers (b - 1)) (k - 1)) (b - 1) l)
+pub open_level_next : (b k : ℕ) (ts : List Leaf) → 0 < b → 0 < k →
+    (readers b).level k ts ≡ after ((readers b).level (k - 1) ts)
+    (λ l. chain (b - 1) (joins (k - 1)) (level_step (b - 1) (readers (b - 1)) (k - 1)) (b - 1) l)
 unfolding readers level_of
 open_level_next b k ts h d =
     ap (λ n. (readers n).level k ts) (above b h) ∙ ap (λ j. level_of (b - 1) (readers (b - 1)) j ts) (above k d)
-    ∙ ap (λ n. after ((readers n).level (k - 1) ts) (λ l. chain (b - 1) (joins (k - 1)) (level_step (b - 1) (readers (b - 1)) (k - 1)) (b - 1) l)) (sym (above b h))
+    ∙ ap (λ n. after ((readers n).level (k - 1) ts)
+    (λ l. chain (b - 1) (joins (k - 1)) (level_step (b - 1) (readers (b - 1)) (k - 1)) (b - 1) l))
+    (sym (above b h))
 
 pub level_top : (b : ℕ) (ts : List Leaf) → 0 < b → level_of (b - 1) (readers (b - 1)) 10 ts ≡ (readers b).level 10 ts
 unfolding readers
 level_top b ts h = ap (λ n. (readers n).level 10 ts) (sym (above b h))
 
-pub open_expr : (b : ℕ) (ts : List Leaf) → 0 < b → (readers b).expr ts ≡ after ((readers b).assign ts) (λ l. chain (b - 1) (is terminals.Comma) (expr_step (b - 1) (readers (b - 1))) (b - 1) l)
+pub open_expr : (b : ℕ) (ts : List Leaf) → 0 < b →
+    (readers b).expr ts ≡ after ((readers b).assign ts)
+    (λ l. chain (b - 1) (is terminals.Comma) (expr_step (b - 1) (readers (b - 1))) (b - 1) l)
 unfolding readers expr_of
-open_expr b ts h = ap (λ n. (readers n).expr ts) (above b h) ∙ ap (λ n. after ((readers n).assign ts) (λ l. chain (b - 1) (is terminals.Comma) (expr_step (b - 1) (readers (b - 1))) (b - 1) l)) (sym (above b h))
+open_expr b ts h = ap (λ n. (readers n).expr ts) (above b h) ∙
+    ap (λ n. after ((readers n).assign ts)
+    (λ l. chain (b - 1) (is terminals.Comma) (expr_step (b - 1) (readers (b - 1))) (b - 1) l)) (sym (above b h))
 
-pub ruleset equations = (none_space, open_space, none_star, open_star, none_type, open_type, none_declare, open_declare, none_declarator, open_declarator, none_initializers, open_initializers, none_block, open_block, none_simple, open_simple, none_statement, open_statement, none_expr, none_assign, open_assign, none_cond, open_cond, none_cast, open_cast, none_unary, open_unary, none_level, open_level_first, open_level_next, open_expr)
+pub ruleset equations = (
+  none_space,
+  open_space,
+  none_star,
+  open_star,
+  none_type,
+  open_type,
+  none_declare,
+  open_declare,
+  none_declarator,
+  open_declarator,
+  none_initializers,
+  open_initializers,
+  none_block,
+  open_block,
+  none_simple,
+  open_simple,
+  none_statement,
+  open_statement,
+  none_expr,
+  none_assign,
+  open_assign,
+  none_cond,
+  open_cond,
+  none_cast,
+  open_cast,
+  none_unary,
+  open_unary,
+  none_level,
+  open_level_first,
+  open_level_next,
+  open_expr,
+)

@@ -6,7 +6,11 @@ use Rattle.cl_tree.specs.declared.terminal.Leaf.{Leaf}
 use Rattle.cl_tree.specs.Precedence.{prefixes, qualifies}
 use Rattle.cl_tree.specs.Syntax.{Syntax}
 use Rattle.cl_read.specs.Starts.{starts_expression, starts_simple, starts_statement, starts_type, starts_declarator}
-use Rattle.cl_read.specs.Reading.{Got, Wrong, Deep, Reader, begins, is, eat_in, eat, empty, qualifiers, qualifier_of, core_of, base_of, space_of, star_of, behind_of, type_of, declarator_of, declare_of, initializers_of, block_of, simple_of, leaving, labelled, statement_of, primary_of, operand_of, unary_of, cast_of, level_of, cond_of, assign_of, expr_of, Readers, no_room, readers}
+use Rattle.cl_read.specs.Reading.{Got, Wrong, Deep, Reader, begins, is, eat_in, eat, empty, qualifiers, qualifier_of}
+use Rattle.cl_read.specs.Reading.{core_of, base_of, space_of, star_of, behind_of, type_of, declarator_of, declare_of}
+use Rattle.cl_read.specs.Reading.{initializers_of, block_of, simple_of, leaving, labelled, statement_of, primary_of}
+use Rattle.cl_read.specs.Reading.{operand_of, unary_of, cast_of, level_of, cond_of, assign_of, expr_of, Readers}
+use Rattle.cl_read.specs.Reading.{no_room, readers}
 use Rattle.cl_read.proofs.Tails.{absent, included}
 use Rattle.cl_read.proofs.ListRules.{all_stops}
 use Rattle.cl_read.proofs.Below.{Meets, Below, below_self, AllBelow, below_above}
@@ -63,13 +67,16 @@ module _ (ts : List Leaf) (none_ : begins starts_type ts ≡ false) where
       let b : begins (is terminals.Sign) ts ≡ false = absent starts_type terminals.Sign refl ts none_ in
       let c : begins (is terminals.Char) ts ≡ false = absent starts_type terminals.Char refl ts none_ in
       let d : begins (is terminals.Int) ts ≡ false = absent starts_type terminals.Int refl ts none_ in
-      let e : eat terminals.Length ts ≡ Wrong (length ts) = eat_wrong (is terminals.Length) ts (absent starts_type terminals.Length refl ts none_) in
+      let e : eat terminals.Length ts ≡ Wrong (length ts) =
+      eat_wrong (is terminals.Length) ts (absent starts_type terminals.Length refl ts none_) in
       rw (a, b, c, d, e) refl
 
   type_wrong : (low : Readers) → type_of low ts ≡ Wrong (length ts)
   unfolding type_of behind_of
   type_wrong low =
-      let a : qualifiers false ts ≡ Got empty ts = all_stops (qualifies false) (qualifier_of false) ts (included starts_type (qualifies false) qualifier_of_none ts none_) in
+      let a : qualifiers false ts ≡ Got empty ts =
+      all_stops (qualifies false) (qualifier_of false) ts
+      (included starts_type (qualifies false) qualifier_of_none ts none_) in
       let b : begins (is terminals.Space) ts ≡ false = absent starts_type terminals.Space refl ts none_ in
       rw (a, b, base_wrong) refl
 
@@ -82,11 +89,13 @@ module _ (ts : List Leaf) (none_ : begins starts_type ts ≡ false) where
   unfolding declare_of
   declare_wrong n = rw (readers_type n) refl
 
-declarator_wrong : (low : Readers) (ts : List Leaf) → begins starts_declarator ts ≡ false → declarator_of low ts ≡ Wrong (length ts)
+declarator_wrong : (low : Readers) (ts : List Leaf) → begins starts_declarator ts ≡ false →
+    declarator_of low ts ≡ Wrong (length ts)
 unfolding declarator_of
 declarator_wrong low ts e =
     let a : begins (is terminals.Star) ts ≡ false = absent starts_declarator terminals.Star refl ts e in
-    let b : eat terminals.Name ts ≡ Wrong (length ts) = eat_wrong (is terminals.Name) ts (absent starts_declarator terminals.Name refl ts e) in
+    let b : eat terminals.Name ts ≡ Wrong (length ts) =
+    eat_wrong (is terminals.Name) ts (absent starts_declarator terminals.Name refl ts e) in
     rw (a, b) refl
 
 space_wrong : (ts : List Leaf) → begins (is terminals.Space) ts ≡ false → space_of ts ≡ Wrong (length ts)
@@ -97,11 +106,13 @@ star_wrong : (ts : List Leaf) → begins (is terminals.Star) ts ≡ false → st
 unfolding star_of
 star_wrong ts e = rw (eat_wrong (is terminals.Star) ts e) refl
 
-initializers_wrong : (low : Readers) (ts : List Leaf) → begins (is terminals.OpenBrace) ts ≡ false → initializers_of low ts ≡ Wrong (length ts)
+initializers_wrong : (low : Readers) (ts : List Leaf) → begins (is terminals.OpenBrace) ts ≡ false →
+    initializers_of low ts ≡ Wrong (length ts)
 unfolding initializers_of
 initializers_wrong low ts e = rw (eat_wrong (is terminals.OpenBrace) ts e) refl
 
-block_wrong : (low : Readers) (ts : List Leaf) → begins (is terminals.OpenBrace) ts ≡ false → block_of low ts ≡ Wrong (length ts)
+block_wrong : (low : Readers) (ts : List Leaf) → begins (is terminals.OpenBrace) ts ≡ false →
+    block_of low ts ≡ Wrong (length ts)
 unfolding block_of
 block_wrong low ts e = rw (eat_wrong (is terminals.OpenBrace) ts e) refl
 
@@ -116,16 +127,19 @@ module _ (n : ℕ) (low : Readers) (ts : List Leaf) (none_ : begins starts_expre
       let c : begins (is terminals.Sizeof) ts ≡ false = absent starts_expression terminals.Sizeof refl ts none_ in
       let d : begins (is terminals.Name) ts ≡ false = absent starts_expression terminals.Name refl ts none_ in
       let e : begins (is terminals.Truth) ts ≡ false = absent starts_expression terminals.Truth refl ts none_ in
-      let f : eat terminals.Number ts ≡ Wrong (length ts) = eat_wrong (is terminals.Number) ts (absent starts_expression terminals.Number refl ts none_) in
+      let f : eat terminals.Number ts ≡ Wrong (length ts) =
+      eat_wrong (is terminals.Number) ts (absent starts_expression terminals.Number refl ts none_) in
       rw (a, b, c, d, e, f) refl
 
   unary_wrong : unary_of n low ts ≡ Wrong (length ts)
   unfolding unary_of
-  unary_wrong = let a : begins (is terminals.Open) ts ≡ false = absent starts_expression terminals.Open refl ts none_ in rw (a, operand_wrong) refl
+  unary_wrong = let a : begins (is terminals.Open) ts ≡ false =
+      absent starts_expression terminals.Open refl ts none_ in rw (a, operand_wrong) refl
 
   cast_wrong : cast_of n low ts ≡ Wrong (length ts)
   unfolding cast_of
-  cast_wrong = let a : begins (is terminals.Open) ts ≡ false = absent starts_expression terminals.Open refl ts none_ in rw (a, operand_wrong) refl
+  cast_wrong = let a : begins (is terminals.Open) ts ≡ false =
+      absent starts_expression terminals.Open refl ts none_ in rw (a, operand_wrong) refl
 
   level_wrong : (k : ℕ) → level_of n low k ts ≡ Wrong (length ts)
   unfolding level_of
@@ -155,10 +169,12 @@ simple_wrong : (n : ℕ) (ts : List Leaf) → begins starts_simple ts ≡ false 
 unfolding simple_of
 simple_wrong n ts e =
     let a : begins (is terminals.Semicolon) ts ≡ false = absent starts_simple terminals.Semicolon refl ts e in
-    let b : (readers n).expr ts ≡ Wrong (length ts) = readers_expr n ts (included starts_simple starts_expression expression_of_simple ts e) in
+    let b : (readers n).expr ts ≡ Wrong (length ts) =
+    readers_expr n ts (included starts_simple starts_expression expression_of_simple ts e) in
     rw (a, b) refl
 
-statement_wrong : (n : ℕ) (ts : List Leaf) → begins starts_statement ts ≡ false → statement_of (readers n) ts ≡ Wrong (length ts)
+statement_wrong : (n : ℕ) (ts : List Leaf) → begins starts_statement ts ≡ false →
+    statement_of (readers n) ts ≡ Wrong (length ts)
 unfolding statement_of labelled leaving
 statement_wrong n ts e =
     let a : begins (is terminals.OpenBrace) ts ≡ false = absent starts_statement terminals.OpenBrace refl ts e in
@@ -172,12 +188,14 @@ statement_wrong n ts e =
     let j : begins (is terminals.Break) ts ≡ false = absent starts_statement terminals.Break refl ts e in
     let k : begins (is terminals.Continue) ts ≡ false = absent starts_statement terminals.Continue refl ts e in
     let l : begins (is terminals.Return) ts ≡ false = absent starts_statement terminals.Return refl ts e in
-    let m : simple_of (readers n) ts ≡ Wrong (length ts) = simple_wrong n ts (included starts_statement starts_simple simple_of_statement ts e) in
+    let m : simple_of (readers n) ts ≡ Wrong (length ts) =
+    simple_wrong n ts (included starts_statement starts_simple simple_of_statement ts e) in
     rw (a, b, c, d, f, g, h, i, j, k, l, m) refl
 
 -- ---- all of them
 
-below_no_room : (test : Terminal → Bool) (q : Reader Syntax) → ((ts : List Leaf) → begins test ts ≡ false → q ts ≡ Wrong (length ts)) → Below (no_room test) q
+below_no_room : (test : Terminal → Bool) (q : Reader Syntax) →
+    ((ts : List Leaf) → begins test ts ≡ false → q ts ≡ Wrong (length ts)) → Below (no_room test) q
 below_no_room test q h ts = go (begins test ts) refl
   where
     go : (b : Bool) → begins test ts ≡ b → Meets (cond b (Deep (length ts)) (Wrong (length ts))) (q ts)

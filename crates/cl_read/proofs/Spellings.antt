@@ -7,7 +7,8 @@ use Rattle.cl_tree.specs.declared.terminal.Terminal.{Terminal}
 use Rattle.cl_tree.specs.declared.terminal.Terminal.TheVariants as terminals
 use Rattle.cl_tree.specs.declared.terminal.Leaf.{Leaf}
 use Rattle.cl_tree.specs.Nodes.{tok}
-use Rattle.cl_tree.specs.Words.{terminal_of, control_word_of, declaration_word_of, space_word_of, base_word_of, outside_word_of, vector_word_of, bracket_of, operator_of, assignment_of}
+use Rattle.cl_tree.specs.Words.{terminal_of, control_word_of, declaration_word_of, space_word_of, base_word_of}
+use Rattle.cl_tree.specs.Words.{outside_word_of, vector_word_of, bracket_of, operator_of, assignment_of}
 use Rattle.cl_tree.specs.Leaves.{leaves_of}
 use Rattle.cl_read.proofs.Tails.{spelling, spot, leaves_at}
 
@@ -42,7 +43,8 @@ kind_of terminals.Step = kinds.Mark
 kind_of _ = kinds.Name
 
 spelled_so : (j : Terminal) → terminal_of (kind_of j) (spelling j) ≡ j
-unfolding terminal_of control_word_of declaration_word_of space_word_of base_word_of outside_word_of vector_word_of bracket_of operator_of assignment_of
+unfolding terminal_of control_word_of declaration_word_of space_word_of base_word_of outside_word_of vector_word_of
+    bracket_of operator_of assignment_of
 spelled_so terminals.Name = refl
 spelled_so terminals.Number = refl
 spelled_so terminals.Truth = refl
@@ -104,4 +106,5 @@ pub leaves_are : (k : ℕ) (js : List Terminal) → leaves_at k js ≡ leaves_of
 leaves_are k [] = refl
 leaves_are k (j ∷ js) =
     ap (λ (l : List Leaf). tok j (spot j k) ∷ l) (leaves_are (suc k) js)
-    ∙ ap (λ (t : Terminal). record { number = k; terminal = t; word = spelling j } ∷ leaves_of (suc k) (map token_at js)) (sym (spelled_so j))
+    ∙ ap (λ (t : Terminal). record { number = k; terminal = t; word = spelling j } ∷
+    leaves_of (suc k) (map token_at js)) (sym (spelled_so j))

@@ -1,5 +1,6 @@
 -- Terminals one by one, and tokens to complete a phrase with.
-use Rattle.std.proofs.Common.{◌≡◌, ℕ, suc, ◌+◌, Bool, true, false, List, [], ◌∷◌, ◌++◌, length, get_or, refl, sym, ap, ◌∙◌, arith}
+use Rattle.std.proofs.Common.{◌≡◌, ℕ, suc, ◌+◌, Bool, true, false, List, [], ◌∷◌, ◌++◌, length, get_or, refl, sym, ap}
+use Rattle.std.proofs.Common.{◌∙◌, arith}
 use Rattle.std.specs.Prelude.{codes}
 use Rattle.std.proofs.lemmas.Bool.{eqb-true}
 use Rattle.cl_tree.specs.declared.terminal.Terminal.{Terminal}
@@ -10,7 +11,16 @@ use Rattle.cl_read.specs.Starts.{code, same}
 use Rattle.cl_read.specs.Reading.{begins, is}
 
 abbrev in_order : List Terminal
-in_order = terminals.Name ∷ terminals.Number ∷ terminals.Truth ∷ terminals.HeadWord ∷ terminals.Attribute ∷ terminals.AttributeName ∷ terminals.Void ∷ terminals.TypeWord ∷ terminals.Sign ∷ terminals.Char ∷ terminals.Int ∷ terminals.Length ∷ terminals.Qualifier ∷ terminals.Restrict ∷ terminals.Space ∷ terminals.If ∷ terminals.Else ∷ terminals.While ∷ terminals.Do ∷ terminals.For ∷ terminals.Switch ∷ terminals.Case ∷ terminals.Default ∷ terminals.Break ∷ terminals.Continue ∷ terminals.Return ∷ terminals.Sizeof ∷ terminals.OpenBrace ∷ terminals.CloseBrace ∷ terminals.Open ∷ terminals.Close ∷ terminals.OpenBracket ∷ terminals.CloseBracket ∷ terminals.Semicolon ∷ terminals.Comma ∷ terminals.Colon ∷ terminals.Question ∷ terminals.Equals ∷ terminals.Compound ∷ terminals.OrOr ∷ terminals.AndAnd ∷ terminals.Bar ∷ terminals.Caret ∷ terminals.Ampersand ∷ terminals.Equality ∷ terminals.Relation ∷ terminals.Shift ∷ terminals.PlusMinus ∷ terminals.Star ∷ terminals.Slash ∷ terminals.Tilde ∷ terminals.Step ∷ terminals.Other ∷ []
+in_order = terminals.Name ∷ terminals.Number ∷ terminals.Truth ∷ terminals.HeadWord ∷ terminals.Attribute ∷
+    terminals.AttributeName ∷ terminals.Void ∷ terminals.TypeWord ∷ terminals.Sign ∷ terminals.Char ∷ terminals.Int ∷
+    terminals.Length ∷ terminals.Qualifier ∷ terminals.Restrict ∷ terminals.Space ∷ terminals.If ∷ terminals.Else ∷
+    terminals.While ∷ terminals.Do ∷ terminals.For ∷ terminals.Switch ∷ terminals.Case ∷ terminals.Default ∷
+    terminals.Break ∷ terminals.Continue ∷ terminals.Return ∷ terminals.Sizeof ∷ terminals.OpenBrace ∷
+    terminals.CloseBrace ∷ terminals.Open ∷ terminals.Close ∷ terminals.OpenBracket ∷ terminals.CloseBracket ∷
+    terminals.Semicolon ∷ terminals.Comma ∷ terminals.Colon ∷ terminals.Question ∷ terminals.Equals ∷
+    terminals.Compound ∷ terminals.OrOr ∷ terminals.AndAnd ∷ terminals.Bar ∷ terminals.Caret ∷ terminals.Ampersand ∷
+    terminals.Equality ∷ terminals.Relation ∷ terminals.Shift ∷ terminals.PlusMinus ∷ terminals.Star ∷
+    terminals.Slash ∷ terminals.Tilde ∷ terminals.Step ∷ terminals.Other ∷ []
 
 terminal_back : (j : Terminal) → get_or in_order (code j) terminals.Name ≡ j
 terminal_back terminals.Name = refl
@@ -68,12 +78,14 @@ terminal_back terminals.Step = refl
 terminal_back terminals.Other = refl
 
 pub same_terminal : (a b : Terminal) → same a b ≡ true → a ≡ b
-same_terminal a b h = sym (terminal_back a) ∙ ap (λ n. get_or in_order n terminals.Name) (eqb-true (code a) (code b) h) ∙ terminal_back b
+same_terminal a b h =
+    sym (terminal_back a) ∙ ap (λ n. get_or in_order n terminals.Name) (eqb-true (code a) (code b) h) ∙ terminal_back b
 
 -- ---- what a token is not
 
 -- a token that begins something is none of a terminal that can't
-pub not_begun : (test : Terminal → Bool) (k : Terminal) → test k ≡ false → (ts : List Leaf) → begins test ts ≡ true → begins (is k) ts ≡ false
+pub not_begun : (test : Terminal → Bool) (k : Terminal) → test k ≡ false → (ts : List Leaf) → begins test ts ≡ true →
+    begins (is k) ts ≡ false
 not_begun test k n [] b = refl
 not_begun test k n (i ∷ ts) b = go (same i.terminal k) refl
   where
@@ -82,7 +94,8 @@ not_begun test k n (i ∷ ts) b = go (same i.terminal k) refl
     go true e = let q : i.terminal ≡ k = same_terminal i.terminal k e in absurd cc
 
 -- nor does a list begin with a terminal, where the test says that it does not begin so
-pub absent : (test : Terminal → Bool) (k : Terminal) → test k ≡ true → (ts : List Leaf) → begins test ts ≡ false → begins (is k) ts ≡ false
+pub absent : (test : Terminal → Bool) (k : Terminal) → test k ≡ true → (ts : List Leaf) → begins test ts ≡ false →
+    begins (is k) ts ≡ false
 absent test k n [] b = refl
 absent test k n (i ∷ ts) b = go (same i.terminal k) refl
   where
@@ -91,11 +104,13 @@ absent test k n (i ∷ ts) b = go (same i.terminal k) refl
     go true e = let q : i.terminal ≡ k = same_terminal i.terminal k e in absurd cc
 
 -- two tests of which one excludes the other, or contains it
-pub excluded : (a b : Terminal → Bool) → ((j : Terminal) → a j ≡ true → b j ≡ false) → (ts : List Leaf) → begins a ts ≡ true → begins b ts ≡ false
+pub excluded : (a b : Terminal → Bool) → ((j : Terminal) → a j ≡ true → b j ≡ false) → (ts : List Leaf) →
+    begins a ts ≡ true → begins b ts ≡ false
 excluded a b h [] e = refl
 excluded a b h (i ∷ ts) e = h i.terminal e
 
-pub included : (a b : Terminal → Bool) → ((j : Terminal) → b j ≡ true → a j ≡ true) → (ts : List Leaf) → begins a ts ≡ false → begins b ts ≡ false
+pub included : (a b : Terminal → Bool) → ((j : Terminal) → b j ≡ true → a j ≡ true) → (ts : List Leaf) →
+    begins a ts ≡ false → begins b ts ≡ false
 included a b h [] e = refl
 included a b h (i ∷ ts) e = go (b i.terminal) refl
   where

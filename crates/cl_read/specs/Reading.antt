@@ -7,8 +7,14 @@ use Rattle.cl_tree.specs.declared.tree.Form.{Form}
 use Rattle.cl_tree.specs.declared.tree.Form.TheVariants as forms
 use Rattle.cl_tree.specs.Precedence.{joins, form_of, assigns, prefixes, qualifies}
 use Rattle.cl_tree.specs.Syntax.{Syntax, node, Forest, none, more, joined, nesting}
-use Rattle.cl_tree.specs.Nodes.{Spot, word_node, alone_node, pair_node, unit_node, function_node, prototype_node, attribute_node, params_node, param_node, type_node, type_front_node, type_behind_node, star_node, declare_node, declarator_node, declarator_set_node, list_node, block_node, simple_node, if_node, if_else_node, while_node, do_node, for_node, switch_node, case_node, default_node, leave_node, cond_node, cast_node, prefix_node, sizeof_node, index_node, step_node, call_node, paren_node}
-use Rattle.cl_read.specs.Starts.{same, starts_expression, starts_simple, starts_statement, starts_type, starts_core, starts_declarator, starts_head, postfixes}
+use Rattle.cl_tree.specs.Nodes.{Spot, word_node, alone_node, pair_node, unit_node, function_node, prototype_node}
+use Rattle.cl_tree.specs.Nodes.{attribute_node, params_node, param_node, type_node, type_front_node, type_behind_node}
+use Rattle.cl_tree.specs.Nodes.{star_node, declare_node, declarator_node, declarator_set_node, list_node, block_node}
+use Rattle.cl_tree.specs.Nodes.{simple_node, if_node, if_else_node, while_node, do_node, for_node, switch_node}
+use Rattle.cl_tree.specs.Nodes.{case_node, default_node, leave_node, cond_node, cast_node, prefix_node, sizeof_node}
+use Rattle.cl_tree.specs.Nodes.{index_node, step_node, call_node, paren_node}
+use Rattle.cl_read.specs.Starts.{same, starts_expression, starts_simple, starts_statement, starts_type, starts_core}
+use Rattle.cl_read.specs.Starts.{starts_declarator, starts_head, postfixes}
 
 -- What reading gives: a value and the tokens behind it, or the place of a fault, as the number of tokens from it on.
 pub data Out (A : Type 0) : Type 0 where
@@ -53,7 +59,8 @@ abbrev pub within : {A : Type 0} → Bool → Reader A → Reader A
 within b p = λ ts. cond b (p ts) (Deep (length ts))
 
 abbrev pub eat_one : (Terminal → Bool) → Leaf → List Leaf → Out Spot
-eat_one test i ts = cond (test i.terminal) (Got (record { number = i.number; word = i.word }) ts) (Wrong (suc (length ts)))
+eat_one test i ts =
+    cond (test i.terminal) (Got (record { number = i.number; word = i.word }) ts) (Wrong (suc (length ts)))
 
 -- a token that passes the test
 abbrev pub eat_in : (Terminal → Bool) → Reader Spot
@@ -67,7 +74,8 @@ eat k = eat_in (is k)
 -- what there is must stay within the room
 unfoldable pub chain : ℕ → (Terminal → Bool) → (Syntax → Reader Syntax) → ℕ → Syntax → Reader Syntax
 chain room test step zero l = choose test deep (done l)
-chain room test step (suc n) l = choose test (within (nat_le (nesting l) room) (step l >>= chain room test step n)) (done l)
+chain room test step (suc n) l =
+    choose test (within (nat_le (nesting l) room) (step l >>= chain room test step n)) (done l)
 
 -- a list's own tokens, and its trees
 pub record Listing : Type 0 where
@@ -84,7 +92,8 @@ appended a b = record { own = a.own ++ b.own; parts = joined a.parts b.parts }
 -- many there can be.
 unfoldable pub list_of : (Terminal → Bool) → Reader (Bool × Listing) → ℕ → Reader Listing
 list_of test p zero = choose test deep (done empty)
-list_of test p (suc n) = choose test (p >>= λ a. cond a.0 (list_of test p n >>= λ l. done (appended a.1 l)) (done a.1)) (done empty)
+list_of test p (suc n) =
+    choose test (p >>= λ a. cond a.0 (list_of test p n >>= λ l. done (appended a.1 l)) (done a.1)) (done empty)
 
 unfoldable pub all_of : (Terminal → Bool) → Reader (Bool × Listing) → Reader Listing
 all_of test p ts = list_of test p (length ts) ts
@@ -141,8 +150,10 @@ abbrev pub qualifiers : Bool → Reader Listing
 qualifiers b = all_of (qualifies b) (qualifier_of b)
 
 unfoldable pub core_of : Reader (List Spot)
-core_of = choose (is terminals.Char) (eat terminals.Char >>= λ m. done (m ∷ [])) (choose (is terminals.Int) (eat terminals.Int >>= λ m. done (m ∷ []))
-    (eat terminals.Length >>= λ m. choose (is terminals.Int) (eat terminals.Int >>= λ i. done (m ∷ i ∷ [])) (done (m ∷ []))))
+core_of = choose (is terminals.Char) (eat terminals.Char >>= λ m. done (m ∷ []))
+    (choose (is terminals.Int) (eat terminals.Int >>= λ m. done (m ∷ []))
+    (eat terminals.Length >>= λ m. choose (is terminals.Int) (eat terminals.Int >>= λ i. done (m ∷ i ∷ []))
+    (done (m ∷ []))))
 
 unfoldable pub base_of : Reader (List Spot)
 base_of = choose (is terminals.TypeWord) (eat terminals.TypeWord >>= λ m. done (m ∷ [])) (choose (is terminals.Sign)
@@ -158,10 +169,12 @@ star_of = eat terminals.Star >>= λ o. qualifiers true >>= λ a. done (star_node
 module _ (low : Readers) where
   -- behind the words before a space word, and behind those before a base
   unfoldable pub front_of : List Spot → Reader Syntax
-  front_of a = low.space >>= λ s. qualifiers false >>= λ b. base_of >>= λ d. qualifiers false >>= λ c. done (type_front_node a s b.own d c.own)
+  front_of a = low.space >>= λ s. qualifiers false >>= λ b. base_of >>= λ d. qualifiers false >>= λ c.
+      done (type_front_node a s b.own d c.own)
 
   unfoldable pub behind_of : List Spot → Reader Syntax
-  behind_of a = base_of >>= λ d. qualifiers false >>= λ b. choose (is terminals.Space) (low.space >>= λ s. qualifiers false >>= λ c. done (type_behind_node a d b.own s c.own)) (done (type_node (a ++ (d ++ b.own))))
+  behind_of a = base_of >>= λ d. qualifiers false >>= λ b. choose (is terminals.Space) (low.space >>= λ s.
+      qualifiers false >>= λ c. done (type_behind_node a d b.own s c.own)) (done (type_node (a ++ (d ++ b.own))))
 
   unfoldable pub type_of : Reader Syntax
   type_of = qualifiers false >>= λ a. choose (is terminals.Space) (front_of a.own) (behind_of a.own)
@@ -169,30 +182,41 @@ module _ (low : Readers) where
   -- ---- declarations
 
   unfoldable pub dimension_of : Reader (Bool × Listing)
-  dimension_of = eat terminals.OpenBracket >>= λ o. unless (is terminals.CloseBracket) low.cond' >>= λ ts. eat terminals.CloseBracket >>= λ c. done (true, record { own = o ∷ c ∷ []; parts = ts })
+  dimension_of = eat terminals.OpenBracket >>= λ o. unless (is terminals.CloseBracket) low.cond' >>= λ ts.
+      eat terminals.CloseBracket >>= λ c. done (true, record { own = o ∷ c ∷ []; parts = ts })
 
   unfoldable pub init_of : Reader Syntax
   init_of = choose (is terminals.OpenBrace) low.initializers low.assign
 
   -- a declarator, behind its name
   unfoldable pub declared : Forest → Spot → Reader Syntax
-  declared ss m = all_of (is terminals.OpenBracket) dimension_of >>= λ l. choose (is terminals.Equals) (eat terminals.Equals >>= λ e. init_of >>= λ i. done (declarator_set_node ss m l.own l.parts e i)) (done (declarator_node ss m l.own l.parts))
+  declared ss m = all_of (is terminals.OpenBracket) dimension_of >>= λ l.
+      choose (is terminals.Equals) (eat terminals.Equals >>= λ e. init_of >>= λ i.
+      done (declarator_set_node ss m l.own l.parts e i)) (done (declarator_node ss m l.own l.parts))
 
   unfoldable pub declarator_of : Reader Syntax
   declarator_of = if_begun (is terminals.Star) low.star >>= λ ss. eat terminals.Name >>= λ m. declared ss m
 
   -- a declaration, behind its first declarator
   unfoldable pub declare_rest : Syntax → Syntax → Reader Syntax
-  declare_rest t d = all_of (is terminals.Comma) (behind_comma low.declarator) >>= λ l. eat terminals.Semicolon >>= λ s. done (declare_node t d l.own l.parts s)
+  declare_rest t d = all_of (is terminals.Comma) (behind_comma low.declarator) >>= λ l. eat terminals.Semicolon >>=
+      λ s. done (declare_node t d l.own l.parts s)
 
   unfoldable pub declare_of : Reader Syntax
   declare_of = low.type' >>= λ t. low.declarator >>= λ d. declare_rest t d
 
   unfoldable pub element_of : Reader (Bool × Listing)
-  element_of = eat terminals.Comma >>= λ k. choose (is terminals.CloseBrace) (done (false, record { own = k ∷ []; parts = none })) (low.assign >>= λ t. done (true, record { own = k ∷ []; parts = more t none }))
+  element_of = eat terminals.Comma >>= λ k. choose (is terminals.CloseBrace) (done (
+    false,
+    record { own = k ∷ []; parts = none },
+  )) (low.assign >>= λ t. done (
+    true,
+    record { own = k ∷ []; parts = more t none },
+  ))
 
   unfoldable pub initializers_of : Reader Syntax
-  initializers_of = eat terminals.OpenBrace >>= λ o. low.assign >>= λ t. all_of (is terminals.Comma) element_of >>= λ l. eat terminals.CloseBrace >>= λ c. done (list_node o t l.own l.parts c)
+  initializers_of = eat terminals.OpenBrace >>= λ o. low.assign >>= λ t. all_of (is terminals.Comma) element_of >>=
+      λ l. eat terminals.CloseBrace >>= λ c. done (list_node o t l.own l.parts c)
 
   -- ---- statements
 
@@ -200,62 +224,88 @@ module _ (low : Readers) where
   line_of = choose starts_type low.declare low.statement
 
   unfoldable pub block_of : Reader Syntax
-  block_of = eat terminals.OpenBrace >>= λ o. all_of (λ k. not (same k terminals.CloseBrace)) (each line_of) >>= λ l. eat terminals.CloseBrace >>= λ c. done (block_node o l.parts c)
+  block_of = eat terminals.OpenBrace >>= λ o. all_of (λ k. not (same k terminals.CloseBrace)) (each line_of) >>= λ l.
+      eat terminals.CloseBrace >>= λ c. done (block_node o l.parts c)
 
   unfoldable pub simple_of : Reader Syntax
-  simple_of = unless (is terminals.Semicolon) low.expr >>= λ ts. eat terminals.Semicolon >>= λ s. done (simple_node ts s)
+  simple_of =
+      unless (is terminals.Semicolon) low.expr >>= λ ts. eat terminals.Semicolon >>= λ s. done (simple_node ts s)
 
   unfoldable pub if_of : Reader Syntax
-  if_of = eat terminals.If >>= λ i. eat terminals.Open >>= λ o. low.expr >>= λ e. eat terminals.Close >>= λ c. low.statement >>= λ s. choose (is terminals.Else) (eat terminals.Else >>= λ k. low.statement >>= λ u. done (if_else_node i o e c s k u)) (done (if_node i o e c s))
+  if_of = eat terminals.If >>= λ i. eat terminals.Open >>= λ o. low.expr >>= λ e. eat terminals.Close >>= λ c.
+      low.statement >>= λ s. choose (is terminals.Else) (eat terminals.Else >>= λ k. low.statement >>= λ u.
+      done (if_else_node i o e c s k u)) (done (if_node i o e c s))
 
   unfoldable pub while_of : Reader Syntax
-  while_of = eat terminals.While >>= λ w. eat terminals.Open >>= λ o. low.expr >>= λ e. eat terminals.Close >>= λ c. low.statement >>= λ s. done (while_node w o e c s)
+  while_of = eat terminals.While >>= λ w. eat terminals.Open >>= λ o. low.expr >>= λ e. eat terminals.Close >>= λ c.
+      low.statement >>= λ s. done (while_node w o e c s)
 
   unfoldable pub do_of : Reader Syntax
-  do_of = eat terminals.Do >>= λ d. low.statement >>= λ s. eat terminals.While >>= λ w. eat terminals.Open >>= λ o. low.expr >>= λ e. eat terminals.Close >>= λ c. eat terminals.Semicolon >>= λ m. done (do_node d s w o e c m)
+  do_of = eat terminals.Do >>= λ d. low.statement >>= λ s. eat terminals.While >>= λ w. eat terminals.Open >>= λ o.
+      low.expr >>= λ e. eat terminals.Close >>= λ c. eat terminals.Semicolon >>= λ m. done (do_node d s w o e c m)
 
   unfoldable pub start_of : Reader Syntax
   start_of = choose starts_type low.declare low.simple
 
   unfoldable pub for_of : Reader Syntax
-  for_of = eat terminals.For >>= λ f. eat terminals.Open >>= λ o. start_of >>= λ d. unless (is terminals.Semicolon) low.expr >>= λ ts. eat terminals.Semicolon >>= λ s. unless (is terminals.Close) low.expr >>= λ us. eat terminals.Close >>= λ c. low.statement >>= λ b. done (for_node f o d ts s us c b)
+  for_of = eat terminals.For >>= λ f. eat terminals.Open >>= λ o. start_of >>= λ d.
+      unless (is terminals.Semicolon) low.expr >>= λ ts. eat terminals.Semicolon >>= λ s.
+      unless (is terminals.Close) low.expr >>= λ us. eat terminals.Close >>= λ c. low.statement >>= λ b.
+      done (for_node f o d ts s us c b)
 
   unfoldable pub switch_of : Reader Syntax
-  switch_of = eat terminals.Switch >>= λ w. eat terminals.Open >>= λ o. low.expr >>= λ e. eat terminals.Close >>= λ c. eat terminals.OpenBrace >>= λ b. all_of (λ k. not (same k terminals.CloseBrace)) (each low.statement) >>= λ l. eat terminals.CloseBrace >>= λ d. done (switch_node w o e c b l.parts d)
+  switch_of = eat terminals.Switch >>= λ w. eat terminals.Open >>= λ o. low.expr >>= λ e. eat terminals.Close >>= λ c.
+      eat terminals.OpenBrace >>= λ b. all_of (λ k. not (same k terminals.CloseBrace)) (each low.statement) >>= λ l.
+      eat terminals.CloseBrace >>= λ d. done (switch_node w o e c b l.parts d)
 
   unfoldable pub case_of : Reader Syntax
-  case_of = eat terminals.Case >>= λ w. low.cond' >>= λ e. eat terminals.Colon >>= λ c. low.statement >>= λ s. done (case_node w e c s)
+  case_of = eat terminals.Case >>= λ w. low.cond' >>= λ e. eat terminals.Colon >>= λ c. low.statement >>= λ s.
+      done (case_node w e c s)
 
   unfoldable pub default_of : Reader Syntax
-  default_of = eat terminals.Default >>= λ w. eat terminals.Colon >>= λ c. low.statement >>= λ s. done (default_node w c s)
+  default_of =
+      eat terminals.Default >>= λ w. eat terminals.Colon >>= λ c. low.statement >>= λ s. done (default_node w c s)
 
   unfoldable pub leave_of : Terminal → Form → Reader Syntax
   leave_of k f = eat k >>= λ w. eat terminals.Semicolon >>= λ s. done (leave_node f w none s)
 
   unfoldable pub return_of : Reader Syntax
-  return_of = eat terminals.Return >>= λ w. unless (is terminals.Semicolon) low.expr >>= λ ts. eat terminals.Semicolon >>= λ s. done (leave_node forms.ReturnNode w ts s)
+  return_of = eat terminals.Return >>= λ w. unless (is terminals.Semicolon) low.expr >>= λ ts.
+      eat terminals.Semicolon >>= λ s. done (leave_node forms.ReturnNode w ts s)
 
   unfoldable pub leaving : Reader Syntax
-  leaving = choose (is terminals.Break) (leave_of terminals.Break forms.BreakNode) (choose (is terminals.Continue) (leave_of terminals.Continue forms.ContinueNode) (choose (is terminals.Return) return_of simple_of))
+  leaving = choose (is terminals.Break) (leave_of terminals.Break forms.BreakNode)
+      (choose (is terminals.Continue) (leave_of terminals.Continue forms.ContinueNode)
+      (choose (is terminals.Return) return_of simple_of))
 
   unfoldable pub labelled : Reader Syntax
-  labelled = choose (is terminals.Switch) switch_of (choose (is terminals.Case) case_of (choose (is terminals.Default) default_of leaving))
+  labelled = choose (is terminals.Switch) switch_of
+      (choose (is terminals.Case) case_of (choose (is terminals.Default) default_of leaving))
 
   unfoldable pub statement_of : Reader Syntax
-  statement_of = choose (is terminals.OpenBrace) block_of (choose (is terminals.If) if_of (choose (is terminals.While) while_of (choose (is terminals.Do) do_of (choose (is terminals.For) for_of labelled))))
+  statement_of = choose (is terminals.OpenBrace) block_of
+      (choose (is terminals.If) if_of
+      (choose (is terminals.While) while_of
+      (choose (is terminals.Do) do_of (choose (is terminals.For) for_of labelled))))
 
 -- ---- expressions
 
 module _ (n : ℕ) (low : Readers) where
   unfoldable pub call_of : Spot → Spot → Reader Syntax
-  call_of m o = choose (is terminals.Close) (eat terminals.Close >>= λ c. done (call_node m o [] none c)) (low.assign >>= λ t. all_of (is terminals.Comma) (behind_comma low.assign) >>= λ l. eat terminals.Close >>= λ c. done (call_node m o l.own (more t l.parts) c))
+  call_of m o = choose (is terminals.Close) (eat terminals.Close >>= λ c. done (call_node m o [] none c))
+      (low.assign >>= λ t. all_of (is terminals.Comma) (behind_comma low.assign) >>= λ l. eat terminals.Close >>= λ c.
+      done (call_node m o l.own (more t l.parts) c))
 
   unfoldable pub primary_of : Reader Syntax
-  primary_of = choose (is terminals.Name) (eat terminals.Name >>= λ m. choose (is terminals.Open) (eat terminals.Open >>= λ o. call_of m o) (done (word_node forms.VariableNode m)))
-      (choose (is terminals.Truth) (eat terminals.Truth >>= λ m. done (word_node forms.TruthNode m)) (eat terminals.Number >>= λ m. done (word_node forms.NumberNode m)))
+  primary_of = choose (is terminals.Name) (eat terminals.Name >>= λ m.
+      choose (is terminals.Open) (eat terminals.Open >>= λ o. call_of m o) (done (word_node forms.VariableNode m)))
+      (choose (is terminals.Truth) (eat terminals.Truth >>= λ m. done (word_node forms.TruthNode m))
+      (eat terminals.Number >>= λ m. done (word_node forms.NumberNode m)))
 
   unfoldable pub postfix_step : Syntax → Reader Syntax
-  postfix_step l = choose (is terminals.OpenBracket) (eat terminals.OpenBracket >>= λ o. low.expr >>= λ e. eat terminals.CloseBracket >>= λ c. done (index_node l o e c)) (eat terminals.Step >>= λ m. done (step_node l m))
+  postfix_step l = choose (is terminals.OpenBracket) (eat terminals.OpenBracket >>= λ o. low.expr >>= λ e.
+      eat terminals.CloseBracket >>= λ c. done (index_node l o e c)) (eat terminals.Step >>= λ m.
+      done (step_node l m))
 
   unfoldable pub postfixed : Syntax → Reader Syntax
   postfixed l = chain n postfixes postfix_step n l
@@ -265,14 +315,17 @@ module _ (n : ℕ) (low : Readers) where
   paren_of o = low.expr >>= λ e. eat terminals.Close >>= λ c. postfixed (paren_node o e c)
 
   unfoldable pub opened : Spot → Reader Syntax
-  opened o = choose starts_type (low.type' >>= λ t. eat terminals.Close >>= λ c. low.cast >>= λ e. done (cast_node o t c e)) (paren_of o)
+  opened o = choose starts_type (low.type' >>= λ t. eat terminals.Close >>= λ c. low.cast >>= λ e.
+      done (cast_node o t c e)) (paren_of o)
 
   unfoldable pub sizeof_of : Reader Syntax
-  sizeof_of = eat terminals.Sizeof >>= λ w. eat terminals.Open >>= λ o. low.type' >>= λ t. eat terminals.Close >>= λ c. done (sizeof_node w o t c)
+  sizeof_of = eat terminals.Sizeof >>= λ w. eat terminals.Open >>= λ o. low.type' >>= λ t. eat terminals.Close >>=
+      λ c. done (sizeof_node w o t c)
 
   -- a unary that begins with no parenthesis
   unfoldable pub operand_of : Reader Syntax
-  operand_of = choose (is terminals.Step) (eat terminals.Step >>= λ m. low.unary >>= λ t. done (prefix_node m t)) (choose prefixes (eat_in prefixes >>= λ m. low.cast >>= λ t. done (prefix_node m t))
+  operand_of = choose (is terminals.Step) (eat terminals.Step >>= λ m. low.unary >>= λ t. done (prefix_node m t))
+      (choose prefixes (eat_in prefixes >>= λ m. low.cast >>= λ t. done (prefix_node m t))
       (choose (is terminals.Sizeof) sizeof_of (primary_of >>= λ l. postfixed l)))
 
   unfoldable pub unary_of : Reader Syntax
@@ -289,10 +342,12 @@ module _ (n : ℕ) (low : Readers) where
   level_of (suc k) = level_of k >>= λ l. chain n (joins k) (level_step k) n l
 
   unfoldable pub cond_of : Reader Syntax
-  cond_of = level_of 10 >>= λ t. choose (is terminals.Question) (eat terminals.Question >>= λ q. low.expr >>= λ a. eat terminals.Colon >>= λ c. low.cond' >>= λ b. done (cond_node t q a c b)) (done t)
+  cond_of = level_of 10 >>= λ t. choose (is terminals.Question) (eat terminals.Question >>= λ q. low.expr >>= λ a.
+      eat terminals.Colon >>= λ c. low.cond' >>= λ b. done (cond_node t q a c b)) (done t)
 
   unfoldable pub assign_of : Reader Syntax
-  assign_of = cond_of >>= λ l. cond (is_unary l) (choose assigns (eat_in assigns >>= λ m. low.assign >>= λ r. done (pair_node forms.AssignNode l m r)) (done l)) (done l)
+  assign_of = cond_of >>= λ l. cond (is_unary l) (choose assigns (eat_in assigns >>= λ m. low.assign >>= λ r.
+      done (pair_node forms.AssignNode l m r)) (done l)) (done l)
 
   unfoldable pub expr_step : Syntax → Reader Syntax
   expr_step l = eat terminals.Comma >>= λ m. low.assign >>= λ r. done (pair_node forms.ExprNode l m r)
@@ -352,17 +407,26 @@ readers (suc n) = next_readers n (readers n)
 
 module _ (one two three : Readers) where
   unfoldable pub attribute_of : Reader Syntax
-  attribute_of = eat terminals.Attribute >>= λ w. eat terminals.Open >>= λ o. eat terminals.Open >>= λ p. eat terminals.AttributeName >>= λ n. eat terminals.Open >>= λ q. one.cond' >>= λ a. eat terminals.Comma >>= λ j. one.cond' >>= λ b. eat terminals.Comma >>= λ k. one.cond' >>= λ c. eat terminals.Close >>= λ e. eat terminals.Close >>= λ f. eat terminals.Close >>= λ g. done (attribute_node w o p n q a j b k c e f g)
+  attribute_of = eat terminals.Attribute >>= λ w. eat terminals.Open >>= λ o. eat terminals.Open >>= λ p.
+      eat terminals.AttributeName >>= λ n. eat terminals.Open >>= λ q. one.cond' >>= λ a. eat terminals.Comma >>= λ j.
+      one.cond' >>= λ b. eat terminals.Comma >>= λ k. one.cond' >>= λ c. eat terminals.Close >>= λ e.
+      eat terminals.Close >>= λ f. eat terminals.Close >>= λ g. done (attribute_node w o p n q a j b k c e f g)
 
   unfoldable pub head_of : Reader Syntax
-  head_of = choose (is terminals.HeadWord) (eat terminals.HeadWord >>= λ m. done (word_node forms.HeadNode m)) (attribute_of >>= λ t. done (alone_node forms.HeadNode t))
+  head_of = choose (is terminals.HeadWord) (eat terminals.HeadWord >>= λ m. done (word_node forms.HeadNode m))
+      (attribute_of >>= λ t. done (alone_node forms.HeadNode t))
 
   unfoldable pub param_of : Reader Syntax
-  param_of = one.type' >>= λ t. if_begun (is terminals.Star) one.star >>= λ ss. eat terminals.Name >>= λ m. done (param_node t ss m)
+  param_of = one.type' >>= λ t. if_begun (is terminals.Star) one.star >>= λ ss. eat terminals.Name >>= λ m.
+      done (param_node t ss m)
 
   unfoldable pub params_of : Reader Listing
-  params_of = choose (is terminals.Close) (done empty) (choose (is terminals.Void) (eat terminals.Void >>= λ m. done (record { own = m ∷ []; parts = none }))
-      (param_of >>= λ t. all_of (is terminals.Comma) (behind_comma param_of) >>= λ l. done (record { own = l.own; parts = more t l.parts })))
+  params_of = choose (is terminals.Close) (done empty)
+      (choose (is terminals.Void) (eat terminals.Void >>= λ m. done (record { own = m ∷ []; parts = none }))
+      (param_of >>= λ t. all_of (is terminals.Comma) (behind_comma param_of) >>= λ l. done (record {
+        own = l.own;
+        parts = more t l.parts;
+      })))
 
   -- a function or a prototype, behind the parenthesis that opens its parameters, and behind its result
   unfoldable pub callable : Forest → Syntax → Spot → Spot → Reader Syntax
@@ -374,19 +438,25 @@ module _ (one two three : Readers) where
   named heads r = eat terminals.Name >>= λ m. eat terminals.Open >>= λ o. callable heads r m o
 
   unfoldable pub result_of : Reader Syntax
-  result_of = choose (is terminals.Void) (eat terminals.Void >>= λ m. done (word_node forms.ResultNode m)) (two.type' >>= λ t. done (alone_node forms.ResultNode t))
+  result_of = choose (is terminals.Void) (eat terminals.Void >>= λ m. done (word_node forms.ResultNode m))
+      (two.type' >>= λ t. done (alone_node forms.ResultNode t))
 
   -- an item without heads, behind its type
   unfoldable pub typed : Syntax → Reader Syntax
   typed t = choose (is terminals.Star) (three.declarator >>= λ d. declare_rest three t d)
-      (eat terminals.Name >>= λ m. choose (is terminals.Open) (eat terminals.Open >>= λ o. callable none (alone_node forms.ResultNode t) m o) (declared two none m >>= λ d. declare_rest three t d))
+      (eat terminals.Name >>= λ m. choose (is terminals.Open) (eat terminals.Open >>= λ o.
+      callable none (alone_node forms.ResultNode t) m o) (declared two none m >>= λ d. declare_rest three t d))
 
   unfoldable pub headed : Reader Syntax
   headed = all_of starts_head (each head_of) >>= λ hs. result_of >>= λ r. named hs.parts r
 
   unfoldable pub item_of : Reader Syntax
-  item_of = choose starts_head headed (choose (is terminals.Void) (eat terminals.Void >>= λ m. named none (word_node forms.ResultNode m)) (two.type' >>= λ t. typed t))
+  item_of = choose starts_head headed
+      (choose (is terminals.Void) (eat terminals.Void >>= λ m. named none (word_node forms.ResultNode m))
+      (two.type' >>= λ t. typed t))
 
 -- all of the tokens, as a unit that nests no deeper than the number and five
 unfoldable pub unit_of : ℕ → Reader Syntax
-unit_of n = all_of (λ j. true) (each (item_of (readers (suc n)) (readers (suc (suc n))) (readers (suc (suc (suc n)))))) >>= λ l. done (unit_node l.parts)
+unit_of n = all_of (λ j. true)
+    (each (item_of (readers (suc n)) (readers (suc (suc n))) (readers (suc (suc (suc n)))))) >>= λ l.
+    done (unit_node l.parts)

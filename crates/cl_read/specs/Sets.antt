@@ -4,7 +4,8 @@ use Rattle.cl_tree.specs.declared.terminal.Terminal.{Terminal}
 use Rattle.cl_tree.specs.Precedence.{joins, assigns, prefixes, qualifies}
 use Rattle.cl_read.specs.declared.set.Set.{Set}
 use Rattle.cl_read.specs.declared.set.Set.TheVariants as sets
-use Rattle.cl_read.specs.Starts.{same, starts_expression, starts_simple, starts_statement, starts_type, starts_core, starts_declarator, starts_head, postfixes}
+use Rattle.cl_read.specs.Starts.{same, starts_expression, starts_simple, starts_statement, starts_type, starts_core}
+use Rattle.cl_read.specs.Starts.{starts_declarator, starts_head, postfixes}
 
 abbrev pub in_set : Set → Terminal → Bool
 in_set (sets.Only k) = λ j. same j k

@@ -72,7 +72,10 @@ pub fn of_token_and_tree<'a>(
     leaf: &'a Leaf,
     node: Node,
 ) -> Result<Members<'a>, AllocError>
-    ensures { IfOk result (λ x. members x ≡ record { own = spot_of leaf.now ∷ []; parts = more (view node.tree) none }) }
+    ensures { IfOk result (λ x. members x ≡ record {
+      own = spot_of leaf.now ∷ [];
+      parts = more (view node.tree) none;
+    }) }
 {
     let own = vec![in alloc; leaf]?;
     let parts = one(alloc, node)?;

@@ -1,8 +1,29 @@
 //! Nodes, and lists of parts, with their heights.
 
 ghost use Rattle.std.specs.Prelude.{◌≡◌, ◌<◌, ◌-◌, ◌^◌, ℕ, min, IfOk, nat_le, [], length};
-ghost use Rattle.cl_tree.specs.Syntax.{view, views, nesting, deepest, none, joined, first_of, last_of, first_in, last_in};
-ghost use Rattle.cl_tree.specs.Nodes.{tree_of, spelled, first_spot, last_spot, word_node, pair_node, forest1, forest2, forest3};
+ghost use Rattle.cl_tree.specs.Syntax.{
+  view,
+  views,
+  nesting,
+  deepest,
+  none,
+  joined,
+  first_of,
+  last_of,
+  first_in,
+  last_in,
+};
+ghost use Rattle.cl_tree.specs.Nodes.{
+  tree_of,
+  spelled,
+  first_spot,
+  last_spot,
+  word_node,
+  pair_node,
+  forest1,
+  forest2,
+  forest3,
+};
 ghost use Rattle.cl_read.specs.Gives.{spots, spot_of};
 ghost use Rattle.cl_read.specs.Reading.{is_unary};
 
@@ -214,7 +235,8 @@ pub fn pair(
     operator: &Leaf,
     right: Node,
 ) -> Result<Node, AllocError>
-    ensures { IfOk result (λ x. view x.tree ≡ pair_node form (view left.tree) (spot_of operator.now) (view right.tree)) }
+    ensures { IfOk result (λ x. view x.tree ≡ pair_node form (view left.tree) (spot_of operator.now)
+        (view right.tree)) }
 {
     let first = first_token(&left);
     let last = last_token(&right);

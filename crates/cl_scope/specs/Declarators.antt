@@ -29,15 +29,18 @@ abbrev pub kept_variable : Env → Variable → Env
 kept_variable env v = record env { variables = env.variables ++ v ∷ [] }
 
 abbrev pub with_variable_at : Env → List ℕ → Place → VarKind → Meaning → Env
-with_variable_at env name place kind m = declare (kept_variable env (record { name = name; kind = kind; place = place })) name (firm m)
+with_variable_at env name place kind m =
+    declare (kept_variable env (record { name = name; kind = kind; place = place })) name (firm m)
 
 abbrev pub scalar_at : Env → Declared → List ℕ → Place → Env
-scalar_at env d name place = with_variable_at env name place (var_kinds.Scalar d.of) (meanings.Scalar d.of d.constant (length env.variables))
+scalar_at env d name place =
+    with_variable_at env name place (var_kinds.Scalar d.of) (meanings.Scalar d.of d.constant (length env.variables))
 
 abbrev pub pointer_parameter_at : Env → Declared → List ℕ → Place → Bool → Env
 pointer_parameter_at env d name place fixed =
     with_variable_at env name place (var_kinds.Pointer (pointed_space d) d.of (roots.Param (length env.variables)))
-    (meanings.Pointer (pointed_space d) d.of d.constant (roots.Param (length env.variables)) fixed (length env.variables))
+    (meanings.Pointer (pointed_space d) d.of d.constant (roots.Param (length env.variables)) fixed
+    (length env.variables))
 
 -- ---- arrays
 
@@ -49,8 +52,10 @@ with_table_kept env t = record env { tables = env.tables ++ t ∷ [] }
 
 -- one more array of the function, or table of the unit
 abbrev pub kept_array : Env → Array → List ℕ → Env
-kept_array env a bytes = if at_unit env then with_table_kept env (record { array = a; bytes = bytes }) else with_array_kept env a
+kept_array env a bytes =
+    if at_unit env then with_table_kept env (record { array = a; bytes = bytes }) else with_array_kept env a
 
 -- an object of one element
 abbrev pub with_object : Env → Declared → Declarator → Space → Env
-with_object env d x s = with_array env (array_in env s d x (1 ∷ [])) (table_bytes d (1 ∷ []) x) (meanings.Object s d.of d.constant (next_root env s))
+with_object env d x s = with_array env (array_in env s d x (1 ∷ [])) (table_bytes d (1 ∷ []) x)
+    (meanings.Object s d.of d.constant (next_root env s))

@@ -7,8 +7,10 @@ use Rattle.cl_meaning.specs.declared.types.Declared.{Declared}
 use Rattle.cl_meaning.specs.Spelling.{name_in}
 use Rattle.cl_meaning.specs.Environment.{Env, Variable, Array, Owner, Labels}
 use Rattle.cl_meaning.specs.declared.kind.Kind.{Kind}
-use Rattle.cl_meaning.specs.Visible.{inside, left, in_block, apart, opened, in_loop, in_switch, in_arguments, with_default, in_definition, in_prototype}
-use Rattle.cl_meaning.specs.Declarations.{form_of, with_declarator, declarator_in, last_kind, with_parameter, first_type, second_star}
+use Rattle.cl_meaning.specs.Visible.{inside, left, in_block, apart, opened, in_loop, in_switch, in_arguments}
+use Rattle.cl_meaning.specs.Visible.{with_default, in_definition, in_prototype}
+use Rattle.cl_meaning.specs.Declarations.{form_of, with_declarator, declarator_in, last_kind, with_parameter}
+use Rattle.cl_meaning.specs.Declarations.{first_type, second_star}
 pub use Rattle.cl_meaning.specs.Kinds.{callee_of}
 use Rattle.cl_scope.specs.View.{variable_of, array_of, owner_of, labels_of}
 use Rattle.cl_scope.specs.declared.walk.Body as rust_body

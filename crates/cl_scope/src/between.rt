@@ -1,5 +1,18 @@
 //! From part to part: what a part of a node adds for the parts behind it, beside the names that it declares.
-ghost use Rattle.std.specs.Prelude.{◌≡◌, ◌||◌, List, ◌∷◌, [], ◌++◌, Some, map, option_map, slice_get, OnOk, IfOk};
+ghost use Rattle.std.specs.Prelude.{
+  ◌≡◌,
+  ◌||◌,
+  List,
+  ◌∷◌,
+  [],
+  ◌++◌,
+  Some,
+  map,
+  option_map,
+  slice_get,
+  OnOk,
+  IfOk,
+};
 ghost use Rattle.wg_num.specs.declared.types.Place.{Place};
 ghost use Rattle.cl_meaning.specs.Constants as constants;
 ghost use Rattle.cl_tree.specs.Syntax.{view};
@@ -41,7 +54,10 @@ fn label_type(kind: Option<Kind>) -> IntType
 
 /// The owner, with a head more; the last sizes that a head requires count.
 fn headed(owner: Owner, kernel: bool, sizes: Option<[u64; 3]>) -> Owner
-    ensures { owner_of result ≡ record (owner_of owner) { kernel = owner.kernel || kernel; sizes = spec.or_sizes owner.sizes sizes } }
+    ensures { owner_of result ≡ record (owner_of owner) {
+      kernel = owner.kernel || kernel;
+      sizes = spec.or_sizes owner.sizes sizes;
+    } }
 {
     let sizes = match sizes {
         Some(_) => sizes,
@@ -58,7 +74,8 @@ fn headed(owner: Owner, kernel: bool, sizes: Option<[u64; 3]>) -> Owner
 
 /// Behind a head of a function or prototype.
 fn behind_head(environment: &mut Environment, part: &Tree) -> Result<(), Memory>
-    ensures { OnOk result ((places : List Place) → env_of places environment.new ≡ spec.behind_head (env_of places environment.old) (view part.now)) }
+    ensures { OnOk result ((places : List Place) →
+        env_of places environment.new ≡ spec.behind_head (env_of places environment.old) (view part.now)) }
 {
     let sizes = head_sizes(&part.parts)?;
     let kernel = is_kernel_head(part);
@@ -68,7 +85,8 @@ fn behind_head(environment: &mut Environment, part: &Tree) -> Result<(), Memory>
 
 /// Behind the result of a function or prototype, its name aside.
 fn behind_result(environment: &mut Environment, part: &Tree)
-    ensures { (places : List Place) → env_of places environment.new ≡ spec.behind_result (env_of places environment.old) (view part.now) }
+    ensures { (places : List Place) →
+        env_of places environment.new ≡ spec.behind_result (env_of places environment.old) (view part.now) }
 {
     environment.owner.result = yield_of(&part.parts);
 }
@@ -95,7 +113,8 @@ fn named_scope(
     own: &Signature,
     number: u32,
 ) -> Result<Names, Memory>
-    ensures { IfOk result (λ s. scope_of s ≡ spec.own_scope (visible_in environment.now) number (Some (signature_of own.now))) }
+    ensures { IfOk result (λ s. scope_of s ≡ spec.own_scope (visible_in environment.now) number
+        (Some (signature_of own.now))) }
 {
     let name = own.name.bytes();
     if !is_announced(environment, name) {
@@ -111,7 +130,9 @@ fn named_scope(
 
 /// The scope of the own name of the function that is around.
 fn own_scope(alloc: Global, environment: &Environment) -> Result<Names, Memory>
-    ensures { IfOk result (λ s. scope_of s ≡ spec.own_scope (visible_in environment.now) environment.now.owner.number (slice_get (map signature_of environment.now.functions.items) environment.now.owner.number)) }
+    ensures { IfOk result (λ s. scope_of s ≡ spec.own_scope (visible_in environment.now)
+        environment.now.owner.number (slice_get (map signature_of environment.now.functions.items)
+        environment.now.owner.number)) }
 {
     let number = environment.owner.number;
     match environment.functions.get(number as usize) {
@@ -121,7 +142,12 @@ fn own_scope(alloc: Global, environment: &Environment) -> Result<Names, Memory>
 }
 
 fn push_scope(environment: &mut Environment, scope: Names) -> Result<(), Memory>
-    ensures { OnOk result ((places : List Place) → env_of places environment.new ≡ record (env_of places environment.old) { scopes = (env_of places environment.old).scopes ++ scope_of scope ∷ [] }) }
+    ensures { OnOk result ((places : List Place) →
+        env_of places environment.new ≡
+        record (env_of places environment.old) {
+          scopes = (env_of places environment.old).scopes ++
+              scope_of scope ∷ [];
+        }) }
 {
     match environment.scopes.push(scope) {
         Ok(()) => Ok(()),
@@ -131,7 +157,8 @@ fn push_scope(environment: &mut Environment, scope: Names) -> Result<(), Memory>
 
 /// Opens the scope of the own name of the function that is around.
 fn add_own(alloc: Global, environment: &mut Environment) -> Result<(), Memory>
-    ensures { OnOk result ((places : List Place) → env_of places environment.new ≡ spec.with_own (env_of places environment.old)) }
+    ensures { OnOk result ((places : List Place) →
+        env_of places environment.new ≡ spec.with_own (env_of places environment.old)) }
 {
     let scope = own_scope(alloc, environment)?;
     push_scope(environment, scope)
@@ -140,7 +167,8 @@ fn add_own(alloc: Global, environment: &mut Environment) -> Result<(), Memory>
 /// Behind the name of a function, which is visible from there on, and hides nothing that its name stands for already;
 /// its parameters and its block share the scope inside (C99, section 6.2.1).
 fn behind_name(alloc: Global, environment: &mut Environment) -> Result<(), Memory>
-    ensures { OnOk result ((places : List Place) → env_of places environment.new ≡ spec.named (env_of places environment.old)) }
+    ensures { OnOk result ((places : List Place) →
+        env_of places environment.new ≡ spec.named (env_of places environment.old)) }
 {
     add_own(alloc, environment)?;
     open(alloc, environment)
@@ -148,7 +176,9 @@ fn behind_name(alloc: Global, environment: &mut Environment) -> Result<(), Memor
 
 /// Behind a part of a function.
 fn behind_part(alloc: Global, environment: &mut Environment, part: &Tree) -> Result<(), Memory>
-    ensures { OnOk result ((places : List Place) → env_of places environment.new ≡ spec.behind_part (env_of places environment.old) (form_of (view part.now)) (view part.now)) }
+    ensures { OnOk result ((places : List Place) →
+        env_of places environment.new ≡ spec.behind_part (env_of places environment.old) (form_of (view part.now))
+        (view part.now)) }
 {
     match part.form {
         Form::HeadNode => behind_head(environment, part),
@@ -170,7 +200,9 @@ fn behind_prototype_part(
     environment: &mut Environment,
     part: &Tree,
 ) -> Result<(), Memory>
-    ensures { OnOk result ((places : List Place) → env_of places environment.new ≡ spec.behind_prototype_part (env_of places environment.old) (form_of (view part.now)) (view part.now)) }
+    ensures { OnOk result ((places : List Place) →
+        env_of places environment.new ≡ spec.behind_prototype_part (env_of places environment.old)
+        (form_of (view part.now)) (view part.now)) }
 {
     match part.form {
         Form::HeadNode => behind_head(environment, part),
@@ -188,7 +220,9 @@ fn behind_prototype_part(
 
 /// Behind a part of a declaration.
 fn behind_type(environment: &mut Environment, part: &Tree)
-    ensures { (places : List Place) → env_of places environment.new ≡ spec.behind_type (env_of places environment.old) (form_of (view part.now)) (view part.now) }
+    ensures { (places : List Place) →
+        env_of places environment.new ≡ spec.behind_type (env_of places environment.old) (form_of (view part.now))
+        (view part.now) }
 {
     match part.form {
         Form::TypeNode => environment.declared = declared_of(part),
@@ -198,7 +232,9 @@ fn behind_type(environment: &mut Environment, part: &Tree)
 
 /// Behind the value of a switch no label stands yet.
 fn behind_value(alloc: Global, environment: &mut Environment, kind: Option<Kind>)
-    ensures { (places : List Place) → env_of places environment.new ≡ spec.behind_value (env_of places environment.old) (env_of places environment.old).labels kind }
+    ensures { (places : List Place) →
+        env_of places environment.new ≡ spec.behind_value (env_of places environment.old)
+        (env_of places environment.old).labels kind }
 {
     if environment.labels.is_none() {
         environment.labels = Some(Labels {
@@ -210,7 +246,8 @@ fn behind_value(alloc: Global, environment: &mut Environment, kind: Option<Kind>
 }
 
 fn push_label(labels: &mut Labels, constant: Constant) -> Result<(), Memory>
-    ensures { OnOk result (Some (labels_of labels.new) ≡ spec.with_label (Some (labels_of labels.old)) (Some constant)) }
+    ensures { OnOk result (Some (labels_of labels.new) ≡ spec.with_label (Some (labels_of labels.old))
+        (Some constant)) }
 {
     match labels.values.push(wrap(labels.of, constant.value)) {
         Ok(()) => Ok(()),
@@ -219,7 +256,8 @@ fn push_label(labels: &mut Labels, constant: Constant) -> Result<(), Memory>
 }
 
 fn add_label(labels: &mut Option<Labels>, tree: &Tree) -> Result<(), Memory>
-    ensures { OnOk result (option_map labels_of labels.new ≡ spec.with_label (option_map labels_of labels.old) (constants.constant_of (view tree.now))) }
+    ensures { OnOk result (option_map labels_of labels.new ≡ spec.with_label (option_map labels_of labels.old)
+        (constants.constant_of (view tree.now))) }
 {
     let Some(constant) = constant_of(tree) else {
         return Ok(());
@@ -232,7 +270,8 @@ fn add_label(labels: &mut Option<Labels>, tree: &Tree) -> Result<(), Memory>
 
 /// Behind the value of a case, its label stands.
 fn behind_label(environment: &mut Environment, front: bool, part: &Tree) -> Result<(), Memory>
-    ensures { OnOk result ((places : List Place) → env_of places environment.new ≡ spec.behind_label (env_of places environment.old) front (view part.now)) }
+    ensures { OnOk result ((places : List Place) →
+        env_of places environment.new ≡ spec.behind_label (env_of places environment.old) front (view part.now)) }
 {
     if front {
         return add_label(&mut environment.labels, part);
@@ -250,7 +289,9 @@ pub fn later(
     part: &Tree,
     kind: Option<Kind>,
 ) -> Result<(), Memory>
-    ensures { OnOk result ((places : List Place) → env_of places environment.new ≡ spec.later (env_of places environment.old) form front (view part.now) kind) }
+    ensures { OnOk result ((places : List Place) →
+        env_of places environment.new ≡ spec.later (env_of places environment.old) form front (view part.now)
+        kind) }
 {
     match form {
         Form::FunctionNode => behind_part(alloc, environment, part),

@@ -1,5 +1,19 @@
 //! Declarators, and the lengths of arrays.
-ghost use Rattle.std.specs.Prelude.{◌≡◌, ◌≤◌, ◌&&◌, ◌++◌, ◌∷◌, [], map, option_map, nat_le, length, IfOk, IfSome, OnOk};
+ghost use Rattle.std.specs.Prelude.{
+  ◌≡◌,
+  ◌≤◌,
+  ◌&&◌,
+  ◌++◌,
+  ◌∷◌,
+  [],
+  map,
+  option_map,
+  nat_le,
+  length,
+  IfOk,
+  IfSome,
+  OnOk,
+};
 ghost use Rattle.std.specs.List.{All};
 ghost use Rattle.cl_tree.specs.Syntax.{view, views};
 ghost use Rattle.cl_meaning.specs.Declarations as spec;
@@ -217,7 +231,8 @@ pub fn initialiser_count(declarator: &Declarator) -> usize
 
 /// The length of an array whose brackets are empty: the number of its initialisers (C99, section 6.7.8).
 fn counted_length(alloc: Global, declarator: &Declarator) -> Result<Option<Vec<u64>>, Memory>
-    ensures { IfOk result (λ o. option_map (λ v. v.items) o ≡ spec.counted_length (declarator_view declarator.now)) }
+    ensures { IfOk result (λ o. option_map (λ v. v.items) o ≡
+        spec.counted_length (declarator_view declarator.now)) }
 {
     let count = initialiser_count(declarator);
     if declarator.dimensions != 1 || !has_list(declarator) {

@@ -5,7 +5,17 @@ ghost use Rattle.cl_tree.specs.Syntax.{views};
 ghost use Rattle.cl_meaning.specs.Environment as environments;
 ghost use Rattle.cl_meaning.specs.Declarations as spec;
 ghost use Rattle.cl_scope.specs.View.{env_of, visible_in, variable_of, array_of, table_of};
-ghost use Rattle.cl_scope.specs.Declarators.{declarator_view, kept_variable, with_variable_at, scalar_at, pointer_parameter_at, with_object, with_array_kept, with_table_kept, kept_array};
+ghost use Rattle.cl_scope.specs.Declarators.{
+  declarator_view,
+  kept_variable,
+  with_variable_at,
+  scalar_at,
+  pointer_parameter_at,
+  with_object,
+  with_array_kept,
+  with_table_kept,
+  kept_array,
+};
 ghost use Rattle.cl_scope.specs.declared.environment.Environment as rust;
 
 use crate::declarator::{Declarator, dims_of, each_of, first_type, one_length, second_star};
@@ -94,7 +104,8 @@ pub fn last_kind(kinds: &[Option<Kind>]) -> Option<Kind>
 }
 
 fn push_variable(environment: &mut Environment, variable: Var) -> Result<(), Memory>
-    ensures { OnOk result ((places : List Place) → env_of places environment.new ≡ kept_variable (env_of places environment.old) (variable_of variable)) }
+    ensures { OnOk result ((places : List Place) →
+        env_of places environment.new ≡ kept_variable (env_of places environment.old) (variable_of variable)) }
 {
     match environment.variables.push(variable) {
         Ok(()) => Ok(()),
@@ -111,7 +122,9 @@ fn add_variable(
     kind: VarKind,
     meaning: Meaning,
 ) -> Result<(), Memory>
-    ensures { OnOk result ((places : List Place) → env_of places environment.new ≡ with_variable_at (env_of places environment.old) name.now place kind meaning) }
+    ensures { OnOk result ((places : List Place) →
+        env_of places environment.new ≡ with_variable_at (env_of places environment.old) name.now place kind
+        meaning) }
 {
     let variable = Var {
         name: Word::new(alloc, name)?,
@@ -131,7 +144,8 @@ fn add_variable(
 }
 
 fn push_array(environment: &mut Environment, array: Array) -> Result<(), Memory>
-    ensures { OnOk result ((places : List Place) → env_of places environment.new ≡ with_array_kept (env_of places environment.old) (array_of array)) }
+    ensures { OnOk result ((places : List Place) →
+        env_of places environment.new ≡ with_array_kept (env_of places environment.old) (array_of array)) }
 {
     match environment.arrays.push(array) {
         Ok(()) => Ok(()),
@@ -140,7 +154,8 @@ fn push_array(environment: &mut Environment, array: Array) -> Result<(), Memory>
 }
 
 fn push_table(environment: &mut Environment, table: Table) -> Result<(), Memory>
-    ensures { OnOk result ((places : List Place) → env_of places environment.new ≡ with_table_kept (env_of places environment.old) (table_of table)) }
+    ensures { OnOk result ((places : List Place) →
+        env_of places environment.new ≡ with_table_kept (env_of places environment.old) (table_of table)) }
 {
     match environment.tables.push(table) {
         Ok(()) => Ok(()),
@@ -156,7 +171,9 @@ fn keep_array(
     declared: Declared,
     declarator: &Declarator,
 ) -> Result<(), Memory>
-    ensures { OnOk result ((places : List Place) → env_of places environment.new ≡ kept_array (env_of places environment.old) (array_of array) (spec.table_bytes declared array.dims.items (declarator_view declarator.now))) }
+    ensures { OnOk result ((places : List Place) →
+        env_of places environment.new ≡ kept_array (env_of places environment.old) (array_of array)
+        (spec.table_bytes declared array.dims.items (declarator_view declarator.now))) }
 {
     if is_at_unit(environment) {
         let bytes = table_bytes(alloc, declared, &array.dims, declarator)?;
@@ -175,7 +192,9 @@ fn add_array(
     meaning: Meaning,
 ) -> Result<(), Memory>
     requires { array.name ≡ declarator.now.name.now }
-    ensures { OnOk result ((places : List Place) → env_of places environment.new ≡ spec.with_array (env_of places environment.old) (array_of array) (spec.table_bytes declared array.dims.items (declarator_view declarator.now)) meaning) }
+    ensures { OnOk result ((places : List Place) →
+        env_of places environment.new ≡ spec.with_array (env_of places environment.old) (array_of array)
+        (spec.table_bytes declared array.dims.items (declarator_view declarator.now)) meaning) }
 {
     keep_array(alloc, environment, array, declared, declarator)?;
     declare(
@@ -199,7 +218,8 @@ fn add_pointer(
     root: Root,
     places: &[Place],
 ) -> Result<(), Memory>
-    ensures { OnOk result (env_of places.now environment.new ≡ spec.with_pointer (env_of places.now environment.old) declared (declarator_view declarator.now) fixed root) }
+    ensures { OnOk result (env_of places.now environment.new ≡ spec.with_pointer (env_of places.now environment.old)
+        declared (declarator_view declarator.now) fixed root) }
 {
     let number = number_of(environment.variables.len())?;
     let space = pointed_space(declared);
@@ -228,7 +248,8 @@ fn add_number(
     name: &[u8],
     place: Place,
 ) -> Result<(), Memory>
-    ensures { OnOk result ((places : List Place) → env_of places environment.new ≡ scalar_at (env_of places environment.old) declared name.now place) }
+    ensures { OnOk result ((places : List Place) →
+        env_of places environment.new ≡ scalar_at (env_of places environment.old) declared name.now place) }
 {
     let number = number_of(environment.variables.len())?;
     let meaning = Meaning::Scalar {
@@ -254,7 +275,9 @@ fn array_in(
     dims: Vec<u64>,
     places: &[Place],
 ) -> Result<Array, Memory>
-    ensures { IfOk result (λ a. (env : rust.Environment) → array_of a ≡ spec.array_in (env_of places.now env) space declared (declarator_view declarator.now) dims.items) }
+    ensures { IfOk result (λ a. (env : rust.Environment) →
+        array_of a ≡ spec.array_in (env_of places.now env) space declared (declarator_view declarator.now)
+        dims.items) }
 {
     Ok(Array {
         name: Word::new(alloc, declarator.name)?,
@@ -274,7 +297,8 @@ fn add_object(
     space: Space,
     places: &[Place],
 ) -> Result<(), Memory>
-    ensures { OnOk result (env_of places.now environment.new ≡ with_object (env_of places.now environment.old) declared (declarator_view declarator.now) space) }
+    ensures { OnOk result (env_of places.now environment.new ≡ with_object (env_of places.now environment.old)
+        declared (declarator_view declarator.now) space) }
 {
     let root = next_root(environment, space)?;
     let dims = one_length(alloc)?;
@@ -296,7 +320,8 @@ fn add_scalar(
     declarator: &Declarator,
     places: &[Place],
 ) -> Result<(), Memory>
-    ensures { OnOk result (env_of places.now environment.new ≡ spec.with_scalar (env_of places.now environment.old) declared (declarator_view declarator.now) (spec.kept_in (env_of places.now environment.old) declared)) }
+    ensures { OnOk result (env_of places.now environment.new ≡ spec.with_scalar (env_of places.now environment.old)
+        declared (declarator_view declarator.now) (spec.kept_in (env_of places.now environment.old) declared)) }
 {
     let space = kept_in(environment, declared);
     match space {
@@ -326,7 +351,10 @@ fn add_elements(
     declarator: &Declarator,
     places: &[Place],
 ) -> Result<(), Memory>
-    ensures { OnOk result (env_of places.now environment.new ≡ spec.with_elements (env_of places.now environment.old) declared (declarator_view declarator.now) (spec.kept_in (env_of places.now environment.old) declared) (spec.or_none (spec.dims_of (declarator_view declarator.now)))) }
+    ensures { OnOk result (env_of places.now environment.new ≡
+        spec.with_elements (env_of places.now environment.old) declared (declarator_view declarator.now)
+        (spec.kept_in (env_of places.now environment.old) declared)
+        (spec.or_none (spec.dims_of (declarator_view declarator.now)))) }
 {
     let space = kept_in(environment, declared);
     let root = next_root(environment, space)?;
@@ -351,7 +379,9 @@ pub(crate) fn add_declarator(
     kind: Option<Kind>,
     places: &[Place],
 ) -> Result<(), Memory>
-    ensures { OnOk result (env_of places.now environment.new ≡ spec.with_declarator (env_of places.now environment.old) (env_of places.now environment.old).declared (declarator_view declarator.now) kind) }
+    ensures { OnOk result (env_of places.now environment.new ≡
+        spec.with_declarator (env_of places.now environment.old) (env_of places.now environment.old).declared
+        (declarator_view declarator.now) kind) }
 {
     let Some(declared) = environment.declared else {
         return Ok(());
@@ -383,7 +413,9 @@ fn add_pointer_parameter(
     place: Place,
     fixed: bool,
 ) -> Result<(), Memory>
-    ensures { OnOk result ((places : List Place) → env_of places environment.new ≡ pointer_parameter_at (env_of places environment.old) declared name.now place fixed) }
+    ensures { OnOk result ((places : List Place) →
+        env_of places environment.new ≡ pointer_parameter_at (env_of places environment.old) declared name.now
+        place fixed) }
 {
     let number = number_of(environment.variables.len())?;
     let space = pointed_space(declared);
@@ -412,7 +444,9 @@ pub(crate) fn add_parameter(
     parts: &[Tree],
     places: &[Place],
 ) -> Result<(), Memory>
-    ensures { OnOk result (env_of places.now environment.new ≡ spec.with_parameter (env_of places.now environment.old) name.now token (spec.first_type (views parts.now)) (spec.second_star (views parts.now))) }
+    ensures { OnOk result (env_of places.now environment.new ≡
+        spec.with_parameter (env_of places.now environment.old) name.now token (spec.first_type (views parts.now))
+        (spec.second_star (views parts.now))) }
 {
     let Some(declared) = first_type(parts) else {
         return Ok(());

@@ -24,7 +24,8 @@ use wg_num::{Memory, Place};
 /// Declares a prototype under its name, where nothing does yet and the name is not known without a
 /// declaration.
 fn add_prototype(alloc: Global, environment: &mut Environment, name: &[u8]) -> Result<(), Memory>
-    ensures { OnOk result ((places : List Place) → env_of places environment.new ≡ visible.with_prototype (env_of places environment.old) name.now) }
+    ensures { OnOk result ((places : List Place) →
+        env_of places environment.new ≡ visible.with_prototype (env_of places environment.old) name.now) }
 {
     if !is_announced(environment, name) {
         return Ok(());
@@ -49,7 +50,8 @@ fn leave_declarator(
     kinds: &[Option<Kind>],
     places: &[Place],
 ) -> Result<(), Memory>
-    ensures { OnOk result (env_of places.now environment.new ≡ spec.declared_by (env_of places.now environment.old) (view tree.now) kinds.now) }
+    ensures { OnOk result (env_of places.now environment.new ≡ spec.declared_by (env_of places.now environment.old)
+        (view tree.now) kinds.now) }
 {
     let declarator = declarator_in(tree.word.bytes(), tree.first, &tree.parts)?;
     add_declarator(alloc, environment, &declarator, last_kind(kinds), places)
@@ -62,7 +64,8 @@ fn leave_parameter(
     tree: &Tree,
     places: &[Place],
 ) -> Result<(), Memory>
-    ensures { OnOk result (env_of places.now environment.new ≡ spec.parameter_by (env_of places.now environment.old) (view tree.now)) }
+    ensures { OnOk result (env_of places.now environment.new ≡ spec.parameter_by (env_of places.now environment.old)
+        (view tree.now)) }
 {
     let name = name_of(tree.word.bytes());
     add_parameter(alloc, environment, name, tree.last, &tree.parts, places)
@@ -78,7 +81,9 @@ pub fn leave(
     kinds: &[Option<Kind>],
     places: &[Place],
 ) -> Result<(), Memory>
-    ensures { OnOk result ((inner : Env) → option_map labels_of labels ≡ spec.labels_at (view tree.now) inner → env_of places.now environment.new ≡ spec.departed (env_of places.now environment.old) inner (view tree.now) kinds.now) }
+    ensures { OnOk result ((inner : Env) → option_map labels_of labels ≡ spec.labels_at (view tree.now) inner →
+        env_of places.now environment.new ≡ spec.departed (env_of places.now environment.old) inner
+        (view tree.now) kinds.now) }
 {
     match tree.form {
         Form::FunctionNode => add_function(alloc, environment, name_of(tree.word.bytes())),

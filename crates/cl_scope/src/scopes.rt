@@ -58,14 +58,16 @@ pub(crate) fn declare(
     name: &[u8],
     entry: Entry,
 ) -> Result<(), Memory>
-    ensures { OnOk result ((places : List Place) → env_of places environment.new ≡ spec.declare (env_of places environment.old) name.now entry) }
+    ensures { OnOk result ((places : List Place) →
+        env_of places environment.new ≡ spec.declare (env_of places environment.old) name.now entry) }
 {
     insert_into_last(alloc, &mut environment.scopes, name, entry)
 }
 
 /// Opens a scope.
 pub(crate) fn open(alloc: Global, environment: &mut Environment) -> Result<(), Memory>
-    ensures { OnOk result ((places : List Place) → env_of places environment.new ≡ visible.opened (env_of places environment.old)) }
+    ensures { OnOk result ((places : List Place) →
+        env_of places environment.new ≡ visible.opened (env_of places environment.old)) }
 {
     match environment.scopes.push(IndexMap::new(alloc)) {
         Ok(()) => Ok(()),

@@ -74,7 +74,8 @@ pub(crate) fn is_kernel_head(tree: &Tree) -> bool
 /// Notes what a part of a function or prototype says: a head, its result, or its parameters.
 #[tactic(auto, using(cl_meaning::proofs::Views::view_out))]
 fn add_part(alloc: Global, signature: &mut Signature, part: &Tree) -> Result<(), Memory>
-    ensures { OnOk result (signature_of signature.new ≡ spec.with_part (signature_of signature.old) (spec.form_of (view part.now)) (view part.now)) }
+    ensures { OnOk result (signature_of signature.new ≡ spec.with_part (signature_of signature.old)
+        (spec.form_of (view part.now)) (view part.now)) }
 {
     match part.form {
         Form::HeadNode => {
@@ -110,7 +111,8 @@ pub fn signature_in(alloc: Global, word: &[u8], parts: &[Tree]) -> Result<Signat
 }
 
 fn push_signature(signatures: &mut Vec<Signature>, signature: Signature) -> Result<(), Memory>
-    ensures { OnOk result (map signature_of signatures.new.items ≡ map signature_of signatures.old.items ++ signature_of signature ∷ []) }
+    ensures { OnOk result (map signature_of signatures.new.items ≡ map signature_of signatures.old.items ++
+        signature_of signature ∷ []) }
 {
     match signatures.push(signature) {
         Ok(()) => Ok(()),
@@ -125,7 +127,8 @@ fn add_definition(
     definitions: &mut Vec<Signature>,
     part: &Tree,
 ) -> Result<(), Memory>
-    ensures { OnOk result (map signature_of definitions.new.items ≡ map signature_of definitions.old.items ++ definition_at (spec.form_of (view part.now)) (view part.now)) }
+    ensures { OnOk result (map signature_of definitions.new.items ≡ map signature_of definitions.old.items ++
+        definition_at (spec.form_of (view part.now)) (view part.now)) }
 {
     match part.form {
         Form::FunctionNode => {

@@ -37,7 +37,8 @@ fn push_value(bytes: &mut Vec<u8>, of: IntType, value: i128) -> Result<(), Memor
 
 /// Pushes the bytes of a constant as an element of this type.
 fn push_constant(bytes: &mut Vec<u8>, of: IntType, tree: &Tree) -> Result<(), Memory>
-    ensures { OnOk result (bytes.new.items ≡ bytes.old.items ++ spec.constant_bytes of (constants.constant_of (view tree.now))) }
+    ensures { OnOk result (bytes.new.items ≡ bytes.old.items ++
+        spec.constant_bytes of (constants.constant_of (view tree.now))) }
 {
     match constant_of(tree) {
         Some(constant) => push_value(bytes, of, wrap(of, constant.value)),
@@ -82,7 +83,8 @@ fn table_size(of: IntType, lengths: &[u64]) -> Result<usize, Memory>
 /// Pushes the bytes of the initialiser.
 #[tactic(auto, using(cl_meaning::proofs::Views::view_out))]
 fn push_initial(bytes: &mut Vec<u8>, of: IntType, declarator: &Declarator) -> Result<(), Memory>
-    ensures { OnOk result (bytes.new.items ≡ bytes.old.items ++ spec.all_bytes of (spec.initial_values (declarator_view declarator.now).init)) }
+    ensures { OnOk result (bytes.new.items ≡ bytes.old.items ++
+        spec.all_bytes of (spec.initial_values (declarator_view declarator.now).init)) }
 {
     let many = has_list(declarator);
     match declarator.init {

@@ -99,7 +99,8 @@ fn save(environment: &Environment) -> Around
 
 /// Takes the variables and arrays of outside, and sets who is around the parts.
 fn take_body(alloc: Global, environment: &mut Environment, number: u32, defining: bool) -> Body
-    ensures inside { (places : List Place) → env_of places environment.new ≡ visible.in_function (env_of places environment.old) number defining }
+    ensures inside { (places : List Place) →
+        env_of places environment.new ≡ visible.in_function (env_of places environment.old) number defining }
     ensures outside { spec.body_view result ≡ spec.body_of (visible_in environment.old) }
 {
     environment.owner = Owner {
@@ -117,7 +118,8 @@ fn take_body(alloc: Global, environment: &mut Environment, number: u32, defining
 
 /// What the name of a definition stands for.
 pub(crate) fn defined_meaning(environment: &Environment, name: &[u8]) -> Result<Meaning, Memory>
-    ensures { IfOk result (λ m. m ≡ visible.defined_meaning (visible.definition_of (visible_in environment.now) name.now)) }
+    ensures { IfOk result (λ m. m ≡
+        visible.defined_meaning (visible.definition_of (visible_in environment.now) name.now)) }
 {
     match definition_of(environment, name) {
         None => Ok(Meaning::Undefined),
@@ -134,7 +136,8 @@ fn number_of_none(environment: &Environment) -> Result<u32, Memory>
 
 /// The number of the definition of a function.
 fn defined_number(environment: &Environment, name: &[u8]) -> Result<u32, Memory>
-    ensures { IfOk result (λ n. n ≡ visible.number_in (visible_in environment.now) (visible.definition_of (visible_in environment.now) name.now)) }
+    ensures { IfOk result (λ n. n ≡ visible.number_in (visible_in environment.now)
+        (visible.definition_of (visible_in environment.now) name.now)) }
 {
     match definition_of(environment, name) {
         None => number_of_none(environment),
@@ -148,7 +151,8 @@ pub(crate) fn add_function(
     environment: &mut Environment,
     name: &[u8],
 ) -> Result<(), Memory>
-    ensures { OnOk result ((places : List Place) → env_of places environment.new ≡ visible.with_function (env_of places environment.old) name.now) }
+    ensures { OnOk result ((places : List Place) →
+        env_of places environment.new ≡ visible.with_function (env_of places environment.old) name.now) }
 {
     let meaning = defined_meaning(environment, name)?;
     declare(
@@ -168,7 +172,8 @@ fn enter_definition(
     environment: &mut Environment,
     name: &[u8],
 ) -> Result<Body, Memory>
-    ensures inside { OnOk result ((places : List Place) → env_of places environment.new ≡ visible.in_definition (env_of places environment.old) name.now) }
+    ensures inside { OnOk result ((places : List Place) →
+        env_of places environment.new ≡ visible.in_definition (env_of places environment.old) name.now) }
     ensures outside { IfOk result (λ b. spec.body_view b ≡ spec.body_of (visible_in environment.old)) }
 {
     let number = defined_number(environment, name)?;
@@ -177,7 +182,8 @@ fn enter_definition(
 
 /// Goes into a prototype.
 fn enter_prototype(alloc: Global, environment: &mut Environment) -> Result<Body, Memory>
-    ensures inside { OnOk result ((places : List Place) → env_of places environment.new ≡ visible.in_prototype (env_of places environment.old)) }
+    ensures inside { OnOk result ((places : List Place) →
+        env_of places environment.new ≡ visible.in_prototype (env_of places environment.old)) }
     ensures outside { IfOk result (λ b. spec.body_view b ≡ spec.body_of (visible_in environment.old)) }
 {
     let number = number_of_none(environment)?;
@@ -187,7 +193,8 @@ fn enter_prototype(alloc: Global, environment: &mut Environment) -> Result<Body,
 /// Goes into a block, and answers the labels outside: the block of a function shares the scope of its
 /// parameters, and each other one opens a scope.
 fn enter_block(alloc: Global, environment: &mut Environment) -> Result<Option<Labels>, Memory>
-    ensures inside { OnOk result ((places : List Place) → env_of places environment.new ≡ visible.in_block (env_of places environment.old)) }
+    ensures inside { OnOk result ((places : List Place) →
+        env_of places environment.new ≡ visible.in_block (env_of places environment.old)) }
     ensures outside { IfOk result (λ l. option_map labels_of l ≡ (visible_in environment.old).labels) }
 {
     let labels = environment.labels.take();
@@ -211,7 +218,8 @@ fn is_fence_call(environment: &Environment, name: &[u8]) -> bool
 
 /// Goes into a loop, and answers the labels outside.
 fn enter_loop(environment: &mut Environment) -> Option<Labels>
-    ensures inside { (places : List Place) → env_of places environment.new ≡ visible.in_loop (env_of places environment.old) }
+    ensures inside { (places : List Place) →
+        env_of places environment.new ≡ visible.in_loop (env_of places environment.old) }
     ensures outside { option_map labels_of result ≡ (visible_in environment.old).labels }
 {
     environment.in_loop = true;
@@ -220,7 +228,8 @@ fn enter_loop(environment: &mut Environment) -> Option<Labels>
 
 /// Goes into a loop that has a scope of its own, and answers the labels outside.
 fn enter_for(alloc: Global, environment: &mut Environment) -> Result<Option<Labels>, Memory>
-    ensures inside { OnOk result ((places : List Place) → env_of places environment.new ≡ visible.opened (visible.in_loop (env_of places environment.old))) }
+    ensures inside { OnOk result ((places : List Place) →
+        env_of places environment.new ≡ visible.opened (visible.in_loop (env_of places environment.old))) }
     ensures outside { IfOk result (λ l. option_map labels_of l ≡ (visible_in environment.old).labels) }
 {
     let labels = enter_loop(environment);
@@ -230,7 +239,8 @@ fn enter_for(alloc: Global, environment: &mut Environment) -> Result<Option<Labe
 
 /// Goes into a switch, and answers the labels outside.
 fn enter_switch(environment: &mut Environment) -> Option<Labels>
-    ensures inside { (places : List Place) → env_of places environment.new ≡ visible.in_switch (env_of places environment.old) }
+    ensures inside { (places : List Place) →
+        env_of places environment.new ≡ visible.in_switch (env_of places environment.old) }
     ensures outside { option_map labels_of result ≡ (visible_in environment.old).labels }
 {
     environment.in_switch = true;
@@ -239,7 +249,8 @@ fn enter_switch(environment: &mut Environment) -> Option<Labels>
 
 /// Goes behind `default`, which is a label then, and answers the labels outside.
 fn enter_default(alloc: Global, environment: &mut Environment) -> Result<Option<Labels>, Memory>
-    ensures inside { OnOk result ((places : List Place) → env_of places environment.new ≡ spec.behind_default (env_of places environment.old)) }
+    ensures inside { OnOk result ((places : List Place) →
+        env_of places environment.new ≡ spec.behind_default (env_of places environment.old)) }
     ensures outside { IfOk result (λ l. option_map labels_of l ≡ (visible_in environment.old).labels) }
 {
     let outside = labels_like(alloc, &environment.labels)?;
@@ -256,7 +267,8 @@ fn enter_form(
     form: Form,
     name: &[u8],
 ) -> Result<Aside, Memory>
-    ensures inside { OnOk result ((places : List Place) → env_of places environment.new ≡ spec.inside_named (env_of places environment.old) form name.now) }
+    ensures inside { OnOk result ((places : List Place) →
+        env_of places environment.new ≡ spec.inside_named (env_of places environment.old) form name.now) }
     ensures outside { IfOk result (λ a. spec.aside_of a ≡ spec.aside_at form (visible_in environment.old)) }
 {
     match form {
@@ -279,8 +291,10 @@ fn enter_form(
 
 /// Goes into a node: what is visible then is what is visible at its first part.
 pub fn enter(alloc: Global, environment: &mut Environment, tree: &Tree) -> Result<Saved, Memory>
-    ensures inside { OnOk result ((places : List Place) → env_of places environment.new ≡ spec.entered (env_of places environment.old) (view tree.now)) }
-    ensures saved { IfOk result (λ s. (places : List Place) → spec.saved_of s ≡ spec.kept_at (view tree.now) (env_of places environment.old)) }
+    ensures inside { OnOk result ((places : List Place) →
+        env_of places environment.new ≡ spec.entered (env_of places environment.old) (view tree.now)) }
+    ensures saved { IfOk result (λ s. (places : List Place) →
+        spec.saved_of s ≡ spec.kept_at (view tree.now) (env_of places environment.old)) }
 {
     let around = save(environment);
     let name = name_of(tree.word.bytes());
@@ -290,7 +304,8 @@ pub fn enter(alloc: Global, environment: &mut Environment, tree: &Tree) -> Resul
 
 /// Puts back what was set aside, and answers what was in its place.
 fn exchange(environment: &mut Environment, aside: Aside, sizes: Option<[u64; 3]>) -> Inner
-    ensures outside { (places : List Place) → env_of places environment.new ≡ spec.with_aside (spec.aside_of aside) (env_of places environment.old) }
+    ensures outside { (places : List Place) →
+        env_of places environment.new ≡ spec.with_aside (spec.aside_of aside) (env_of places environment.old) }
     ensures inside { spec.inner_of result ≡ spec.inner_for (spec.aside_of aside) (visible_in environment.old) sizes }
 {
     match aside {
@@ -318,8 +333,12 @@ fn exchange(environment: &mut Environment, aside: Aside, sizes: Option<[u64; 3]>
 /// Closes and restores what was opened or set for the parts of a node, and answers what is known at their
 /// end.
 pub fn restore(environment: &mut Environment, saved: Saved) -> Inner
-    ensures restored { (places : List Place) (form : Form) (before : Env) → spec.saved_of saved ≡ spec.kept form before → env_of places environment.new ≡ visible.restored form before (env_of places environment.old) }
-    ensures inner { (places : List Place) (form : Form) (before : Env) → spec.saved_of saved ≡ spec.kept form before → spec.inner_of result ≡ spec.inner_at form (env_of places environment.old) }
+    ensures restored { (places : List Place) (form : Form) (before : Env) →
+        spec.saved_of saved ≡ spec.kept form before →
+        env_of places environment.new ≡ visible.restored form before (env_of places environment.old) }
+    ensures inner { (places : List Place) (form : Form) (before : Env) →
+        spec.saved_of saved ≡ spec.kept form before →
+        spec.inner_of result ≡ spec.inner_at form (env_of places environment.old) }
 {
     let sizes = environment.owner.sizes;
     let around = saved.around;

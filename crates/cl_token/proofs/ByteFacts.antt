@@ -1,5 +1,6 @@
 -- Facts about single bytes, and about tables of words.
-use Rattle.std.proofs.Common.{ℕ, List, [], ◌∷◌, Bool, true, false, ◌&&◌, ◌||◌, ◌==◌, ◌⊎◌, inl, inr, ◌≡◌, refl, sym, ap, ◌∙◌, arith}
+use Rattle.std.proofs.Common.{ℕ, List, [], ◌∷◌, Bool, true, false, ◌&&◌, ◌||◌, ◌==◌, ◌⊎◌, inl, inr, ◌≡◌, refl, sym}
+use Rattle.std.proofs.Common.{ap, ◌∙◌, arith}
 use Rattle.std.specs.List.{list_all, list_any}
 use Rattle.std.specs.Str.{bytes_eq}
 use Rattle.std.proofs.lemmas.Bool.{eqb-true}
@@ -25,7 +26,8 @@ pub and_false_left : (a b : Bool) → a ≡ false → (a && b) ≡ false
 and_false_left a b h = rw h refl
 
 -- what each word of a table passes, a word of it passes
-pub of_table : (p : List ℕ → Bool) (table : List (List ℕ)) (w : List ℕ) → list_all p table ≡ true → IsOneOf table w → p w ≡ true
+pub of_table : (p : List ℕ → Bool) (table : List (List ℕ)) (w : List ℕ) → list_all p table ≡ true → IsOneOf table w →
+    p w ≡ true
 of_table p [] w all h = absurd h
 of_table p (x ∷ xs) w all h = let k = both (p x) (list_all p xs) all in elim h [
   | inl e ↦ ap p e ∙ k.0

@@ -1,5 +1,6 @@
 -- Where a block comment ends.
-use Rattle.std.proofs.Common.{ℕ, zero, suc, List, [], ◌∷◌, ◌++◌, length, get_or, true, false, ◌&&◌, ◌==◌, inl, inr, ◌≡◌, ◌+◌, ◌<◌, ◌≤◌, refl, sym, ap, ◌∙◌, arith, add-one, Option, None, Some}
+use Rattle.std.proofs.Common.{ℕ, zero, suc, List, [], ◌∷◌, ◌++◌, length, get_or, true, false, ◌&&◌, ◌==◌, inl, inr}
+use Rattle.std.proofs.Common.{◌≡◌, ◌+◌, ◌<◌, ◌≤◌, refl, sym, ap, ◌∙◌, arith, add-one, Option, None, Some}
 use Rattle.std.specs.Prelude.{option_map, slice_index}
 use Rattle.std.proofs.lemmas.Bool.{eqb-true, eq-eqb}
 use Rattle.cl_token.specs.Spelling.{ClosesAt}
@@ -30,7 +31,10 @@ unfolding close_of
 close_first [] k c h = absurd (cc)
 close_first (b ∷ bs) zero c h = rw (closes_test b (slice_index bs 0) c.0 c.1) refl
 close_first (b ∷ bs) (suc k) c h =
-    rw (not_closes_test b (slice_index bs 0) (λ p q. h 0 (omega arith) (p, q)), close_first bs k c (λ j l d. h (suc j) (omega arith) d)) refl
+    rw (
+      not_closes_test b (slice_index bs 0) (λ p q. h 0 (omega arith) (p, q)),
+      close_first bs k c (λ j l d. h (suc j) (omega arith) d),
+    ) refl
 
 pub closes_at : (s : List ℕ) (k : ℕ) → get_or s k 0 ≡ 42 → get_or s (k + 1) 0 ≡ 47 → ClosesAt s k
 closes_at s k h g = (h, ap (λ (j : ℕ). get_or s j 0) (sym (add-one k)) ∙ g)
@@ -41,7 +45,8 @@ closes_before [] k c = absurd (cc)
 closes_before (b ∷ bs) zero c = omega arith
 closes_before (b ∷ bs) (suc k) c = omega (arith, closes_before bs k c)
 
-pub none_closes : (s : List ℕ) (n : ℕ) → ((k : ℕ) → k < n → ClosesAt s k → ⊥) → length s ≤ n → (k : ℕ) → ClosesAt s k → ⊥
+pub none_closes : (s : List ℕ) (n : ℕ) → ((k : ℕ) → k < n → ClosesAt s k → ⊥) → length s ≤ n → (k : ℕ) →
+    ClosesAt s k → ⊥
 none_closes s n h l k c = h k (omega (arith, closes_before s k c)) c
 
 -- What is found is the first place: text, and behind it the two bytes.
@@ -53,7 +58,8 @@ pub record FirstClose (s : List ℕ) (k : ℕ) : Type 0 where
   pub first : (j : ℕ) → j < k → ClosesAt (text ++ (42 ∷ 47 ∷ [])) j → ⊥
 
 -- the byte at a place of a text, and in the two bytes behind it, does not depend on what follows
-same_byte : (text rest : List ℕ) (j : ℕ) → j ≤ suc (length text) → get_or (text ++ (42 ∷ 47 ∷ rest)) j 0 ≡ get_or (text ++ (42 ∷ 47 ∷ [])) j 0
+same_byte : (text rest : List ℕ) (j : ℕ) → j ≤ suc (length text) →
+    get_or (text ++ (42 ∷ 47 ∷ rest)) j 0 ≡ get_or (text ++ (42 ∷ 47 ∷ [])) j 0
 same_byte [] rest zero h = refl
 same_byte [] rest (suc zero) h = refl
 same_byte [] rest (suc (suc j)) h = absurd (omega arith)
@@ -61,7 +67,8 @@ same_byte (b ∷ text) rest zero h = refl
 same_byte (b ∷ text) rest (suc j) h = same_byte text rest j (omega arith)
 
 -- a place in a text closes whatever follows
-pub closes_with : (text rest : List ℕ) (j : ℕ) → j ≤ length text → ClosesAt (text ++ (42 ∷ 47 ∷ rest)) j → ClosesAt (text ++ (42 ∷ 47 ∷ [])) j
+pub closes_with : (text rest : List ℕ) (j : ℕ) → j ≤ length text → ClosesAt (text ++ (42 ∷ 47 ∷ rest)) j →
+    ClosesAt (text ++ (42 ∷ 47 ∷ [])) j
 closes_with text rest j h c =
     (sym (same_byte text rest j (omega arith)) ∙ c.0, sym (same_byte text rest (suc j) (omega arith)) ∙ c.1)
 
@@ -70,9 +77,11 @@ closes_itself [] rest = (refl, refl)
 closes_itself (b ∷ text) rest = closes_itself text rest
 
 -- the first place of a text that ends there
-pub close_of_text : (text rest : List ℕ) → ((j : ℕ) → j < length text → ClosesAt (text ++ (42 ∷ 47 ∷ [])) j → ⊥) → close_of (text ++ (42 ∷ 47 ∷ rest)) ≡ Some (length text)
+pub close_of_text : (text rest : List ℕ) → ((j : ℕ) → j < length text → ClosesAt (text ++ (42 ∷ 47 ∷ [])) j → ⊥) →
+    close_of (text ++ (42 ∷ 47 ∷ rest)) ≡ Some (length text)
 close_of_text text rest h =
-    close_first (text ++ (42 ∷ 47 ∷ rest)) (length text) (closes_itself text rest) (λ j l c. h j l (closes_with text rest j (omega arith) c))
+    close_first (text ++ (42 ∷ 47 ∷ rest)) (length text) (closes_itself text rest)
+    (λ j l c. h j l (closes_with text rest j (omega arith) c))
 
 some_suc : (o : Option ℕ) (k : ℕ) → option_map suc o ≡ Some k → (j : ℕ) × (o ≡ Some j) × (k ≡ suc j)
 some_suc None k h = absurd (cc)
@@ -91,7 +100,8 @@ here b (c ∷ cs) k h g e = record {
   first = λ j l d. absurd (omega arith);
 }
 
-later : (b : ℕ) (bs : List ℕ) (j k : ℕ) → (b == 42 && slice_index bs 0 == 47) ≡ false → k ≡ suc j → FirstClose bs j → FirstClose (b ∷ bs) k
+later : (b : ℕ) (bs : List ℕ) (j k : ℕ) → (b == 42 && slice_index bs 0 == 47) ≡ false → k ≡ suc j → FirstClose bs j →
+    FirstClose (b ∷ bs) k
 later b bs j k other e f = record {
   text = b ∷ f.text;
   rest = f.rest;
@@ -102,7 +112,8 @@ later b bs j k other e f = record {
   where
     earlier : (i : ℕ) → i < k → ClosesAt (b ∷ (f.text ++ (42 ∷ 47 ∷ []))) i → ⊥
     earlier zero l c =
-        let next : slice_index bs 0 ≡ 47 = ap (λ (x : List ℕ). slice_index x 0) f.whole ∙ same_byte f.text f.rest 0 (omega arith) ∙ c.1 in
+        let next : slice_index bs 0 ≡ 47 =
+        ap (λ (x : List ℕ). slice_index x 0) f.whole ∙ same_byte f.text f.rest 0 (omega arith) ∙ c.1 in
         let yes = closes_test b (slice_index bs 0) c.0 next in
         cc
     earlier (suc i) l c = f.first i (omega arith) c
@@ -110,10 +121,11 @@ later b bs j k other e f = record {
 pub close_found : (s : List ℕ) (k : ℕ) → close_of s ≡ Some k → FirstClose s k
 unfolding close_of
 close_found [] k h = absurd (cc)
-close_found (b ∷ bs) k h = elim (chosen (b == 42 && slice_index bs 0 == 47) (Some 0) (option_map suc (close_of bs)) (Some k) h) [
-  | inl w ↦ (let t = test_closes b (slice_index bs 0) w.0 in here b bs k t.0 t.1 (some_is 0 k w.1))
-  | inr w ↦ (let (j, e, q) = some_suc (close_of bs) k w.1 in later b bs j k w.0 q (close_found bs j e))
-]
+close_found (b ∷ bs) k h =
+    elim (chosen (b == 42 && slice_index bs 0 == 47) (Some 0) (option_map suc (close_of bs)) (Some k) h) [
+      | inl w ↦ (let t = test_closes b (slice_index bs 0) w.0 in here b bs k t.0 t.1 (some_is 0 k w.1))
+      | inr w ↦ (let (j, e, q) = some_suc (close_of bs) k w.1 in later b bs j k w.0 q (close_found bs j e))
+    ]
 
 none_suc : (o : Option ℕ) → option_map suc o ≡ None → o ≡ None
 none_suc None h = refl
@@ -123,11 +135,13 @@ none_suc (Some j) h = absurd (cc)
 pub close_missing : (s : List ℕ) → close_of s ≡ None → (k : ℕ) → ClosesAt s k → ⊥
 unfolding close_of
 close_missing [] h k c = absurd (cc)
-close_missing (b ∷ bs) h k c = elim (chosen (b == 42 && slice_index bs 0 == 47) (Some 0) (option_map suc (close_of bs)) None h) [
-  | inl w ↦ absurd (cc)
-  | inr w ↦ missing b bs k w.0 (λ j d. close_missing bs (none_suc (close_of bs) w.1) j d) c
-]
+close_missing (b ∷ bs) h k c =
+    elim (chosen (b == 42 && slice_index bs 0 == 47) (Some 0) (option_map suc (close_of bs)) None h) [
+      | inl w ↦ absurd (cc)
+      | inr w ↦ missing b bs k w.0 (λ j d. close_missing bs (none_suc (close_of bs) w.1) j d) c
+    ]
   where
-    missing : (b : ℕ) (bs : List ℕ) (k : ℕ) → (b == 42 && slice_index bs 0 == 47) ≡ false → ((j : ℕ) → ClosesAt bs j → ⊥) → ClosesAt (b ∷ bs) k → ⊥
+    missing : (b : ℕ) (bs : List ℕ) (k : ℕ) → (b == 42 && slice_index bs 0 == 47) ≡ false →
+        ((j : ℕ) → ClosesAt bs j → ⊥) → ClosesAt (b ∷ bs) k → ⊥
     missing b bs zero other below c = let yes = closes_test b (slice_index bs 0) c.0 c.1 in cc
     missing b bs (suc k) other below c = below k c

@@ -1,12 +1,14 @@
 -- Blanks and marks: what is measured is in the table, and no word of the table is longer.
-use Rattle.std.proofs.Common.{ℕ, zero, suc, List, [], ◌∷◌, ◌++◌, length, take, Bool, true, false, not, ◌&&◌, ◌||◌, ◌==◌, inl, inr, ◌≡◌, ◌<◌, ◌≤◌, refl, sym, subst, ◌∙◌, arith}
+use Rattle.std.proofs.Common.{ℕ, zero, suc, List, [], ◌∷◌, ◌++◌, length, take, Bool, true, false, not, ◌&&◌, ◌||◌}
+use Rattle.std.proofs.Common.{◌==◌, inl, inr, ◌≡◌, ◌<◌, ◌≤◌, refl, sym, subst, ◌∙◌, arith}
 use Rattle.std.specs.Prelude.{slice_index}
 use Rattle.std.specs.List.{list_all}
 use Rattle.std.proofs.lemmas.Bool.{eqb-true}
 use Rattle.cl_token.specs.declared.token.Kind.{Kind}
 use Rattle.cl_token.specs.declared.token.Kind.TheVariants.{Name, Number, Mark, Hash}
 use Rattle.cl_token.specs.Spelling.{IsOneOf, marks, blanks}
-use Rattle.cl_token.specs.Reading.{is_among, spaces, blank_length, singles, before_equals, doubled, is_single, is_double, is_triple, mark_with, mark_length, kind_at}
+use Rattle.cl_token.specs.Reading.{is_among, spaces, blank_length, singles, before_equals, doubled, is_single}
+use Rattle.cl_token.specs.Reading.{is_double, is_triple, mark_with, mark_length, kind_at}
 use Rattle.cl_token.proofs.Runs.{both, test_is}
 use Rattle.cl_token.proofs.ByteFacts.{either, of_table, is_in, in_table, of_bytes}
 
@@ -29,16 +31,19 @@ second_of s = slice_index s 1
 abbrev third_of : List ℕ → ℕ
 third_of s = slice_index s 2
 
-take_one : (table : List (List ℕ)) (s : List ℕ) → is_in table (first_of s ∷ []) ≡ true → (0 < first_of s) → Front table s 1
+take_one : (table : List (List ℕ)) (s : List ℕ) → is_in table (first_of s ∷ []) ≡ true → (0 < first_of s) →
+    Front table s 1
 take_one table [] h g = absurd (omega arith)
 take_one table (a ∷ s) h g = front_by table (a ∷ s) 1 (omega arith) h
 
-take_two : (table : List (List ℕ)) (s : List ℕ) → is_in table (first_of s ∷ second_of s ∷ []) ≡ true → (0 < first_of s) → (0 < second_of s) → Front table s 2
+take_two : (table : List (List ℕ)) (s : List ℕ) → is_in table (first_of s ∷ second_of s ∷ []) ≡ true →
+    (0 < first_of s) → (0 < second_of s) → Front table s 2
 take_two table [] h g k = absurd (omega arith)
 take_two table (a ∷ []) h g k = absurd (omega arith)
 take_two table (a ∷ b ∷ s) h g k = front_by table (a ∷ b ∷ s) 2 (omega arith) h
 
-take_three : (table : List (List ℕ)) (s : List ℕ) → is_in table (first_of s ∷ second_of s ∷ third_of s ∷ []) ≡ true → (0 < first_of s) → (0 < second_of s) → (0 < third_of s) → Front table s 3
+take_three : (table : List (List ℕ)) (s : List ℕ) → is_in table (first_of s ∷ second_of s ∷ third_of s ∷ []) ≡ true →
+    (0 < first_of s) → (0 < second_of s) → (0 < third_of s) → Front table s 3
 take_three table [] h g k l = absurd (omega arith)
 take_three table (a ∷ []) h g k l = absurd (omega arith)
 take_three table (a ∷ b ∷ []) h g k l = absurd (omega arith)
@@ -56,9 +61,11 @@ not_zero a h = elim (test_is (a == 0)) [ inl t ↦ absurd (cc) | inr f ↦ pos_o
 
 -- ---- blanks
 
-one_of : (table : List (List ℕ)) (bytes : List ℕ) (s : List ℕ) → list_all (good_one table) bytes ≡ true → is_among bytes (first_of s) ≡ true → Front table s 1
+one_of : (table : List (List ℕ)) (bytes : List ℕ) (s : List ℕ) → list_all (good_one table) bytes ≡ true →
+    is_among bytes (first_of s) ≡ true → Front table s 1
 one_of table bytes s all h =
-    let k = both (is_in table (first_of s ∷ [])) (not (first_of s == 0)) (of_bytes (good_one table) bytes (first_of s) all h) in
+    let k = both (is_in table (first_of s ∷ [])) (not (first_of s == 0))
+    (of_bytes (good_one table) bytes (first_of s) all h) in
     take_one table s k.0 (not_zero (first_of s) k.1)
 
 abbrev line_splice : ℕ → ℕ → Bool
@@ -108,7 +115,8 @@ blank_complete w rest (inr (inr (inl e))) = whole_at blank_length w (11 ∷ []) 
 blank_complete w rest (inr (inr (inr (inl e)))) = whole_at blank_length w (12 ∷ []) rest e refl
 blank_complete w rest (inr (inr (inr (inr (inl e))))) = whole_at blank_length w (13 ∷ []) rest e refl
 blank_complete w rest (inr (inr (inr (inr (inr (inl e)))))) = whole_at blank_length w (92 ∷ 10 ∷ []) rest e refl
-blank_complete w rest (inr (inr (inr (inr (inr (inr (inl e))))))) = whole_at blank_length w (92 ∷ 13 ∷ 10 ∷ []) rest e refl
+blank_complete w rest (inr (inr (inr (inr (inr (inr (inl e))))))) =
+    whole_at blank_length w (92 ∷ 13 ∷ 10 ∷ []) rest e refl
 blank_complete w rest (inr (inr (inr (inr (inr (inr (inr h))))))) = absurd h
 
 -- no blank stands where the first byte belongs to none
@@ -125,19 +133,23 @@ abbrev repeats : ℕ → Bool
 repeats a = is_in marks (a ∷ a ∷ []) && not (a == 0)
 
 double_front : (s : List ℕ) → is_double (first_of s) (second_of s) ≡ true → Front marks s 2
-double_front s t = elim (either (second_of s == 61 && is_among before_equals (first_of s)) (first_of s == second_of s && is_among doubled (first_of s)) t) [
-  | inl w ↦ (
-      let k = both (second_of s == 61) (is_among before_equals (first_of s)) w in
-      let b = eqb-true (second_of s) 61 k.0 in
-      let l = both (is_in marks (first_of s ∷ 61 ∷ [])) (not (first_of s == 0)) (of_bytes assigns before_equals (first_of s) refl k.1) in
-      take_two marks s (subst (λ (x : ℕ). is_in marks (first_of s ∷ x ∷ []) ≡ true) (sym b) l.0) (not_zero (first_of s) l.1) (omega arith))
-  | inr w ↦ (
-      let k = both (first_of s == second_of s) (is_among doubled (first_of s)) w in
-      let b = eqb-true (first_of s) (second_of s) k.0 in
-      let l = both (is_in marks (first_of s ∷ first_of s ∷ [])) (not (first_of s == 0)) (of_bytes repeats doubled (first_of s) refl k.1) in
-      let some = not_zero (first_of s) l.1 in
-      take_two marks s (subst (λ (x : ℕ). is_in marks (first_of s ∷ x ∷ []) ≡ true) b l.0) some (omega arith))
-]
+double_front s t = elim (either (second_of s == 61 && is_among before_equals (first_of s)) (first_of s ==
+    second_of s && is_among doubled (first_of s)) t) [
+      | inl w ↦ (
+          let k = both (second_of s == 61) (is_among before_equals (first_of s)) w in
+          let b = eqb-true (second_of s) 61 k.0 in
+          let l = both (is_in marks (first_of s ∷ 61 ∷ [])) (not (first_of s == 0))
+          (of_bytes assigns before_equals (first_of s) refl k.1) in
+          take_two marks s (subst (λ (x : ℕ). is_in marks (first_of s ∷ x ∷ []) ≡ true) (sym b) l.0)
+          (not_zero (first_of s) l.1) (omega arith))
+      | inr w ↦ (
+          let k = both (first_of s == second_of s) (is_among doubled (first_of s)) w in
+          let b = eqb-true (first_of s) (second_of s) k.0 in
+          let l = both (is_in marks (first_of s ∷ first_of s ∷ [])) (not (first_of s == 0))
+          (of_bytes repeats doubled (first_of s) refl k.1) in
+          let some = not_zero (first_of s) l.1 in
+          take_two marks s (subst (λ (x : ℕ). is_in marks (first_of s ∷ x ∷ []) ≡ true) b l.0) some (omega arith))
+    ]
 
 triple_front : (s : List ℕ) → is_triple (first_of s) (second_of s) (third_of s) ≡ true → Front marks s 3
 triple_front s t =
@@ -146,8 +158,10 @@ triple_front s t =
     let c = eqb-true (third_of s) 61 k.0 in
     let b = eqb-true (first_of s) (second_of s) l.0 in
     elim (either (first_of s == 60) (first_of s == 62) l.1) [
-      | inl h ↦ (let a = eqb-true (first_of s) 60 h in let d : second_of s ≡ 60 = sym b ∙ a in take_three marks s (rw (a, d, c) refl) (omega arith) (omega arith) (omega arith))
-      | inr h ↦ (let a = eqb-true (first_of s) 62 h in let d : second_of s ≡ 62 = sym b ∙ a in take_three marks s (rw (a, d, c) refl) (omega arith) (omega arith) (omega arith))
+      | inl h ↦ (let a = eqb-true (first_of s) 60 h in let d : second_of s ≡ 60 = sym b ∙ a in
+          take_three marks s (rw (a, d, c) refl) (omega arith) (omega arith) (omega arith))
+      | inr h ↦ (let a = eqb-true (first_of s) 62 h in let d : second_of s ≡ 62 = sym b ∙ a in
+          take_three marks s (rw (a, d, c) refl) (omega arith) (omega arith) (omega arith))
     ]
 
 pub mark_sound : (s : List ℕ) → (mark_length s == 0) ≡ false → Front marks s (mark_length s)

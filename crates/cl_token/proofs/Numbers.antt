@@ -1,5 +1,6 @@
 -- The value of digits, digit by digit.
-use Rattle.std.proofs.Common.{ℕ, List, [], ◌∷◌, ◌++◌, length, get_or, take, drop, ◌≡◌, ◌+◌, ◌*◌, ◌^◌, ◌<◌, ◌≤◌, refl, ap, ◌∙◌, arith, append_assoc, take-append-drop, add-one}
+use Rattle.std.proofs.Common.{ℕ, List, [], ◌∷◌, ◌++◌, length, get_or, take, drop, ◌≡◌, ◌+◌, ◌*◌, ◌^◌, ◌<◌, ◌≤◌, refl}
+use Rattle.std.proofs.Common.{ap, ◌∙◌, arith, append_assoc, take-append-drop, add-one}
 use Rattle.std.proofs.lemmas.List.{take_more, length_push, append-nil}
 use Rattle.std.proofs.Math.Nat.{pow-suc, pow-zero, le-mul_of_pos_right}
 use Rattle.std.proofs.Common.{false, None, Some, Err}
@@ -26,13 +27,19 @@ single d r = rw (pow-zero r) (omega arith)
 pub number_in-push : (r : ℕ) (ds : List ℕ) (d : ℕ) → number_in r (ds ++ d ∷ []) ≡ number_in r ds * r + digit_value d
 number_in-push r [] d = single (digit_value d) r
 number_in-push r (x ∷ xs) d =
-    rw (number_in-push r xs d, length_push xs d, power_more r (length xs)) (regroup (digit_value x) (r ^ length xs) r (number_in r xs) (digit_value d))
+    rw (
+      number_in-push r xs d,
+      length_push xs d,
+      power_more r (length xs),
+    ) (regroup (digit_value x) (r ^ length xs) r (number_in r xs) (digit_value d))
 
 pub number_in-grows : (r : ℕ) → 0 < r → (xs ys : List ℕ) → number_in r xs ≤ number_in r (xs ++ ys)
 number_in-grows r h xs [] = rw (append-nil xs) (omega arith)
 number_in-grows r h xs (y ∷ ys) =
-    let further : number_in r (xs ++ y ∷ []) ≤ number_in r ((xs ++ y ∷ []) ++ ys) = number_in-grows r h (xs ++ y ∷ []) ys in
-    let same : number_in r ((xs ++ y ∷ []) ++ ys) ≡ number_in r (xs ++ y ∷ ys) = ap (number_in r) (append_assoc xs (y ∷ []) ys) in
+    let further : number_in r (xs ++ y ∷ []) ≤ number_in r ((xs ++ y ∷ []) ++ ys) =
+    number_in-grows r h (xs ++ y ∷ []) ys in
+    let same : number_in r ((xs ++ y ∷ []) ++ ys) ≡ number_in r (xs ++ y ∷ ys) =
+    ap (number_in r) (append_assoc xs (y ∷ []) ys) in
     omega (arith, number_in-push r xs y, le-mul_of_pos_right (number_in r xs) h)
 
 radix_positive : (base : Base) → 0 < radix base
@@ -41,19 +48,26 @@ radix_positive Octal = omega arith
 radix_positive Hexadecimal = omega arith
 
 -- one digit more
-pub number_in-more : (base : Base) (ds : List ℕ) (i : ℕ) → i < length ds → number_in (radix base) (take (i + 1) ds) ≡ number_in (radix base) (take i ds) * radix base + digit_value (get_or ds i 0)
-number_in-more base ds i h = ap (number_in (radix base)) (take_more ds i 0 h) ∙ number_in-push (radix base) (take i ds) (get_or ds i 0)
+pub number_in-more : (base : Base) (ds : List ℕ) (i : ℕ) → i < length ds →
+    number_in (radix base) (take (i + 1) ds) ≡ number_in (radix base) (take i ds) * radix base +
+    digit_value (get_or ds i 0)
+number_in-more base ds i h =
+    ap (number_in (radix base)) (take_more ds i 0 h) ∙ number_in-push (radix base) (take i ds) (get_or ds i 0)
 
 -- the first digits stand for no more than all
-pub number_in-front : (base : Base) (ds : List ℕ) (i : ℕ) → number_in (radix base) (take i ds) ≤ number_in (radix base) ds
+pub number_in-front : (base : Base) (ds : List ℕ) (i : ℕ) →
+    number_in (radix base) (take i ds) ≤ number_in (radix base) ds
 number_in-front base ds i =
-    let whole : number_in (radix base) (take i ds ++ drop i ds) ≡ number_in (radix base) ds = ap (number_in (radix base)) (take-append-drop i ds) in
+    let whole : number_in (radix base) (take i ds ++ drop i ds) ≡ number_in (radix base) ds =
+    ap (number_in (radix base)) (take-append-drop i ds) in
     omega (arith, number_in-grows (radix base) (radix_positive base) (take i ds) (drop i ds))
 
 -- where one digit more is too much, all digits are
-pub number_in-over : (base : Base) (ds : List ℕ) (i v m : ℕ) → v ≡ number_in (radix base) (take i ds) → i < length ds → (v * radix base + digit_value (get_or ds i 0) < m → ⊥) → number_in (radix base) ds < m → ⊥
+pub number_in-over : (base : Base) (ds : List ℕ) (i v m : ℕ) → v ≡ number_in (radix base) (take i ds) →
+    i < length ds → (v * radix base + digit_value (get_or ds i 0) < m → ⊥) → number_in (radix base) ds < m → ⊥
 number_in-over base ds i v m so_far h over fits =
-    let more : number_in (radix base) (take (i + 1) ds) ≡ v * radix base + digit_value (get_or ds i 0) = rw so_far (number_in-more base ds i h) in
+    let more : number_in (radix base) (take (i + 1) ds) ≡ v * radix base + digit_value (get_or ds i 0) =
+    rw so_far (number_in-more base ds i h) in
     over (omega (arith, number_in-front base ds (i + 1)))
 
 pub ruleset digits = (number_in-more, number_in-front)
@@ -76,6 +90,7 @@ find_none : (v : ℕ) → (v < 2 ^ 64 → ⊥) → (ts : List IntType) → find 
 find_none v over [] = refl
 find_none v over (t ∷ ts) = rw (holds_not v t over) (find_none v over ts)
 
-pub past_all : (word : List ℕ) (p : Parts) → parts_of word ≡ Some p → (value_in p < 2 ^ 64 → ⊥) → outcome_of word ≡ Err TooLarge
+pub past_all : (word : List ℕ) (p : Parts) → parts_of word ≡ Some p → (value_in p < 2 ^ 64 → ⊥) →
+    outcome_of word ≡ Err TooLarge
 unfolding outcome_of
 past_all word p e over = rw (e, find_none (value_in p) over (types_in p.form.base p.form.unsigned p.form.long)) refl

@@ -1,5 +1,6 @@
 -- The one answer for a source that is not too long.
-use Rattle.std.proofs.Common.{ℕ, List, length, ◌⊎◌, inl, inr, ◌≡◌, ◌≤◌, refl, sym, ap, subst, ◌∙◌, arith, Vec, Global, Result, Ok, Err}
+use Rattle.std.proofs.Common.{ℕ, List, length, ◌⊎◌, inl, inr, ◌≡◌, ◌≤◌, refl, sym, ap, subst, ◌∙◌, arith, Vec, Global}
+use Rattle.std.proofs.Common.{Result, Ok, Err}
 use Rattle.cl_token.specs.declared.token.Token.{Token}
 use Rattle.cl_token.specs.declared.token.LexError.{LexError}
 use Rattle.cl_token.specs.declared.token.LexError.TheVariants as errors
@@ -42,17 +43,20 @@ is_fault (errors.BadNumber at) e h = h
 is_fault (errors.LargeNumber at) e h = h
 is_fault errors.TooLong e h = h
 
-fails_tokens : (source : List ℕ) (f : LexError) (ts : List Token) → Located source f → Cuts source ts → IsTokens (Err f) ts
+fails_tokens : (source : List ℕ) (f : LexError) (ts : List Token) → Located source f → Cuts source ts →
+    IsTokens (Err f) ts
 fails_tokens source f ts h k = absurd (cut_or_fault source ts h.fault h.at k h.fails)
 
-pub all_tokens : (source : List ℕ) (r : Result (Vec Token Global) LexError) → length source ≤ limit → Stands source r → (ts : List Token) → Cuts source ts → IsTokens r ts
+pub all_tokens : (source : List ℕ) (r : Result (Vec Token Global) LexError) → length source ≤ limit →
+    Stands source r → (ts : List Token) → Cuts source ts → IsTokens r ts
 all_tokens source (Ok v) l h ts k = one_cut source v.items ts h k
 all_tokens source (Err f) l h ts k = elim (memory_or source f h) [
   | inl e ↦ subst (λ (x : LexError). IsTokens (Err x) ts) (sym e) tt
   | inr g ↦ fails_tokens source f ts (located source f l g) k
 ]
 
-pub all_faults : (source : List ℕ) (r : Result (Vec Token Global) LexError) → length source ≤ limit → Stands source r → (e : LexError) → IsRefused source e → IsFault r e
+pub all_faults : (source : List ℕ) (r : Result (Vec Token Global) LexError) → length source ≤ limit →
+    Stands source r → (e : LexError) → IsRefused source e → IsFault r e
 all_faults source (Ok v) l h e k = let g = located source e l k in cut_or_fault source v.items g.fault g.at h g.fails
 all_faults source (Err f) l h e k = elim (memory_or source f h) [
   | inl m ↦ subst (λ (x : LexError). IsFault (Err x) e) (sym m) tt

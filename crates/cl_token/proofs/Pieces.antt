@@ -1,5 +1,7 @@
 -- What is read at the head of a list is the piece that stands there, and the piece that stands there is read.
-use Rattle.std.proofs.Common.{ℕ, suc, List, [], ◌∷◌, ◌++◌, length, take, drop, Bool, true, false, ◌&&◌, ◌||◌, ◌==◌, ◌⊎◌, inl, inr, ◌≡◌, ◌+◌, ◌<◌, refl, sym, ap, subst, ◌∙◌, arith, take-append-drop, append_assoc, length-append, Result, Ok, Err, Option, None, Some}
+use Rattle.std.proofs.Common.{ℕ, suc, List, [], ◌∷◌, ◌++◌, length, take, drop, Bool, true, false, ◌&&◌, ◌||◌, ◌==◌}
+use Rattle.std.proofs.Common.{◌⊎◌, inl, inr, ◌≡◌, ◌+◌, ◌<◌, refl, sym, ap, subst, ◌∙◌, arith, take-append-drop}
+use Rattle.std.proofs.Common.{append_assoc, length-append, Result, Ok, Err, Option, None, Some}
 use Rattle.std.specs.Prelude.{slice_index, codes}
 use Rattle.std.specs.List.{list_all, prefix_len}
 use Rattle.std.proofs.lemmas.Bool.{eqb-true}
@@ -16,12 +18,15 @@ use Rattle.cl_token.specs.declared.piece.Fault.{Fault}
 use Rattle.cl_token.specs.declared.piece.Fault.TheVariants.{NoToken, OpenComment, BadNumber, LargeNumber}
 use Rattle.cl_token.specs.Number.{IsMalformed, IsTooLarge}
 use Rattle.cl_token.specs.NumberReading.{outcome_of}
-use Rattle.cl_token.specs.Spelling.{IsOneOf, blanks, Spells, IsLongest, OpensComment, line, block, EndsLine, ClosesAt, IsSkipped, blank, line_comment, block_comment, HasValue, IsNext}
+use Rattle.cl_token.specs.Spelling.{IsOneOf, blanks, Spells, IsLongest, OpensComment, line, block, EndsLine, ClosesAt}
+use Rattle.cl_token.specs.Spelling.{IsSkipped, blank, line_comment, block_comment, HasValue, IsNext}
 use Rattle.cl_token.specs.Cuts.{BeginsNothing, OpensEndless, BeginsMalformed, BeginsTooLarge}
-use Rattle.cl_token.specs.Reading.{blank_length, close_of, with_value, valued, token_of, closed, is_line_byte, solid_of, piece_of}
+use Rattle.cl_token.specs.Reading.{blank_length, close_of, with_value, valued, token_of, closed, is_line_byte}
+use Rattle.cl_token.specs.Reading.{solid_of, piece_of}
 use Rattle.cl_token.proofs.Runs.{chosen, both, test_is, Stops, head_passes, head_within, head_is, rest_stops}
 use Rattle.cl_token.proofs.Comments.{FirstClose, close_found, close_none, close_missing, close_of_text}
-use Rattle.cl_token.proofs.Literals.{literal_sound, literal_complete, malformed_sound, malformed_complete, large_sound, large_complete}
+use Rattle.cl_token.proofs.Literals.{literal_sound, literal_complete, malformed_sound, malformed_complete}
+use Rattle.cl_token.proofs.Literals.{large_sound, large_complete}
 use Rattle.cl_token.proofs.Marks.{blank_sound, blank_complete, blank_some, blank_start, no_blank}
 use Rattle.cl_token.proofs.Words.{kind_of, size_of, measured, longest, within, size_some, size_is}
 
@@ -36,18 +41,21 @@ pub record CutAt (s : List ℕ) (kind : Kind) (n : ℕ) : Type 0 where
   pub next : IsNext kind word rest
   pub value : HasValue kind word
 
-valued_ok : (kind : Kind) (n : ℕ) (s : List ℕ) (k : Kind) (m : ℕ) → valued kind n s ≡ Ok (Cut k m) → (kind ≡ k) × (n ≡ m) × HasValue kind (take n s)
+valued_ok : (kind : Kind) (n : ℕ) (s : List ℕ) (k : Kind) (m : ℕ) → valued kind n s ≡ Ok (Cut k m) →
+    (kind ≡ k) × (n ≡ m) × HasValue kind (take n s)
 valued_ok Name n s k m h = (cc, cc, tt)
 valued_ok Mark n s k m h = (cc, cc, tt)
 valued_ok Hash n s k m h = (cc, cc, tt)
 valued_ok Number n s k m h = number_ok (outcome_of (take n s)) refl h
   where
-    number_ok : (o : Result Literal LiteralError) → outcome_of (take n s) ≡ o → with_value n o ≡ Ok (Cut k m) → (Number ≡ k) × (n ≡ m) × HasValue Number (take n s)
+    number_ok : (o : Result Literal LiteralError) → outcome_of (take n s) ≡ o → with_value n o ≡ Ok (Cut k m) →
+        (Number ≡ k) × (n ≡ m) × HasValue Number (take n s)
     number_ok (Ok v) e g = (cc, cc, (v.of, v.value, literal_sound (take n s) v e))
     number_ok (Err Malformed) e g = absurd (cc)
     number_ok (Err TooLarge) e g = absurd (cc)
 
-front_next : (s : List ℕ) → (size_of s == 0) ≡ false → (OpensComment s → ⊥) → IsNext (kind_of s) (take (size_of s) s) (drop (size_of s) s)
+front_next : (s : List ℕ) → (size_of s == 0) ≡ false → (OpensComment s → ⊥) →
+    IsNext (kind_of s) (take (size_of s) s) (drop (size_of s) s)
 front_next s g c =
     let whole : s ≡ take (size_of s) s ++ drop (size_of s) s = sym (take-append-drop (size_of s) s) in
     record {
@@ -73,34 +81,42 @@ cut_sound s k n c h = elim (chosen (size_of s == 0) (Err NoToken) (valued (kind_
 ]
 
 -- what is next is what is measured
-token_is : (kind : Kind) (w rest : List ℕ) → IsNext kind w rest → token_of (w ++ rest) ≡ valued kind (length w) (w ++ rest)
+token_is : (kind : Kind) (w rest : List ℕ) → IsNext kind w rest →
+    token_of (w ++ rest) ≡ valued kind (length w) (w ++ rest)
 unfolding token_of
 token_is kind w rest h =
     let size = size_is kind w rest h.spelled h.longest in
     let some = size_some kind w rest h.spelled in
     let k = (within kind w rest h.spelled).kind_is in
-    rw some (ap (λ (x : Kind). valued x (size_of (w ++ rest)) (w ++ rest)) k ∙ ap (λ (n : ℕ). valued kind n (w ++ rest)) size)
+    rw some (ap (λ (x : Kind). valued x (size_of (w ++ rest)) (w ++ rest)) k ∙
+    ap (λ (n : ℕ). valued kind n (w ++ rest)) size)
 
-cut_complete : (kind : Kind) (w rest : List ℕ) → IsNext kind w rest → HasValue kind w → token_of (w ++ rest) ≡ Ok (Cut kind (length w))
+cut_complete : (kind : Kind) (w rest : List ℕ) → IsNext kind w rest → HasValue kind w →
+    token_of (w ++ rest) ≡ Ok (Cut kind (length w))
 cut_complete Name w rest h v = token_is Name w rest h
 cut_complete Mark w rest h v = token_is Mark w rest h
 cut_complete Hash w rest h v = token_is Hash w rest h
 cut_complete Number w rest h v =
-    token_is Number w rest h ∙ ap (λ (x : List ℕ). with_value (length w) (outcome_of x)) (take_at w rest (length w) refl) ∙ ap (with_value (length w)) (literal_complete w v.0 v.1 v.2)
+    token_is Number w rest h ∙ ap (λ (x : List ℕ). with_value (length w) (outcome_of x))
+    (take_at w rest (length w) refl) ∙ ap (with_value (length w)) (literal_complete w v.0 v.1 v.2)
 
 malformed_complete_at : (w rest : List ℕ) → IsNext Number w rest → IsMalformed w → token_of (w ++ rest) ≡ Err BadNumber
 malformed_complete_at w rest h v =
-    token_is Number w rest h ∙ ap (λ (x : List ℕ). with_value (length w) (outcome_of x)) (take_at w rest (length w) refl) ∙ ap (with_value (length w)) (malformed_complete w v)
+    token_is Number w rest h ∙ ap (λ (x : List ℕ). with_value (length w) (outcome_of x))
+    (take_at w rest (length w) refl) ∙ ap (with_value (length w)) (malformed_complete w v)
 
 large_complete_at : (w rest : List ℕ) → IsNext Number w rest → IsTooLarge w → token_of (w ++ rest) ≡ Err LargeNumber
 large_complete_at w rest h v =
-    token_is Number w rest h ∙ ap (λ (x : List ℕ). with_value (length w) (outcome_of x)) (take_at w rest (length w) refl) ∙ ap (with_value (length w)) (large_complete w v)
+    token_is Number w rest h ∙ ap (λ (x : List ℕ). with_value (length w) (outcome_of x))
+    (take_at w rest (length w) refl) ∙ ap (with_value (length w)) (large_complete w v)
 
-none_complete : (s : List ℕ) → ((kind : Kind) (w rest : List ℕ) → s ≡ w ++ rest → Spells kind w → ⊥) → token_of s ≡ Err NoToken
+none_complete : (s : List ℕ) → ((kind : Kind) (w rest : List ℕ) → s ≡ w ++ rest → Spells kind w → ⊥) →
+    token_of s ≡ Err NoToken
 unfolding token_of
 none_complete s h = elim (test_is (size_of s == 0)) [
   | inl t ↦ rw t refl
-  | inr g ↦ absurd (h (kind_of s) (take (size_of s) s) (drop (size_of s) s) (sym (take-append-drop (size_of s) s)) (measured s g).spelled)
+  | inr g ↦ absurd (h (kind_of s) (take (size_of s) s) (drop (size_of s) s) (sym (take-append-drop (size_of s) s))
+      (measured s g).spelled)
 ]
 
 -- ---- the faults of tokens
@@ -112,7 +128,8 @@ Faulty OpenComment s = OpensEndless s
 Faulty BadNumber s = BeginsMalformed s
 Faulty LargeNumber s = BeginsTooLarge s
 
-valued_err : (kind : Kind) (n : ℕ) (s : List ℕ) (f : Fault) → valued kind n s ≡ Err f → (kind ≡ Number) × (with_value n (outcome_of (take n s)) ≡ Err f)
+valued_err : (kind : Kind) (n : ℕ) (s : List ℕ) (f : Fault) → valued kind n s ≡ Err f → (kind ≡ Number) ×
+    (with_value n (outcome_of (take n s)) ≡ Err f)
 valued_err Name n s f h = absurd (cc)
 valued_err Mark n s f h = absurd (cc)
 valued_err Hash n s f h = absurd (cc)
@@ -131,12 +148,14 @@ fails f = Err f
 pub err_is : (a b : Fault) → fails a ≡ fails b → a ≡ b
 err_is a b h = cc
 
-bad_word : (n : ℕ) (w : List ℕ) (f : Fault) (o : Result Literal LiteralError) → outcome_of w ≡ o → with_value n o ≡ Err f → BadWord f w
+bad_word : (n : ℕ) (w : List ℕ) (f : Fault) (o : Result Literal LiteralError) → outcome_of w ≡ o →
+    with_value n o ≡ Err f → BadWord f w
 bad_word n w f (Ok v) e h = absurd (cc)
 bad_word n w f (Err Malformed) e h = subst (λ (x : Fault). BadWord x w) (err_is BadNumber f h) (malformed_sound w e)
 bad_word n w f (Err TooLarge) e h = subst (λ (x : Fault). BadWord x w) (err_is LargeNumber f h) (large_sound w e)
 
-token_fault : (s : List ℕ) (f : Fault) → (OpensComment s → ⊥) → token_of s ≡ Err f → ((size_of s == 0) ≡ true) × (NoToken ≡ f) ⊎ ((size_of s == 0) ≡ false) × (kind_of s ≡ Number) × BadWord f (take (size_of s) s)
+token_fault : (s : List ℕ) (f : Fault) → (OpensComment s → ⊥) → token_of s ≡ Err f → ((size_of s == 0) ≡ true) ×
+    (NoToken ≡ f) ⊎ ((size_of s == 0) ≡ false) × (kind_of s ≡ Number) × BadWord f (take (size_of s) s)
 unfolding token_of
 token_fault s f c h = elim (chosen (size_of s == 0) (Err NoToken) (valued (kind_of s) (size_of s) s) (Err f) h) [
   | inl w ↦ inl (w.0, err_is NoToken f w.1)
@@ -145,10 +164,12 @@ token_fault s f c h = elim (chosen (size_of s == 0) (Err NoToken) (valued (kind_
       inr (w.0, e, bad_word (size_of s) (take (size_of s) s) f (outcome_of (take (size_of s) s)) refl g))
 ]
 
-number_next : (s : List ℕ) → (size_of s == 0) ≡ false → (OpensComment s → ⊥) → kind_of s ≡ Number → IsNext Number (take (size_of s) s) (drop (size_of s) s)
+number_next : (s : List ℕ) → (size_of s == 0) ≡ false → (OpensComment s → ⊥) → kind_of s ≡ Number →
+    IsNext Number (take (size_of s) s) (drop (size_of s) s)
 number_next s g c e = subst (λ (x : Kind). IsNext x (take (size_of s) s) (drop (size_of s) s)) e (front_next s g c)
 
-bad_number : (s : List ℕ) (f : Fault) → (size_of s == 0) ≡ false → (OpensComment s → ⊥) → kind_of s ≡ Number → BadWord f (take (size_of s) s) → Faulty f s
+bad_number : (s : List ℕ) (f : Fault) → (size_of s == 0) ≡ false → (OpensComment s → ⊥) → kind_of s ≡ Number →
+    BadWord f (take (size_of s) s) → Faulty f s
 bad_number s NoToken g c e b = absurd b
 bad_number s OpenComment g c e b = absurd b
 bad_number s BadNumber g c e b = record {
@@ -187,10 +208,12 @@ two_bytes (x ∷ []) a b h g = absurd (cc)
 two_bytes (x ∷ y ∷ s) a b h g = rw (h, g) refl
 
 line_head : (s : List ℕ) → opens_line s ≡ true → s ≡ codes "//" ++ drop 2 s
-line_head s t = let k = both (first_of s == 47) (second_of s == 47) t in two_bytes s 46 46 (eqb-true (first_of s) 47 k.0) (eqb-true (second_of s) 47 k.1)
+line_head s t = let k = both (first_of s == 47) (second_of s == 47) t in
+    two_bytes s 46 46 (eqb-true (first_of s) 47 k.0) (eqb-true (second_of s) 47 k.1)
 
 block_head : (s : List ℕ) → opens_block s ≡ true → s ≡ codes "/*" ++ drop 2 s
-block_head s t = let k = both (first_of s == 47) (second_of s == 42) t in two_bytes s 46 41 (eqb-true (first_of s) 47 k.0) (eqb-true (second_of s) 42 k.1)
+block_head s t = let k = both (first_of s == 47) (second_of s == 42) t in
+    two_bytes s 46 41 (eqb-true (first_of s) 47 k.0) (eqb-true (second_of s) 42 k.1)
 
 comment_tests : (s : List ℕ) → OpensComment s → (opens_line s || opens_block s) ≡ true
 comment_tests s (line rest) = refl
@@ -253,11 +276,13 @@ line_at_text text =
       whole = ap (λ (x : List ℕ). codes "//" ++ x) (sym (take-append-drop n text));
       size = omega (arith, size, line_size text);
       some = omega (arith, line_size text);
-      skipped = line_comment (take n text) (drop n text) (head_passes is_line_byte text) (ends_line (drop n text) (rest_stops is_line_byte text));
+      skipped = line_comment (take n text) (drop n text) (head_passes is_line_byte text)
+          (ends_line (drop n text) (rest_stops is_line_byte text));
     }
 
 line_at : (s : List ℕ) → opens_line s ≡ true → SkippedAt s (prefix_len is_line_byte s)
-line_at s t = subst (λ (x : List ℕ). SkippedAt x (prefix_len is_line_byte x)) (sym (line_head s t)) (line_at_text (drop 2 s))
+line_at s t =
+    subst (λ (x : List ℕ). SkippedAt x (prefix_len is_line_byte x)) (sym (line_head s t)) (line_at_text (drop 2 s))
 
 block_at_text : (text : List ℕ) (k : ℕ) → FirstClose text k → SkippedAt (codes "/*" ++ text) (k + 4)
 block_at_text text k f = record {
@@ -270,7 +295,8 @@ block_at_text text k f = record {
 }
 
 block_at : (s : List ℕ) (k : ℕ) → opens_block s ≡ true → close_of (drop 2 s) ≡ Some k → SkippedAt s (k + 4)
-block_at s k t h = subst (λ (x : List ℕ). SkippedAt x (k + 4)) (sym (block_head s t)) (block_at_text (drop 2 s) k (close_found (drop 2 s) k h))
+block_at s k t h = subst (λ (x : List ℕ). SkippedAt x (k + 4)) (sym (block_head s t))
+    (block_at_text (drop 2 s) k (close_found (drop 2 s) k h))
 
 -- ---- the piece at the head
 
@@ -309,13 +335,15 @@ nothing s some p g = record {
       cc);
 }
 
-not_valued : (kind : Kind) (n : ℕ) (s : List ℕ) → (valued kind n s ≡ Ok LineEnd → ⊥) × ((m : ℕ) → valued kind n s ≡ Ok (Skipped m) → ⊥)
+not_valued : (kind : Kind) (n : ℕ) (s : List ℕ) → (valued kind n s ≡ Ok LineEnd → ⊥) ×
+    ((m : ℕ) → valued kind n s ≡ Ok (Skipped m) → ⊥)
 not_valued Name n s = (λ h. cc, λ m h. cc)
 not_valued Mark n s = (λ h. cc, λ m h. cc)
 not_valued Hash n s = (λ h. cc, λ m h. cc)
 not_valued Number n s = of_outcome (outcome_of (take n s))
   where
-    of_outcome : (o : Result Literal LiteralError) → (with_value n o ≡ Ok LineEnd → ⊥) × ((m : ℕ) → with_value n o ≡ Ok (Skipped m) → ⊥)
+    of_outcome : (o : Result Literal LiteralError) → (with_value n o ≡ Ok LineEnd → ⊥) ×
+        ((m : ℕ) → with_value n o ≡ Ok (Skipped m) → ⊥)
     of_outcome (Ok v) = (λ h. cc, λ m h. cc)
     of_outcome (Err Malformed) = (λ h. cc, λ m h. cc)
     of_outcome (Err TooLarge) = (λ h. cc, λ m h. cc)
@@ -350,12 +378,17 @@ closed_stands : (s : List ℕ) (o : Option ℕ) → opens_block s ≡ true → c
 closed_stands s None t h = record { text = drop 2 s; opens = block_head s t; endless = close_missing (drop 2 s) h }
 closed_stands s (Some k) t h = block_at s k t h
 
-solid_stands : (s : List ℕ) → 0 < length s → (first_of s == 10) ≡ false → (blank_length s == 0) ≡ true → Stands (solid_of s) s
+solid_stands : (s : List ℕ) → 0 < length s → (first_of s == 10) ≡ false → (blank_length s == 0) ≡ true →
+    Stands (solid_of s) s
 solid_stands s some l b = elim (test_is (opens_line s)) [
   | inl t ↦ rw t (line_at s t)
   | inr f ↦ elim (test_is (opens_block s)) [
     | inl t ↦ rw (f, t) (closed_stands s (close_of (drop 2 s)) t refl)
-    | inr g ↦ rw (f, g) (token_stands s (token_of s) some (record { no_line = l; no_blank = b; no_comment = no_comment s f g }) refl)
+    | inr g ↦ rw (f, g) (token_stands s (token_of s) some (record {
+      no_line = l;
+      no_blank = b;
+      no_comment = no_comment s f g;
+    }) refl)
   ]
 ]
 
@@ -384,18 +417,23 @@ blank_read piece rest h =
     let start = blank_start piece rest h in
     rw (start, size, some_length (length piece) (blank_some piece h)) refl
 
-line_read : (text rest : List ℕ) → list_all is_line_byte text ≡ true → EndsLine rest → piece_of (codes "//" ++ (text ++ rest)) ≡ skips (2 + length text)
+line_read : (text rest : List ℕ) → list_all is_line_byte text ≡ true → EndsLine rest →
+    piece_of (codes "//" ++ (text ++ rest)) ≡ skips (2 + length text)
 unfolding piece_of
 line_read text rest h e =
     let none : blank_length (codes "//" ++ (text ++ rest)) ≡ 0 = no_blank (codes "//" ++ (text ++ rest)) refl refl in
-    let size : prefix_len is_line_byte (text ++ rest) ≡ length text = head_is is_line_byte text rest h (line_stops rest e) in
-    let all : prefix_len is_line_byte (codes "//" ++ (text ++ rest)) ≡ 2 + length text = omega (arith, size, line_size (text ++ rest)) in
+    let size : prefix_len is_line_byte (text ++ rest) ≡ length text =
+    head_is is_line_byte text rest h (line_stops rest e) in
+    let all : prefix_len is_line_byte (codes "//" ++ (text ++ rest)) ≡ 2 + length text =
+    omega (arith, size, line_size (text ++ rest)) in
     rw none (ap skips all)
 
-block_read : (text rest : List ℕ) → ((place : ℕ) → place < length text → ClosesAt (text ++ codes "*/") place → ⊥) → piece_of (codes "/*" ++ (text ++ (42 ∷ 47 ∷ rest))) ≡ skips (length text + 4)
+block_read : (text rest : List ℕ) → ((place : ℕ) → place < length text → ClosesAt (text ++ codes "*/") place → ⊥) →
+    piece_of (codes "/*" ++ (text ++ (42 ∷ 47 ∷ rest))) ≡ skips (length text + 4)
 unfolding piece_of
 block_read text rest h =
-    let none : blank_length (codes "/*" ++ (text ++ (42 ∷ 47 ∷ rest))) ≡ 0 = no_blank (codes "/*" ++ (text ++ (42 ∷ 47 ∷ rest))) refl refl in
+    let none : blank_length (codes "/*" ++ (text ++ (42 ∷ 47 ∷ rest))) ≡ 0 =
+    no_blank (codes "/*" ++ (text ++ (42 ∷ 47 ∷ rest))) refl refl in
     rw none (ap closed (close_of_text text rest h))
 
 pub skipped_complete : (piece rest : List ℕ) → IsSkipped piece rest → piece_of (piece ++ rest) ≡ skips (length piece)
@@ -404,8 +442,10 @@ skipped_complete piece rest (line_comment text after h e) =
     let size : 2 + length text ≡ length (codes "//" ++ text) = omega arith in
     line_read text rest h e ∙ ap skips size
 skipped_complete piece rest (block_comment text after h) =
-    let size : length text + 4 ≡ length (codes "/*" ++ (text ++ codes "*/")) = omega (arith, length-append text (codes "*/")) in
-    ap (λ (x : List ℕ). piece_of (codes "/*" ++ x)) (append_assoc text (codes "*/") rest) ∙ block_read text rest h ∙ ap skips size
+    let size : length text + 4 ≡ length (codes "/*" ++ (text ++ codes "*/")) =
+    omega (arith, length-append text (codes "*/")) in
+    ap (λ (x : List ℕ). piece_of (codes "/*" ++ x)) (append_assoc text (codes "*/") rest) ∙ block_read text rest h ∙
+    ap skips size
 
 pub line_end_complete : (rest : List ℕ) → piece_of (10 ∷ rest) ≡ Ok LineEnd
 unfolding piece_of
@@ -417,13 +457,15 @@ solid_complete kind w rest h =
     let v = within kind w rest h.spelled in
     rw (v.line, v.blank, not_line (w ++ rest) h.no_comment, not_block (w ++ rest) h.no_comment) refl
 
-pub word_complete : (kind : Kind) (w rest : List ℕ) → IsNext kind w rest → HasValue kind w → piece_of (w ++ rest) ≡ Ok (Cut kind (length w))
+pub word_complete : (kind : Kind) (w rest : List ℕ) → IsNext kind w rest → HasValue kind w →
+    piece_of (w ++ rest) ≡ Ok (Cut kind (length w))
 word_complete kind w rest h v = solid_complete kind w rest h ∙ cut_complete kind w rest h v
 
 blank_zero : (s : List ℕ) → ((blank rest : List ℕ) → s ≡ blank ++ rest → IsOneOf blanks blank → ⊥) → blank_length s ≡ 0
 blank_zero s h = elim (test_is (blank_length s == 0)) [
   | inl t ↦ eqb-true (blank_length s) 0 t
-  | inr g ↦ absurd (h (take (blank_length s) s) (drop (blank_length s) s) (sym (take-append-drop (blank_length s) s)) (blank_sound s g).member)
+  | inr g ↦ absurd (h (take (blank_length s) s) (drop (blank_length s) s) (sym (take-append-drop (blank_length s) s))
+      (blank_sound s g).member)
 ]
 
 not_line_end_head : (s : List ℕ) → ((rest : List ℕ) → s ≡ 10 ∷ rest → ⊥) → (first_of s == 10) ≡ false
@@ -435,9 +477,15 @@ not_line_end_head s h = elim (test_is (first_of s == 10)) [
 nothing_complete : (s : List ℕ) → BeginsNothing s → piece_of s ≡ Err NoToken
 unfolding piece_of
 nothing_complete s h =
-    rw (not_line_end_head s h.no_line_end, blank_zero s h.no_blank, not_line s h.no_comment, not_block s h.no_comment) (none_complete s h.no_token)
+    rw (
+      not_line_end_head s h.no_line_end,
+      blank_zero s h.no_blank,
+      not_line s h.no_comment,
+      not_block s h.no_comment,
+    ) (none_complete s h.no_token)
 
-endless_complete : (text : List ℕ) → ((place : ℕ) → ClosesAt text place → ⊥) → piece_of (codes "/*" ++ text) ≡ Err OpenComment
+endless_complete : (text : List ℕ) → ((place : ℕ) → ClosesAt text place → ⊥) →
+    piece_of (codes "/*" ++ text) ≡ Err OpenComment
 unfolding piece_of
 endless_complete text h =
     let none : blank_length (codes "/*" ++ text) ≡ 0 = no_blank (codes "/*" ++ text) refl refl in
@@ -446,5 +494,7 @@ endless_complete text h =
 pub fault_complete : (f : Fault) (s : List ℕ) → Faulty f s → piece_of s ≡ Err f
 fault_complete NoToken s h = nothing_complete s h
 fault_complete OpenComment s h = ap piece_of h.opens ∙ endless_complete h.text h.endless
-fault_complete BadNumber s h = ap piece_of h.whole ∙ solid_complete Number h.word h.rest h.number ∙ malformed_complete_at h.word h.rest h.number h.malformed
-fault_complete LargeNumber s h = ap piece_of h.whole ∙ solid_complete Number h.word h.rest h.number ∙ large_complete_at h.word h.rest h.number h.large
+fault_complete BadNumber s h = ap piece_of h.whole ∙ solid_complete Number h.word h.rest h.number ∙
+    malformed_complete_at h.word h.rest h.number h.malformed
+fault_complete LargeNumber s h = ap piece_of h.whole ∙ solid_complete Number h.word h.rest h.number ∙
+    large_complete_at h.word h.rest h.number h.large

@@ -1,5 +1,6 @@
 -- Places, byte by byte.
-use Rattle.std.proofs.Common.{ℕ, List, [], ◌∷◌, ◌++◌, length, get_or, take, reverse, Bool, not, cond, ◌≡◌, ◌+◌, ◌-◌, ◌<◌, ◌≤◌, inl, inr, refl, sym, ap, ◌∙◌, arith, length-drop}
+use Rattle.std.proofs.Common.{ℕ, List, [], ◌∷◌, ◌++◌, length, get_or, take, reverse, Bool, not, cond, ◌≡◌, ◌+◌, ◌-◌}
+use Rattle.std.proofs.Common.{◌<◌, ◌≤◌, inl, inr, refl, sym, ap, ◌∙◌, arith, length-drop}
 use Rattle.std.specs.Prelude.{count_by}
 use Rattle.std.specs.List.{after_last, suffix_len, prefix_len}
 use Rattle.std.proofs.lemmas.List.Sums.{sum_by_push}
@@ -34,9 +35,11 @@ abbrev columns : List ℕ → ℕ
 columns xs = length (after_last is_line_end xs)
 
 columns_push : (xs : List ℕ) (b : ℕ) → columns (xs ++ b ∷ []) ≡ cond (other b) (1 + columns xs) 0
-columns_push xs b = behind_last (xs ++ b ∷ []) ∙ suffix_push xs b ∙ ap (λ (n : ℕ). cond (other b) (1 + n) 0) (sym (behind_last xs))
+columns_push xs b =
+    behind_last (xs ++ b ∷ []) ∙ suffix_push xs b ∙ ap (λ (n : ℕ). cond (other b) (1 + n) 0) (sym (behind_last xs))
 
-counts_push : (xs : List ℕ) (b : ℕ) → place_of_counts (lines (xs ++ b ∷ [])) (columns (xs ++ b ∷ [])) ≡ place_behind (place_of_counts (lines xs) (columns xs)) b
+counts_push : (xs : List ℕ) (b : ℕ) → place_of_counts (lines (xs ++ b ∷ [])) (columns (xs ++ b ∷ [])) ≡
+    place_behind (place_of_counts (lines xs) (columns xs)) b
 counts_push xs b = elim (test_is (is_line_end b)) [
   | inl t ↦ (
       let n : lines (xs ++ b ∷ []) ≡ lines xs + 1 = sum_by_push (λ x. cond (is_line_end x) 1 0) xs b ∙ rw t refl in
@@ -54,9 +57,11 @@ pub place_start : (source : List ℕ) → place_at source 0 ≡ record { line = 
 unfolding place_at
 place_start source = refl
 
-pub place_more : (source : List ℕ) (i : ℕ) → i < length source → place_at source (i + 1) ≡ place_behind (place_at source i) (get_or source i 0)
+pub place_more : (source : List ℕ) (i : ℕ) → i < length source →
+    place_at source (i + 1) ≡ place_behind (place_at source i) (get_or source i 0)
 unfolding place_at
 place_more source i h =
-    ap (λ (xs : List ℕ). place_of_counts (lines xs) (columns xs)) (take_more source i 0 h) ∙ counts_push (take i source) (get_or source i 0)
+    ap (λ (xs : List ℕ). place_of_counts (lines xs) (columns xs)) (take_more source i 0 h) ∙
+    counts_push (take i source) (get_or source i 0)
 
 pub ruleset place_laws = (place_start, place_more)

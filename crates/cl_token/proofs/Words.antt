@@ -1,5 +1,6 @@
 -- The longest token at the head of a list: what is measured is spelled, and nothing longer is.
-use Rattle.std.proofs.Common.{ℕ, zero, suc, List, [], ◌∷◌, ◌++◌, length, take, drop, Bool, true, false, ◌==◌, inl, inr, ◌≡◌, ◌+◌, ◌<◌, ◌≤◌, refl, sym, ap, subst, arith, take-append-drop}
+use Rattle.std.proofs.Common.{ℕ, zero, suc, List, [], ◌∷◌, ◌++◌, length, take, drop, Bool, true, false, ◌==◌, inl}
+use Rattle.std.proofs.Common.{inr, ◌≡◌, ◌+◌, ◌<◌, ◌≤◌, refl, sym, ap, subst, arith, take-append-drop}
 use Rattle.std.specs.Prelude.{slice_index}
 use Rattle.std.specs.List.{list_all, prefix_len}
 use Rattle.std.proofs.lemmas.Bool.{eqb-true}
@@ -11,7 +12,8 @@ use Rattle.cl_token.specs.Bytes.{is_digit, is_name_start, is_name_byte, is_numbe
 use Rattle.cl_token.specs.Spelling.{Spells, IsLongest}
 use Rattle.cl_token.specs.Reading.{blank_length, kind_at, length_of}
 use Rattle.cl_token.proofs.Runs.{and_true, test_is, head_passes, head_within, head_reaches}
-use Rattle.cl_token.proofs.ByteFacts.{start_is_name_byte, digit_is_number_byte, start_not_digit, Solid, start_solid, digit_solid}
+use Rattle.cl_token.proofs.ByteFacts.{start_is_name_byte, digit_is_number_byte, start_not_digit, Solid, start_solid}
+use Rattle.cl_token.proofs.ByteFacts.{digit_solid}
 use Rattle.cl_token.proofs.Marks.{mark_sound, mark_reaches, mark_some, starts, no_blank}
 
 abbrev first_of : List ℕ → ℕ
@@ -60,10 +62,12 @@ pub record Measured (kind : Kind) (s : List ℕ) (n : ℕ) : Type 0 where
 one_more : (n : ℕ) → 1 + n ≡ suc n
 one_more n = omega arith
 
-run_measured : (first other : ℕ → Bool) (b : ℕ) (s : List ℕ) → first b ≡ true → other b ≡ true → IsRun first other (take (prefix_len other (b ∷ s)) (b ∷ s))
+run_measured : (first other : ℕ → Bool) (b : ℕ) (s : List ℕ) → first b ≡ true → other b ≡ true →
+    IsRun first other (take (prefix_len other (b ∷ s)) (b ∷ s))
 run_measured first other b s h g = rw (g, one_more (prefix_len other s)) (h, head_passes other s)
 
-measured_by : (kind : Kind) (s : List ℕ) → Starts kind (first_of s) → (length_of kind s == 0) ≡ false → Measured kind s (length_of kind s)
+measured_by : (kind : Kind) (s : List ℕ) → Starts kind (first_of s) → (length_of kind s == 0) ≡ false →
+    Measured kind s (length_of kind s)
 unfolding length_of
 measured_by Name [] h g = absurd (cc)
 measured_by Name (b ∷ s) h g = record {
@@ -112,7 +116,8 @@ unfolding length_of
 within Name [] rest h = absurd h
 within Name (b ∷ w) rest h = record {
   kind_is = name_kind b h.0;
-  reaches = head_reaches is_name_byte (b ∷ w) rest (and_true (is_name_byte b) (list_all is_name_byte w) (start_is_name_byte b h.0) h.1);
+  reaches = head_reaches is_name_byte (b ∷ w) rest (and_true (is_name_byte b) (list_all is_name_byte w)
+      (start_is_name_byte b h.0) h.1);
   some = omega arith;
   line = (start_solid b h.0).line;
   blank = solid_blank b (w ++ rest) (start_solid b h.0);
@@ -120,7 +125,8 @@ within Name (b ∷ w) rest h = record {
 within Number [] rest h = absurd h
 within Number (b ∷ w) rest h = record {
   kind_is = number_kind b h.0;
-  reaches = head_reaches is_number_byte (b ∷ w) rest (and_true (is_number_byte b) (list_all is_number_byte w) (digit_is_number_byte b h.0) h.1);
+  reaches = head_reaches is_number_byte (b ∷ w) rest (and_true (is_number_byte b) (list_all is_number_byte w)
+      (digit_is_number_byte b h.0) h.1);
   some = omega arith;
   line = (digit_solid b h.0).line;
   blank = solid_blank b (w ++ rest) (digit_solid b h.0);
@@ -141,7 +147,8 @@ longest s g kind other rest e h =
     let w = within kind other rest h in
     let size : length (take (size_of s) s) ≡ size_of s = length-take-le (size_of s) s (measured s g).within in
     let same : size_of s ≡ size_of (other ++ rest) = ap size_of e in
-    let kinds : size_of (other ++ rest) ≡ length_of kind (other ++ rest) = ap (λ (k : Kind). length_of k (other ++ rest)) w.kind_is in
+    let kinds : size_of (other ++ rest) ≡ length_of kind (other ++ rest) =
+    ap (λ (k : Kind). length_of k (other ++ rest)) w.kind_is in
     omega (arith, w.reaches)
 
 positive_test : (n m : ℕ) → m ≤ n → 0 < m → (n == 0) ≡ false
@@ -151,7 +158,8 @@ positive_test (suc n) m h g = grind (arith, nat_tests)
 pub size_some : (kind : Kind) (w rest : List ℕ) → Spells kind w → (size_of (w ++ rest) == 0) ≡ false
 size_some kind w rest h =
     let v = within kind w rest h in
-    let kinds : size_of (w ++ rest) ≡ length_of kind (w ++ rest) = ap (λ (k : Kind). length_of k (w ++ rest)) v.kind_is in
+    let kinds : size_of (w ++ rest) ≡ length_of kind (w ++ rest) =
+    ap (λ (k : Kind). length_of k (w ++ rest)) v.kind_is in
     positive_test (size_of (w ++ rest)) (length w) (omega (arith, v.reaches)) v.some
 
 pub size_is : (kind : Kind) (w rest : List ℕ) → Spells kind w → IsLongest w (w ++ rest) → size_of (w ++ rest) ≡ length w
@@ -162,5 +170,6 @@ size_is kind w rest h l =
     let m = measured s g in
     let kinds : size_of s ≡ length_of kind s = ap (λ (k : Kind). length_of k s) v.kind_is in
     let size : length (take (size_of s) s) ≡ size_of s = length-take-le (size_of s) s m.within in
-    let up : length (take (size_of s) s) ≤ length w = l (kind_of s) (take (size_of s) s) (drop (size_of s) s) (sym (take-append-drop (size_of s) s)) m.spelled in
+    let up : length (take (size_of s) s) ≤ length w =
+    l (kind_of s) (take (size_of s) s) (drop (size_of s) s) (sym (take-append-drop (size_of s) s)) m.spelled in
     omega (arith, v.reaches)

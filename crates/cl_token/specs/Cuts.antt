@@ -6,19 +6,27 @@ use Rattle.cl_token.specs.declared.token.Kind.{Kind}
 use Rattle.cl_token.specs.declared.token.Kind.TheVariants as kinds
 use Rattle.cl_token.specs.declared.token.Token.{Token}
 use Rattle.cl_token.specs.declared.token.LexError.{LexError}
-use Rattle.cl_token.specs.declared.token.LexError.TheVariants.{NoToken, OpenComment, BadNumber, LargeNumber, TooLong, Memory}
+use Rattle.cl_token.specs.declared.token.LexError.TheVariants.{NoToken, OpenComment, BadNumber, LargeNumber, TooLong}
+use Rattle.cl_token.specs.declared.token.LexError.TheVariants.{Memory}
 
 -- The first `at` bytes of the source are blanks, comments and these tokens, in order, and `rest` is what follows.
 -- `first` says that no token stands before `rest` in its line.
 pub data CutsTo (source : List ℕ) : ℕ → Bool → List ℕ → List Token → Type 0 where
   start : CutsTo source 0 true source []
   skip : {at : ℕ} {first : Bool} {ts : List Token} (piece rest : List ℕ)
-      → CutsTo source at first (piece ++ rest) ts → IsSkipped piece rest → CutsTo source (at + length piece) first rest ts
+      → CutsTo source at first (piece ++ rest) ts → IsSkipped piece rest →
+      CutsTo source (at + length piece) first rest ts
   line_end : {at : ℕ} {first : Bool} {ts : List Token} (rest : List ℕ)
       → CutsTo source at first (10 ∷ rest) ts → CutsTo source (at + 1) true rest ts
   token : {at : ℕ} {first : Bool} {ts : List Token} (kind : Kind) (word rest : List ℕ)
       → CutsTo source at first (word ++ rest) ts → IsNext kind word rest → HasValue kind word
-      → CutsTo source (at + length word) false rest (ts ++ record { kind = kind; word = word; start = at; end = at + length word; first = first } ∷ [])
+      → CutsTo source (at + length word) false rest (ts ++ record {
+        kind = kind;
+        word = word;
+        start = at;
+        end = at + length word;
+        first = first;
+      } ∷ [])
 
 -- Blanks and comments aside, the source is these tokens.
 pub record Cuts (source : List ℕ) (ts : List Token) : Type 0 where

@@ -1,5 +1,6 @@
 -- Integer constants: their spelling, their value and their type (C99, 6.4.4.1).
-use Rattle.std.specs.Prelude.{ℕ, List, [], ◌∷◌, ◌++◌, length, Bool, true, false, ◌≡◌, ◌+◌, ◌-◌, ◌*◌, ◌^◌, ◌||◌, ◌==◌, nat_le, if◌then◌else◌, Option, None, Some, pos, int_le}
+use Rattle.std.specs.Prelude.{ℕ, List, [], ◌∷◌, ◌++◌, length, Bool, true, false, ◌≡◌, ◌+◌, ◌-◌, ◌*◌, ◌^◌, ◌||◌, ◌==◌}
+use Rattle.std.specs.Prelude.{nat_le, if◌then◌else◌, Option, None, Some, pos, int_le}
 use Rattle.std.specs.List.{list_all, find}
 use Rattle.wg_num.specs.declared.types.IntType.{IntType}
 use Rattle.wg_num.specs.declared.types.IntType.TheVariants.{Int, Uint, Long, Ulong}
@@ -30,7 +31,8 @@ is_l b = b == 108 || b == 76
 pub data IsConstant : Base → List ℕ → ℕ → Type 0 where
   decimal : (ds : List ℕ) → IsRun is_nonzero_digit is_digit ds → IsConstant Decimal ds (number_in 10 ds)
   octal : (ds : List ℕ) → list_all is_octal_digit ds ≡ true → IsConstant Octal (48 ∷ ds) (number_in 8 ds)
-  hexadecimal : (x : ℕ) (ds : List ℕ) → is_x x ≡ true → IsRun is_hexadecimal_digit is_hexadecimal_digit ds → IsConstant Hexadecimal (48 ∷ x ∷ ds) (number_in 16 ds)
+  hexadecimal : (x : ℕ) (ds : List ℕ) → is_x x ≡ true → IsRun is_hexadecimal_digit is_hexadecimal_digit ds →
+      IsConstant Hexadecimal (48 ∷ x ∷ ds) (number_in 16 ds)
 
 -- The bytes are a suffix, with `u` where the first answer is true and `l` where the second is.
 pub data IsSuffix : List ℕ → Bool → Bool → Type 0 where

@@ -1,5 +1,6 @@
 -- Reading an integer constant from left to right, as a function of its bytes.
-use Rattle.std.specs.Prelude.{ℕ, List, [], ◌∷◌, Bool, true, false, ◌&&◌, ◌||◌, ◌==◌, if◌then◌else◌, take, drop, Option, None, Some, Result, Ok, Err, slice_index}
+use Rattle.std.specs.Prelude.{ℕ, List, [], ◌∷◌, Bool, true, false, ◌&&◌, ◌||◌, ◌==◌, if◌then◌else◌, take, drop}
+use Rattle.std.specs.Prelude.{Option, None, Some, Result, Ok, Err, slice_index}
 use Rattle.std.specs.List.{prefix_len}
 use Rattle.wg_num.specs.declared.types.IntType.{IntType}
 use Rattle.cl_token.specs.Bytes.{is_digit, is_octal_digit, is_hexadecimal_digit}
@@ -47,10 +48,12 @@ pub record Parts : Type 0 where
 
 abbrev pub with_suffix : Base → List ℕ → Option (Bool × Bool) → Option Parts
 with_suffix base digits None = None
-with_suffix base digits (Some s) = Some (record { form = record { base = base; unsigned = s.0; long = s.1 }; digits = digits })
+with_suffix base digits (Some s) =
+    Some (record { form = record { base = base; unsigned = s.0; long = s.1 }; digits = digits })
 
 abbrev pub split_body : Base → ℕ → List ℕ → Option Parts
-split_body base n body = if needs_digits base && n == 0 then None else with_suffix base (take n body) (suffix_of (drop n body))
+split_body base n body =
+    if needs_digits base && n == 0 then None else with_suffix base (take n body) (suffix_of (drop n body))
 
 abbrev pub parts_in : Base → List ℕ → Option Parts
 parts_in base body = split_body base (prefix_len (digit_in base) body) body

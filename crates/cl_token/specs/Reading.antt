@@ -1,5 +1,6 @@
 -- What stands at the head of the rest of a source, as a function of its bytes.
-use Rattle.std.specs.Prelude.{ℕ, suc, List, [], ◌∷◌, Bool, not, ◌&&◌, ◌||◌, ◌==◌, ◌+◌, if◌then◌else◌, take, drop, Option, None, Some, Result, Ok, Err, slice_index, option_map, codes}
+use Rattle.std.specs.Prelude.{ℕ, suc, List, [], ◌∷◌, Bool, not, ◌&&◌, ◌||◌, ◌==◌, ◌+◌, if◌then◌else◌, take, drop}
+use Rattle.std.specs.Prelude.{Option, None, Some, Result, Ok, Err, slice_index, option_map, codes}
 use Rattle.std.specs.List.{prefix_len, list_any}
 use Rattle.cl_token.specs.Bytes.{is_digit, is_name_start, is_name_byte, is_number_byte}
 use Rattle.cl_token.specs.NumberReading.{outcome_of}
@@ -22,7 +23,8 @@ abbrev pub spaces : List ℕ
 spaces = 32 ∷ 9 ∷ 11 ∷ 12 ∷ 13 ∷ []
 
 abbrev pub blank_with : ℕ → ℕ → ℕ → ℕ
-blank_with a b c = if is_among spaces a then 1 else (if a == 92 && b == 10 then 2 else (if a == 92 && (b == 13 && c == 10) then 3 else 0))
+blank_with a b c = if is_among spaces a then 1 else (if a == 92 && b ==
+    10 then 2 else (if a == 92 && (b == 13 && c == 10) then 3 else 0))
 
 -- how long the blank is that stands there, and 0 where none does
 unfoldable pub blank_length : List ℕ → ℕ
@@ -98,7 +100,8 @@ abbrev pub is_line_byte : ℕ → Bool
 is_line_byte b = not (b == 10)
 
 abbrev pub solid_of : List ℕ → Result Piece Fault
-solid_of s = if slice_index s 0 == 47 && slice_index s 1 == 47 then Ok (Skipped (prefix_len is_line_byte s)) else (if slice_index s 0 == 47 && slice_index s 1 == 42 then closed (close_of (drop 2 s)) else token_of s)
+solid_of s = if slice_index s 0 == 47 && slice_index s 1 == 47 then Ok (Skipped (prefix_len is_line_byte s)) else
+    (if slice_index s 0 == 47 && slice_index s 1 == 42 then closed (close_of (drop 2 s)) else token_of s)
 
 abbrev pub piece_with : ℕ → List ℕ → Result Piece Fault
 piece_with n s = if n == 0 then solid_of s else Ok (Skipped n)

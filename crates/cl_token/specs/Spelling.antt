@@ -1,5 +1,6 @@
 -- How tokens, blanks and comments are spelled (OpenCL 1.2, section 6; C99, sections 5.1.1.2 and 6.4).
-use Rattle.std.specs.Prelude.{ℕ, suc, List, [], ◌∷◌, ◌++◌, length, true, not, ◌≡◌, ◌<◌, ◌≤◌, ◌==◌, ◌⊎◌, codes, slice_index}
+use Rattle.std.specs.Prelude.{ℕ, suc, List, [], ◌∷◌, ◌++◌, length, true, not, ◌≡◌, ◌<◌, ◌≤◌, ◌==◌, ◌⊎◌, codes}
+use Rattle.std.specs.Prelude.{slice_index}
 use Rattle.std.specs.List.{list_all}
 use Rattle.wg_num.specs.declared.types.IntType.{IntType}
 use Rattle.cl_token.specs.Bytes.{is_digit, is_name_start, is_name_byte, is_number_byte, IsRun}
@@ -14,9 +15,12 @@ IsOneOf (y ∷ ys) x = (x ≡ y) ⊎ IsOneOf ys x
 
 abbrev pub marks : List (List ℕ)
 marks =
-    codes "{" ∷ codes "}" ∷ codes "(" ∷ codes ")" ∷ codes "[" ∷ codes "]" ∷ codes ";" ∷ codes "," ∷ codes ":" ∷ codes "?" ∷ codes "~"
-    ∷ codes "!" ∷ codes "=" ∷ codes "==" ∷ codes "!=" ∷ codes "<" ∷ codes ">" ∷ codes "<=" ∷ codes ">=" ∷ codes "<<" ∷ codes ">>" ∷ codes "<<=" ∷ codes ">>="
-    ∷ codes "+" ∷ codes "-" ∷ codes "*" ∷ codes "/" ∷ codes "%" ∷ codes "&" ∷ codes "|" ∷ codes "^" ∷ codes "&&" ∷ codes "||" ∷ codes "++" ∷ codes "--"
+    codes "{" ∷ codes "}" ∷ codes "(" ∷ codes ")" ∷ codes "[" ∷ codes "]" ∷ codes ";" ∷ codes "," ∷ codes ":" ∷
+    codes "?" ∷ codes "~"
+    ∷ codes "!" ∷ codes "=" ∷ codes "==" ∷ codes "!=" ∷ codes "<" ∷ codes ">" ∷ codes "<=" ∷ codes ">=" ∷ codes "<<" ∷
+    codes ">>" ∷ codes "<<=" ∷ codes ">>="
+    ∷ codes "+" ∷ codes "-" ∷ codes "*" ∷ codes "/" ∷ codes "%" ∷ codes "&" ∷ codes "|" ∷ codes "^" ∷ codes "&&" ∷
+    codes "||" ∷ codes "++" ∷ codes "--"
     ∷ codes "+=" ∷ codes "-=" ∷ codes "*=" ∷ codes "/=" ∷ codes "%=" ∷ codes "&=" ∷ codes "|=" ∷ codes "^=" ∷ []
 
 -- The bytes spell a token of this kind, as far as its length goes.
@@ -28,7 +32,8 @@ Spells Hash word = word ≡ codes "#"
 
 -- Every token with which the bytes begin is at most as long as the word.
 abbrev pub IsLongest : List ℕ → List ℕ → Type 0
-IsLongest word bytes = (kind : Kind) (other rest : List ℕ) → bytes ≡ other ++ rest → Spells kind other → length other ≤ length word
+IsLongest word bytes =
+    (kind : Kind) (other rest : List ℕ) → bytes ≡ other ++ rest → Spells kind other → length other ≤ length word
 
 -- A comment opens at the head of the bytes.
 pub data OpensComment : List ℕ → Type 0 where
@@ -51,8 +56,11 @@ blanks = codes " " ∷ (9 ∷ []) ∷ (11 ∷ []) ∷ (12 ∷ []) ∷ (13 ∷ []
 -- The first bytes are a blank or a comment that doesn't end the line, before the others.
 pub data IsSkipped : List ℕ → List ℕ → Type 0 where
   blank : (bytes rest : List ℕ) → IsOneOf blanks bytes → IsSkipped bytes rest
-  line_comment : (text rest : List ℕ) → list_all (λ b. not (b == 10)) text ≡ true → EndsLine rest → IsSkipped (codes "//" ++ text) rest
-  block_comment : (text rest : List ℕ) → ((place : ℕ) → place < length text → ClosesAt (text ++ codes "*/") place → ⊥) → IsSkipped (codes "/*" ++ (text ++ codes "*/")) rest
+  line_comment : (text rest : List ℕ) → list_all (λ b. not (b == 10)) text ≡ true → EndsLine rest →
+      IsSkipped (codes "//" ++ text) rest
+  block_comment : (text rest : List ℕ) →
+      ((place : ℕ) → place < length text → ClosesAt (text ++ codes "*/") place → ⊥) →
+      IsSkipped (codes "/*" ++ (text ++ codes "*/")) rest
 
 -- A number has a type and a value; other tokens have none.
 abbrev pub HasValue : Kind → List ℕ → Type 0

@@ -1,5 +1,24 @@
 //! The cutting of a source into tokens.
-ghost use Rattle.std.specs.Prelude.{◌≡◌, ◌↔◌, ℕ, List, ◌<◌, ◌≤◌, length, All, IfOk, IfErr, OnOk, MatchResult, ◌++◌, ◌∷◌, [], Err, slice_range, drop};
+ghost use Rattle.std.specs.Prelude.{
+  ◌≡◌,
+  ◌↔◌,
+  ℕ,
+  List,
+  ◌<◌,
+  ◌≤◌,
+  length,
+  All,
+  IfOk,
+  IfErr,
+  OnOk,
+  MatchResult,
+  ◌++◌,
+  ◌∷◌,
+  [],
+  Err,
+  slice_range,
+  drop,
+};
 ghost use Rattle.cl_token.specs.declared.token.Token.{Token as AnyToken};
 ghost use Rattle.cl_token.specs.declared.token.LexError.{LexError as AnyError};
 ghost use Rattle.cl_token.specs.Cuts.{Cuts, IsRefused, limit};
@@ -36,7 +55,13 @@ fn token_at(
     requires order { start ≤ end }
     requires within { end ≤ length source.now }
     requires small { length source.now ≤ limit }
-    ensures { MatchResult result (λ t. t ≡ record { kind = kind; word = slice_range source.now start end; start = start; end = end; first = first }) (λ e. e ≡ LexError.Memory) }
+    ensures { MatchResult result (λ t. t ≡ record {
+      kind = kind;
+      word = slice_range source.now start end;
+      start = start;
+      end = end;
+      first = first;
+    }) (λ e. e ≡ LexError.Memory) }
 {
     let Ok(word) = Word::new(alloc, &source[start..end]) else {
         return Err(LexError::Memory);

@@ -1,5 +1,22 @@
 //! Integer constants: how they are spelled, their values and their types.
-ghost use Rattle.std.specs.Prelude.{◌≡◌, ◌↔◌, ℕ, ◌^◌, ◌<◌, ◌≤◌, ◌+◌, ◌*◌, length, IfOk, Ok, Err, None, MatchOption, SomeIff, option_map};
+ghost use Rattle.std.specs.Prelude.{
+  ◌≡◌,
+  ◌↔◌,
+  ℕ,
+  ◌^◌,
+  ◌<◌,
+  ◌≤◌,
+  ◌+◌,
+  ◌*◌,
+  length,
+  IfOk,
+  Ok,
+  Err,
+  None,
+  MatchOption,
+  SomeIff,
+  option_map,
+};
 ghost use Rattle.std.specs.List.{prefix_len};
 ghost use Rattle.wg_num.specs.declared.types.IntType.{IntType as AnyType};
 ghost use Rattle.cl_token.specs.Number as spec;
@@ -135,7 +152,10 @@ fn suffix_of(bytes: &[u8]) -> Option<(bool, bool)>
 
 #[tactic(auto, unfolding(crate::specs::NumberReading::parts_of))]
 fn parts_of(word: &[u8]) -> Option<Parts<'_>>
-    ensures { option_map (λ p. record { form = record { base = p.base; unsigned = p.unsigned; long = p.long }; digits = p.digits.now }) result ≡ reading.parts_of word.now }
+    ensures { option_map (λ p. record {
+      form = record { base = p.base; unsigned = p.unsigned; long = p.long };
+      digits = p.digits.now;
+    }) result ≡ reading.parts_of word.now }
 {
     let base = base_of(word);
     let body = word.get(prefix_length(base)..).unwrap_or(&[]);
@@ -168,7 +188,8 @@ fn digit_value(byte: u8) -> u64
 
 /// The value with one digit more, if that is below 2 to the 64.
 fn with_digit(value: u64, base: Base, digit: u8) -> Option<u64>
-    ensures { SomeIff result (value * reading.radix base + spec.digit_value digit < 2 ^ 64) (value * reading.radix base + spec.digit_value digit) }
+    ensures { SomeIff result (value * reading.radix base + spec.digit_value digit < 2 ^ 64)
+        (value * reading.radix base + spec.digit_value digit) }
 {
     value
         .checked_mul(radix(base))?
@@ -178,7 +199,8 @@ fn with_digit(value: u64, base: Base, digit: u8) -> Option<u64>
 /// What the digits stand for, if that is below 2 to the 64.
 #[tactic(auto, using(crate::proofs::Numbers::digits))]
 fn value_of(base: Base, digits: &[u8]) -> Option<u64>
-    ensures { SomeIff result (spec.number_in (reading.radix base) digits.now < 2 ^ 64) (spec.number_in (reading.radix base) digits.now) }
+    ensures { SomeIff result (spec.number_in (reading.radix base) digits.now < 2 ^ 64)
+        (spec.number_in (reading.radix base) digits.now) }
 {
     let mut value = 0u64;
     for digit in digits {
@@ -249,7 +271,8 @@ pub(crate) fn outcome_of(word: &[u8]) -> Result<Literal, LiteralError>
 #[tactic(auto, using(crate::proofs::Literals::literals))]
 pub fn literal_of(word: &[u8]) -> Result<Literal, LiteralError>
     ensures found { IfOk result (λ l. spec.IsLiteral word.now l.of l.value) }
-    ensures every { (t : AnyType) (v : ℕ) → spec.IsLiteral word.now t v → result ≡ Ok (record { of = t; value = v }) }
+    ensures every { (t : AnyType) (v : ℕ) → spec.IsLiteral word.now t v →
+        result ≡ Ok (record { of = t; value = v }) }
     ensures malformed { (result ≡ Err LiteralError.Malformed) ↔ spec.IsMalformed word.now }
     ensures too_large { (result ≡ Err LiteralError.TooLarge) ↔ spec.IsTooLarge word.now }
 {

@@ -1,5 +1,20 @@
 //! What stands at the head of the rest of a source.
-ghost use Rattle.std.specs.Prelude.{◌≡◌, ◌≢◌, ◌↔◌, ℕ, ◌+◌, ◌<◌, ◌≤◌, length, MatchOption, IfSome, slice_index, drop, Ok, Err};
+ghost use Rattle.std.specs.Prelude.{
+  ◌≡◌,
+  ◌≢◌,
+  ◌↔◌,
+  ℕ,
+  ◌+◌,
+  ◌<◌,
+  ◌≤◌,
+  length,
+  MatchOption,
+  IfSome,
+  slice_index,
+  drop,
+  Ok,
+  Err,
+};
 ghost use Rattle.std.specs.List.{prefix_len};
 ghost use Rattle.cl_token.specs.Spelling.{ClosesAt};
 ghost use Rattle.cl_token.specs.Reading as reading;

@@ -57,21 +57,28 @@ abbrev pub unit_node : Forest → Syntax
 unit_node items = tree_of forms.UnitNode [] (first_in items 0) (last_in items 0) items
 
 abbrev pub function_node : Forest → Syntax → Spot → Spot → Syntax → Spot → Syntax → Syntax
-function_node heads r m o ps c b = tree_of forms.FunctionNode (m ∷ o ∷ c ∷ []) (first_in heads (first_of r)) (last_of b) (joined heads (forest3 r ps b))
+function_node heads r m o ps c b =
+    tree_of forms.FunctionNode (m ∷ o ∷ c ∷ []) (first_in heads (first_of r)) (last_of b)
+    (joined heads (forest3 r ps b))
 
 abbrev pub prototype_node : Forest → Syntax → Spot → Spot → Syntax → Spot → Spot → Syntax
-prototype_node heads r m o ps c s = tree_of forms.PrototypeNode (m ∷ o ∷ c ∷ s ∷ []) (first_in heads (first_of r)) s.number (joined heads (forest2 r ps))
+prototype_node heads r m o ps c s =
+    tree_of forms.PrototypeNode (m ∷ o ∷ c ∷ s ∷ []) (first_in heads (first_of r)) s.number
+    (joined heads (forest2 r ps))
 
 -- a node of one part and no token
 abbrev pub alone_node : Form → Syntax → Syntax
 alone_node f t = tree_of f [] (first_of t) (last_of t) (forest1 t)
 
-abbrev pub attribute_node : Spot → Spot → Spot → Spot → Spot → Syntax → Spot → Syntax → Spot → Syntax → Spot → Spot → Spot → Syntax
-attribute_node w o p n q a j b k c x y z = tree_of forms.AttributeNode (w ∷ o ∷ p ∷ n ∷ q ∷ j ∷ k ∷ x ∷ y ∷ z ∷ []) w.number z.number (forest3 a b c)
+abbrev pub attribute_node : Spot → Spot → Spot → Spot → Spot → Syntax → Spot → Syntax → Spot → Syntax → Spot → Spot →
+    Spot → Syntax
+attribute_node w o p n q a j b k c x y z =
+    tree_of forms.AttributeNode (w ∷ o ∷ p ∷ n ∷ q ∷ j ∷ k ∷ x ∷ y ∷ z ∷ []) w.number z.number (forest3 a b c)
 
 -- the parameters, before the token that closes them
 abbrev pub params_node : List Spot → Forest → Spot → Syntax
-params_node own ts c = tree_of forms.ParamsNode own (first_in ts (first_spot own c.number)) (last_in ts (last_spot own c.number)) ts
+params_node own ts c =
+    tree_of forms.ParamsNode own (first_in ts (first_spot own c.number)) (last_in ts (last_spot own c.number)) ts
 
 abbrev pub param_node : Syntax → Forest → Spot → Syntax
 param_node t stars m = tree_of forms.ParamNode (m ∷ []) (first_of t) m.number (more t stars)
@@ -83,11 +90,13 @@ type_node own = tree_of forms.TypeNode own (first_spot own 0) (last_spot own 0) 
 
 -- a type with its address space before its base
 abbrev pub type_front_node : List Spot → Syntax → List Spot → List Spot → List Spot → Syntax
-type_front_node a s b d c = tree_of forms.TypeNode (a ++ (b ++ (d ++ c))) (first_spot a (first_of s)) (last_spot c (last_spot d 0)) (forest1 s)
+type_front_node a s b d c =
+    tree_of forms.TypeNode (a ++ (b ++ (d ++ c))) (first_spot a (first_of s)) (last_spot c (last_spot d 0)) (forest1 s)
 
 -- a type with its address space behind its base
 abbrev pub type_behind_node : List Spot → List Spot → List Spot → Syntax → List Spot → Syntax
-type_behind_node a d b s c = tree_of forms.TypeNode (a ++ (d ++ (b ++ c))) (first_spot a (first_spot d 0)) (last_spot c (last_of s)) (forest1 s)
+type_behind_node a d b s c =
+    tree_of forms.TypeNode (a ++ (d ++ (b ++ c))) (first_spot a (first_spot d 0)) (last_spot c (last_of s)) (forest1 s)
 
 abbrev pub star_node : Spot → List Spot → Syntax
 star_node o own = tree_of forms.StarNode (o ∷ own) o.number (last_spot own o.number) none
@@ -96,10 +105,13 @@ abbrev pub declare_node : Syntax → Syntax → List Spot → Forest → Spot �
 declare_node t d own ds s = tree_of forms.DeclareNode (own ++ (s ∷ [])) (first_of t) s.number (more t (more d ds))
 
 abbrev pub declarator_node : Forest → Spot → List Spot → Forest → Syntax
-declarator_node stars m own ds = tree_of forms.DeclaratorNode (m ∷ own) (first_in stars m.number) (last_spot own m.number) (joined stars ds)
+declarator_node stars m own ds =
+    tree_of forms.DeclaratorNode (m ∷ own) (first_in stars m.number) (last_spot own m.number) (joined stars ds)
 
 abbrev pub declarator_set_node : Forest → Spot → List Spot → Forest → Spot → Syntax → Syntax
-declarator_set_node stars m own ds e i = tree_of forms.DeclaratorNode (m ∷ (own ++ (e ∷ []))) (first_in stars m.number) (last_of i) (joined stars (joined ds (forest1 i)))
+declarator_set_node stars m own ds e i =
+    tree_of forms.DeclaratorNode (m ∷ (own ++ (e ∷ []))) (first_in stars m.number) (last_of i)
+    (joined stars (joined ds (forest1 i)))
 
 abbrev pub list_node : Spot → Syntax → List Spot → Forest → Spot → Syntax
 list_node o t own ts c = tree_of forms.ListNode (o ∷ (own ++ (c ∷ []))) o.number c.number (more t ts)
@@ -125,7 +137,8 @@ abbrev pub do_node : Spot → Syntax → Spot → Spot → Syntax → Spot → S
 do_node d s w o e c m = tree_of forms.DoNode (d ∷ w ∷ o ∷ c ∷ m ∷ []) d.number m.number (forest2 s e)
 
 abbrev pub for_node : Spot → Spot → Syntax → Forest → Spot → Forest → Spot → Syntax → Syntax
-for_node f o d ts s us c b = tree_of forms.ForNode (f ∷ o ∷ s ∷ c ∷ []) f.number (last_of b) (more d (joined ts (joined us (forest1 b))))
+for_node f o d ts s us c b =
+    tree_of forms.ForNode (f ∷ o ∷ s ∷ c ∷ []) f.number (last_of b) (more d (joined ts (joined us (forest1 b))))
 
 abbrev pub switch_node : Spot → Spot → Syntax → Spot → Spot → Forest → Spot → Syntax
 switch_node w o e c b ts d = tree_of forms.SwitchNode (w ∷ o ∷ c ∷ b ∷ d ∷ []) w.number d.number (more e ts)

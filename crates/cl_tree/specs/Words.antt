@@ -25,7 +25,11 @@ looked_up w (r ∷ table) other = if is_among w r.words then r.terminal else loo
 abbrev pub assignments : List Row
 assignments =
     record { words = codes "=" ∷ []; terminal = terminals.Equals } ∷
-    record { words = codes "+=" ∷ codes "-=" ∷ codes "*=" ∷ codes "/=" ∷ codes "%=" ∷ codes "<<=" ∷ codes ">>=" ∷ codes "&=" ∷ codes "|=" ∷ codes "^=" ∷ []; terminal = terminals.Compound } ∷
+    record {
+      words = codes "+=" ∷ codes "-=" ∷ codes "*=" ∷ codes "/=" ∷ codes "%=" ∷ codes "<<=" ∷ codes ">>=" ∷
+          codes "&=" ∷ codes "|=" ∷ codes "^=" ∷ [];
+      terminal = terminals.Compound;
+    } ∷
     []
 
 unfoldable pub assignment_of : List ℕ → Terminal
@@ -73,9 +77,26 @@ bracket_of w = looked_up w brackets (operator_of w)
 -- the names of the vector types: a type and its number of components
 abbrev pub vector_words : List Row
 vector_words =
-    record { words = codes "char2" ∷ codes "char3" ∷ codes "char4" ∷ codes "char8" ∷ codes "char16" ∷ codes "uchar2" ∷ codes "uchar3" ∷ codes "uchar4" ∷ codes "uchar8" ∷ codes "uchar16" ∷ codes "short2" ∷ codes "short3" ∷ codes "short4" ∷ codes "short8" ∷ codes "short16" ∷ codes "ushort2" ∷ codes "ushort3" ∷ codes "ushort4" ∷ codes "ushort8" ∷ codes "ushort16" ∷ []; terminal = terminals.TypeWord } ∷
-    record { words = codes "int2" ∷ codes "int3" ∷ codes "int4" ∷ codes "int8" ∷ codes "int16" ∷ codes "uint2" ∷ codes "uint3" ∷ codes "uint4" ∷ codes "uint8" ∷ codes "uint16" ∷ codes "long2" ∷ codes "long3" ∷ codes "long4" ∷ codes "long8" ∷ codes "long16" ∷ codes "ulong2" ∷ codes "ulong3" ∷ codes "ulong4" ∷ codes "ulong8" ∷ codes "ulong16" ∷ []; terminal = terminals.TypeWord } ∷
-    record { words = codes "float2" ∷ codes "float3" ∷ codes "float4" ∷ codes "float8" ∷ codes "float16" ∷ codes "double2" ∷ codes "double3" ∷ codes "double4" ∷ codes "double8" ∷ codes "double16" ∷ codes "half2" ∷ codes "half3" ∷ codes "half4" ∷ codes "half8" ∷ codes "half16" ∷ []; terminal = terminals.TypeWord } ∷
+    record {
+      words = codes "char2" ∷ codes "char3" ∷ codes "char4" ∷ codes "char8" ∷ codes "char16" ∷ codes "uchar2" ∷
+          codes "uchar3" ∷ codes "uchar4" ∷ codes "uchar8" ∷ codes "uchar16" ∷ codes "short2" ∷ codes "short3" ∷
+          codes "short4" ∷ codes "short8" ∷ codes "short16" ∷ codes "ushort2" ∷ codes "ushort3" ∷ codes "ushort4" ∷
+          codes "ushort8" ∷ codes "ushort16" ∷ [];
+      terminal = terminals.TypeWord;
+    } ∷
+    record {
+      words = codes "int2" ∷ codes "int3" ∷ codes "int4" ∷ codes "int8" ∷ codes "int16" ∷ codes "uint2" ∷
+          codes "uint3" ∷ codes "uint4" ∷ codes "uint8" ∷ codes "uint16" ∷ codes "long2" ∷ codes "long3" ∷
+          codes "long4" ∷ codes "long8" ∷ codes "long16" ∷ codes "ulong2" ∷ codes "ulong3" ∷ codes "ulong4" ∷
+          codes "ulong8" ∷ codes "ulong16" ∷ [];
+      terminal = terminals.TypeWord;
+    } ∷
+    record {
+      words = codes "float2" ∷ codes "float3" ∷ codes "float4" ∷ codes "float8" ∷ codes "float16" ∷
+          codes "double2" ∷ codes "double3" ∷ codes "double4" ∷ codes "double8" ∷ codes "double16" ∷ codes "half2" ∷
+          codes "half3" ∷ codes "half4" ∷ codes "half8" ∷ codes "half16" ∷ [];
+      terminal = terminals.TypeWord;
+    } ∷
     []
 
 unfoldable pub vector_word_of : List ℕ → Terminal
@@ -84,7 +105,12 @@ vector_word_of w = looked_up w vector_words terminals.Name
 -- the names of types that are outside the profile
 abbrev pub outside_words : List Row
 outside_words =
-    record { words = codes "float" ∷ codes "double" ∷ codes "half" ∷ codes "ptrdiff_t" ∷ codes "intptr_t" ∷ codes "uintptr_t" ∷ codes "event_t" ∷ codes "sampler_t" ∷ codes "image1d_t" ∷ codes "image1d_buffer_t" ∷ codes "image1d_array_t" ∷ codes "image2d_t" ∷ codes "image2d_array_t" ∷ codes "image3d_t" ∷ []; terminal = terminals.TypeWord } ∷
+    record {
+      words = codes "float" ∷ codes "double" ∷ codes "half" ∷ codes "ptrdiff_t" ∷ codes "intptr_t" ∷
+          codes "uintptr_t" ∷ codes "event_t" ∷ codes "sampler_t" ∷ codes "image1d_t" ∷ codes "image1d_buffer_t" ∷
+          codes "image1d_array_t" ∷ codes "image2d_t" ∷ codes "image2d_array_t" ∷ codes "image3d_t" ∷ [];
+      terminal = terminals.TypeWord;
+    } ∷
     []
 
 unfoldable pub outside_word_of : List ℕ → Terminal
@@ -97,7 +123,11 @@ base_words =
     record { words = codes "char" ∷ []; terminal = terminals.Char } ∷
     record { words = codes "int" ∷ []; terminal = terminals.Int } ∷
     record { words = codes "short" ∷ codes "long" ∷ []; terminal = terminals.Length } ∷
-    record { words = codes "bool" ∷ codes "uchar" ∷ codes "ushort" ∷ codes "uint" ∷ codes "ulong" ∷ codes "size_t" ∷ []; terminal = terminals.TypeWord } ∷
+    record {
+      words = codes "bool" ∷ codes "uchar" ∷ codes "ushort" ∷ codes "uint" ∷ codes "ulong" ∷ codes "size_t" ∷
+          [];
+      terminal = terminals.TypeWord;
+    } ∷
     []
 
 unfoldable pub base_word_of : List ℕ → Terminal
@@ -106,8 +136,15 @@ base_word_of w = looked_up w base_words (outside_word_of w)
 -- the address spaces, and the words that stand nowhere in the grammar
 abbrev pub space_words : List Row
 space_words =
-    record { words = codes "__global" ∷ codes "global" ∷ codes "__local" ∷ codes "local" ∷ codes "__constant" ∷ codes "constant" ∷ codes "__private" ∷ codes "private" ∷ []; terminal = terminals.Space } ∷
-    record { words = codes "struct" ∷ codes "union" ∷ codes "enum" ∷ codes "typedef" ∷ codes "goto" ∷ []; terminal = terminals.Other } ∷
+    record {
+      words = codes "__global" ∷ codes "global" ∷ codes "__local" ∷ codes "local" ∷ codes "__constant" ∷
+          codes "constant" ∷ codes "__private" ∷ codes "private" ∷ [];
+      terminal = terminals.Space;
+    } ∷
+    record {
+      words = codes "struct" ∷ codes "union" ∷ codes "enum" ∷ codes "typedef" ∷ codes "goto" ∷ [];
+      terminal = terminals.Other;
+    } ∷
     []
 
 unfoldable pub space_word_of : List ℕ → Terminal
@@ -117,9 +154,15 @@ space_word_of w = looked_up w space_words (base_word_of w)
 abbrev pub declaration_words : List Row
 declaration_words =
     record { words = codes "true" ∷ codes "false" ∷ []; terminal = terminals.Truth } ∷
-    record { words = codes "__kernel" ∷ codes "kernel" ∷ codes "inline" ∷ codes "static" ∷ []; terminal = terminals.HeadWord } ∷
+    record {
+      words = codes "__kernel" ∷ codes "kernel" ∷ codes "inline" ∷ codes "static" ∷ [];
+      terminal = terminals.HeadWord;
+    } ∷
     record { words = codes "__attribute__" ∷ []; terminal = terminals.Attribute } ∷
-    record { words = codes "reqd_work_group_size" ∷ codes "work_group_size_hint" ∷ []; terminal = terminals.AttributeName } ∷
+    record {
+      words = codes "reqd_work_group_size" ∷ codes "work_group_size_hint" ∷ [];
+      terminal = terminals.AttributeName;
+    } ∷
     record { words = codes "void" ∷ []; terminal = terminals.Void } ∷
     record { words = codes "const" ∷ codes "volatile" ∷ []; terminal = terminals.Qualifier } ∷
     record { words = codes "restrict" ∷ codes "__restrict" ∷ []; terminal = terminals.Restrict } ∷

@@ -1,5 +1,7 @@
 -- A number below 2 ^ 63, written in decimal digits, has a type and a value.
-use Rattle.std.proofs.Common.{◌≡◌, ℕ, zero, suc, ◌+◌, ◌-◌, ◌*◌, ◌^◌, ◌<◌, ◌≤◌, nat_le, List, [], ◌∷◌, ◌++◌, length, Bool, true, false, ◌&&◌, if◌then◌else◌, None, Some, refl, ap, sym, ◌∙◌, subst, arith, get_or}
+use Rattle.std.proofs.Common.{◌≡◌, ℕ, zero, suc, ◌+◌, ◌-◌, ◌*◌, ◌^◌, ◌<◌, ◌≤◌, nat_le, List, [], ◌∷◌, ◌++◌, length}
+use Rattle.std.proofs.Common.{Bool, true, false, ◌&&◌, if◌then◌else◌, None, Some, refl, ap, sym, ◌∙◌, subst, arith}
+use Rattle.std.proofs.Common.{get_or}
 use Rattle.std.specs.List.{list_all}
 use Rattle.std.specs.Fmt.{decimal}
 use Rattle.std.proofs.lemmas.Bool.Decides.{nat_tests}
@@ -32,13 +34,15 @@ tests = record {
 weighs : WeighsDigits (number_in 10)
 weighs = record {
   empty = refl;
-  more = λ c cs k. ap (λ b. (if b then c - 48 else (if nat_le 97 c then c - 87 else c - 55)) * 10 ^ length cs + number_in 10 cs) (digit_yes c k.0 k.1);
+  more = λ c cs k. ap (λ b. (if b then c - 48 else (if nat_le 97 c then c - 87 else c - 55)) * 10 ^ length cs +
+      number_in 10 cs) (digit_yes c k.0 k.1);
 }
 
 model : IsNumeralModel (λ ds. list_all is_digit ds ≡ true) (number_in 10)
 model = numerals_by_weight (λ ds. list_all is_digit ds ≡ true) tests (number_in 10) weighs
 
-run : (ds : List ℕ) → list_all is_digit ds ≡ true → 48 < get_or ds 0 0 → numbers.IsConstant bases.Decimal ds (number_in 10 ds)
+run : (ds : List ℕ) → list_all is_digit ds ≡ true → 48 < get_or ds 0 0 →
+    numbers.IsConstant bases.Decimal ds (number_in 10 ds)
 run [] h k = absurd (omega arith)
 run (b ∷ bs) h k =
     let p = both_true (is_digit b) (list_all is_digit bs) h in
@@ -49,15 +53,24 @@ append_none : (ds : List ℕ) → ds ≡ ds ++ []
 append_none [] = refl
 append_none (d ∷ ds) = ap (λ z. d ∷ z) (append_none ds)
 
-typed : (n : ℕ) → n < 2 ^ 63 → (t : IntType) × (type_of (record { base = bases.Decimal; unsigned = false; long = false }) n ≡ Some t)
+typed : (n : ℕ) → n < 2 ^ 63 →
+    (t : IntType) × (type_of (record { base = bases.Decimal; unsigned = false; long = false }) n ≡ Some t)
 unfolding wraps.modulus wraps.half
 typed n h = by (nat_le n 2147483647) refl
   where
-    by : (b : Bool) → nat_le n 2147483647 ≡ b → (t : IntType) × (type_of (record { base = bases.Decimal; unsigned = false; long = false }) n ≡ Some t)
-    by true e = (types.Int, ap (λ b. if b then Some types.Int else (if nat_le n 9223372036854775807 then Some types.Long else None)) e)
+    by : (b : Bool) → nat_le n 2147483647 ≡ b →
+        (t : IntType) × (type_of (record { base = bases.Decimal; unsigned = false; long = false }) n ≡ Some t)
+    by true e = (
+      types.Int,
+      ap (λ b. if b then Some types.Int else (if nat_le n 9223372036854775807 then Some types.Long else
+          None)) e,
+    )
     by false e =
-        let l : nat_le n 9223372036854775807 ≡ true = grind (arith, nat_tests) in
-        (types.Long, ap (λ b. if b then Some types.Int else (if nat_le n 9223372036854775807 then Some types.Long else None)) e ∙ ap (λ b. if b then Some types.Long else None) l)
+        let l : nat_le n 9223372036854775807 ≡ true = grind (arith, nat_tests) in (
+          types.Long,
+          ap (λ b. if b then Some types.Int else (if nat_le n 9223372036854775807 then Some types.Long else
+              None)) e ∙ ap (λ b. if b then Some types.Long else None) l,
+        )
 
 above : (n : ℕ) → 0 < n → n < 2 ^ 63 → HasValue kinds.Number (decimal n)
 above n z h =
@@ -71,7 +84,8 @@ above n z h =
           constant = decimal n;
           suffix = [];
           whole = append_none (decimal n);
-          digits = subst (numbers.IsConstant bases.Decimal (decimal n)) (digits_value-decimal model n w) (run (decimal n) (digits_decimal model n w) (first_decimal n z w));
+          digits = subst (numbers.IsConstant bases.Decimal (decimal n)) (digits_value-decimal model n w)
+              (run (decimal n) (digits_decimal model n w) (first_decimal n z w));
           ending = numbers.no_suffix;
         };
         typed = t.1;
@@ -85,7 +99,13 @@ none = (
   0,
   record {
     form = record { base = bases.Octal; unsigned = false; long = false };
-    spelled = record { constant = 48 ∷ []; suffix = []; whole = refl; digits = numbers.octal [] refl; ending = numbers.no_suffix };
+    spelled = record {
+      constant = 48 ∷ [];
+      suffix = [];
+      whole = refl;
+      digits = numbers.octal [] refl;
+      ending = numbers.no_suffix;
+    };
     typed = refl;
   },
 )

@@ -5,7 +5,8 @@ use Rattle.cl_tree.specs.declared.terminal.Terminal.TheVariants as terminals
 use Rattle.cl_tree.specs.declared.terminal.Leaf.{Leaf}
 use Rattle.cl_tree.specs.declared.tree.Form.TheVariants as forms
 use Rattle.cl_tree.specs.Syntax.{Syntax, none, more}
-use Rattle.cl_tree.specs.Nodes.{Spot, tok, unit_node, function_node, word_node, params_node, param_node, type_front_node, star_node, block_node, simple_node, pair_node, index_node}
+use Rattle.cl_tree.specs.Nodes.{Spot, tok, unit_node, function_node, word_node, params_node, param_node}
+use Rattle.cl_tree.specs.Nodes.{type_front_node, star_node, block_node, simple_node, pair_node, index_node}
 use Rattle.cl_tree.specs.Grammar.{Sort, Source, Cond, Assign, Expr, Postfix, Cast, one, Spells}
 use Rattle.cl_tree.specs.Grammar as grammar
 use Rattle.cl_meaning.specs.Operators.{prefix_in, binary_in, setting_in, postfix_in}
@@ -38,7 +39,12 @@ use Rattle.cl_valid.proofs.Spelled.{shape}
 use Rattle.cl_valid.proofs.Accepted.{units_valid}
 
 abbrev every_fault : List Fault
-every_fault = faults.UnknownName ∷ faults.DeclaredTwice ∷ faults.OperandTypes ∷ faults.ArgumentCount ∷ faults.ArgumentType ∷ faults.NotAssignable ∷ faults.ConstantWritten ∷ faults.OutsideType ∷ faults.LocalMisplaced ∷ faults.ProgramVariable ∷ faults.KernelSignature ∷ faults.Recursion ∷ faults.PointerRoot ∷ faults.ArrayLength ∷ faults.Misplaced ∷ faults.CaseValue ∷ faults.ReturnFit ∷ faults.BarrierFlags ∷ faults.KernelTooLarge ∷ faults.PrivateMemory ∷ faults.BarriersTooDeep ∷ faults.NoSuchKernel ∷ faults.LocalMemory ∷ faults.PrototypeMatch ∷ []
+every_fault = faults.UnknownName ∷ faults.DeclaredTwice ∷ faults.OperandTypes ∷ faults.ArgumentCount ∷
+    faults.ArgumentType ∷ faults.NotAssignable ∷ faults.ConstantWritten ∷ faults.OutsideType ∷ faults.LocalMisplaced ∷
+    faults.ProgramVariable ∷ faults.KernelSignature ∷ faults.Recursion ∷ faults.PointerRoot ∷ faults.ArrayLength ∷
+    faults.Misplaced ∷ faults.CaseValue ∷ faults.ReturnFit ∷ faults.BarrierFlags ∷ faults.KernelTooLarge ∷
+    faults.PrivateMemory ∷ faults.BarriersTooDeep ∷ faults.NoSuchKernel ∷ faults.LocalMemory ∷ faults.PrototypeMatch ∷
+    []
 
 abbrev none_in : (Fault → Bool) → List Fault → Bool
 none_in f [] = true
@@ -90,7 +96,8 @@ all_quiet asked (n ∷ ns) = quiet (at_fault asked (looked n)) && all_quiet aske
 
 all_sound : (asked : Asked) (ns : List Node) → all_quiet asked ns ≡ true → AllSound asked ns
 all_sound asked [] h = tt
-all_sound asked (n ∷ ns) h = let p = both_true (quiet (at_fault asked (looked n))) (all_quiet asked ns) h in (none_of (at_fault asked (looked n)) p.0, all_sound asked ns p.1)
+all_sound asked (n ∷ ns) h = let p = both_true (quiet (at_fault asked (looked n))) (all_quiet asked ns) h in
+    (none_of (at_fault asked (looked n)) p.0, all_sound asked ns p.1)
 
 abbrev s0 : Spot
 s0 = record { number = 0; word = codes "kernel" }
@@ -147,37 +154,88 @@ abbrev s17 : Spot
 s17 = record { number = 17; word = codes "}" }
 
 abbrev leaves : List Leaf
-leaves = tok terminals.HeadWord s0 ∷ tok terminals.Void s1 ∷ tok terminals.Name s2 ∷ tok terminals.Open s3 ∷ tok terminals.Space s4 ∷ tok terminals.Int s5 ∷ tok terminals.Star s6 ∷ tok terminals.Name s7 ∷ tok terminals.Close s8 ∷ tok terminals.OpenBrace s9 ∷ tok terminals.Name s10 ∷ tok terminals.OpenBracket s11 ∷ tok terminals.Number s12 ∷ tok terminals.CloseBracket s13 ∷ tok terminals.Equals s14 ∷ tok terminals.Number s15 ∷ tok terminals.Semicolon s16 ∷ tok terminals.CloseBrace s17 ∷ []
+leaves = tok terminals.HeadWord s0 ∷ tok terminals.Void s1 ∷ tok terminals.Name s2 ∷ tok terminals.Open s3 ∷
+    tok terminals.Space s4 ∷ tok terminals.Int s5 ∷ tok terminals.Star s6 ∷ tok terminals.Name s7 ∷
+    tok terminals.Close s8 ∷ tok terminals.OpenBrace s9 ∷ tok terminals.Name s10 ∷ tok terminals.OpenBracket s11 ∷
+    tok terminals.Number s12 ∷ tok terminals.CloseBracket s13 ∷ tok terminals.Equals s14 ∷ tok terminals.Number s15 ∷
+    tok terminals.Semicolon s16 ∷ tok terminals.CloseBrace s17 ∷ []
 
 words : AllWords leaves
-unfolding setting_in binary_in prefix_in postfix_in literal_in reading.outcome_of reading.parts_of wraps.modulus wraps.half
-words = (tt, (tt, (tt, (refl, (tt, (refl, ((refl, refl), (tt, (refl, (tt, (tt, (refl, (refl, (refl, (refl, (refl, (tt, (tt, tt))))))))))))))))))
+unfolding setting_in binary_in prefix_in postfix_in literal_in reading.outcome_of reading.parts_of wraps.modulus
+    wraps.half
+words = (
+  tt,
+  (
+    tt,
+    (
+      tt,
+      (
+        refl,
+        (
+          tt,
+          (refl, ((refl, refl), (tt, (refl, (tt, (tt, (refl, (refl, (refl, (refl, (refl, (tt, (tt, tt))))))))))))),
+        ),
+      ),
+    ),
+  ),
+)
 
 abbrev parameter : Syntax
-parameter = param_node (type_front_node [] (word_node forms.SpaceNode s4) [] (s5 ∷ []) []) (more (star_node s6 []) none) s7
+parameter =
+    param_node (type_front_node [] (word_node forms.SpaceNode s4) [] (s5 ∷ []) []) (more (star_node s6 []) none) s7
 
 abbrev body : Syntax
-body = block_node s9 (more (simple_node (more (pair_node forms.AssignNode (index_node (word_node forms.VariableNode s10) s11 (word_node forms.NumberNode s12) s13) s14 (word_node forms.NumberNode s15)) none) s16) none) s17
+body =
+    block_node s9 (more (simple_node
+    (more (pair_node forms.AssignNode (index_node (word_node forms.VariableNode s10) s11
+    (word_node forms.NumberNode s12) s13) s14 (word_node forms.NumberNode s15)) none) s16) none) s17
 
 abbrev unit : Syntax
-unit = unit_node (more (function_node (more (word_node forms.HeadNode s0) none) (word_node forms.ResultNode s1) s2 s3 (params_node [] (more parameter none) s8) s8 body) none)
+unit = unit_node (more (function_node (more (word_node forms.HeadNode s0) none) (word_node forms.ResultNode s1) s2 s3
+    (params_node [] (more parameter none) s8) s8 body) none)
 
 numbered : (m : Spot) → Spells Cond (one (word_node forms.NumberNode m)) (tok terminals.Number m ∷ [])
-numbered m = grammar.cond_level (grammar.level_next (grammar.level_next (grammar.level_next (grammar.level_next (grammar.level_next (grammar.level_next (grammar.level_next (grammar.level_next (grammar.level_next (grammar.level_next (grammar.level_cast (grammar.cast_unary (grammar.unary_postfix (grammar.postfix_primary (grammar.number m)))))))))))))))
+numbered m = grammar.cond_level
+    (grammar.level_next (grammar.level_next
+    (grammar.level_next (grammar.level_next
+    (grammar.level_next (grammar.level_next
+    (grammar.level_next (grammar.level_next
+    (grammar.level_next (grammar.level_next
+    (grammar.level_cast (grammar.cast_unary
+    (grammar.unary_postfix (grammar.postfix_primary (grammar.number m)))))))))))))))
 
 spelling : Spells Source (one unit) leaves
-spelling = grammar.unit (grammar.many_more (grammar.just (grammar.function (grammar.many_more (grammar.just (grammar.head_word s0)) grammar.many_end) (grammar.result_void s1) s2 s3 (grammar.params (grammar.param (grammar.type_front grammar.many_end (grammar.space s4) grammar.many_end (grammar.base_core (grammar.core_int s5)) grammar.many_end) (grammar.maybe_some (grammar.star s6 grammar.many_end)) s7) grammar.many_end) s8
-    (grammar.block s9 (grammar.many_more (grammar.just (grammar.line_statement (grammar.statement_simple (grammar.simple (grammar.maybe_some (grammar.expr_assign (grammar.assign (grammar.unary_postfix (grammar.index (grammar.postfix_primary (grammar.variable s10)) s11 (grammar.expr_assign (grammar.assign_cond (numbered s12))) s13)) terminals.Equals s14 refl (grammar.assign_cond (numbered s15))))) s16)))) grammar.many_end) s17))) grammar.many_end)
+spelling =
+    grammar.unit (grammar.many_more
+    (grammar.just (grammar.function (grammar.many_more (grammar.just (grammar.head_word s0)) grammar.many_end)
+    (grammar.result_void s1) s2 s3
+    (grammar.params (grammar.param (grammar.type_front grammar.many_end (grammar.space s4) grammar.many_end
+    (grammar.base_core (grammar.core_int s5)) grammar.many_end)
+    (grammar.maybe_some (grammar.star s6 grammar.many_end)) s7) grammar.many_end) s8
+    (grammar.block s9 (grammar.many_more
+    (grammar.just (grammar.line_statement
+    (grammar.statement_simple (grammar.simple
+    (grammar.maybe_some (grammar.expr_assign
+    (grammar.assign (grammar.unary_postfix (grammar.index (grammar.postfix_primary (grammar.variable s10))
+    s11 (grammar.expr_assign (grammar.assign_cond (numbered s12))) s13)) terminals.Equals s14 refl
+    (grammar.assign_cond (numbered s15))))) s16)))) grammar.many_end) s17))) grammar.many_end)
 
 shaped : IsUnit unit
 shaped = shape spelling words
 
 quiet_everywhere : all_quiet (asked_of [] (codes "k") unit) (nodes_of [] unit) ≡ true
-unfolding visible.in_order judged.misfits types.base_in types.names_outside visible.restored visible.inside visible.later visible.behind visible.left types.space_in postfix_in kinds.kind_step literal_in reading.outcome_of reading.parts_of wraps.modulus wraps.half visible.kind_of literals.truth_in names.flag_in names.intrinsic_in binary_in prefix_in setting_in operators.binary_of operators.unary_of wraps.bits_of wraps.wrap_of
+unfolding visible.in_order judged.misfits types.base_in types.names_outside visible.restored visible.inside
+    visible.later visible.behind visible.left types.space_in postfix_in kinds.kind_step literal_in reading.outcome_of
+    reading.parts_of wraps.modulus wraps.half visible.kind_of literals.truth_in names.flag_in names.intrinsic_in
+    binary_in prefix_in setting_in operators.binary_of operators.unary_of wraps.bits_of wraps.wrap_of
 quiet_everywhere = refl
 
 within_limits : quiet (at_limit (sized_of [] (codes "k") unit)) ≡ true
-unfolding visible.in_order judged.misfits types.base_in types.names_outside visible.restored visible.inside visible.later visible.behind visible.left types.space_in postfix_in kinds.kind_step literal_in reading.outcome_of reading.parts_of wraps.modulus wraps.half visible.kind_of literals.truth_in names.flag_in names.intrinsic_in binary_in prefix_in setting_in operators.binary_of operators.unary_of wraps.bits_of wraps.wrap_of limits.total meanings.meant meanings.make heights.height
+unfolding visible.in_order judged.misfits types.base_in types.names_outside visible.restored visible.inside
+    visible.later visible.behind visible.left types.space_in postfix_in kinds.kind_step literal_in reading.outcome_of
+    reading.parts_of wraps.modulus wraps.half visible.kind_of literals.truth_in names.flag_in names.intrinsic_in
+    binary_in prefix_in setting_in operators.binary_of operators.unary_of wraps.bits_of wraps.wrap_of limits.total
+    meanings.meant meanings.make heights.height
 within_limits = refl
 
 accepted : Accepted [] (codes "k") unit

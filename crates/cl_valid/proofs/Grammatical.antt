@@ -1,5 +1,6 @@
 -- A unit that the grammar spells has the shape of a unit.
-use Rattle.std.proofs.Common.{◌≡◌, ℕ, zero, suc, ◌≤◌, nat_eq, List, [], ◌∷◌, ◌++◌, append_assoc, Option, None, Some, Bool, true, false, refl, ap, sym, ◌∙◌, subst, inl, inr, ◌⊎◌, arith, eqb-true}
+use Rattle.std.proofs.Common.{◌≡◌, ℕ, zero, suc, ◌≤◌, nat_eq, List, [], ◌∷◌, ◌++◌, append_assoc, Option, None, Some}
+use Rattle.std.proofs.Common.{Bool, true, false, refl, ap, sym, ◌∙◌, subst, inl, inr, ◌⊎◌, arith, eqb-true}
 use Rattle.std.proofs.lemmas.Bool.{false≢true}
 use Rattle.std.specs.Prelude.{codes}
 use Rattle.cl_model.specs.Lists.{Each}
@@ -10,14 +11,20 @@ use Rattle.cl_tree.specs.declared.tree.Form.TheVariants as forms
 use Rattle.cl_tree.specs.Syntax.{Syntax, node, Forest, none, more, joined}
 use Rattle.cl_tree.specs.Nodes.{Spot, spelled}
 use Rattle.cl_tree.specs.Precedence.{looseness, joins, form_of, assigns, prefixes, qualifies}
-use Rattle.cl_tree.specs.Grammar.{Sort, Source, Item, Head, Attribute, Result, Params, Param, TypeName, Base, Core, Star, Declare, Declarator, Dimension, Init, Initializers, Elements, Block, Line, Start, Simple, Statement, Expr, Assign, Cond, Cast, Unary, Postfix, Primary, Level, Qualifier, Maybe, Many, Just, Comma, Space, Value, one, list}
+use Rattle.cl_tree.specs.Grammar.{Sort, Source, Item, Head, Attribute, Result, Params, Param, TypeName, Base, Core}
+use Rattle.cl_tree.specs.Grammar.{Star, Declare, Declarator, Dimension, Init, Initializers, Elements, Block, Line}
+use Rattle.cl_tree.specs.Grammar.{Start, Simple, Statement, Expr, Assign, Cond, Cast, Unary, Postfix, Primary, Level}
+use Rattle.cl_tree.specs.Grammar.{Qualifier, Maybe, Many, Just, Comma, Space, Value, one, list}
 use Rattle.cl_meaning.specs.declared.operators.Prefix.{Prefix}
 use Rattle.cl_meaning.specs.declared.operators.Prefix.TheVariants as prefix_kinds
 use Rattle.cl_meaning.specs.declared.operators.Postfix.TheVariants as postfix_kinds
 use Rattle.cl_meaning.specs.Operators.{binary_in, setting_in, prefix_in, postfix_in}
 use Rattle.cl_meaning.specs.Types.{base_in}
 use Rattle.cl_meaning.specs.Kinds.{is_some}
-use Rattle.cl_valid.specs.Shape.{IsType, PrefixOf, indexes, IsExpression, AreExpressions, IsList, AreLengths, IsDeclarator, AreDeclarators, IsDeclaration, IsOptional, IsSimple, IsStatement, AreStatements, AreLines, IsBlock, IsHead, IsResult, IsParam, AreParams, BehindHeads, IsFunction, IsPrototype, AreItems, IsUnit}
+use Rattle.cl_valid.specs.Shape.{IsType, PrefixOf, indexes, IsExpression, AreExpressions, IsList, AreLengths}
+use Rattle.cl_valid.specs.Shape.{IsDeclarator, AreDeclarators, IsDeclaration, IsOptional, IsSimple, IsStatement}
+use Rattle.cl_valid.specs.Shape.{AreStatements, AreLines, IsBlock, IsHead, IsResult, IsParam, AreParams, BehindHeads}
+use Rattle.cl_valid.specs.Shape.{IsFunction, IsPrototype, AreItems, IsUnit}
 use Rattle.cl_valid.proofs.WordFacts.{is_operand, Word}
 use Rattle.cl_valid.proofs.TypeFacts.{words, Qualifiers, BaseOk, type_spelled, qualifiers_append}
 
@@ -130,7 +137,8 @@ many_none Dimension = tt
 many_none (Qualifier b) = λ e. tt
 many_none s = tt
 
-pub many_and : (s : Sort) (a b : List Spot) (ts us : Forest) → ListOf s a ts → ManyOf s b us → ManyOf s (a ++ b) (joined ts us)
+pub many_and : (s : Sort) (a b : List Spot) (ts us : Forest) → ListOf s a ts → ManyOf s b us →
+    ManyOf s (a ++ b) (joined ts us)
 many_and (Just s) a b ts us h k = parts_joined (PartOf s) ts us h k
 many_and (Comma s) a b ts us h k = parts_joined (PartOf s) ts us h k
 many_and Dimension a b ts us h k = parts_joined IsExpression ts us h k
@@ -166,7 +174,8 @@ are_lengths none h = tt
 are_lengths (more t none) h = inl h.0
 are_lengths (more t (more u us)) h = (h.0, are_lengths (more u us) h.1)
 
-pub are_set : (ts : Forest) (i : Syntax) → AllParts IsExpression ts → IsExpression i ⊎ IsList i → AreLengths (joined ts (more i none))
+pub are_set : (ts : Forest) (i : Syntax) → AllParts IsExpression ts → IsExpression i ⊎ IsList i →
+    AreLengths (joined ts (more i none))
 are_set none i h k = k
 are_set (more t none) i h k = (h.0, k)
 are_set (more t (more u us)) i h k = (h.0, are_set (more u us) i h.1 k)
@@ -187,23 +196,27 @@ first_of : (p : Syntax) (ps : Forest) → AreLengths (more p ps) → IsExpressio
 first_of p none h = h
 first_of p (more q qs) h = inl h.0
 
-plain_declarator : (w : List ℕ) (f l : ℕ) (p : Syntax) (ps : Forest) → IsExpression p ⊎ IsList p → AreLengths (more p ps) → IsDeclarator (node forms.DeclaratorNode w f l (more p ps))
+plain_declarator : (w : List ℕ) (f l : ℕ) (p : Syntax) (ps : Forest) → IsExpression p ⊎ IsList p →
+    AreLengths (more p ps) → IsDeclarator (node forms.DeclaratorNode w f l (more p ps))
 plain_declarator w f l (node forms.StarNode w' f' l' qs) ps (inl h) k = absurd h
 plain_declarator w f l (node forms.StarNode w' f' l' qs) ps (inr h) k = absurd h
 plain_declarator w f l p ps h k = k
 
-lengths_declarator : (w : List ℕ) (f l : ℕ) (ps : Forest) → AreLengths ps → IsDeclarator (node forms.DeclaratorNode w f l ps)
+lengths_declarator : (w : List ℕ) (f l : ℕ) (ps : Forest) → AreLengths ps →
+    IsDeclarator (node forms.DeclaratorNode w f l ps)
 lengths_declarator w f l none h = tt
 lengths_declarator w f l (more p ps) h = plain_declarator w f l p ps (first_of p ps h) h
 
-pub starred : (w : List ℕ) (f l : ℕ) (ss ps : Forest) → MaybePart IsStar ss → AreLengths ps → IsDeclarator (node forms.DeclaratorNode w f l (joined ss ps))
+pub starred : (w : List ℕ) (f l : ℕ) (ss ps : Forest) → MaybePart IsStar ss → AreLengths ps →
+    IsDeclarator (node forms.DeclaratorNode w f l (joined ss ps))
 starred w f l none ps h k = lengths_declarator w f l ps k
 starred w f l (more (node forms.StarNode w' f' l' none) none) ps h k = k
 starred w f l (more (node forms.StarNode w' f' l' none) (more u us)) ps h k = absurd h
 starred w f l (more t none) ps h k = absurd h
 starred w f l (more t (more u us)) ps h k = absurd h
 
-pub param_shape : (w : List ℕ) (f l : ℕ) (t : Syntax) (ss : Forest) → IsType t → MaybePart IsStar ss → IsParam (node forms.ParamNode w f l (more t ss))
+pub param_shape : (w : List ℕ) (f l : ℕ) (t : Syntax) (ss : Forest) → IsType t → MaybePart IsStar ss →
+    IsParam (node forms.ParamNode w f l (more t ss))
 param_shape w f l t none h k = h
 param_shape w f l t (more (node forms.StarNode w' f' l' none) none) h k = h
 param_shape w f l t (more (node forms.StarNode w' f' l' none) (more u us)) h k = absurd k
@@ -212,7 +225,8 @@ param_shape w f l t (more s (more u us)) h k = absurd k
 
 -- ---- types
 
-pub type_with : (w : List ℕ) (f l : ℕ) (s : Syntax) → IsSpace s → is_some (base_in w) ≡ true → IsType (node forms.TypeNode w f l (more s none))
+pub type_with : (w : List ℕ) (f l : ℕ) (s : Syntax) → IsSpace s → is_some (base_in w) ≡ true →
+    IsType (node forms.TypeNode w f l (more s none))
 type_with w f l (node forms.SpaceNode w' f' l' none) h k = k
 type_with w f l s h k = absurd h
 
@@ -231,25 +245,53 @@ pub one_word : (w : List ℕ) (v : List ℕ) → w ≡ v → CoreOk (v ∷ []) �
 one_word w v e h = subst (λ z. CoreOk (z ∷ [])) (sym e) h
 
 pub core_of_char : CoreOk (codes "char" ∷ [])
-core_of_char = (record { base = refl; bases = ((refl, refl), tt) }, record { base = refl; bases = ((refl, refl), ((refl, refl), tt)) }, record { base = refl; bases = ((refl, refl), ((refl, refl), tt)) })
+core_of_char = (
+  record { base = refl; bases = ((refl, refl), tt) },
+  record { base = refl; bases = ((refl, refl), ((refl, refl), tt)) },
+  record { base = refl; bases = ((refl, refl), ((refl, refl), tt)) },
+)
 
 pub core_of_int : CoreOk (codes "int" ∷ [])
-core_of_int = (record { base = refl; bases = ((refl, refl), tt) }, record { base = refl; bases = ((refl, refl), ((refl, refl), tt)) }, record { base = refl; bases = ((refl, refl), ((refl, refl), tt)) })
+core_of_int = (
+  record { base = refl; bases = ((refl, refl), tt) },
+  record { base = refl; bases = ((refl, refl), ((refl, refl), tt)) },
+  record { base = refl; bases = ((refl, refl), ((refl, refl), tt)) },
+)
 
 pub core_of_length : (w : List ℕ) → Word terminals.Length w → CoreOk (w ∷ [])
-core_of_length w (inl e) = subst (λ z. CoreOk (z ∷ [])) (sym e) (record { base = refl; bases = ((refl, refl), tt) }, record { base = refl; bases = ((refl, refl), ((refl, refl), tt)) }, record { base = refl; bases = ((refl, refl), ((refl, refl), tt)) })
-core_of_length w (inr e) = subst (λ z. CoreOk (z ∷ [])) (sym e) (record { base = refl; bases = ((refl, refl), tt) }, record { base = refl; bases = ((refl, refl), ((refl, refl), tt)) }, record { base = refl; bases = ((refl, refl), ((refl, refl), tt)) })
+core_of_length w (inl e) = subst (λ z. CoreOk (z ∷ [])) (sym e) (
+  record { base = refl; bases = ((refl, refl), tt) },
+  record { base = refl; bases = ((refl, refl), ((refl, refl), tt)) },
+  record { base = refl; bases = ((refl, refl), ((refl, refl), tt)) },
+)
+core_of_length w (inr e) = subst (λ z. CoreOk (z ∷ [])) (sym e) (
+  record { base = refl; bases = ((refl, refl), tt) },
+  record { base = refl; bases = ((refl, refl), ((refl, refl), tt)) },
+  record { base = refl; bases = ((refl, refl), ((refl, refl), tt)) },
+)
 
 pub core_of_both : (w i : List ℕ) → Word terminals.Length w → i ≡ codes "int" → CoreOk (w ∷ i ∷ [])
-core_of_both w i (inl e) d = subst (λ z. CoreOk (w ∷ z ∷ [])) (sym d) (subst (λ z. CoreOk (z ∷ codes "int" ∷ [])) (sym e)
-    (record { base = refl; bases = ((refl, refl), ((refl, refl), tt)) }, record { base = refl; bases = ((refl, refl), ((refl, refl), ((refl, refl), tt))) }, record { base = refl; bases = ((refl, refl), ((refl, refl), ((refl, refl), tt))) }))
-core_of_both w i (inr e) d = subst (λ z. CoreOk (w ∷ z ∷ [])) (sym d) (subst (λ z. CoreOk (z ∷ codes "int" ∷ [])) (sym e)
-    (record { base = refl; bases = ((refl, refl), ((refl, refl), tt)) }, record { base = refl; bases = ((refl, refl), ((refl, refl), ((refl, refl), tt))) }, record { base = refl; bases = ((refl, refl), ((refl, refl), ((refl, refl), tt))) }))
+core_of_both w i (inl e) d =
+    subst (λ z. CoreOk (w ∷ z ∷ [])) (sym d) (subst (λ z. CoreOk (z ∷ codes "int" ∷ [])) (sym e) (
+      record { base = refl; bases = ((refl, refl), ((refl, refl), tt)) },
+      record { base = refl; bases = ((refl, refl), ((refl, refl), ((refl, refl), tt))) },
+      record { base = refl; bases = ((refl, refl), ((refl, refl), ((refl, refl), tt))) },
+    ))
+core_of_both w i (inr e) d =
+    subst (λ z. CoreOk (w ∷ z ∷ [])) (sym d) (subst (λ z. CoreOk (z ∷ codes "int" ∷ [])) (sym e) (
+      record { base = refl; bases = ((refl, refl), ((refl, refl), tt)) },
+      record { base = refl; bases = ((refl, refl), ((refl, refl), ((refl, refl), tt))) },
+      record { base = refl; bases = ((refl, refl), ((refl, refl), ((refl, refl), tt))) },
+    ))
 
-pub front_words : (a b d c : List Spot) → Qualifiers (words a) → Qualifiers (words b) → BaseOk (words d) → Qualifiers (words c) → is_some (base_in (spelled (a ++ (b ++ (d ++ c))))) ≡ true
-front_words a b d c ha hb hd hc = subst (λ z. is_some (base_in (spelled z)) ≡ true) (append_assoc a b (d ++ c)) (type_spelled (a ++ b) d c (qualifiers_append a b ha hb) hd hc)
+pub front_words : (a b d c : List Spot) → Qualifiers (words a) → Qualifiers (words b) → BaseOk (words d) →
+    Qualifiers (words c) → is_some (base_in (spelled (a ++ (b ++ (d ++ c))))) ≡ true
+front_words a b d c ha hb hd hc =
+    subst (λ z. is_some (base_in (spelled z)) ≡ true) (append_assoc a b (d ++ c))
+    (type_spelled (a ++ b) d c (qualifiers_append a b ha hb) hd hc)
 
-pub qualifier_word : (b : Bool) (j : Terminal) (m : Spot) → qualifies b j ≡ true → Word j m.word → QualifiersIf b (m ∷ [])
+pub qualifier_word : (b : Bool) (j : Terminal) (m : Spot) → qualifies b j ≡ true → Word j m.word →
+    QualifiersIf b (m ∷ [])
 qualifier_word b terminals.Qualifier m q h = λ e. (h, tt)
 qualifier_word b terminals.Restrict m q h = λ e. absurd (false≢true (sym e ∙ q))
 qualifier_word b j m q h = absurd (false≢true q)
@@ -276,16 +318,20 @@ set_word terminals.Equals w h k = k
 set_word terminals.Compound w h k = k
 set_word j w h k = absurd (false≢true h)
 
-pub size_word : (w o c : List ℕ) → w ≡ codes "sizeof" → o ≡ codes "(" → c ≡ codes ")" → prefix_in (w ++ (32 ∷ (o ++ (32 ∷ c)))) ≡ Some prefix_kinds.Size
+pub size_word : (w o c : List ℕ) → w ≡ codes "sizeof" → o ≡ codes "(" → c ≡ codes ")" →
+    prefix_in (w ++ (32 ∷ (o ++ (32 ∷ c)))) ≡ Some prefix_kinds.Size
 unfolding prefix_in
-size_word w o c e d g = ap (λ z. prefix_in (z ++ (32 ∷ (o ++ (32 ∷ c))))) e ∙ (ap (λ z. prefix_in (codes "sizeof" ++ (32 ∷ (z ++ (32 ∷ c))))) d ∙ ap (λ z. prefix_in (codes "sizeof" ++ (32 ∷ (codes "(" ++ (32 ∷ z))))) g)
+size_word w o c e d g = ap (λ z. prefix_in (z ++ (32 ∷ (o ++ (32 ∷ c))))) e ∙
+    (ap (λ z. prefix_in (codes "sizeof" ++ (32 ∷ (z ++ (32 ∷ c))))) d ∙
+    ap (λ z. prefix_in (codes "sizeof" ++ (32 ∷ (codes "(" ++ (32 ∷ z))))) g)
 
 pub index_word : (o c : List ℕ) → o ≡ codes "[" → c ≡ codes "]" → postfix_in (o ++ (32 ∷ c)) ≡ Some postfix_kinds.Index
 unfolding postfix_in
 index_word o c d g = ap (λ z. postfix_in (z ++ (32 ∷ c))) d ∙ ap (λ z. postfix_in (codes "[" ++ (32 ∷ z))) g
 
 -- an operator below && is one on two numbers
-binary_word : (n : ℕ) (j : Terminal) (w : List ℕ) → nat_eq (looseness j) n ≡ true → 1 ≤ n → n ≤ 8 → Word j w → is_some (binary_in w) ≡ true
+binary_word : (n : ℕ) (j : Terminal) (w : List ℕ) → nat_eq (looseness j) n ≡ true → 1 ≤ n → n ≤ 8 → Word j w →
+    is_some (binary_in w) ≡ true
 binary_word n terminals.Star w e l m h = h.0
 binary_word n terminals.Slash w e l m h = h
 binary_word n terminals.PlusMinus w e l m h = h.0
@@ -306,27 +352,35 @@ binary_word n terminals.Compound w e l m h = let q = eqb-true 12 n e in absurd (
 binary_word n terminals.Comma w e l m h = let q = eqb-true 13 n e in absurd (omega arith)
 binary_word n j w e l m h = let q = eqb-true 14 n e in absurd (omega arith)
 
-pub level_shape : (k : ℕ) (j : Terminal) (w : List ℕ) (f l : ℕ) (a b : Syntax) → joins k j ≡ true → Word j w → IsExpression a → IsExpression b → IsExpression (node (form_of k) w f l (more a (more b none)))
+pub level_shape : (k : ℕ) (j : Terminal) (w : List ℕ) (f l : ℕ) (a b : Syntax) → joins k j ≡ true → Word j w →
+    IsExpression a → IsExpression b → IsExpression (node (form_of k) w f l (more a (more b none)))
 level_shape zero j w f l a b e h x y = (binary_word 1 j w e (omega arith) (omega arith) h, x, y)
 level_shape (suc zero) j w f l a b e h x y = (binary_word 2 j w e (omega arith) (omega arith) h, x, y)
 level_shape (suc (suc zero)) j w f l a b e h x y = (binary_word 3 j w e (omega arith) (omega arith) h, x, y)
 level_shape (suc (suc (suc zero))) j w f l a b e h x y = (binary_word 4 j w e (omega arith) (omega arith) h, x, y)
 level_shape (suc (suc (suc (suc zero)))) j w f l a b e h x y = (binary_word 5 j w e (omega arith) (omega arith) h, x, y)
-level_shape (suc (suc (suc (suc (suc zero))))) j w f l a b e h x y = (binary_word 6 j w e (omega arith) (omega arith) h, x, y)
-level_shape (suc (suc (suc (suc (suc (suc zero)))))) j w f l a b e h x y = (binary_word 7 j w e (omega arith) (omega arith) h, x, y)
-level_shape (suc (suc (suc (suc (suc (suc (suc zero))))))) j w f l a b e h x y = (binary_word 8 j w e (omega arith) (omega arith) h, x, y)
+level_shape (suc (suc (suc (suc (suc zero))))) j w f l a b e h x y =
+    (binary_word 6 j w e (omega arith) (omega arith) h, x, y)
+level_shape (suc (suc (suc (suc (suc (suc zero)))))) j w f l a b e h x y =
+    (binary_word 7 j w e (omega arith) (omega arith) h, x, y)
+level_shape (suc (suc (suc (suc (suc (suc (suc zero))))))) j w f l a b e h x y =
+    (binary_word 8 j w e (omega arith) (omega arith) h, x, y)
 level_shape (suc (suc (suc (suc (suc (suc (suc (suc zero)))))))) j w f l a b e h x y = (x, y)
 level_shape (suc (suc (suc (suc (suc (suc (suc (suc (suc k))))))))) j w f l a b e h x y = (x, y)
 
-pub sizeof_shape : (w : List ℕ) (f l : ℕ) (t : Syntax) → prefix_in w ≡ Some prefix_kinds.Size → IsType t → IsExpression (node forms.UnaryNode w f l (more t none))
+pub sizeof_shape : (w : List ℕ) (f l : ℕ) (t : Syntax) → prefix_in w ≡ Some prefix_kinds.Size → IsType t →
+    IsExpression (node forms.UnaryNode w f l (more t none))
 sizeof_shape w f l t e h = subst (λ z. PrefixOf z t (IsExpression t)) (sym e) h
 
-pub index_shape : (w : List ℕ) (f l : ℕ) (a b : Syntax) → postfix_in w ≡ Some postfix_kinds.Index → IsExpression a → IsExpression b → IsExpression (node forms.PostfixNode w f l (more a (more b none)))
+pub index_shape : (w : List ℕ) (f l : ℕ) (a b : Syntax) → postfix_in w ≡ Some postfix_kinds.Index → IsExpression a →
+    IsExpression b → IsExpression (node forms.PostfixNode w f l (more a (more b none)))
 index_shape w f l a b e x y = (ap indexes e, x, y)
 
 -- ---- statements and functions
 
-pub for_shape : (w : List ℕ) (f l : ℕ) (d b : Syntax) (ts us : Forest) → IsDeclaration d ⊎ IsSimple d → MaybePart IsExpression ts → MaybePart IsExpression us → IsStatement b → IsStatement (node forms.ForNode w f l (more d (joined ts (joined us (more b none)))))
+pub for_shape : (w : List ℕ) (f l : ℕ) (d b : Syntax) (ts us : Forest) → IsDeclaration d ⊎ IsSimple d →
+    MaybePart IsExpression ts → MaybePart IsExpression us → IsStatement b →
+    IsStatement (node forms.ForNode w f l (more d (joined ts (joined us (more b none)))))
 for_shape w f l d b none none h x y s = (h, s)
 for_shape w f l d b none (more e none) h x y s = (h, y, s)
 for_shape w f l d b (more c none) none h x y s = (h, x, s)
@@ -343,7 +397,8 @@ pub simple_statement : (t : Syntax) → IsSimple t → IsStatement t
 simple_statement (node forms.SimpleNode w f l parts) h = h
 simple_statement t h = absurd h
 
-pub behind_heads : (P : Forest → Type 0) (heads : Forest) (r : Syntax) (rs : Forest) → AllParts IsHead heads → P (more r rs) → BehindHeads P (joined heads (more r rs))
+pub behind_heads : (P : Forest → Type 0) (heads : Forest) (r : Syntax) (rs : Forest) → AllParts IsHead heads →
+    P (more r rs) → BehindHeads P (joined heads (more r rs))
 behind_heads P none (node form w f l parts) rs h p = inr p
 behind_heads P (more (node form w f l parts) ts) r rs h p = inl (h.0, behind_heads P ts r rs h.1 p)
 

@@ -1,5 +1,6 @@
 -- What a line of a block leaves: new variables and arrays behind the old ones, and names in the innermost scope alone.
-use Rattle.std.proofs.Common.{◌≡◌, ℕ, List, [], ◌∷◌, ◌++◌, length, take, append_assoc, Option, None, Some, Bool, true, false, not, ◌&&◌, ◌||◌, refl, ap, sym, ◌∙◌, subst, if◌then◌else◌}
+use Rattle.std.proofs.Common.{◌≡◌, ℕ, List, [], ◌∷◌, ◌++◌, length, take, append_assoc, Option, None, Some, Bool, true}
+use Rattle.std.proofs.Common.{false, not, ◌&&◌, ◌||◌, refl, ap, sym, ◌∙◌, subst, if◌then◌else◌}
 use Rattle.std.proofs.lemmas.Bool.{false≢true}
 use Rattle.std.specs.Prelude.{nat_eq}
 use Rattle.cl_model.specs.declared.program.Space.{Space}
@@ -14,7 +15,9 @@ use Rattle.cl_meaning.specs.declared.kind.Meaning.{Meaning}
 use Rattle.cl_meaning.specs.declared.kind.Meaning.TheVariants as meanings
 use Rattle.cl_meaning.specs.Kinds.{is_some}
 use Rattle.cl_meaning.specs.Environment.{Env, Scope, Array, at_unit, into_last, empty_scope}
-use Rattle.cl_meaning.specs.Declarations.{Declarator, kept_in, array_in, with_variable, with_array, with_scalar, with_elements, with_declarator, table_bytes, next_root, each_of, dims_of, or_none, firm}
+use Rattle.cl_meaning.specs.Declarations.{Declarator, kept_in, array_in, with_variable, with_array, with_scalar}
+use Rattle.cl_meaning.specs.Declarations.{with_elements, with_declarator, table_bytes, next_root, each_of, dims_of}
+use Rattle.cl_meaning.specs.Declarations.{or_none, firm}
 use Rattle.cl_meaning.specs.Visible.{before_labels}
 use Rattle.cl_meaning.specs.Faults.{Looked, is_misplaced}
 
@@ -59,7 +62,8 @@ outer_same (s ∷ (r ∷ rs)) = (refl, outer_same (r ∷ rs))
 pub outer_then : (ss ts us : List Scope) → SameOuter ss ts → SameOuter ts us → SameOuter ss us
 outer_then [] [] [] h k = tt
 outer_then (s ∷ []) (t ∷ []) (u ∷ []) h k = tt
-outer_then (s ∷ (r ∷ rs)) (t ∷ (t' ∷ ts)) (u ∷ (u' ∷ us)) h k = (k.0 ∙ h.0, outer_then (r ∷ rs) (t' ∷ ts) (u' ∷ us) h.1 k.1)
+outer_then (s ∷ (r ∷ rs)) (t ∷ (t' ∷ ts)) (u ∷ (u' ∷ us)) h k =
+    (k.0 ∙ h.0, outer_then (r ∷ rs) (t' ∷ ts) (u' ∷ us) h.1 k.1)
 outer_then (s ∷ (r ∷ rs)) (t ∷ (t' ∷ ts)) (u ∷ []) h k = absurd k
 outer_then (s ∷ (r ∷ rs)) (t ∷ (t' ∷ ts)) [] h k = absurd k
 outer_then (s ∷ []) (t ∷ []) (u ∷ (u' ∷ us)) h k = absurd k
@@ -78,13 +82,15 @@ outer_into (s ∷ (r ∷ [])) name e = (refl, tt)
 outer_into (s ∷ (r ∷ (q ∷ qs))) name e = (refl, outer_into (r ∷ (q ∷ qs)) name e)
 
 -- without the innermost scope nothing has changed
-pub outer_closed : (ss : List Scope) (e : Scope) (ts : List Scope) → SameOuter (ss ++ e ∷ []) ts → take (length ss) ts ≡ ss
+pub outer_closed : (ss : List Scope) (e : Scope) (ts : List Scope) → SameOuter (ss ++ e ∷ []) ts →
+    take (length ss) ts ≡ ss
 outer_closed [] e [] h = absurd h
 outer_closed [] e (t ∷ ts) h = refl
 outer_closed (s ∷ []) e (t ∷ (u ∷ us)) h = ap (λ z. z ∷ []) h.0
 outer_closed (s ∷ []) e (t ∷ []) h = absurd h
 outer_closed (s ∷ []) e [] h = absurd h
-outer_closed (s ∷ (r ∷ rs)) e (t ∷ (u ∷ us)) h = ap (λ z. z ∷ take (length (r ∷ rs)) (u ∷ us)) h.0 ∙ ap (λ z. s ∷ z) (outer_closed (r ∷ rs) e (u ∷ us) h.1)
+outer_closed (s ∷ (r ∷ rs)) e (t ∷ (u ∷ us)) h =
+    ap (λ z. z ∷ take (length (r ∷ rs)) (u ∷ us)) h.0 ∙ ap (λ z. s ∷ z) (outer_closed (r ∷ rs) e (u ∷ us) h.1)
 outer_closed (s ∷ (r ∷ rs)) e (t ∷ []) h = absurd h
 outer_closed (s ∷ (r ∷ rs)) e [] h = absurd h
 
@@ -128,7 +134,8 @@ deep_inside env d = by env.scopes d
 
 -- the first with the scopes, variables, arrays and labels of the second
 abbrev pub reframed : Env → Env → Env
-reframed env later = record env { scopes = later.scopes; variables = later.variables; arrays = later.arrays; labels = later.labels }
+reframed env later =
+    record env { scopes = later.scopes; variables = later.variables; arrays = later.arrays; labels = later.labels }
 
 -- a function that is no kernel has no local array
 abbrev pub NoLocal : Env → Type 0
@@ -147,7 +154,13 @@ pub record Kept (env later : Env) : Type 0 where
   pub same : later.scopes ≡ env.scopes
 
 pub grown_same : (env : Env) → Grown env env
-grown_same env = record { frame = refl; scopes = outer_same env.scopes; variables = extends_same env.variables; arrays = extends_same env.arrays; locals = λ h. h }
+grown_same env = record {
+  frame = refl;
+  scopes = outer_same env.scopes;
+  variables = extends_same env.variables;
+  arrays = extends_same env.arrays;
+  locals = λ h. h;
+}
 
 pub kept_same : (env : Env) → Kept env env
 kept_same env = record { grown = grown_same env; same = refl }
@@ -170,7 +183,10 @@ pub record Within (env : Env) : Type 0 where
   pub in_block : env.in_body ≡ false
 
 pub within_later : (env later : Env) → Within env → Grown env later → Within later
-within_later env later w g = record { deep = deep_outer env.scopes later.scopes w.deep g.scopes; in_block = ap (λ z. z.in_body) g.frame ∙ w.in_block }
+within_later env later w g = record {
+  deep = deep_outer env.scopes later.scopes w.deep g.scopes;
+  in_block = ap (λ z. z.in_body) g.frame ∙ w.in_block;
+}
 
 -- ---- on the way out
 
@@ -181,13 +197,15 @@ pub record Like (env i : Env) : Type 0 where
   pub variables : i.variables ≡ env.variables
   pub arrays : i.arrays ≡ env.arrays
 
-locals_out : (env i later : Env) → Like env i → (NoLocal i → NoLocal later) → later ≡ reframed i later → NoLocal env → NoLocal (before_labels env later)
+locals_out : (env i later : Env) → Like env i → (NoLocal i → NoLocal later) → later ≡ reframed i later → NoLocal env →
+    NoLocal (before_labels env later)
 locals_out env i later l g f n = λ k.
     let at : i.owner.kernel ≡ false = ap (λ o. o.kernel) l.owner ∙ k in
     let x : NoLocal i = λ z. subst (λ as'. Each (λ (a : Array). is_local a.space ≡ false) as') (sym l.arrays) (n k) in
     g x (ap (λ z. z.owner.kernel) f ∙ at)
 
-pub closing : (env i later : Env) → Like env i → Grown i later → take (length env.scopes) later.scopes ≡ env.scopes → Kept env (before_labels env later)
+pub closing : (env i later : Env) → Like env i → Grown i later → take (length env.scopes) later.scopes ≡ env.scopes →
+    Kept env (before_labels env later)
 closing env i later l g t = record {
   grown = record {
     frame = ap (λ z. before_labels env z) g.frame ∙ l.frame later;
@@ -200,15 +218,21 @@ closing env i later l g t = record {
 }
 
 -- where the parts had the same scopes, and where they had one more
-pub closing_plain : (env i later : Env) → Like env i → i.scopes ≡ env.scopes → Kept i later → Kept env (before_labels env later)
-closing_plain env i later l e k = closing env i later l k.grown (ap (take (length env.scopes)) (k.same ∙ e) ∙ take_length env.scopes)
+pub closing_plain : (env i later : Env) → Like env i → i.scopes ≡ env.scopes → Kept i later →
+    Kept env (before_labels env later)
+closing_plain env i later l e k =
+    closing env i later l k.grown (ap (take (length env.scopes)) (k.same ∙ e) ∙ take_length env.scopes)
 
-pub closing_opened : (env i later : Env) → Like env i → i.scopes ≡ env.scopes ++ empty_scope ∷ [] → Grown i later → Kept env (before_labels env later)
-closing_opened env i later l e g = closing env i later l g (outer_closed env.scopes empty_scope later.scopes (subst (λ z. SameOuter z later.scopes) e g.scopes))
+pub closing_opened : (env i later : Env) → Like env i → i.scopes ≡ env.scopes ++ empty_scope ∷ [] → Grown i later →
+    Kept env (before_labels env later)
+closing_opened env i later l e g =
+    closing env i later l g (outer_closed env.scopes empty_scope later.scopes
+    (subst (λ z. SameOuter z later.scopes) e g.scopes))
 
 -- ---- declarators
 
-variable_grows : (env : Env) (name : List ℕ) (token : ℕ) (kind : VarKind) (m : Meaning) → Grown env (with_variable env name token kind m)
+variable_grows : (env : Env) (name : List ℕ) (token : ℕ) (kind : VarKind) (m : Meaning) →
+    Grown env (with_variable env name token kind m)
 variable_grows env name token kind m = record {
   frame = refl;
   scopes = outer_into env.scopes name (firm m);
@@ -217,11 +241,15 @@ variable_grows env name token kind m = record {
   locals = λ h. h;
 }
 
-array_grows : (env : Env) (a : Array) (bytes : List ℕ) (m : Meaning) → at_unit env ≡ false → (env.owner.kernel ≡ false → is_local a.space ≡ false) → Grown env (with_array env a bytes m)
+array_grows : (env : Env) (a : Array) (bytes : List ℕ) (m : Meaning) → at_unit env ≡ false →
+    (env.owner.kernel ≡ false → is_local a.space ≡ false) → Grown env (with_array env a bytes m)
 array_grows env a bytes m u n = by (at_unit env) u
   where
     by : (b : Bool) → b ≡ false → Grown env (if b
-        then record env { tables = env.tables ++ record { array = a; bytes = bytes } ∷ []; scopes = into_last env.scopes a.name (firm m) }
+        then record env {
+          tables = env.tables ++ record { array = a; bytes = bytes } ∷ [];
+          scopes = into_last env.scopes a.name (firm m);
+        }
         else record env { arrays = env.arrays ++ a ∷ []; scopes = into_last env.scopes a.name (firm m) })
     by true u = absurd (false≢true (sym u))
     by false u = record {
@@ -232,21 +260,31 @@ array_grows env a bytes m u n = by (at_unit env) u
       locals = λ h k. each_append (λ (x : Array). is_local x.space ≡ false) env.arrays (a ∷ []) (h k) (n k, tt);
     }
 
-pub scalar_grows : (env : Env) (d : Declared) (x : Declarator) (s : Space) → at_unit env ≡ false → (env.owner.kernel ≡ false → is_local s ≡ false) → Grown env (with_scalar env d x s)
+pub scalar_grows : (env : Env) (d : Declared) (x : Declarator) (s : Space) → at_unit env ≡ false →
+    (env.owner.kernel ≡ false → is_local s ≡ false) → Grown env (with_scalar env d x s)
 scalar_grows env d x spaces.Private u n = variable_grows env x.name x.token _ _
-scalar_grows env d x spaces.Global u n = array_grows env (array_in env spaces.Global d x (1 ∷ [])) (table_bytes d (1 ∷ []) x) (meanings.Object spaces.Global d.of d.constant (next_root env spaces.Global)) u n
-scalar_grows env d x spaces.Constant u n = array_grows env (array_in env spaces.Constant d x (1 ∷ [])) (table_bytes d (1 ∷ []) x) (meanings.Object spaces.Constant d.of d.constant (next_root env spaces.Constant)) u n
-scalar_grows env d x spaces.Local u n = array_grows env (array_in env spaces.Local d x (1 ∷ [])) (table_bytes d (1 ∷ []) x) (meanings.Object spaces.Local d.of d.constant (next_root env spaces.Local)) u n
+scalar_grows env d x spaces.Global u n =
+    array_grows env (array_in env spaces.Global d x (1 ∷ [])) (table_bytes d (1 ∷ []) x)
+    (meanings.Object spaces.Global d.of d.constant (next_root env spaces.Global)) u n
+scalar_grows env d x spaces.Constant u n =
+    array_grows env (array_in env spaces.Constant d x (1 ∷ [])) (table_bytes d (1 ∷ []) x)
+    (meanings.Object spaces.Constant d.of d.constant (next_root env spaces.Constant)) u n
+scalar_grows env d x spaces.Local u n =
+    array_grows env (array_in env spaces.Local d x (1 ∷ [])) (table_bytes d (1 ∷ []) x)
+    (meanings.Object spaces.Local d.of d.constant (next_root env spaces.Local)) u n
 
 -- a space that is not misplaced is local in a kernel alone
-kept_local : (env : Env) (d : Declared) (n : Looked) (x : Declarator) (s : Option Space) → at_unit env ≡ false → n.env ≡ env → is_misplaced n x s ≡ false → env.owner.kernel ≡ false → is_local (kept_in env (record d { space = s })) ≡ false
+kept_local : (env : Env) (d : Declared) (n : Looked) (x : Declarator) (s : Option Space) → at_unit env ≡ false →
+    n.env ≡ env → is_misplaced n x s ≡ false → env.owner.kernel ≡ false →
+    is_local (kept_in env (record d { space = s })) ≡ false
 kept_local env d n x s u e h k = by (at_unit env) s u h
   where
     in_kernel : (b c : Bool) (o : Bool) → b ≡ false → (not (b && c) || o) ≡ false → ⊥
     in_kernel true c o b h = false≢true (sym b)
     in_kernel false c o b h = false≢true (sym h)
 
-    by : (b : Bool) (s : Option Space) → b ≡ false → is_misplaced n x s ≡ false → is_local (kept_in env (record d { space = s })) ≡ false
+    by : (b : Bool) (s : Option Space) → b ≡ false → is_misplaced n x s ≡ false →
+        is_local (kept_in env (record d { space = s })) ≡ false
     by b (Some spaces.Local) u' h = absurd (in_kernel n.env.owner.kernel _ _ (ap (λ z. z.owner.kernel) e ∙ k) h)
     by b None u' h = at (at_unit env) u
       where
@@ -274,16 +312,23 @@ abbrev pub Placed : Looked → Declarator → Option Declared → Type 0
 Placed n x None = Unit {0}
 Placed n x (Some d) = (not (is_some x.star) && is_misplaced n x d.space) ≡ false
 
-pub declarator_grows : (env : Env) (n : Looked) (o : Option Declared) (x : Declarator) (k : Option Kind) → at_unit env ≡ false → n.env ≡ env → Placed n x o → Grown env (with_declarator env o x k)
+pub declarator_grows : (env : Env) (n : Looked) (o : Option Declared) (x : Declarator) (k : Option Kind) →
+    at_unit env ≡ false → n.env ≡ env → Placed n x o → Grown env (with_declarator env o x k)
 declarator_grows env n None x k u e p = grown_same env
 declarator_grows env n (Some d) x k u e p = by x.star p
   where
-    by : (star : Option Bool) → (not (is_some star) && is_misplaced n x d.space) ≡ false → Grown env (with_declarator env (Some d) (record x { star = star }) k)
+    by : (star : Option Bool) → (not (is_some star) && is_misplaced n x d.space) ≡ false →
+        Grown env (with_declarator env (Some d) (record x { star = star }) k)
     by (Some fixed) p = variable_grows env x.name x.token _ _
     by None p = plain (nat_eq x.dimensions 0)
       where
-        plain : (b : Bool) → Grown env (if b then with_scalar env d (record x { star = None }) (kept_in env d) else with_elements env d (record x { star = None }) (kept_in env d) (or_none (dims_of x)))
-        plain true = scalar_grows env d (record x { star = None }) (kept_in env d) u (λ k. kept_local env d n x d.space u e p k)
+        plain : (b : Bool) → Grown env (if b then with_scalar env d (record x { star = None }) (kept_in env d) else
+            with_elements env d (record x { star = None }) (kept_in env d) (or_none (dims_of x)))
+        plain true =
+            scalar_grows env d (record x { star = None }) (kept_in env d) u (λ k. kept_local env d n x d.space u e p k)
         plain false =
-            array_grows env (array_in env (kept_in env d) d x (or_none (dims_of x))) (table_bytes d (or_none (dims_of x)) (record x { star = None })) (meanings.Array (kept_in env d) d.of d.constant (next_root env (kept_in env d)) (each_of (or_none (dims_of x)))) u
+            array_grows env (array_in env (kept_in env d) d x (or_none (dims_of x)))
+            (table_bytes d (or_none (dims_of x)) (record x { star = None }))
+            (meanings.Array (kept_in env d) d.of d.constant (next_root env (kept_in env d))
+            (each_of (or_none (dims_of x)))) u
             (λ k. kept_local env d n x d.space u e p k)

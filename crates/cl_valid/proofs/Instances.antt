@@ -1,5 +1,6 @@
 -- The functions that a kernel runs have no more nodes than the limit allows.
-use Rattle.std.proofs.Common.{◌≡◌, ℕ, zero, suc, ◌+◌, ◌*◌, ◌≤◌, nat_eq, List, [], ◌∷◌, ◌++◌, Some, Bool, true, false, if◌then◌else◌, refl, ap, inl, inr, ◌⊎◌, arith, slice_get}
+use Rattle.std.proofs.Common.{◌≡◌, ℕ, zero, suc, ◌+◌, ◌*◌, ◌≤◌, nat_eq, List, [], ◌∷◌, ◌++◌, Some, Bool, true, false}
+use Rattle.std.proofs.Common.{if◌then◌else◌, refl, ap, inl, inr, ◌⊎◌, arith, slice_get}
 use Rattle.std.specs.Prelude.{sum_by, flat_map}
 use Rattle.std.proofs.lemmas.List.Sums.{sum_by-cons, sum_by-append}
 use Rattle.std.proofs.lemmas.List.Concat.{flat_map-cons}
@@ -15,7 +16,9 @@ times_called : (t : ℕ → ℕ) (cs : List Call) (f : ℕ) → called_sum (λ x
 times_called t [] f = refl
 times_called t (c ∷ cs) f = let e = times_called t cs f in by (nat_eq c.caller f) e
   where
-    by : (b : Bool) → called_sum (λ x. 16 * t x) cs f ≡ 16 * called_sum t cs f → (if b then 16 * t c.called else 0) + called_sum (λ x. 16 * t x) cs f ≡ 16 * ((if b then t c.called else 0) + called_sum t cs f)
+    by : (b : Bool) → called_sum (λ x. 16 * t x) cs f ≡ 16 * called_sum t cs f →
+        (if b then 16 * t c.called else 0) + called_sum (λ x. 16 * t x) cs f ≡ 16 *
+        ((if b then t c.called else 0) + called_sum t cs f)
     by true e = omega arith
     by false e = omega arith
 
@@ -26,12 +29,15 @@ nodes_at P i = nodes_of_all (function_at P i.function).body
 abbrev pub Counted : Program → List ℕ → List Call → ℕ → Type 0
 Counted P own calls f =
     ((nodes_of_all (function_at P f).body ≡ 0) × (calls_of_all (function_at P f).body ≡ []))
-    ⊎ ((w : ℕ) × (slice_get own f ≡ Some w) × (nodes_of_all (function_at P f).body ≤ 16 * w) × ((c : ℕ → ℕ) → sum_calls c (calls_of_all (function_at P f).body) ≤ called_sum c calls f))
+    ⊎ ((w : ℕ) × (slice_get own f ≡ Some w) × (nodes_of_all (function_at P f).body ≤ 16 * w) ×
+    ((c : ℕ → ℕ) → sum_calls c (calls_of_all (function_at P f).body) ≤ called_sum c calls f))
 
 module _ (P : Program) (own : List ℕ) (calls : List Call) (small : (f : ℕ) → Counted P own calls f) where
   -- the instances behind some calls
-  behind_calls : (depth : ℕ) (path : List ℕ) (cs : List CallSite) → ((path : List ℕ) (f : ℕ) → sum_by (nodes_at P) (instances_below P depth path f) ≤ 16 * total depth own calls f) →
-      sum_by (nodes_at P) (flat_map (λ (c : CallSite). instances_below P depth (path ++ c.site ∷ []) c.function) cs) ≤ sum_calls (λ x. 16 * total depth own calls x) cs
+  behind_calls : (depth : ℕ) (path : List ℕ) (cs : List CallSite) →
+      ((path : List ℕ) (f : ℕ) → sum_by (nodes_at P) (instances_below P depth path f) ≤ 16 * total depth own calls f) →
+      sum_by (nodes_at P) (flat_map (λ (c : CallSite). instances_below P depth (path ++ c.site ∷ []) c.function) cs) ≤
+      sum_calls (λ x. 16 * total depth own calls x) cs
   behind_calls depth path [] h = omega arith
   behind_calls depth path (c ∷ cs) h =
       let g : CallSite → List Instance = λ (c : CallSite). instances_below P depth (path ++ c.site ∷ []) c.function in
@@ -41,18 +47,23 @@ module _ (P : Program) (own : List ℕ) (calls : List Call) (small : (f : ℕ) �
       let d = sum_by-append (nodes_at P) (g c) (flat_map g cs) in
       omega arith
 
-  counted_by : (depth : ℕ) (path : List ℕ) (f : ℕ) → ((path : List ℕ) (f : ℕ) → sum_by (nodes_at P) (instances_below P depth path f) ≤ 16 * total depth own calls f) → Counted P own calls f → sum_by (nodes_at P) (instances_below P (suc depth) path f) ≤ 16 * total (suc depth) own calls f
+  counted_by : (depth : ℕ) (path : List ℕ) (f : ℕ) →
+      ((path : List ℕ) (f : ℕ) → sum_by (nodes_at P) (instances_below P depth path f) ≤ 16 *
+      total depth own calls f) → Counted P own calls f →
+      sum_by (nodes_at P) (instances_below P (suc depth) path f) ≤ 16 * total (suc depth) own calls f
   unfolding total
   counted_by depth path f h (inl (n, c)) =
       let i : Instance = record { path = path; function = f } in
-      let rest : List Instance = flat_map (λ (c : CallSite). instances_below P depth (path ++ c.site ∷ []) c.function) (calls_of_all (function_at P f).body) in
+      let rest : List Instance = flat_map (λ (c : CallSite). instances_below P depth (path ++ c.site ∷ []) c.function)
+      (calls_of_all (function_at P f).body) in
       let b = behind_calls depth path (calls_of_all (function_at P f).body) h in
       let e = ap (sum_calls (λ x. 16 * total depth own calls x)) c in
       let d = sum_by-cons (nodes_at P) i rest in
       omega arith
   counted_by depth path f h (inr (w, e, n, c)) =
       let i : Instance = record { path = path; function = f } in
-      let rest : List Instance = flat_map (λ (c : CallSite). instances_below P depth (path ++ c.site ∷ []) c.function) (calls_of_all (function_at P f).body) in
+      let rest : List Instance = flat_map (λ (c : CallSite). instances_below P depth (path ++ c.site ∷ []) c.function)
+      (calls_of_all (function_at P f).body) in
       let b = behind_calls depth path (calls_of_all (function_at P f).body) h in
       let k = c (λ x. 16 * total depth own calls x) in
       let t = times_called (total depth own calls) calls f in
@@ -60,6 +71,7 @@ module _ (P : Program) (own : List ℕ) (calls : List Call) (small : (f : ℕ) �
       let o = ap (λ z. with_called z (called_sum (total depth own calls) calls f)) e in
       omega arith
 
-  pub instances_counted : (depth : ℕ) (path : List ℕ) (f : ℕ) → sum_by (nodes_at P) (instances_below P depth path f) ≤ 16 * total depth own calls f
+  pub instances_counted : (depth : ℕ) (path : List ℕ) (f : ℕ) → sum_by (nodes_at P) (instances_below P depth path f) ≤
+      16 * total depth own calls f
   instances_counted zero path f = omega arith
   instances_counted (suc depth) path f = counted_by depth path f (λ p x. instances_counted depth p x) (small f)

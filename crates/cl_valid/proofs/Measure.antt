@@ -5,7 +5,8 @@ use Rattle.wg_num.specs.declared.types.Bin.{Bin}
 use Rattle.cl_model.specs.Tree as tree
 use Rattle.cl_model.specs.Tree.{Action, Expression, Expressions, Apply, Update, Choose, Call, none, more, single}
 use Rattle.cl_meaning.specs.Kinds.{same_type}
-use Rattle.cl_meaning.specs.Typed.{What, nothing, value, target, offset, values, barrier, fence, lines, statement, labelled, function, functions, variable, element, Piece}
+use Rattle.cl_meaning.specs.Typed.{What, nothing, value, target, offset, values, barrier, fence, lines, statement}
+use Rattle.cl_meaning.specs.Typed.{labelled, function, functions, variable, element, Piece}
 use Rattle.cl_meaning.specs.Expressions.{read, way, type_in, convert, operand, moved, moved_by, assigned, updated}
 
 -- the weight of each node, and what a site, a call of a function and a variable weigh beside it
@@ -35,7 +36,8 @@ abbrev mutual
   pub measure : Weights → Expression → ℕ
   measure m (Apply action operands) = action_measure m action + measures m operands
   measure m (Update site t root op of back old i v) = (m.plain + m.own site) + (measure m i + measure m v)
-  measure m (Choose site test chosen other) = (m.plain + m.own site) + (measure m test + (measure m chosen + measure m other))
+  measure m (Choose site test chosen other) =
+      (m.plain + m.own site) + (measure m test + (measure m chosen + measure m other))
   measure m (Call site g roots arguments) = (m.plain + (m.own site + m.called g)) + measures m arguments
 
   pub measures : Weights → Expressions → ℕ
@@ -68,17 +70,20 @@ free_wider m b u v w l h = tt
 
 -- ---- single steps
 
-pub convert_small : (m : Weights) (to from : IntType) (e : Expression) → measure m (convert to from e) ≤ m.plain + measure m e
+pub convert_small : (m : Weights) (to from : IntType) (e : Expression) →
+    measure m (convert to from e) ≤ m.plain + measure m e
 convert_small m to from e = by (same_type to from)
   where
     by : (b : Bool) → measure m (if b then e else Apply (tree.Convert to) (single e)) ≤ m.plain + measure m e
     by true = omega arith
     by false = omega arith
 
-pub operand_small : (m : Weights) (to : IntType) (a : Piece) → measure m (operand to a) ≤ m.plain + measure m (read a.what)
+pub operand_small : (m : Weights) (to : IntType) (a : Piece) →
+    measure m (operand to a) ≤ m.plain + measure m (read a.what)
 operand_small m to a = convert_small m to (type_in a.kind) (read a.what)
 
-pub moved_small : (m : Weights) (w : What) (i : Expression) → measure m (moved (way w) i) ≤ m.plain + (measure m (read w) + measure m i)
+pub moved_small : (m : Weights) (w : What) (i : Expression) →
+    measure m (moved (way w) i) ≤ m.plain + (measure m (read w) + measure m i)
 moved_small m (offset None) i = omega arith
 moved_small m (offset (Some e)) i = omega arith
 moved_small m nothing i = omega arith
@@ -93,7 +98,8 @@ moved_small m (labelled ls o s) i = omega arith
 moved_small m (function g) i = omega arith
 moved_small m (functions gs) i = omega arith
 
-pub moved_by_small : (m : Weights) (i : Expression) (w : What) → measure m (moved_by i (way w)) ≤ m.plain + (measure m (read w) + measure m i)
+pub moved_by_small : (m : Weights) (i : Expression) (w : What) →
+    measure m (moved_by i (way w)) ≤ m.plain + (measure m (read w) + measure m i)
 moved_by_small m i (offset None) = omega arith
 moved_by_small m i (offset (Some e)) = omega arith
 moved_by_small m i nothing = omega arith
@@ -124,7 +130,8 @@ way_small m (function g) = omega arith
 way_small m (functions gs) = omega arith
 
 -- a target assigned
-pub assigned_small : (m : Weights) (w : What) (v : Expression) → measure m (read (assigned w v)) ≤ m.plain + (measure m (read w) + measure m v)
+pub assigned_small : (m : Weights) (w : What) (v : Expression) →
+    measure m (read (assigned w v)) ≤ m.plain + (measure m (read w) + measure m v)
 assigned_small m (target (variable x)) v = omega arith
 assigned_small m (target (element s t r i)) v = omega arith
 assigned_small m nothing v = omega arith
@@ -144,7 +151,8 @@ assigned_free m (target (variable x)) v b u = tt
 assigned_free m (target (element s t r i)) v b u = tt
 assigned_free m w v b u = tt
 
-pub updated_small : (m : Weights) (w : What) (op : Bin) (of back : IntType) (old : Bool) (v : Expression) → TargetFree m w → measure m (read (updated w op of back old v)) ≤ m.plain + (measure m (read w) + measure m v)
+pub updated_small : (m : Weights) (w : What) (op : Bin) (of back : IntType) (old : Bool) (v : Expression) →
+    TargetFree m w → measure m (read (updated w op of back old v)) ≤ m.plain + (measure m (read w) + measure m v)
 updated_small m (target (variable x)) op of back old v h = omega arith
 updated_small m (target (element s t r i)) op of back old v h = omega arith
 updated_small m nothing op of back old v h = omega arith
@@ -159,7 +167,8 @@ updated_small m (labelled ls o s) op of back old v h = omega arith
 updated_small m (function g) op of back old v h = omega arith
 updated_small m (functions gs) op of back old v h = omega arith
 
-pub updated_free : (m : Weights) (w : What) (op : Bin) (of back : IntType) (old : Bool) (v : Expression) → (b u : ℕ) → Free m b u (updated w op of back old v)
+pub updated_free : (m : Weights) (w : What) (op : Bin) (of back : IntType) (old : Bool) (v : Expression) → (b u : ℕ) →
+    Free m b u (updated w op of back old v)
 updated_free m (target (variable x)) op of back old v b u = tt
 updated_free m (target (element s t r i)) op of back old v b u = tt
 updated_free m w op of back old v b u = tt

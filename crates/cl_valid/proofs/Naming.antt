@@ -1,5 +1,6 @@
 -- The variables that an expression names are visible where it stands.
-use Rattle.std.proofs.Common.{◌≡◌, ℕ, zero, suc, ◌+◌, ◌≤◌, nat_eq, List, [], ◌∷◌, length, Some, Bool, true, false, if◌then◌else◌, refl, ap, ◌∙◌, inl, inr, ◌⊎◌, arith, eqb-true}
+use Rattle.std.proofs.Common.{◌≡◌, ℕ, zero, suc, ◌+◌, ◌≤◌, nat_eq, List, [], ◌∷◌, length, Some, Bool, true, false}
+use Rattle.std.proofs.Common.{if◌then◌else◌, refl, ap, ◌∙◌, inl, inr, ◌⊎◌, arith, eqb-true}
 use Rattle.std.proofs.lemmas.Bool.{false≢true}
 use Rattle.wg_num.specs.declared.types.IntType.{IntType}
 use Rattle.wg_num.specs.declared.types.Place.{Place}
@@ -40,7 +41,8 @@ in_scope : (scope : Scope) (x : ℕ) → is_in scope x ≡ true → Has scope x
 in_scope [] x h = absurd (false≢true h)
 in_scope (y ∷ ys) x h = by (nat_eq y x) refl h (λ z. in_scope ys x z)
   where
-    by : (b : Bool) → nat_eq y x ≡ b → (if b then true else is_in ys x) ≡ true → (is_in ys x ≡ true → Has ys x) → (y ≡ x) ⊎ Has ys x
+    by : (b : Bool) → nat_eq y x ≡ b → (if b then true else is_in ys x) ≡ true → (is_in ys x ≡ true → Has ys x) →
+        (y ≡ x) ⊎ Has ys x
     by true e h g = inl (eqb-true y x e)
     by false e h g = inr (g h)
 
@@ -86,8 +88,10 @@ action_named scope (tree.Decided answer) h = tt
 mutual
   names_in : (scope : Scope) (e : Expression) → measure (strangers scope) e ≤ 0 → NamesIn scope e
   names_in scope (Apply a es) h = (action_named scope a (omega arith), names_among scope es (omega arith))
-  names_in scope (Update site t root op of back old i v) h = (names_in scope i (omega arith), names_in scope v (omega arith))
-  names_in scope (Choose site c a b) h = (names_in scope c (omega arith), names_in scope a (omega arith), names_in scope b (omega arith))
+  names_in scope (Update site t root op of back old i v) h =
+      (names_in scope i (omega arith), names_in scope v (omega arith))
+  names_in scope (Choose site c a b) h =
+      (names_in scope c (omega arith), names_in scope a (omega arith), names_in scope b (omega arith))
   names_in scope (Call site g roots es) h = names_among scope es (omega arith)
 
   names_among : (scope : Scope) (es : Expressions) → measures (strangers scope) es ≤ 0 → NamesAmong scope es
@@ -132,7 +136,8 @@ mutual
       let b = calls_nothing (node_calls (visible_at env (node form w f l parts)) form w) k in
       omega arith
 
-  extras_nothing : (scope : Scope) (k : ℕ) (env : Env) (form : Form) (front : Bool) (parts : Forest) → extras (strangers scope) k env form front parts ≡ 0
+  extras_nothing : (scope : Scope) (k : ℕ) (env : Env) (form : Form) (front : Bool) (parts : Forest) →
+      extras (strangers scope) k env form front parts ≡ 0
   extras_nothing scope k env form front trees.none = refl
   extras_nothing scope k env form front (trees.more p ps) =
       let a = extra_nothing scope k env p in
@@ -140,20 +145,24 @@ mutual
       omega arith
 
 -- each variable of an expression is in scope where all visible ones are
-pub expression_scoped : (scope : Scope) (env : Env) (sites : List Place) (t : Syntax) → IsExpression t → Scoped scope env → NamesIn scope (read (meant env sites t).piece.what)
+pub expression_scoped : (scope : Scope) (env : Env) (sites : List Place) (t : Syntax) → IsExpression t →
+    Scoped scope env → NamesIn scope (read (meant env sites t).piece.what)
 expression_scoped scope env sites t h s =
-    let x = (holds (strangers scope) env.owner.number env sites t h (λ q m e. meaning_free scope m (s q m e)) refl).bound in
+    let x =
+    (holds (strangers scope) env.owner.number env sites t h (λ q m e. meaning_free scope m (s q m e)) refl).bound in
     let a = held_nothing scope (length sites) in
     let b = held_nothing scope (length (meant env sites t).sites) in
     let c = extra_nothing scope env.owner.number env t in
     names_in scope (read (meant env sites t).piece.what) (omega arith)
 
-pub convert_scoped : (scope : Scope) (to from : IntType) (e : Expression) → NamesIn scope e → NamesIn scope (convert to from e)
+pub convert_scoped : (scope : Scope) (to from : IntType) (e : Expression) → NamesIn scope e →
+    NamesIn scope (convert to from e)
 convert_scoped scope to from e h = by (same_type to from)
   where
     by : (b : Bool) → NamesIn scope (if b then e else Apply (tree.Convert to) (single e))
     by true = h
     by false = (tt, (h, tt))
 
-pub operand_scoped : (scope : Scope) (to : IntType) (p : Piece) → NamesIn scope (read p.what) → NamesIn scope (operand to p)
+pub operand_scoped : (scope : Scope) (to : IntType) (p : Piece) → NamesIn scope (read p.what) →
+    NamesIn scope (operand to p)
 operand_scoped scope to p h = convert_scoped scope to (type_in p.kind) (read p.what) h

@@ -18,7 +18,8 @@ pub closed_same : (env : Env) → closed env env ≡ env
 closed_same env = ap (λ z. record env { scopes = z }) (take_length env.scopes)
 
 -- what an expression's production does to what is visible
-pub later_expression : (form : Form) → is_expression form ≡ true → (env : Env) (front : Bool) (p : Syntax) (k : Option Kind) → later env form front p k ≡ env
+pub later_expression : (form : Form) → is_expression form ≡ true →
+    (env : Env) (front : Bool) (p : Syntax) (k : Option Kind) → later env form front p k ≡ env
 unfolding later
 later_expression forms.ExprNode h env front p k = refl
 later_expression forms.AssignNode h env front p k = refl
@@ -44,7 +45,9 @@ later_expression forms.NumberNode h env front p k = refl
 later_expression _ h env front p k = absurd (false≢true h)
 
 -- an expression closes what it opened, and leaves no more
-pub left_expression : (form : Form) → is_expression form ≡ true → (env : Env) (w : List ℕ) (f l : ℕ) (parts : Forest) (ks : List (Option Kind)) → left (restored form env (inside env form w)) (inside env form w) form w f l parts ks ≡ closed env env
+pub left_expression : (form : Form) → is_expression form ≡ true →
+    (env : Env) (w : List ℕ) (f l : ℕ) (parts : Forest) (ks : List (Option Kind)) →
+    left (restored form env (inside env form w)) (inside env form w) form w f l parts ks ≡ closed env env
 unfolding left restored inside
 left_expression forms.ExprNode h env w f l parts ks = refl
 left_expression forms.AssignNode h env w f l parts ks = refl
@@ -70,7 +73,8 @@ left_expression forms.NumberNode h env w f l parts ks = refl
 left_expression _ h env w f l parts ks = absurd (false≢true h)
 
 -- a node whose parts leave what is visible leaves it too
-behind_node : (env : Env) (form : Form) (w : List ℕ) (f l : ℕ) (parts : Forest) → is_expression form ≡ true → behind_parts (inside env form w) form true parts ≡ inside env form w → behind env (node form w f l parts) ≡ env
+behind_node : (env : Env) (form : Form) (w : List ℕ) (f l : ℕ) (parts : Forest) → is_expression form ≡ true →
+    behind_parts (inside env form w) form true parts ≡ inside env form w → behind env (node form w f l parts) ≡ env
 unfolding behind
 behind_node env form w f l parts h e =
     ap (λ z. left (restored form env z) z form w f l parts (kinds_of (inside env form w) form true parts)) e
@@ -92,11 +96,15 @@ mutual
   unfolding behind_parts
 
   pub neutral : (env : Env) (t : Syntax) → OfExpressions t → behind env t ≡ env
-  neutral env (node form w f l parts) h = behind_node env form w f l parts h.0 (neutral_parts (inside env form w) form h.0 true parts h.1)
+  neutral env (node form w f l parts) h =
+      behind_node env form w f l parts h.0 (neutral_parts (inside env form w) form h.0 true parts h.1)
 
-  pub neutral_parts : (env : Env) (form : Form) → is_expression form ≡ true → (front : Bool) (parts : Forest) → AreOperands parts → behind_parts env form front parts ≡ env
+  pub neutral_parts : (env : Env) (form : Form) → is_expression form ≡ true → (front : Bool) (parts : Forest) →
+      AreOperands parts → behind_parts env form front parts ≡ env
   neutral_parts env form e front none h = refl
   neutral_parts env form e front (more p ps) (inl x, hs) =
-      ap (λ z. behind_parts z form false ps) (later_expression form e (behind env p) front p (kind_of env p) ∙ neutral env p x) ∙ neutral_parts env form e false ps hs
+      ap (λ z. behind_parts z form false ps) (later_expression form e (behind env p) front p (kind_of env p) ∙
+      neutral env p x) ∙ neutral_parts env form e false ps hs
   neutral_parts env form e front (more p ps) (inr x, hs) =
-      ap (λ z. behind_parts z form false ps) (later_expression form e (behind env p) front p (kind_of env p) ∙ behind_type env p x) ∙ neutral_parts env form e false ps hs
+      ap (λ z. behind_parts z form false ps) (later_expression form e (behind env p) front p (kind_of env p) ∙
+      behind_type env p x) ∙ neutral_parts env form e false ps hs

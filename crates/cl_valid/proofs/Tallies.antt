@@ -1,11 +1,18 @@
 -- Nodes, calls and sites of typed trees are no more than their measures.
-use Rattle.std.proofs.Common.{◌≡◌, ℕ, suc, ◌+◌, ◌<◌, ◌≤◌, nat_eq, List, [], ◌∷◌, ◌++◌, Option, None, Some, Bool, true, false, if◌then◌else◌, inl, inr, arith}
+use Rattle.std.proofs.Common.{◌≡◌, ℕ, suc, ◌+◌, ◌<◌, ◌≤◌, nat_eq, List, [], ◌∷◌, ◌++◌, Option, None, Some, Bool, true}
+use Rattle.std.proofs.Common.{false, if◌then◌else◌, inl, inr, arith}
 use Rattle.std.proofs.lemmas.Bool.{false≢true}
 use Rattle.std.proofs.lemmas.Bool.Decides.{nat_tests}
 use Rattle.cl_model.specs.Lists.{Each, IsOneOf, AllDiffer}
-use Rattle.cl_model.specs.Tree.{Action, Literal, Variable, Unary, Binary, Builtin, Convert, Ask, Second, Truth, Decided, Set, Change, Load, Store, Expression, Apply, Update, Choose, Call, Expressions, none, more, Statement, Do, Declare, Fill, Block, If, Loop, Switch, Break, Continue, Return, Barrier, Statements, empty, also, Arms, no_arm, arm}
-use Rattle.cl_model.specs.Calls.{CallSite, calls_in, calls_among, calls_in_optional, calls_of, calls_of_all, calls_of_arms}
-use Rattle.cl_model.specs.Valid.{action_nodes, nodes_in, nodes_among, nodes_in_optional, nodes_of, nodes_of_all, nodes_of_arms, action_sites, sites_in, sites_among, sites_in_optional, sites_of, sites_of_all, sites_of_arms}
+use Rattle.cl_model.specs.Tree.{Action, Literal, Variable, Unary, Binary, Builtin, Convert, Ask, Second, Truth}
+use Rattle.cl_model.specs.Tree.{Decided, Set, Change, Load, Store, Expression, Apply, Update, Choose, Call}
+use Rattle.cl_model.specs.Tree.{Expressions, none, more, Statement, Do, Declare, Fill, Block, If, Loop, Switch, Break}
+use Rattle.cl_model.specs.Tree.{Continue, Return, Barrier, Statements, empty, also, Arms, no_arm, arm}
+use Rattle.cl_model.specs.Calls.{CallSite, calls_in, calls_among, calls_in_optional, calls_of, calls_of_all}
+use Rattle.cl_model.specs.Calls.{calls_of_arms}
+use Rattle.cl_model.specs.Valid.{action_nodes, nodes_in, nodes_among, nodes_in_optional, nodes_of, nodes_of_all}
+use Rattle.cl_model.specs.Valid.{nodes_of_arms, action_sites, sites_in, sites_among, sites_in_optional, sites_of}
+use Rattle.cl_model.specs.Valid.{sites_of_all, sites_of_arms}
 use Rattle.cl_valid.proofs.Measure.{action_measure, measure, measures}
 use Rattle.cl_valid.proofs.Weighing.{measure_optional, weigh, weigh_all, weigh_arms}
 use Rattle.cl_valid.proofs.Weights.{nodes_alone, calls_alone, site_alone}
@@ -32,7 +39,8 @@ mutual
   nodes_small : (e : Expression) → nodes_in e ≤ measure nodes_alone e
   nodes_small (Apply a es) = let x = action_small a in let y = nodes_small_all es in omega arith
   nodes_small (Update site t root op of back old i v) = let x = nodes_small i in let y = nodes_small v in omega arith
-  nodes_small (Choose site c a b) = let x = nodes_small c in let y = nodes_small a in let z = nodes_small b in omega arith
+  nodes_small (Choose site c a b) = let x = nodes_small c in let y = nodes_small a in let z =
+      nodes_small b in omega arith
   nodes_small (Call site g roots es) = let y = nodes_small_all es in omega arith
 
   nodes_small_all : (es : Expressions) → nodes_among es ≤ measures nodes_alone es
@@ -49,8 +57,10 @@ mutual
   nodes_light (Declare x v) = let y = nodes_small_optional v in omega arith
   nodes_light (Fill site a vs) = let y = nodes_small_all vs in omega arith
   nodes_light (Block l) = let y = nodes_light_all l in omega arith
-  nodes_light (If site c a b) = let x = nodes_small c in let y = nodes_light_all a in let z = nodes_light_all b in omega arith
-  nodes_light (Loop site t c e b) = let x = nodes_small_optional c in let y = nodes_small_optional e in let z = nodes_light b in omega arith
+  nodes_light (If site c a b) = let x = nodes_small c in let y = nodes_light_all a in let z =
+      nodes_light_all b in omega arith
+  nodes_light (Loop site t c e b) = let x = nodes_small_optional c in let y = nodes_small_optional e in let z =
+      nodes_light b in omega arith
   nodes_light (Switch site v as') = let x = nodes_small v in let y = nodes_light_arms as' in omega arith
   nodes_light (Break site) = omega arith
   nodes_light (Continue site) = omega arith
@@ -80,17 +90,22 @@ module _ (c : ℕ → ℕ) where
   mutual
     calls_small : (e : Expression) → sum_calls c (calls_in e) ≤ measure (calls_alone c) e
     calls_small (Apply a es) = let y = calls_small_all es in omega arith
-    calls_small (Update site t root op of back old i v) = let x = calls_small i in let y = calls_small v in let e = sum_append c (calls_in i) (calls_in v) in omega arith
+    calls_small (Update site t root op of back old i v) = let x = calls_small i in let y = calls_small v in let e =
+        sum_append c (calls_in i) (calls_in v) in omega arith
     calls_small (Choose site t a b) =
         let x = calls_small t in let y = calls_small a in let z = calls_small b in
-        let e = sum_append c (calls_in t) (calls_in a ++ calls_in b) in let f = sum_append c (calls_in a) (calls_in b) in omega arith
-    calls_small (Call site g roots es) = let y = calls_small_all es in let e = sum_append c (calls_among es) (record { site = site; function = g } ∷ []) in omega arith
+        let e = sum_append c (calls_in t) (calls_in a ++ calls_in b) in let f =
+        sum_append c (calls_in a) (calls_in b) in omega arith
+    calls_small (Call site g roots es) = let y = calls_small_all es in let e =
+        sum_append c (calls_among es) (record { site = site; function = g } ∷ []) in omega arith
 
     calls_small_all : (es : Expressions) → sum_calls c (calls_among es) ≤ measures (calls_alone c) es
     calls_small_all none = omega arith
-    calls_small_all (more e es) = let x = calls_small e in let y = calls_small_all es in let f = sum_append c (calls_in e) (calls_among es) in omega arith
+    calls_small_all (more e es) = let x = calls_small e in let y = calls_small_all es in let f =
+        sum_append c (calls_in e) (calls_among es) in omega arith
 
-  calls_small_optional : (o : Option Expression) → sum_calls c (calls_in_optional o) ≤ measure_optional (calls_alone c) o
+  calls_small_optional : (o : Option Expression) →
+      sum_calls c (calls_in_optional o) ≤ measure_optional (calls_alone c) o
   calls_small_optional None = omega arith
   calls_small_optional (Some e) = calls_small e
 
@@ -102,11 +117,14 @@ module _ (c : ℕ → ℕ) where
     calls_light (Block l) = let y = calls_light_all l in omega arith
     calls_light (If site t a b) =
         let x = calls_small t in let y = calls_light_all a in let z = calls_light_all b in
-        let e = sum_append c (calls_in t) (calls_of_all a ++ calls_of_all b) in let f = sum_append c (calls_of_all a) (calls_of_all b) in omega arith
+        let e = sum_append c (calls_in t) (calls_of_all a ++ calls_of_all b) in let f =
+        sum_append c (calls_of_all a) (calls_of_all b) in omega arith
     calls_light (Loop site z t e b) =
         let x = calls_small_optional t in let y = calls_small_optional e in let w = calls_light b in
-        let g = sum_append c (calls_in_optional t) (calls_in_optional e ++ calls_of b) in let f = sum_append c (calls_in_optional e) (calls_of b) in omega arith
-    calls_light (Switch site v as') = let x = calls_small v in let y = calls_light_arms as' in let e = sum_append c (calls_in v) (calls_of_arms as') in omega arith
+        let g = sum_append c (calls_in_optional t) (calls_in_optional e ++ calls_of b) in let f =
+        sum_append c (calls_in_optional e) (calls_of b) in omega arith
+    calls_light (Switch site v as') = let x = calls_small v in let y = calls_light_arms as' in let e =
+        sum_append c (calls_in v) (calls_of_arms as') in omega arith
     calls_light (Break site) = omega arith
     calls_light (Continue site) = omega arith
     calls_light (Return site v) = let y = calls_small_optional v in omega arith
@@ -114,11 +132,13 @@ module _ (c : ℕ → ℕ) where
 
     pub calls_light_all : (l : Statements) → sum_calls c (calls_of_all l) ≤ weigh_all (calls_alone c) l
     calls_light_all empty = omega arith
-    calls_light_all (also s l) = let x = calls_light s in let y = calls_light_all l in let e = sum_append c (calls_of s) (calls_of_all l) in omega arith
+    calls_light_all (also s l) = let x = calls_light s in let y = calls_light_all l in let e =
+        sum_append c (calls_of s) (calls_of_all l) in omega arith
 
     calls_light_arms : (as' : Arms) → sum_calls c (calls_of_arms as') ≤ weigh_arms (calls_alone c) as'
     calls_light_arms no_arm = omega arith
-    calls_light_arms (arm ls o b rest) = let x = calls_light_all b in let y = calls_light_arms rest in let e = sum_append c (calls_of_all b) (calls_of_arms rest) in omega arith
+    calls_light_arms (arm ls o b rest) = let x = calls_light_all b in let y = calls_light_arms rest in let e =
+        sum_append c (calls_of_all b) (calls_of_arms rest) in omega arith
 
 -- ---- sites
 
@@ -150,16 +170,20 @@ module _ (s : ℕ) where
 
   mutual
     sites_small : (e : Expression) → occurs s (sites_in e) ≤ measure (site_alone s) e
-    sites_small (Apply a es) = let x = action_sited a in let y = sites_small_all es in let e = occurs_append s (action_sites a) (sites_among es) in omega arith
-    sites_small (Update site t root op of back old i v) = let x = sites_small i in let y = sites_small v in let e = occurs_append s (sites_in i) (sites_in v) in omega arith
+    sites_small (Apply a es) = let x = action_sited a in let y = sites_small_all es in let e =
+        occurs_append s (action_sites a) (sites_among es) in omega arith
+    sites_small (Update site t root op of back old i v) = let x = sites_small i in let y = sites_small v in let e =
+        occurs_append s (sites_in i) (sites_in v) in omega arith
     sites_small (Choose site t a b) =
         let x = sites_small t in let y = sites_small a in let z = sites_small b in
-        let e = occurs_append s (sites_in t) (sites_in a ++ sites_in b) in let f = occurs_append s (sites_in a) (sites_in b) in omega arith
+        let e = occurs_append s (sites_in t) (sites_in a ++ sites_in b) in let f =
+        occurs_append s (sites_in a) (sites_in b) in omega arith
     sites_small (Call site g roots es) = let y = sites_small_all es in omega arith
 
     sites_small_all : (es : Expressions) → occurs s (sites_among es) ≤ measures (site_alone s) es
     sites_small_all none = omega arith
-    sites_small_all (more e es) = let x = sites_small e in let y = sites_small_all es in let f = occurs_append s (sites_in e) (sites_among es) in omega arith
+    sites_small_all (more e es) = let x = sites_small e in let y = sites_small_all es in let f =
+        occurs_append s (sites_in e) (sites_among es) in omega arith
 
   sites_small_optional : (o : Option Expression) → occurs s (sites_in_optional o) ≤ measure_optional (site_alone s) o
   sites_small_optional None = omega arith
@@ -173,11 +197,14 @@ module _ (s : ℕ) where
     sites_light (Block l) = let y = sites_light_all l in omega arith
     sites_light (If site t a b) =
         let x = sites_small t in let y = sites_light_all a in let z = sites_light_all b in
-        let e = occurs_append s (sites_in t) (sites_of_all a ++ sites_of_all b) in let f = occurs_append s (sites_of_all a) (sites_of_all b) in omega arith
+        let e = occurs_append s (sites_in t) (sites_of_all a ++ sites_of_all b) in let f =
+        occurs_append s (sites_of_all a) (sites_of_all b) in omega arith
     sites_light (Loop site z t e b) =
         let x = sites_small_optional t in let y = sites_small_optional e in let w = sites_light b in
-        let g = occurs_append s (sites_in_optional t) (sites_in_optional e ++ sites_of b) in let f = occurs_append s (sites_in_optional e) (sites_of b) in omega arith
-    sites_light (Switch site v as') = let x = sites_small v in let y = sites_light_arms as' in let e = occurs_append s (sites_in v) (sites_of_arms as') in omega arith
+        let g = occurs_append s (sites_in_optional t) (sites_in_optional e ++ sites_of b) in let f =
+        occurs_append s (sites_in_optional e) (sites_of b) in omega arith
+    sites_light (Switch site v as') = let x = sites_small v in let y = sites_light_arms as' in let e =
+        occurs_append s (sites_in v) (sites_of_arms as') in omega arith
     sites_light (Break site) = omega arith
     sites_light (Continue site) = omega arith
     sites_light (Return site v) = let y = sites_small_optional v in omega arith
@@ -185,11 +212,13 @@ module _ (s : ℕ) where
 
     pub sites_light_all : (l : Statements) → occurs s (sites_of_all l) ≤ weigh_all (site_alone s) l
     sites_light_all empty = omega arith
-    sites_light_all (also t l) = let x = sites_light t in let y = sites_light_all l in let e = occurs_append s (sites_of t) (sites_of_all l) in omega arith
+    sites_light_all (also t l) = let x = sites_light t in let y = sites_light_all l in let e =
+        occurs_append s (sites_of t) (sites_of_all l) in omega arith
 
     sites_light_arms : (as' : Arms) → occurs s (sites_of_arms as') ≤ weigh_arms (site_alone s) as'
     sites_light_arms no_arm = omega arith
-    sites_light_arms (arm ls o b rest) = let x = sites_light_all b in let y = sites_light_arms rest in let e = occurs_append s (sites_of_all b) (sites_of_arms rest) in omega arith
+    sites_light_arms (arm ls o b rest) = let x = sites_light_all b in let y = sites_light_arms rest in let e =
+        occurs_append s (sites_of_all b) (sites_of_arms rest) in omega arith
 
 -- a number that occurs at most once
 occurs_here : (s : ℕ) (xs : List ℕ) → IsOneOf xs s → 1 ≤ occurs s xs
@@ -210,8 +239,10 @@ self_occurs x xs = by (nat_eq x x) (let q : nat_eq x x ≡ true = grind (arith, 
 
 pub all_differ : (xs : List ℕ) → ((s : ℕ) → occurs s xs ≤ 1) → AllDiffer xs
 all_differ [] h = tt
-all_differ (x ∷ xs) h =
-    ((λ k. (let a = h x in let b = self_occurs x xs in let c = occurs_here x xs k in absurd (omega arith))), all_differ xs (λ s. (let a = h s in omega arith)))
+all_differ (x ∷ xs) h = (
+  (λ k. (let a = h x in let b = self_occurs x xs in let c = occurs_here x xs k in absurd (omega arith))),
+  all_differ xs (λ s. (let a = h s in omega arith)),
+)
 
 pub each_place : (n : ℕ) (xs : List ℕ) → ((s : ℕ) → 1 ≤ occurs s xs → s < n) → Each (λ s. s < n) xs
 each_place n [] h = tt

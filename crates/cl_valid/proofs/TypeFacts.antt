@@ -1,5 +1,6 @@
 -- The words of a type that the grammar spells name a base type.
-use Rattle.std.proofs.Common.{◌≡◌, ℕ, List, [], ◌∷◌, ◌++◌, map, Bool, true, false, not, ◌||◌, if◌then◌else◌, refl, ap, sym, ◌∙◌, subst}
+use Rattle.std.proofs.Common.{◌≡◌, ℕ, List, [], ◌∷◌, ◌++◌, map, Bool, true, false, not, ◌||◌, if◌then◌else◌, refl, ap}
+use Rattle.std.proofs.Common.{sym, ◌∙◌, subst}
 use Rattle.std.proofs.lemmas.Bool.{false≢true}
 use Rattle.std.proofs.lemmas.List.Splits.{slice_split-cons_yes, slice_split-cons_no}
 use Rattle.std.specs.List.{list_any, filter, slice_split, onto_first}
@@ -13,7 +14,8 @@ use Rattle.cl_valid.proofs.WordFacts.{is_solid, base_by}
 
 -- ---- the pieces of words with blanks between them
 
-split_solid : (w rest : List ℕ) → list_any is_blank w ≡ false → slice_split is_blank (w ++ (32 ∷ rest)) ≡ w ∷ slice_split is_blank rest
+split_solid : (w rest : List ℕ) → list_any is_blank w ≡ false →
+    slice_split is_blank (w ++ (32 ∷ rest)) ≡ w ∷ slice_split is_blank rest
 split_solid [] rest h = slice_split-cons_yes is_blank 32 rest refl
 split_solid (b ∷ bs) rest h =
     let p = neither (is_blank b) (list_any is_blank bs) h in
@@ -40,9 +42,11 @@ abbrev pub AllSolid : List (List ℕ) → Type 0
 AllSolid ws = Each (λ w. is_solid w ≡ true) ws
 
 solid_parts : (w : List ℕ) → is_solid w ≡ true → (has_bytes w ≡ true) × (list_any is_blank w ≡ false)
-solid_parts w h = let p = both_true (has_bytes w) (not (list_any is_blank w)) h in (p.0, is_not (list_any is_blank w) p.1)
+solid_parts w h = let p =
+    both_true (has_bytes w) (not (list_any is_blank w)) h in (p.0, is_not (list_any is_blank w) p.1)
 
-kept_first : (w : List ℕ) (ws : List (List ℕ)) → has_bytes w ≡ true → filter has_bytes (w ∷ ws) ≡ w ∷ filter has_bytes ws
+kept_first : (w : List ℕ) (ws : List (List ℕ)) → has_bytes w ≡ true →
+    filter has_bytes (w ∷ ws) ≡ w ∷ filter has_bytes ws
 kept_first [] ws h = absurd (false≢true h)
 kept_first (b ∷ bs) ws h = refl
 
@@ -53,7 +57,9 @@ pieces_are (m ∷ []) h =
     ap (filter has_bytes) (split_last m.word p.1) ∙ kept_first m.word [] p.0
 pieces_are (m ∷ (n ∷ ms)) h =
     let p = solid_parts m.word h.0 in
-    ap (filter has_bytes) (split_solid m.word (spelled (n ∷ ms)) p.1) ∙ (kept_first m.word (slice_split is_blank (spelled (n ∷ ms))) p.0 ∙ ap (λ z. m.word ∷ z) (pieces_are (n ∷ ms) h.1))
+    ap (filter has_bytes) (split_solid m.word (spelled (n ∷ ms)) p.1) ∙
+    (kept_first m.word (slice_split is_blank (spelled (n ∷ ms))) p.0 ∙
+    ap (λ z. m.word ∷ z) (pieces_are (n ∷ ms) h.1))
 
 -- ---- without qualifiers
 
@@ -67,7 +73,8 @@ Qualifiers ws = Each (λ w. (is_solid w ≡ true) × (is_qualifier w ≡ true)) 
 abbrev pub Bases : List (List ℕ) → Type 0
 Bases ws = Each (λ w. (is_solid w ≡ true) × (is_qualifier w ≡ false)) ws
 
-filter_step : (w : List ℕ) (ws : List (List ℕ)) (b : Bool) → is_qualifier w ≡ b → unqualified (w ∷ ws) ≡ (if not b then w ∷ unqualified ws else unqualified ws)
+filter_step : (w : List ℕ) (ws : List (List ℕ)) (b : Bool) → is_qualifier w ≡ b →
+    unqualified (w ∷ ws) ≡ (if not b then w ∷ unqualified ws else unqualified ws)
 filter_step w ws b e = ap (λ z. if not z then w ∷ unqualified ws else unqualified ws) e
 
 drop_qualifiers : (ws vs : List (List ℕ)) → Qualifiers ws → unqualified (ws ++ vs) ≡ unqualified vs
@@ -111,12 +118,18 @@ unfolding base_in names_outside
 base_bare w = refl
 
 -- own words of a type: qualifiers, a base and qualifiers
-pub type_spelled : (a d c : List Spot) → Qualifiers (words a) → BaseOk (words d) → Qualifiers (words c) → is_some (base_in (spelled (a ++ (d ++ c)))) ≡ true
+pub type_spelled : (a d c : List Spot) → Qualifiers (words a) → BaseOk (words d) → Qualifiers (words c) →
+    is_some (base_in (spelled (a ++ (d ++ c)))) ≡ true
 type_spelled a d c ha hd hc =
-    let w : words (a ++ (d ++ c)) ≡ words a ++ (words d ++ words c) = words_append a (d ++ c) ∙ ap (λ z. words a ++ z) (words_append d c) in
-    let s : AllSolid (words (a ++ (d ++ c))) = subst AllSolid (sym w) (solid_append (words a) (words d ++ words c) (solid_qualifiers (words a) ha) (solid_append (words d) (words c) (solid_bases (words d) hd.bases) (solid_qualifiers (words c) hc))) in
+    let w : words (a ++ (d ++ c)) ≡ words a ++ (words d ++ words c) =
+    words_append a (d ++ c) ∙ ap (λ z. words a ++ z) (words_append d c) in
+    let s : AllSolid (words (a ++ (d ++ c))) =
+    subst AllSolid (sym w) (solid_append (words a) (words d ++ words c) (solid_qualifiers (words a) ha)
+    (solid_append (words d) (words c) (solid_bases (words d) hd.bases) (solid_qualifiers (words c) hc))) in
     let b : bare (spelled (a ++ (d ++ c))) ≡ words d =
-    ap unqualified (pieces_are (a ++ (d ++ c)) s ∙ w) ∙ (drop_qualifiers (words a) (words d ++ words c) ha ∙ (keep_bases (words d) (words c) hd.bases ∙ (ap (λ z. words d ++ z) (no_qualifiers (words c) hc) ∙ append_nothing (words d)))) in
+    ap unqualified (pieces_are (a ++ (d ++ c)) s ∙ w) ∙ (drop_qualifiers (words a) (words d ++ words c) ha ∙
+    (keep_bases (words d) (words c) hd.bases ∙ (ap (λ z. words d ++ z) (no_qualifiers (words c) hc) ∙
+    append_nothing (words d)))) in
     ap is_some (base_bare (spelled (a ++ (d ++ c))) ∙ ap base_by b) ∙ hd.base
 
 pub qualifiers_append : (a b : List Spot) → Qualifiers (words a) → Qualifiers (words b) → Qualifiers (words (a ++ b))

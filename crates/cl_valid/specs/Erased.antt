@@ -21,4 +21,9 @@ function_of g = record {
 }
 
 abbrev pub program_of : Unit' → tree.Program
-program_of u = record { tables = map table_of u.tables; functions = map function_of u.functions; kernel = u.kernel; sites = u.sites }
+program_of u = record {
+  tables = map table_of u.tables;
+  functions = map function_of u.functions;
+  kernel = u.kernel;
+  sites = u.sites;
+}

@@ -53,31 +53,37 @@ EachFits each.Element = Unit {0}
 EachFits (each.Row n) = n < 2 ^ 63
 EachFits (each.Plane m n) = (n < 2 ^ 63) × (m * n < 2 ^ 63)
 
--- What a name stands for is there in the program; a function without a definition is not called, where `missing` are the
--- names of those that are.
+-- What a name stands for is there in the program; a function without a definition is not called, where `missing` are
+-- the names of those that are.
 abbrev pub MeaningFits : Program → Function → List (List ℕ) → List Signature → List ℕ → Meaning → Type 0
 MeaningFits program f missing gs q (meanings.Scalar t c x) = Holds f x (var_kinds.Scalar t)
-MeaningFits program f missing gs q (meanings.Pointer s e c r fixed x) = Holds f x (var_kinds.Pointer s e r) × RootIs program f r s e
+MeaningFits program f missing gs q (meanings.Pointer s e c r fixed x) =
+    Holds f x (var_kinds.Pointer s e r) × RootIs program f r s e
 MeaningFits program f missing gs q (meanings.Object s e c r) = RootIs program f r s e
 MeaningFits program f missing gs q (meanings.Array s e c r i) = RootIs program f r s e × EachFits i
-MeaningFits program f missing gs q (meanings.Function n) = (g : Signature) → slice_get gs n ≡ Some g → CalledFits program n g
+MeaningFits program f missing gs q (meanings.Function n) =
+    (g : Signature) → slice_get gs n ≡ Some g → CalledFits program n g
 MeaningFits program f missing gs q meanings.Undefined = is_called missing q ≡ false
 MeaningFits program f missing gs q meanings.Kernel = Unit {0}
 
 -- all names that are visible
 abbrev pub Fits : Program → Function → List (List ℕ) → Env → Type 0
-Fits program f missing env = (q : List ℕ) (m : Meaning) → meaning_of env q ≡ Some m → MeaningFits program f missing env.functions q m
+Fits program f missing env =
+    (q : List ℕ) (m : Meaning) → meaning_of env q ≡ Some m → MeaningFits program f missing env.functions q m
 
 -- what a number reaches is what its piece is: a variable, or an element in a space
 abbrev pub ReachFits : Program → Function → IntType → Reach → What → Type 0
 ReachFits program f t reach.Value w = Unit {0}
 ReachFits program f t (reach.Variable c) w = (x : ℕ) × (w ≡ target (variable x)) × Holds f x (var_kinds.Scalar t)
-ReachFits program f t (reach.Object s c) w = (site : ℕ) × (r : Root) × (i : Expression) × (w ≡ target (element site t r i)) × RootIs program f r s t × HasType program f i types.Long
-ReachFits program f t (reach.Element s c r) w = (site : ℕ) × (i : Expression) × (w ≡ target (element site t r i)) × RootIs program f r s t × HasType program f i types.Long
+ReachFits program f t (reach.Object s c) w = (site : ℕ) × (r : Root) × (i : Expression) ×
+    (w ≡ target (element site t r i)) × RootIs program f r s t × HasType program f i types.Long
+ReachFits program f t (reach.Element s c r) w = (site : ℕ) × (i : Expression) × (w ≡ target (element site t r i)) ×
+    RootIs program f r s t × HasType program f i types.Long
 
 -- a pointer that is more than its value is a variable
 abbrev pub PointerFits : Program → Function → Space → IntType → Root → Reach → What → Type 0
-PointerFits program f s e r (reach.Variable c) w = (x : ℕ) × (w ≡ target (variable x)) × Holds f x (var_kinds.Pointer s e r)
+PointerFits program f s e r (reach.Variable c) w =
+    (x : ℕ) × (w ≡ target (variable x)) × Holds f x (var_kinds.Pointer s e r)
 PointerFits program f s e r p w = Unit {0}
 
 -- what a call without a value is made into
@@ -90,7 +96,8 @@ NothingFits program f w = ⊥
 -- the piece of an expression fits its kind
 abbrev pub KindFits : Program → Function → Kind → What → Type 0
 KindFits program f (kinds.Number t p) w = HasType program f (read w) t × ReachFits program f t p w
-KindFits program f (kinds.Pointer s e c r i p) w = HasType program f (read w) types.Long × RootIs program f r s e × PointerFits program f s e r p w × EachFits i
+KindFits program f (kinds.Pointer s e c r i p) w =
+    HasType program f (read w) types.Long × RootIs program f r s e × PointerFits program f s e r p w × EachFits i
 KindFits program f kinds.Nothing w = NothingFits program f w
 
 -- the piece has a kind, and fits it

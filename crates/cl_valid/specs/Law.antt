@@ -25,11 +25,13 @@ use Rattle.cl_valid.specs.Shape.{IsExpression, IsUnit}
 use Rattle.cl_valid.specs.Sound.{SoundTree}
 use Rattle.cl_valid.specs.Fits.{Fits, PieceFits}
 
--- Where all visible names fit a program and no node is at fault, each expression has a kind, and what it stands for has the
--- type and the root of that kind in the program.
+-- Where all visible names fit a program and no node is at fault, each expression has a kind, and what it stands for
+-- has the type and the root of that kind in the program.
 abbrev pub ExpressionsFit : Type 0
-ExpressionsFit = (program : Program) (f : Function) (asked : Asked) (env : Env) (role : Role) (sites : List Place) (t : Syntax) →
-    IsExpression t → SoundTree asked env role t → Fits program f asked.missing env → PieceFits program f (meant env sites t).piece
+ExpressionsFit =
+    (program : Program) (f : Function) (asked : Asked) (env : Env) (role : Role) (sites : List Place) (t : Syntax) →
+    IsExpression t → SoundTree asked env role t → Fits program f asked.missing env →
+    PieceFits program f (meant env sites t).piece
 
 -- ---- units
 
@@ -38,7 +40,8 @@ abbrev pub nodes_of : List Place → Syntax → List Node
 nodes_of places unit = in_order (start_of places unit) roles.Other unit []
 
 abbrev pub asked_of : List Place → List ℕ → Syntax → Asked
-asked_of places kernel unit = record { kernel = kernel; calls = calls_of (nodes_of places unit); missing = missing_of (nodes_of places unit) }
+asked_of places kernel unit =
+    record { kernel = kernel; calls = calls_of (nodes_of places unit); missing = missing_of (nodes_of places unit) }
 
 -- what the limits look at
 abbrev pub sized_of : List Place → List ℕ → Syntax → Sized
@@ -57,7 +60,8 @@ pub record Accepted (places : List Place) (kernel : List ℕ) (unit : Syntax) : 
 
 -- The typed unit for which an accepted unit stands is a valid program.
 abbrev pub UnitsValid : Type 0
-UnitsValid = (places : List Place) (kernel : List ℕ) (unit : Syntax) → IsUnit unit → Accepted places kernel unit → IsValid (program_of (unit_meant places kernel unit))
+UnitsValid = (places : List Place) (kernel : List ℕ) (unit : Syntax) → IsUnit unit → Accepted places kernel unit →
+    IsValid (program_of (unit_meant places kernel unit))
 
 -- ---- what the grammar spells
 
@@ -77,4 +81,5 @@ DefinesFit defines = Each (λ (d : Define). d.value < 2 ^ 63) defines
 
 -- The tokens to which a source expands are such tokens.
 abbrev pub NumbersKept : Type 0
-NumbersKept = (source : List ℕ) (tokens out : List Token) (defines : List Define) → Cuts source tokens → DefinesFit defines → Expands tokens defines out → NumbersRead out
+NumbersKept = (source : List ℕ) (tokens out : List Token) (defines : List Define) → Cuts source tokens →
+    DefinesFit defines → Expands tokens defines out → NumbersRead out

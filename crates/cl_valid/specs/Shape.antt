@@ -1,5 +1,5 @@
--- The shape of trees that the grammar gives: which productions stand in which, and how many parts they have. Own words and
--- numbers of tokens are not looked at.
+-- The shape of trees that the grammar gives: which productions stand in which, and how many parts they have. Own
+-- words and numbers of tokens are not looked at.
 use Rattle.std.specs.Prelude.{◌≡◌, Bool, true, false, Option, None, Some, ◌⊎◌}
 use Rattle.cl_tree.specs.declared.tree.Form.{Form}
 use Rattle.cl_tree.specs.declared.tree.Form.TheVariants as forms
@@ -69,22 +69,34 @@ abbrev mutual
   IsExpression (node forms.VariableNode w f l none) = Unit {0}
   IsExpression (node forms.ParenNode w f l (more a none)) = IsExpression a
   IsExpression (node forms.ExprNode w f l (more a (more b none))) = IsExpression a × IsExpression b
-  IsExpression (node forms.AssignNode w f l (more a (more b none))) = (is_some (setting_in w) ≡ true) × IsExpression a × IsExpression b
-  IsExpression (node forms.CondNode w f l (more c (more a (more b none)))) = IsExpression c × IsExpression a × IsExpression b
+  IsExpression (node forms.AssignNode w f l (more a (more b none))) =
+      (is_some (setting_in w) ≡ true) × IsExpression a × IsExpression b
+  IsExpression (node forms.CondNode w f l (more c (more a (more b none)))) =
+      IsExpression c × IsExpression a × IsExpression b
   IsExpression (node forms.OrNode w f l (more a (more b none))) = IsExpression a × IsExpression b
   IsExpression (node forms.AndNode w f l (more a (more b none))) = IsExpression a × IsExpression b
-  IsExpression (node forms.BorNode w f l (more a (more b none))) = (is_some (binary_in w) ≡ true) × IsExpression a × IsExpression b
-  IsExpression (node forms.BxorNode w f l (more a (more b none))) = (is_some (binary_in w) ≡ true) × IsExpression a × IsExpression b
-  IsExpression (node forms.BandNode w f l (more a (more b none))) = (is_some (binary_in w) ≡ true) × IsExpression a × IsExpression b
-  IsExpression (node forms.EqualNode w f l (more a (more b none))) = (is_some (binary_in w) ≡ true) × IsExpression a × IsExpression b
-  IsExpression (node forms.OrderNode w f l (more a (more b none))) = (is_some (binary_in w) ≡ true) × IsExpression a × IsExpression b
-  IsExpression (node forms.ShiftNode w f l (more a (more b none))) = (is_some (binary_in w) ≡ true) × IsExpression a × IsExpression b
-  IsExpression (node forms.SumNode w f l (more a (more b none))) = (is_some (binary_in w) ≡ true) × IsExpression a × IsExpression b
-  IsExpression (node forms.TermNode w f l (more a (more b none))) = (is_some (binary_in w) ≡ true) × IsExpression a × IsExpression b
+  IsExpression (node forms.BorNode w f l (more a (more b none))) =
+      (is_some (binary_in w) ≡ true) × IsExpression a × IsExpression b
+  IsExpression (node forms.BxorNode w f l (more a (more b none))) =
+      (is_some (binary_in w) ≡ true) × IsExpression a × IsExpression b
+  IsExpression (node forms.BandNode w f l (more a (more b none))) =
+      (is_some (binary_in w) ≡ true) × IsExpression a × IsExpression b
+  IsExpression (node forms.EqualNode w f l (more a (more b none))) =
+      (is_some (binary_in w) ≡ true) × IsExpression a × IsExpression b
+  IsExpression (node forms.OrderNode w f l (more a (more b none))) =
+      (is_some (binary_in w) ≡ true) × IsExpression a × IsExpression b
+  IsExpression (node forms.ShiftNode w f l (more a (more b none))) =
+      (is_some (binary_in w) ≡ true) × IsExpression a × IsExpression b
+  IsExpression (node forms.SumNode w f l (more a (more b none))) =
+      (is_some (binary_in w) ≡ true) × IsExpression a × IsExpression b
+  IsExpression (node forms.TermNode w f l (more a (more b none))) =
+      (is_some (binary_in w) ≡ true) × IsExpression a × IsExpression b
   IsExpression (node forms.CastNode w f l (more t (more a none))) = IsType t × IsExpression a
   IsExpression (node forms.UnaryNode w f l (more a none)) = PrefixOf (prefix_in w) a (IsExpression a)
-  IsExpression (node forms.PostfixNode w f l (more a none)) = (is_some (postfix_in w) ≡ true) × (indexes (postfix_in w) ≡ false) × IsExpression a
-  IsExpression (node forms.PostfixNode w f l (more a (more b none))) = (indexes (postfix_in w) ≡ true) × IsExpression a × IsExpression b
+  IsExpression (node forms.PostfixNode w f l (more a none)) =
+      (is_some (postfix_in w) ≡ true) × (indexes (postfix_in w) ≡ false) × IsExpression a
+  IsExpression (node forms.PostfixNode w f l (more a (more b none))) =
+      (indexes (postfix_in w) ≡ true) × IsExpression a × IsExpression b
   IsExpression (node forms.CallNode w f l parts) = AreExpressions parts
   IsExpression t = ⊥
 
@@ -135,8 +147,10 @@ abbrev mutual
   IsStatement (node forms.WhileNode w f l (more c (more s none))) = IsExpression c × IsStatement s
   IsStatement (node forms.DoNode w f l (more s (more c none))) = IsStatement s × IsExpression c
   IsStatement (node forms.ForNode w f l (more i (more s none))) = (IsDeclaration i ⊎ IsSimple i) × IsStatement s
-  IsStatement (node forms.ForNode w f l (more i (more c (more s none)))) = (IsDeclaration i ⊎ IsSimple i) × IsExpression c × IsStatement s
-  IsStatement (node forms.ForNode w f l (more i (more c (more e (more s none))))) = (IsDeclaration i ⊎ IsSimple i) × IsExpression c × IsExpression e × IsStatement s
+  IsStatement (node forms.ForNode w f l (more i (more c (more s none)))) =
+      (IsDeclaration i ⊎ IsSimple i) × IsExpression c × IsStatement s
+  IsStatement (node forms.ForNode w f l (more i (more c (more e (more s none))))) =
+      (IsDeclaration i ⊎ IsSimple i) × IsExpression c × IsExpression e × IsStatement s
   IsStatement (node forms.SwitchNode w f l (more v ss)) = IsExpression v × AreStatements ss
   IsStatement (node forms.CaseNode w f l (more v (more s none))) = IsExpression v × IsStatement s
   IsStatement (node forms.DefaultNode w f l (more s none)) = IsStatement s
@@ -197,7 +211,8 @@ IsAnnouncement parts = ⊥
 -- heads, and other parts behind them
 abbrev pub BehindHeads : (Forest → Type 0) → Forest → Type 0
 BehindHeads P none = ⊥
-BehindHeads P (more (node form w f l parts) ps) = (IsHead (node form w f l parts) × BehindHeads P ps) ⊎ P (more (node form w f l parts) ps)
+BehindHeads P (more (node form w f l parts) ps) =
+    (IsHead (node form w f l parts) × BehindHeads P ps) ⊎ P (more (node form w f l parts) ps)
 
 abbrev pub IsFunction : Syntax → Type 0
 IsFunction (node forms.FunctionNode w f l parts) = BehindHeads IsDefinition parts

@@ -13,7 +13,8 @@ use Rattle.cl_meaning.specs.Faults.{Asked, Sound, is_called}
 
 -- a call of a function without a definition is listed
 abbrev pub ListedAt : Asked → Env → Form → List ℕ → Type 0
-ListedAt asked env forms.CallNode w = callee_of env (name_in w) ≡ Some undefined → is_called asked.missing (name_in w) ≡ true
+ListedAt asked env forms.CallNode w =
+    callee_of env (name_in w) ≡ Some undefined → is_called asked.missing (name_in w) ≡ true
 ListedAt asked env form w = Unit {0}
 
 abbrev pub Listed : Asked → Node → Type 0
@@ -26,8 +27,11 @@ AllGood asked (n ∷ ns) = (Sound asked n × Listed asked n) × AllGood asked ns
 -- no node of a tree is at fault
 abbrev mutual
   pub SoundTree : Asked → Env → Role → Syntax → Type 0
-  SoundTree asked env role (node form w f l parts) = SoundParts asked (inside env form w) form None parts × (Sound asked (record { visible = env; role = role; tree = node form w f l parts }) × Listed asked (record { visible = env; role = role; tree = node form w f l parts }))
+  SoundTree asked env role (node form w f l parts) = SoundParts asked (inside env form w) form None parts ×
+      (Sound asked (record { visible = env; role = role; tree = node form w f l parts }) ×
+      Listed asked (record { visible = env; role = role; tree = node form w f l parts }))
 
   pub SoundParts : Asked → Env → Form → Before → Forest → Type 0
   SoundParts asked env form b none = Unit {0}
-  SoundParts asked env form b (more p ps) = SoundTree asked env (role_of form b p) p × SoundParts asked (later (behind env p) form (is_front b) p (kind_of env p)) form (Some (last_of p)) ps
+  SoundParts asked env form b (more p ps) = SoundTree asked env (role_of form b p) p ×
+      SoundParts asked (later (behind env p) form (is_front b) p (kind_of env p)) form (Some (last_of p)) ps

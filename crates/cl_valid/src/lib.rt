@@ -23,9 +23,9 @@ pub fn shape_law()
     ensures { UnitsShaped }
 {}
 
-/// A unit of that shape in which no node is at fault, and whose kernel keeps the limits, stands for a valid program: its types
-/// fit, each variable is declared once and named behind its declaration alone, `break` and `continue` stand in
-/// loops and switches, no two operations have one site, calls end, tables have their bytes, and what the kernel
+/// A unit of that shape in which no node is at fault, and whose kernel keeps the limits, stands for a valid program:
+/// its types fit, each variable is declared once and named behind its declaration alone, `break` and `continue` stand
+/// in loops and switches, no two operations have one site, calls end, tables have their bytes, and what the kernel
 /// runs is no larger than a program may be (OpenCL 1.2, chapter 6; C99, sections 6.5 to 6.9).
 pub fn valid_law()
     ensures { UnitsValid }

@@ -1,5 +1,6 @@
 -- What the getters of `clap` read, by the rows.
-use Rattle.std.proofs.Common.{◌≡◌, ◌∙◌, ℕ, List, Option, Some, None, option_map, option_and_then, find, bytes_eq, codes, IfSome, ap, sym, refl}
+use Rattle.std.proofs.Common.{◌≡◌, ◌∙◌, ℕ, List, Option, Some, None, option_map, option_and_then, find, bytes_eq}
+use Rattle.std.proofs.Common.{codes, IfSome, ap, sym, refl}
 use Rattle.std.specs.Str.Parse.{without_leading_plus, digits_value}
 use Rattle.clap.specs.Words.{Row, Text, all_of, matched_of, rows_of}
 use Rattle.clap.specs.Matches.{raw_values}
@@ -23,21 +24,32 @@ if_some P Q step None holds = holds
 if_some P Q step (Some x) holds = step x holds
 
 -- what stands for nothing gives nothing
-none_either : {X Y Z : Type 0} (f : X → Y) (g : X → Option Z) (o : Option X) → option_map f o ≡ None → option_and_then g o ≡ None
+none_either : {X Y Z : Type 0} (f : X → Y) (g : X → Option Z) (o : Option X) → option_map f o ≡ None →
+    option_and_then g o ≡ None
 none_either f g None none = refl
 none_either f g (Some x) none = absurd (let never : ⊥ = cc in never)
 
 -- rows give one number
 pub one_number : (id : Text) (rows : List Row) (a b : Option ℕ) → IsNumberAt id rows a → IsNumberAt id rows b → a ≡ b
 one_number id rows None None x y = refl
-one_number id rows None (Some m) x y = absurd (let never : ⊥ = cc (none_either (λ r. r.values) row_text (find (λ r. bytes_eq r.id id) rows) x, y.1) in never)
-one_number id rows (Some n) None x y = absurd (let never : ⊥ = cc (none_either (λ r. r.values) row_text (find (λ r. bytes_eq r.id id) rows) y, x.1) in never)
+one_number id rows None (Some m) x y =
+    absurd (let never : ⊥ = cc (none_either (λ r. r.values) row_text (find (λ r. bytes_eq r.id id) rows) x, y.1) in
+    never)
+one_number id rows (Some n) None x y =
+    absurd (let never : ⊥ = cc (none_either (λ r. r.values) row_text (find (λ r. bytes_eq r.id id) rows) y, x.1) in
+    never)
 one_number id rows (Some n) (Some m) x y =
     let text : x.0 ≡ y.0 = cc (x.1, y.1) in
     ap Some (sym x.3 ∙ (ap (λ t. digits_value 10 (without_leading_plus t)) text ∙ y.3))
 
 -- files by their parts
-same_files : (s s' l l' : Text) (n n' m m' : Option ℕ) → s ≡ s' → l ≡ l' → n ≡ n' → m ≡ m' → ◌≡◌ {A = Files} (record { source = s; launch = l; lanes = n; turns = m }) (record { source = s'; launch = l'; lanes = n'; turns = m' })
+same_files : (s s' l l' : Text) (n n' m m' : Option ℕ) → s ≡ s' → l ≡ l' → n ≡ n' →
+    m ≡ m' → ◌≡◌ {A = Files} (record { source = s; launch = l; lanes = n; turns = m }) (record {
+      source = s';
+      launch = l';
+      lanes = n';
+      turns = m';
+    })
 same_files s s' l l' n n' m m' a b c d = cc
 
 -- rows name one pair of files

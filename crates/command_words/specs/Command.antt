@@ -1,6 +1,7 @@
 -- The command that `clap` reads.
 use Rattle.std.specs.Prelude.{◌≡◌, ℕ, List, [], Option, Some, None, true, false, pos, codes}
-use Rattle.clap.specs.Words.{App, Row, Rule, Text, all_of, app_of, fault_of, first_of, matched_of, new_app, new_rule, one_of, one_text, subcommand_of, with_rule, with_subcommand}
+use Rattle.clap.specs.Words.{App, Row, Rule, Text, all_of, app_of, fault_of, first_of, matched_of, new_app, new_rule}
+use Rattle.clap.specs.Words.{one_of, one_text, subcommand_of, with_rule, with_subcommand}
 use Rattle.std.specs.Str.Parse.{IsNumeral, without_leading_plus, digits_value}
 use Rattle.clap.specs.declared.parser.matches.Found.{Found}
 use Rattle.command_words.specs.declared.FileWords.{FileWords}
@@ -17,15 +18,18 @@ argument name = record (new_rule name) { required = true; action = Some Set }
 
 -- an option with a number of 64 bits
 abbrev pub option : Text → Rule
-option name = record (new_rule name) { long = Some name; action = Some Set; parser = Some (vp.Unsigned 0 18446744073709551615) }
+option name =
+    record (new_rule name) { long = Some name; action = Some Set; parser = Some (vp.Unsigned 0 18446744073709551615) }
 
 -- a required number of 32 bits
 abbrev pub number : Text → Rule
-number name = record (new_rule name) { required = true; action = Some Set; parser = Some (vp.Signed (pos 0) (pos 4294967295)) }
+number name =
+    record (new_rule name) { required = true; action = Some Set; parser = Some (vp.Signed (pos 0) (pos 4294967295)) }
 
 -- run SOURCE LAUNCH [--lanes N] [--turns N]
 abbrev pub run_app : App
-run_app = with_rule (with_rule (with_rule (with_rule (new_app (codes "run")) (argument (codes "SOURCE"))) (argument (codes "LAUNCH"))) (option (codes "lanes"))) (option (codes "turns"))
+run_app = with_rule (with_rule (with_rule (with_rule (new_app (codes "run")) (argument (codes "SOURCE")))
+    (argument (codes "LAUNCH"))) (option (codes "lanes"))) (option (codes "turns"))
 
 -- plan SOURCE LAUNCH
 abbrev pub plan_app : App
@@ -33,7 +37,8 @@ plan_app = with_rule (with_rule (new_app (codes "plan")) (argument (codes "SOURC
 
 -- code SOURCE LAUNCH [--lanes N]
 abbrev pub code_app : App
-code_app = with_rule (with_rule (with_rule (new_app (codes "code")) (argument (codes "SOURCE"))) (argument (codes "LAUNCH"))) (option (codes "lanes"))
+code_app = with_rule (with_rule (with_rule (new_app (codes "code")) (argument (codes "SOURCE")))
+    (argument (codes "LAUNCH"))) (option (codes "lanes"))
 
 -- sample NUMBER
 abbrev pub sample_app : App
@@ -53,7 +58,8 @@ bare_app = record (new_app (codes "wgcc")) {
 
 -- the whole command
 abbrev pub wgcc_app : App
-wgcc_app = with_subcommand (with_subcommand (with_subcommand (with_subcommand bare_app run_app.top) plan_app.top) code_app.top) sample_app.top
+wgcc_app = with_subcommand (with_subcommand (with_subcommand (with_subcommand bare_app run_app.top) plan_app.top)
+    code_app.top) sample_app.top
 
 -- a command is of that definition
 pub record IsCommandOf (app : App) (command : Command) : Type 0 where
@@ -67,12 +73,15 @@ TakesWords words = fault_of wgcc_app words ≡ []
 -- the number at an option, by what was found: none where it is not given, and else the one whose numeral its text is
 abbrev pub IsNumberFound : Text → Found → Option ℕ → Type 0
 IsNumberFound id found None = matched_of found id ≡ None
-IsNumberFound id found (Some n) = (text : Text) × (one_text found id ≡ Some text) × IsNumeral 10 (without_leading_plus text) × (digits_value 10 (without_leading_plus text) ≡ n)
+IsNumberFound id found (Some n) = (text : Text) × (one_text found id ≡ Some text) ×
+    IsNumeral 10 (without_leading_plus text) × (digits_value 10 (without_leading_plus text) ≡ n)
 
--- the number at an option, by the rows of a command: none where it is not given, and else the one whose numeral its text is
+-- the number at an option, by the rows of a command: none where it is not given, and else the one whose numeral its
+-- text is
 abbrev pub IsNumberAt : Text → List Row → Option ℕ → Type 0
 IsNumberAt id rows None = all_of id rows ≡ None
-IsNumberAt id rows (Some n) = (text : Text) × (one_of id rows ≡ Some text) × IsNumeral 10 (without_leading_plus text) × (digits_value 10 (without_leading_plus text) ≡ n)
+IsNumberAt id rows (Some n) = (text : Text) × (one_of id rows ≡ Some text) ×
+    IsNumeral 10 (without_leading_plus text) × (digits_value 10 (without_leading_plus text) ≡ n)
 
 -- the names of the source and of the launch file, and the numbers of the options that are given
 pub record Files : Type 0 where

@@ -1,5 +1,7 @@
 -- The homes of a plan: one for each cell, each below the counts, and each slot of one cell.
-use Rattle.std.proofs.Common.{◌≡◌, ℕ, zero, suc, ◌+◌, ◌<◌, ◌≤◌, ◌⊎◌, inl, inr, ⊎_elim, List, [], ◌∷◌, ◌++◌, length, map, filter, sum, max, Some, None, slice_get, refl, ap, sym, ◌∙◌, arith, cond, length-append, unwrap_or, is_some, zero-add}
+use Rattle.std.proofs.Common.{◌≡◌, ℕ, zero, suc, ◌+◌, ◌<◌, ◌≤◌, ◌⊎◌, inl, inr, ⊎_elim, List, [], ◌∷◌, ◌++◌, length}
+use Rattle.std.proofs.Common.{map, filter, sum, max, Some, None, slice_get, refl, ap, sym, ◌∙◌, arith, cond}
+use Rattle.std.proofs.Common.{length-append, unwrap_or, is_some, zero-add}
 use Rattle.std.specs.Prelude.{Bool as Test, true, false}
 use Rattle.std.proofs.lemmas.Bool.{true≢false}
 use Rattle.std.proofs.lemmas.List.Sums.{sum_by-cons}
@@ -15,7 +17,8 @@ use Rattle.ctx_plan.specs.Points.{entry}
 use Rattle.ctx_plan.specs.Sharing.{Shares, shares_of}
 use Rattle.kir.specs.Keeps.{pieces_of}
 use Rattle.ctx_plan.specs.Naming.{named_from}
-use Rattle.ctx_plan.specs.Made.{kept_of, columns_for, columns_of_kind, columns_onto, Placed, with_kept, with_made, with_home, homes_onto, bytes_among, plan_of}
+use Rattle.ctx_plan.specs.Made.{kept_of, columns_for, columns_of_kind, columns_onto, Placed, with_kept, with_made}
+use Rattle.ctx_plan.specs.Made.{with_home, homes_onto, bytes_among, plan_of}
 use Rattle.ctx_plan.specs.Planned.{IsCounted}
 
 -- ---- lists with one item more
@@ -24,7 +27,8 @@ get_last : {A : Type 0} (xs : List A) (h : A) → slice_get (xs ++ h ∷ []) (le
 get_last [] h = refl
 get_last (x ∷ xs) h = get_last xs h
 
-get_before : {A : Type 0} (xs : List A) (h x : A) (c : ℕ) → slice_get xs c ≡ Some x → slice_get (xs ++ h ∷ []) c ≡ Some x
+get_before : {A : Type 0} (xs : List A) (h x : A) (c : ℕ) → slice_get xs c ≡ Some x →
+    slice_get (xs ++ h ∷ []) c ≡ Some x
 get_before [] h x c e = absurd (none_some e)
   where
     none_some : {A : Type 0} {x : A} → None ≡ Some x → ⊥
@@ -32,11 +36,13 @@ get_before [] h x c e = absurd (none_some e)
 get_before (y ∷ xs) h x zero e = e
 get_before (y ∷ xs) h x (suc c) e = get_before xs h x c e
 
-get_either : {A : Type 0} (xs : List A) (h x : A) (c : ℕ) → slice_get (xs ++ h ∷ []) c ≡ Some x → (slice_get xs c ≡ Some x) ⊎ ((c ≡ length xs) × (h ≡ x))
+get_either : {A : Type 0} (xs : List A) (h x : A) (c : ℕ) → slice_get (xs ++ h ∷ []) c ≡ Some x →
+    (slice_get xs c ≡ Some x) ⊎ ((c ≡ length xs) × (h ≡ x))
 get_either [] h x zero e = inr (refl, ap (λ o. unwrap_or o h) e)
 get_either [] h x (suc c) e = inl e
 get_either (y ∷ xs) h x zero e = inl e
-get_either (y ∷ xs) h x (suc c) e = ⊎_elim (λ f. inl f) (λ f. inr (let q = f.0 in omega (arith, q), f.1)) (get_either xs h x c e)
+get_either (y ∷ xs) h x (suc c) e =
+    ⊎_elim (λ f. inl f) (λ f. inr (let q = f.0 in omega (arith, q), f.1)) (get_either xs h x c e)
 
 -- ---- homes
 
@@ -63,13 +69,17 @@ record Counted (p : Placed) : Type 0 where
   each : (s : ℕ) → s < p.slots → (c : ℕ) × (slice_get p.list c ≡ Some (home.Once s))
 
 -- one home more that is no slot
-with_other : (p : Placed) (h : Home) (columns' : ℕ) → is_once h ≡ false → p.columns ≤ columns' → ((k : ℕ) → h ≡ home.Column k → k < columns') → Counted p → Counted (record { list = p.list ++ h ∷ []; columns = columns'; slots = p.slots })
+with_other : (p : Placed) (h : Home) (columns' : ℕ) → is_once h ≡ false → p.columns ≤ columns' →
+    ((k : ℕ) → h ≡ home.Column k → k < columns') → Counted p →
+    Counted (record { list = p.list ++ h ∷ []; columns = columns'; slots = p.slots })
 with_other p h columns' other le fits q = record {
-  columns = λ c k e. ⊎_elim (λ f. let lt = q.columns c k f in omega (arith, lt, le)) (λ f. fits k f.1) (get_either p.list h (home.Column k) c e);
+  columns = λ c k e. ⊎_elim (λ f. let lt = q.columns c k f in
+      omega (arith, lt, le)) (λ f. fits k f.1) (get_either p.list h (home.Column k) c e);
   slots = λ c s e. ⊎_elim (λ f. q.slots c s f) (λ f. not_once s f.1) (get_either p.list h (home.Once s) c e);
   own =
       λ c d s e g.
-      ⊎_elim (λ f. ⊎_elim (λ k. q.own c d s f k) (λ k. not_once s k.1) (get_either p.list h (home.Once s) d g)) (λ f. not_once s f.1) (get_either p.list h (home.Once s) c e);
+      ⊎_elim (λ f. ⊎_elim (λ k. q.own c d s f k) (λ k. not_once s k.1) (get_either p.list h (home.Once s) d g))
+      (λ f. not_once s f.1) (get_either p.list h (home.Once s) c e);
   each = λ s lt. let w = q.each s lt in (w.0, get_before p.list h (home.Once s) w.0 w.1);
 }
   where
@@ -77,19 +87,33 @@ with_other p h columns' other le fits q = record {
     not_once s e = absurd (true≢false (sym (ap is_once e) ∙ other))
 
 -- one slot more
-with_slot : (p : Placed) → Counted p → Counted (record { list = p.list ++ home.Once p.slots ∷ []; columns = p.columns; slots = p.slots + 1 })
+with_slot : (p : Placed) → Counted p → Counted (record {
+  list = p.list ++ home.Once p.slots ∷ [];
+  columns = p.columns;
+  slots = p.slots + 1;
+})
 with_slot p q = record {
-  columns = λ c k e. ⊎_elim (λ f. q.columns c k f) (λ f. absurd (true≢false (ap is_once f.1))) (get_either p.list (home.Once p.slots) (home.Column k) c e);
-  slots = λ c s e. ⊎_elim (λ f. let lt = q.slots c s f in omega (arith, lt)) (λ f. let n = ap number_in f.1 in omega (arith, n)) (get_either p.list (home.Once p.slots) (home.Once s) c e);
+  columns = λ c k e. ⊎_elim (λ f. q.columns c k f) (λ f. absurd (true≢false (ap is_once f.1)))
+      (get_either p.list (home.Once p.slots) (home.Column k) c e);
+  slots = λ c s e. ⊎_elim (λ f. let lt = q.slots c s f in omega (arith, lt)) (λ f. let n = ap number_in f.1 in
+      omega (arith, n)) (get_either p.list (home.Once p.slots) (home.Once s) c e);
   own =
       λ c d s e g.
-      ⊎_elim (λ f. ⊎_elim (λ k. q.own c d s f k) (λ k. let lt = q.slots c s f in let n = ap number_in k.1 in absurd (omega (arith, lt, n))) (get_either p.list (home.Once p.slots) (home.Once s) d g))
-      (λ f. ⊎_elim (λ k. let lt = q.slots d s k in let n = ap number_in f.1 in absurd (omega (arith, lt, n))) (λ k. f.0 ∙ sym k.0) (get_either p.list (home.Once p.slots) (home.Once s) d g))
+      ⊎_elim (λ f. ⊎_elim (λ k. q.own c d s f k) (λ k. let lt = q.slots c s f in let n = ap number_in k.1 in
+      absurd (omega (arith, lt, n))) (get_either p.list (home.Once p.slots) (home.Once s) d g))
+      (λ f. ⊎_elim (λ k. let lt = q.slots d s k in let n = ap number_in f.1 in
+      absurd (omega (arith, lt, n))) (λ k. f.0 ∙
+      sym k.0) (get_either p.list (home.Once p.slots) (home.Once s) d g))
       (get_either p.list (home.Once p.slots) (home.Once s) c e);
   each =
       λ s lt.
-      ⊎_elim (λ (small : s < p.slots). let w = q.each s small in (w.0, get_before p.list (home.Once p.slots) (home.Once s) w.0 w.1))
-      (λ (same : s ≡ p.slots). (length p.list, get_last p.list (home.Once p.slots) ∙ ap (λ n. Some (home.Once n)) (sym same))) (below_or_at s p.slots lt);
+      ⊎_elim (λ (small : s < p.slots). let w = q.each s small in
+      (w.0, get_before p.list (home.Once p.slots) (home.Once s) w.0 w.1))
+      (λ (same : s ≡ p.slots). (
+        length p.list,
+        get_last p.list (home.Once p.slots) ∙
+            ap (λ n. Some (home.Once n)) (sym same),
+      )) (below_or_at s p.slots lt);
 }
   where
     below_or_at : (a b : ℕ) → a < b + 1 → (a < b) ⊎ (a ≡ b)
@@ -97,16 +121,23 @@ with_slot p q = record {
 
 module _ (s : Shares) (varying : List (List Test)) where
   kept_counted : (k : Kept) (p : Placed) → columns_for k ≤ p.columns → Counted p → Counted (with_kept k p)
-  kept_counted kept.Nothing p le q = with_other p home.Register p.columns refl (omega arith) (λ k e. absurd (true≢false (sym (ap is_column e)))) q
+  kept_counted kept.Nothing p le q =
+      with_other p home.Register p.columns refl (omega arith) (λ k e. absurd (true≢false (sym (ap is_column e)))) q
   kept_counted kept.One p le q = with_slot p q
-  kept_counted (kept.Each column) p le q = with_other p (home.Column column) p.columns refl (omega arith) (λ k e. let n = ap number_in e in omega (arith, n, le)) q
+  kept_counted (kept.Each column) p le q =
+      with_other p (home.Column column) p.columns refl (omega arith) (λ k e. let n = ap number_in e in
+      omega (arith, n, le)) q
 
   made_counted : (keep : Test) (p : Placed) → Counted p → Counted (with_made keep p)
-  made_counted true p q = with_other p (home.Column p.columns) (p.columns + 1) refl (omega arith) (λ k e. let n = ap number_in e in omega (arith, n)) q
-  made_counted false p q = with_other p home.Register p.columns refl (omega arith) (λ k e. absurd (true≢false (sym (ap is_column e)))) q
+  made_counted true p q = with_other p (home.Column p.columns) (p.columns + 1) refl (omega arith)
+      (λ k e. let n = ap number_in e in omega (arith, n)) q
+  made_counted false p q =
+      with_other p home.Register p.columns refl (omega arith) (λ k e. absurd (true≢false (sym (ap is_column e)))) q
 
-  home_counted : (keep : Test) (kind : CellKind) (p : Placed) → columns_of_kind s varying kind ≤ p.columns → Counted p → Counted (with_home s varying keep kind p)
-  home_counted keep (OfVariable v path name) p le q = kept_counted (kept_of s varying v.calls v.function v.number) p le q
+  home_counted : (keep : Test) (kind : CellKind) (p : Placed) → columns_of_kind s varying kind ≤ p.columns →
+      Counted p → Counted (with_home s varying keep kind p)
+  home_counted keep (OfVariable v path name) p le q =
+      kept_counted (kept_of s varying v.calls v.function v.number) p le q
   home_counted keep OfFlag p le q = made_counted keep p q
   home_counted keep OfValue p le q = made_counted keep p q
 
@@ -133,10 +164,13 @@ module _ (s : Shares) (varying : List (List Test)) where
   fit_more [] m n le f = tt
   fit_more (c ∷ cells) m n le f = (let g = f.0 in omega (arith, le, g), fit_more cells m n le f.1)
 
-  homes_counted : (across : List Test) (n : ℕ) (cells : List Cell) (p : Placed) → AllFit cells p.columns → Counted p → Counted (homes_onto s varying across n cells p)
+  homes_counted : (across : List Test) (n : ℕ) (cells : List Cell) (p : Placed) → AllFit cells p.columns → Counted p →
+      Counted (homes_onto s varying across n cells p)
   homes_counted across n [] p f q = q
   homes_counted across n (c ∷ cells) p f q =
-      homes_counted across (n + 1) cells (with_home s varying (entry across n) c.kind p) (fit_more cells p.columns (with_home s varying (entry across n) c.kind p).columns (home_more (entry across n) c.kind p) f.1)
+      homes_counted across (n + 1) cells (with_home s varying (entry across n) c.kind p)
+      (fit_more cells p.columns (with_home s varying (entry across n) c.kind p).columns
+      (home_more (entry across n) c.kind p) f.1)
       (home_counted (entry across n) c.kind p f.0 q)
 
   onto_more : (cells : List Cell) (n : ℕ) → n ≤ columns_onto s varying cells n
@@ -145,7 +179,10 @@ module _ (s : Shares) (varying : List (List Test)) where
 
   onto_fits : (cells : List Cell) (n : ℕ) → AllFit cells (columns_onto s varying cells n)
   onto_fits [] n = tt
-  onto_fits (c ∷ cells) n = (let m = onto_more cells (max n (columns_of_kind s varying c.kind)) in omega (arith, m), onto_fits cells (max n (columns_of_kind s varying c.kind)))
+  onto_fits (c ∷ cells) n = (
+    let m = onto_more cells (max n (columns_of_kind s varying c.kind)) in omega (arith, m),
+    onto_fits cells (max n (columns_of_kind s varying c.kind)),
+  )
 
   kept_one : (k : Kept) (p : Placed) → length (with_kept k p).list ≡ length p.list + 1
   kept_one kept.Nothing p = length-append p.list (home.Register ∷ [])
@@ -156,12 +193,14 @@ module _ (s : Shares) (varying : List (List Test)) where
   made_one true p = length-append p.list (home.Column p.columns ∷ [])
   made_one false p = length-append p.list (home.Register ∷ [])
 
-  home_one : (keep : Test) (kind : CellKind) (p : Placed) → length (with_home s varying keep kind p).list ≡ length p.list + 1
+  home_one : (keep : Test) (kind : CellKind) (p : Placed) →
+      length (with_home s varying keep kind p).list ≡ length p.list + 1
   home_one keep (OfVariable v path name) p = kept_one (kept_of s varying v.calls v.function v.number) p
   home_one keep OfFlag p = made_one keep p
   home_one keep OfValue p = made_one keep p
 
-  homes_each : (across : List Test) (n : ℕ) (cells : List Cell) (p : Placed) → length (homes_onto s varying across n cells p).list ≡ length p.list + length cells
+  homes_each : (across : List Test) (n : ℕ) (cells : List Cell) (p : Placed) →
+      length (homes_onto s varying across n cells p).list ≡ length p.list + length cells
   homes_each across n [] p = omega arith
   homes_each across n (c ∷ cells) p =
       let one = home_one (entry across n) c.kind p in
@@ -169,16 +208,21 @@ module _ (s : Shares) (varying : List (List Test)) where
       omega (arith, one, rest)
 
 -- the bytes of the private arrays
-bytes_first : (a : Array) (rest : List Array) (n : ℕ) (b : Test) → n ≡ sum (map array_bytes rest) → cond b (array_bytes a) 0 + n ≡ sum (map array_bytes (cond b (a ∷ rest) rest))
-bytes_first a rest n true e = ap (λ m. array_bytes a + m) e ∙ sym (sum_by-cons (λ x. x) (array_bytes a) (map array_bytes rest))
+bytes_first : (a : Array) (rest : List Array) (n : ℕ) (b : Test) → n ≡ sum (map array_bytes rest) →
+    cond b (array_bytes a) 0 + n ≡ sum (map array_bytes (cond b (a ∷ rest) rest))
+bytes_first a rest n true e =
+    ap (λ m. array_bytes a + m) e ∙ sym (sum_by-cons (λ x. x) (array_bytes a) (map array_bytes rest))
 bytes_first a rest n false e = zero-add n ∙ e
 
-bytes_sum : (arrays : List Array) → bytes_among arrays ≡ sum (map array_bytes (filter (λ (a : Array). is_private a.space) arrays))
+bytes_sum : (arrays : List Array) →
+    bytes_among arrays ≡ sum (map array_bytes (filter (λ (a : Array). is_private a.space) arrays))
 bytes_sum [] = refl
-bytes_sum (a ∷ arrays) = bytes_first a (filter (λ (x : Array). is_private x.space) arrays) (bytes_among arrays) (is_private a.space) (bytes_sum arrays)
+bytes_sum (a ∷ arrays) = bytes_first a (filter (λ (x : Array). is_private x.space) arrays) (bytes_among arrays)
+    (is_private a.space) (bytes_sum arrays)
 
 -- so it is of the plan of a kernel
-pub plan_counted : (program : Program) (kernel : Kernel) (varying : List (List Test)) → IsCounted kernel (plan_of program kernel varying)
+pub plan_counted : (program : Program) (kernel : Kernel) (varying : List (List Test)) →
+    IsCounted kernel (plan_of program kernel varying)
 plan_counted program kernel varying =
     let s = shares_of program varying in
     let across = named_from 0 (length kernel.cells) (pieces_of kernel.body) in

@@ -1,5 +1,6 @@
 -- The names and cuts of lines, line by line.
-use Rattle.std.proofs.Common.{◌≡◌, ℕ, ◌+◌, ◌<◌, List, [], ◌∷◌, ◌++◌, append_assoc, length, get_or, drop, Global, refl, ap, sym, ◌∙◌}
+use Rattle.std.proofs.Common.{◌≡◌, ℕ, ◌+◌, ◌<◌, List, [], ◌∷◌, ◌++◌, append_assoc, length, get_or, drop, Global, refl}
+use Rattle.std.proofs.Common.{ap, sym, ◌∙◌}
 use Rattle.std.specs.Prelude.{◌||◌}
 use Rattle.std.specs.Prelude.{Bool as Test, true, false}
 use Rattle.std.specs.declared.vec.Vec.{Vec}
@@ -24,7 +25,9 @@ cut_split : (h : Test) (xs : List Piece) → cut_before h xs ≡ cut_before h []
 cut_split true xs = refl
 cut_split false xs = refl
 
-if_text : (h : Test) (t c o rest : List Piece) → cut_before h (t ++ cut_before h (c ++ cut_before h (o ++ cut_before h rest))) ≡ cut_before h (t ++ cut_before h (c ++ cut_before h (o ++ cut_before h []))) ++ rest
+if_text : (h : Test) (t c o rest : List Piece) →
+    cut_before h (t ++ cut_before h (c ++ cut_before h (o ++ cut_before h rest))) ≡
+    cut_before h (t ++ cut_before h (c ++ cut_before h (o ++ cut_before h []))) ++ rest
 if_text h t c o rest =
     sym (cut_push h (t ++ cut_before h (c ++ cut_before h (o ++ cut_before h []))) rest
     ∙ ap (cut_before h) (append_assoc t (cut_before h (c ++ cut_before h (o ++ cut_before h []))) rest
@@ -33,7 +36,8 @@ if_text h t c o rest =
     ∙ ap (λ x. c ++ x) (cut_push h (o ++ cut_before h []) rest
     ∙ ap (cut_before h) (append_assoc o (cut_before h []) rest ∙ ap (λ x. o ++ x) (cut_push h [] rest)))))))
 
-loop_text : (h : Test) (t a b rest : List Piece) → cut_before h (t ++ (a ++ cut_before h (b ++ cut_before h rest))) ≡ cut_before h (t ++ (a ++ cut_before h (b ++ cut_before h []))) ++ rest
+loop_text : (h : Test) (t a b rest : List Piece) → cut_before h (t ++ (a ++ cut_before h (b ++ cut_before h rest))) ≡
+    cut_before h (t ++ (a ++ cut_before h (b ++ cut_before h []))) ++ rest
 loop_text h t a b rest =
     sym (cut_push h (t ++ (a ++ cut_before h (b ++ cut_before h []))) rest
     ∙ ap (cut_before h) (append_assoc t (a ++ cut_before h (b ++ cut_before h [])) rest
@@ -42,32 +46,47 @@ loop_text h t a b rest =
     ∙ ap (cut_before h) (append_assoc b (cut_before h []) rest ∙ ap (λ x. b ++ x) (cut_push h [] rest))))))
 
 -- the text of a line before that of others
-pub pieces_first : (l : Line) (rest : Lines) → pieces_of (line_before l rest) ≡ pieces_of (line_before l NoLine) ++ pieces_of rest
+pub pieces_first : (l : Line) (rest : Lines) → pieces_of (line_before l rest) ≡ pieces_of (line_before l NoLine) ++
+    pieces_of rest
 pieces_first (line.Set to w) rest = sym (append_assoc (named_by_work (work_of w)) (Names to ∷ []) (pieces_of rest))
-pieces_first (line.Load site to element root index) rest = sym (append_assoc (named_by index) (Names to ∷ []) (pieces_of rest))
+pieces_first (line.Load site to element root index) rest =
+    sym (append_assoc (named_by index) (Names to ∷ []) (pieces_of rest))
 pieces_first (line.Store site element root index from) rest =
-    sym (append_assoc (named_by index) (named_by from ++ []) (pieces_of rest) ∙ ap (λ x. named_by index ++ x) (append_assoc (named_by from) [] (pieces_of rest)))
+    sym (append_assoc (named_by index) (named_by from ++ []) (pieces_of rest) ∙
+    ap (λ x. named_by index ++ x) (append_assoc (named_by from) [] (pieces_of rest)))
 pieces_first (line.Clear array) rest = refl
 pieces_first (line.If' site test _ chosen _ other) rest =
-    if_text (holds_barrier (lines_in chosen) || holds_barrier (lines_in other)) (named_by test) (pieces_of (lines_in chosen)) (pieces_of (lines_in other)) (pieces_of rest)
+    if_text (holds_barrier (lines_in chosen) || holds_barrier (lines_in other)) (named_by test)
+    (pieces_of (lines_in chosen)) (pieces_of (lines_in other)) (pieces_of rest)
 pieces_first (line.Loop' site first _ test answer _ body) rest =
-    loop_text (holds_barrier (lines_in test) || holds_barrier (lines_in body)) (pieces_of (lines_in test)) (named_by answer) (pieces_of (lines_in body)) (pieces_of rest)
+    loop_text (holds_barrier (lines_in test) || holds_barrier (lines_in body)) (pieces_of (lines_in test))
+    (named_by answer) (pieces_of (lines_in body)) (pieces_of rest)
 pieces_first (line.Barrier site) rest = refl
 
-pub lines_step : (old mid new : Naming) (ls : List Line) (i : ℕ) (l : Line) → i < length ls → l ≡ get_or ls i l → LedThrough old mid (pieces_of (lines_of ls)) (pieces_of (lines_of (drop i ls))) → Leads mid new (pieces_of (line_before l NoLine))
+pub lines_step : (old mid new : Naming) (ls : List Line) (i : ℕ) (l : Line) → i < length ls → l ≡ get_or ls i l →
+    LedThrough old mid (pieces_of (lines_of ls)) (pieces_of (lines_of (drop i ls))) →
+    Leads mid new (pieces_of (line_before l NoLine))
     → LedThrough old new (pieces_of (lines_of ls)) (pieces_of (lines_of (drop (i + 1) ls)))
 lines_step old mid new ls i l lt is t led =
-    through_step old mid new (pieces_of (lines_of ls)) (pieces_of (lines_of (drop i ls))) (pieces_of (line_before l NoLine)) (pieces_of (lines_of (drop (i + 1) ls))) t
+    through_step old mid new (pieces_of (lines_of ls)) (pieces_of (lines_of (drop i ls)))
+    (pieces_of (line_before l NoLine)) (pieces_of (lines_of (drop (i + 1) ls))) t
     (ap (λ xs. pieces_of (lines_of xs)) (first_left ls i l lt is) ∙ pieces_first l (lines_of (drop (i + 1) ls))) led
 
-pub atoms_step : (old mid new : Naming) (atoms : List Atom) (i : ℕ) (a : Atom) → i < length atoms → a ≡ get_or atoms i a → LedThrough old mid (named_by_all atoms) (named_by_all (drop i atoms)) → Leads mid new (named_by a)
+pub atoms_step : (old mid new : Naming) (atoms : List Atom) (i : ℕ) (a : Atom) → i < length atoms →
+    a ≡ get_or atoms i a → LedThrough old mid (named_by_all atoms) (named_by_all (drop i atoms)) →
+    Leads mid new (named_by a)
     → LedThrough old new (named_by_all atoms) (named_by_all (drop (i + 1) atoms))
 atoms_step old mid new atoms i a lt is t led =
-    through_step old mid new (named_by_all atoms) (named_by_all (drop i atoms)) (named_by a) (named_by_all (drop (i + 1) atoms)) t (ap named_by_all (first_left atoms i a lt is)) led
+    through_step old mid new (named_by_all atoms) (named_by_all (drop i atoms)) (named_by a)
+    (named_by_all (drop (i + 1) atoms)) t (ap named_by_all (first_left atoms i a lt is)) led
 
 -- an if and a loop
-pub if_led : (n0 n1 n2 n3 n4 n5 n6 n7 : Naming) (l : Line) (site : ℕ) (test : Atom) (chosen other : Vec Line Global) (h : Test) → l ≡ line.If site test chosen other → h ≡ (holds_barrier (lines_of chosen.items) || holds_barrier (lines_of other.items))
-    → Leads n0 n1 (cut_before h []) → Leads n1 n2 (named_by test) → Leads n2 n3 (cut_before h []) → Leads n3 n4 (pieces_of (lines_of chosen.items)) → Leads n4 n5 (cut_before h []) → Leads n5 n6 (pieces_of (lines_of other.items)) → Leads n6 n7 (cut_before h [])
+pub if_led : (n0 n1 n2 n3 n4 n5 n6 n7 : Naming) (l : Line) (site : ℕ) (test : Atom) (chosen other : Vec Line Global)
+    (h : Test) → l ≡ line.If site test chosen other →
+    h ≡ (holds_barrier (lines_of chosen.items) || holds_barrier (lines_of other.items))
+    → Leads n0 n1 (cut_before h []) → Leads n1 n2 (named_by test) → Leads n2 n3 (cut_before h []) →
+    Leads n3 n4 (pieces_of (lines_of chosen.items)) → Leads n4 n5 (cut_before h []) →
+    Leads n5 n6 (pieces_of (lines_of other.items)) → Leads n6 n7 (cut_before h [])
     → Leads n0 n7 (pieces_of (line_before l NoLine))
 if_led n0 n1 n2 n3 n4 n5 n6 n7 l site test chosen other h e is a b c d f g k =
     let t = named_by test in
@@ -76,11 +95,13 @@ if_led n0 n1 n2 n3 n4 n5 n6 n7 l site test chosen other h e is a b c d f g k =
     let z = cut_before h [] in
     let all : List Piece = z ++ (t ++ (z ++ (C ++ (z ++ (O ++ z))))) in
     let text : pieces_of (line_before l NoLine) ≡ cut_before h (t ++ cut_before h (C ++ cut_before h (O ++ z))) =
-    ap (λ x. pieces_of (line_before x NoLine)) e ∙ (ap pieces_of (if_listed site test chosen other NoLine) ∙ ap (λ q. cut_before q (t ++ cut_before q (C ++ cut_before q (O ++ cut_before q [])))) (sym is)) in
+    ap (λ x. pieces_of (line_before x NoLine)) e ∙ (ap pieces_of (if_listed site test chosen other NoLine) ∙
+    ap (λ q. cut_before q (t ++ cut_before q (C ++ cut_before q (O ++ cut_before q [])))) (sym is)) in
     leads_as n0 n7 all (pieces_of (line_before l NoLine))
     (sym (text
     ∙ (cut_split h (t ++ cut_before h (C ++ cut_before h (O ++ z)))
-    ∙ ap (λ x. z ++ (t ++ x)) (cut_split h (C ++ cut_before h (O ++ z)) ∙ ap (λ x. z ++ (C ++ x)) (cut_split h (O ++ z))))))
+    ∙ ap (λ x. z ++ (t ++ x)) (cut_split h (C ++ cut_before h (O ++ z)) ∙
+    ap (λ x. z ++ (C ++ x)) (cut_split h (O ++ z))))))
     (leads_then n0 n1 n7 z (t ++ (z ++ (C ++ (z ++ (O ++ z))))) a
     (leads_then n1 n2 n7 t (z ++ (C ++ (z ++ (O ++ z)))) b
     (leads_then n2 n3 n7 z (C ++ (z ++ (O ++ z))) c
@@ -88,8 +109,11 @@ if_led n0 n1 n2 n3 n4 n5 n6 n7 l site test chosen other h e is a b c d f g k =
     (leads_then n4 n5 n7 z (O ++ z) f
     (leads_then n5 n6 n7 O z g k))))))
 
-pub loop_led : (n0 n1 n2 n3 n4 n5 n6 : Naming) (l : Line) (site : ℕ) (first : Test) (test : Vec Line Global) (answer : Atom) (body : Vec Line Global) (h : Test) → l ≡ line.Loop site first test answer body → h ≡ (holds_barrier (lines_of test.items) || holds_barrier (lines_of body.items))
-    → Leads n0 n1 (cut_before h []) → Leads n1 n2 (pieces_of (lines_of test.items)) → Leads n2 n3 (named_by answer) → Leads n3 n4 (cut_before h []) → Leads n4 n5 (pieces_of (lines_of body.items)) → Leads n5 n6 (cut_before h [])
+pub loop_led : (n0 n1 n2 n3 n4 n5 n6 : Naming) (l : Line) (site : ℕ) (first : Test) (test : Vec Line Global)
+    (answer : Atom) (body : Vec Line Global) (h : Test) → l ≡ line.Loop site first test answer body →
+    h ≡ (holds_barrier (lines_of test.items) || holds_barrier (lines_of body.items))
+    → Leads n0 n1 (cut_before h []) → Leads n1 n2 (pieces_of (lines_of test.items)) → Leads n2 n3 (named_by answer) →
+    Leads n3 n4 (cut_before h []) → Leads n4 n5 (pieces_of (lines_of body.items)) → Leads n5 n6 (cut_before h [])
     → Leads n0 n6 (pieces_of (line_before l NoLine))
 loop_led n0 n1 n2 n3 n4 n5 n6 l site first test answer body h e is a b c d f g =
     let T = pieces_of (lines_of test.items) in
@@ -98,9 +122,11 @@ loop_led n0 n1 n2 n3 n4 n5 n6 l site first test answer body h e is a b c d f g =
     let z = cut_before h [] in
     let all : List Piece = z ++ (T ++ (A ++ (z ++ (B ++ z)))) in
     let text : pieces_of (line_before l NoLine) ≡ cut_before h (T ++ (A ++ cut_before h (B ++ z))) =
-    ap (λ x. pieces_of (line_before x NoLine)) e ∙ (ap pieces_of (loop_listed site first test answer body NoLine) ∙ ap (λ q. cut_before q (T ++ (A ++ cut_before q (B ++ cut_before q [])))) (sym is)) in
+    ap (λ x. pieces_of (line_before x NoLine)) e ∙ (ap pieces_of (loop_listed site first test answer body NoLine) ∙
+    ap (λ q. cut_before q (T ++ (A ++ cut_before q (B ++ cut_before q [])))) (sym is)) in
     leads_as n0 n6 all (pieces_of (line_before l NoLine))
-    (sym (text ∙ (cut_split h (T ++ (A ++ cut_before h (B ++ z))) ∙ ap (λ x. z ++ (T ++ (A ++ x))) (cut_split h (B ++ z)))))
+    (sym (text ∙ (cut_split h (T ++ (A ++ cut_before h (B ++ z))) ∙
+    ap (λ x. z ++ (T ++ (A ++ x))) (cut_split h (B ++ z)))))
     (leads_then n0 n1 n6 z (T ++ (A ++ (z ++ (B ++ z)))) a
     (leads_then n1 n2 n6 T (A ++ (z ++ (B ++ z))) b
     (leads_then n2 n3 n6 A (z ++ (B ++ z)) c

@@ -26,7 +26,8 @@ taken_behind taken (site ∷ calls) = number_at taken site + taken_behind taken 
 -- what is kept of a variable
 abbrev pub kept_of : Shares → (varying : List (List Test)) → (calls : List ℕ) → (function number : ℕ) → Kept
 kept_of s varying calls function number =
-    if entry (row s.crossing function) number then (if entry (row varying function) number then kept.Each (taken_behind s.taken calls + number_at (row s.numbers function) number) else kept.One) else kept.Nothing
+    if entry (row s.crossing function) number then (if entry (row varying function) number then kept.Each
+    (taken_behind s.taken calls + number_at (row s.numbers function) number) else kept.One) else kept.Nothing
 
 -- how many columns that needs
 abbrev pub columns_for : Kept → ℕ
@@ -43,7 +44,8 @@ columns_of_kind s varying OfValue = 0
 -- the largest of these, and of another number
 abbrev pub columns_onto : Shares → (varying : List (List Test)) → List Cell → ℕ → ℕ
 columns_onto s varying [] columns = columns
-columns_onto s varying (c ∷ cells) columns = columns_onto s varying cells (max columns (columns_of_kind s varying c.kind))
+columns_onto s varying (c ∷ cells) columns =
+    columns_onto s varying cells (max columns (columns_of_kind s varying c.kind))
 
 -- homes, and how many columns and slots they take
 pub record Placed : Type 0 where
@@ -55,7 +57,8 @@ pub record Placed : Type 0 where
 abbrev pub with_kept : Kept → Placed → Placed
 with_kept kept.Nothing p = record { list = p.list ++ home.Register ∷ []; columns = p.columns; slots = p.slots }
 with_kept kept.One p = record { list = p.list ++ home.Once p.slots ∷ []; columns = p.columns; slots = p.slots + 1 }
-with_kept (kept.Each column) p = record { list = p.list ++ home.Column column ∷ []; columns = p.columns; slots = p.slots }
+with_kept (kept.Each column) p =
+    record { list = p.list ++ home.Column column ∷ []; columns = p.columns; slots = p.slots }
 
 -- with one home more, of a flag or a value, which has a column where it is a keep
 abbrev pub with_made : (keep : Test) → Placed → Placed
@@ -68,10 +71,12 @@ with_home s varying keep (OfVariable v path name) p = with_kept (kept_of s varyi
 with_home s varying keep OfFlag p = with_made keep p
 with_home s varying keep OfValue p = with_made keep p
 
--- with the homes of cells, the first of which has this number; `across` says which the kernel names on both sides of a cut
+-- with the homes of cells, the first of which has this number; `across` says which the kernel names on both sides of
+-- a cut
 abbrev pub homes_onto : Shares → (varying : List (List Test)) → (across : List Test) → ℕ → List Cell → Placed → Placed
 homes_onto s varying across n [] p = p
-homes_onto s varying across n (c ∷ cells) p = homes_onto s varying across (n + 1) cells (with_home s varying (entry across n) c.kind p)
+homes_onto s varying across n (c ∷ cells) p =
+    homes_onto s varying across (n + 1) cells (with_home s varying (entry across n) c.kind p)
 
 -- the bytes of an array where it is private
 abbrev pub private_of : Array → ℕ

@@ -1,7 +1,8 @@
 -- The outline of a function: where its variables are declared, its cuts, its calls and its blocks.
 use Rattle.std.specs.Prelude.{ℕ, zero, suc, List, [], ◌∷◌}
 use Rattle.std.specs.Prelude.{Bool as Test, true, false}
-use Rattle.cl_model.specs.Tree.{Statement, Do, Declare, Fill, Block, If, Loop, Switch, Break, Continue, Return, Barrier, Statements, empty, also, Arms, no_arm, arm, Function}
+use Rattle.cl_model.specs.Tree.{Statement, Do, Declare, Fill, Block, If, Loop, Switch, Break, Continue, Return}
+use Rattle.cl_model.specs.Tree.{Barrier, Statements, empty, also, Arms, no_arm, arm, Function}
 use Rattle.cl_model.specs.Calls.{CallSite, calls_in, calls_among, calls_in_optional}
 use Rattle.kir.specs.Inlined.{holds}
 use Rattle.ctx_plan.specs.declared.outline.Piece.{Piece, Row_of-Piece, end_of-Piece, more_of-Piece}
@@ -30,7 +31,8 @@ cut_then true rest = CutThen rest
 cut_then false rest = rest
 
 abbrev mutual
-  -- the outline of a statement before another, where `inside` says which functions hold a barrier. A cut before or after a body stands outside that body
+  -- the outline of a statement before another, where `inside` says which functions hold a barrier. A cut before or
+  -- after a body stands outside that body
   pub outline_then : (inside : ℕ → Test) → Statement → Outline → Outline
   outline_then inside (Do e) rest = calls_then (calls_in e) rest
   outline_then inside (Declare x value) rest = calls_then (calls_in_optional value) (DeclaresThen x rest)
@@ -41,11 +43,13 @@ abbrev mutual
       cut (calls_then (calls_in test) (cut (outlines_then inside chosen (cut (outlines_then inside other (cut rest))))))
   outline_then inside (Loop site true test step body) rest =
       let cut = cut_then (holds inside (Loop site true test step body)) in
-      cut (calls_then (calls_in_optional test) (cut (calls_then (calls_in_optional step) (cut (outline_then inside body (cut rest))))))
+      cut (calls_then (calls_in_optional test)
+      (cut (calls_then (calls_in_optional step) (cut (outline_then inside body (cut rest))))))
   -- the test of a `do` stands behind its body
   outline_then inside (Loop site false test step body) rest =
       let cut = cut_then (holds inside (Loop site false test step body)) in
-      cut (outline_then inside body (cut (calls_then (calls_in_optional step) (cut (calls_then (calls_in_optional test) (cut rest))))))
+      cut (outline_then inside body (cut
+      (calls_then (calls_in_optional step) (cut (calls_then (calls_in_optional test) (cut rest))))))
   outline_then inside (Switch site value arms) rest =
       let cut = cut_then (holds inside (Switch site value arms)) in
       cut (calls_then (calls_in value) (cut (outlines_of_arms inside arms (cut rest))))
@@ -60,7 +64,8 @@ abbrev mutual
 
   pub outlines_of_arms : (inside : ℕ → Test) → Arms → Outline → Outline
   outlines_of_arms inside no_arm rest = rest
-  outlines_of_arms inside (arm labels other body arms) rest = outlines_then inside body (outlines_of_arms inside arms rest)
+  outlines_of_arms inside (arm labels other body arms) rest =
+      outlines_then inside body (outlines_of_arms inside arms rest)
 
 -- so many parameters from the one with this number on, which are declared at the start of the body, before an outline
 abbrev pub parameters_then : (first count : ℕ) → Outline → Outline

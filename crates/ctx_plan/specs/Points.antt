@@ -3,7 +3,8 @@ use Rattle.std.specs.Prelude.{ℕ, List, [], ◌∷◌, ◌++◌, ◌||◌, slic
 use Rattle.std.specs.Prelude.{Bool as Test, true, false}
 use Rattle.cl_model.specs.declared.program.Arg.{Arg}
 use Rattle.cl_model.specs.declared.program.SwitchArm.{SwitchArm}
-use Rattle.cl_model.specs.Tree.{Expressions, none, more, Statement, Do, Declare, Fill, Block, If, Loop, Switch, Break, Continue, Return, Barrier, Statements, empty, also, Arms, no_arm, arm}
+use Rattle.cl_model.specs.Tree.{Expressions, none, more, Statement, Do, Declare, Fill, Block, If, Loop, Switch, Break}
+use Rattle.cl_model.specs.Tree.{Continue, Return, Barrier, Statements, empty, also, Arms, no_arm, arm}
 use Rattle.cl_model.specs.View.{argument_of, listed_statements}
 use Rattle.cl_model.specs.Calls.{CallSite, calls_in, calls_among, calls_in_optional}
 use Rattle.ctx_plan.specs.declared.outline.Piece.{Piece}
@@ -32,7 +33,8 @@ abbrev mutual
   points_onto (Fill site array values) pieces = calls_onto (calls_among values) pieces
   points_onto (Block list) pieces = all_onto list pieces
   points_onto (If site test chosen other) pieces = all_onto other (all_onto chosen (calls_onto (calls_in test) pieces))
-  points_onto (Loop site test_first test step body) pieces = points_onto body (calls_onto (calls_in_optional step) (calls_onto (calls_in_optional test) pieces))
+  points_onto (Loop site test_first test step body) pieces =
+      points_onto body (calls_onto (calls_in_optional step) (calls_onto (calls_in_optional test) pieces))
   points_onto (Switch site value arms) pieces = arms_onto arms (calls_onto (calls_in value) pieces)
   points_onto (Break site) pieces = pieces
   points_onto (Continue site) pieces = pieces

@@ -1,5 +1,7 @@
--- Which variables cross, and the columns that they share: in the inlined text the variables of a block take the first columns behind those of the blocks around it.
-use Rattle.std.specs.Prelude.{ℕ, zero, suc, ◌+◌, List, [], ◌∷◌, ◌++◌, length, map, replicate, ◌||◌, ◌&&◌, slice_set, slice_get, unwrap_or, if◌then◌else◌}
+-- Which variables cross, and the columns that they share: in the inlined text the variables of a block take the first
+-- columns behind those of the blocks around it.
+use Rattle.std.specs.Prelude.{ℕ, zero, suc, ◌+◌, List, [], ◌∷◌, ◌++◌, length, map, replicate, ◌||◌, ◌&&◌, slice_set}
+use Rattle.std.specs.Prelude.{slice_get, unwrap_or, if◌then◌else◌}
 use Rattle.std.specs.Prelude.{Bool as Test, true, false}
 use Rattle.cl_model.specs.Tree.{Function, Program}
 use Rattle.kir.specs.Inlined.{some_holds}
@@ -30,7 +32,8 @@ has_cut inside (BlockThen inner rest) = has_cut inside inner || has_cut inside r
 -- the list with the variables marked that cross: behind whose declaration a cut stands in the rest of the block
 abbrev pub mark_crossing : (inside : ℕ → Test) → Outline → List Test → List Test
 mark_crossing inside NoPiece list = list
-mark_crossing inside (DeclaresThen x rest) list = if has_cut inside rest then slice_set (mark_crossing inside rest list) x true else mark_crossing inside rest list
+mark_crossing inside (DeclaresThen x rest) list =
+    if has_cut inside rest then slice_set (mark_crossing inside rest list) x true else mark_crossing inside rest list
 mark_crossing inside (CutThen rest) list = mark_crossing inside rest list
 mark_crossing inside (CallsThen site function rest) list = mark_crossing inside rest list
 mark_crossing inside (BlockThen inner rest) list = mark_crossing inside inner (mark_crossing inside rest list)
@@ -43,19 +46,26 @@ own_columns marked (CutThen rest) = own_columns marked rest
 own_columns marked (CallsThen site function rest) = own_columns marked rest
 own_columns marked (BlockThen inner rest) = own_columns marked rest
 
--- the number of each variable of a function among the columns that the function takes, and for each site of a call how many the blocks of the caller around it take
+-- the number of each variable of a function among the columns that the function takes, and for each site of a call
+-- how many the blocks of the caller around it take
 pub record Columns : Type 0 where
   pub numbers : List ℕ
   pub taken : List ℕ
 
--- the marked variables of what is left of a block are numbered from `next` on; the block and those around it take `within` columns
+-- the marked variables of what is left of a block are numbered from `next` on; the block and those around it take
+-- `within` columns
 abbrev pub share_columns : (marked : ℕ → Test) → (within next : ℕ) → Outline → Columns → Columns
 share_columns marked within next NoPiece s = s
 share_columns marked within next (DeclaresThen x rest) s =
-    if marked x then share_columns marked within (next + 1) rest (record { numbers = slice_set s.numbers x next; taken = s.taken }) else share_columns marked within next rest s
+    if marked x then share_columns marked within (next + 1) rest (record {
+      numbers = slice_set s.numbers x next;
+      taken = s.taken;
+    }) else share_columns marked within next rest s
 share_columns marked within next (CutThen rest) s = share_columns marked within next rest s
-share_columns marked within next (CallsThen site function rest) s = share_columns marked within next rest (record { numbers = s.numbers; taken = slice_set s.taken site within })
-share_columns marked within next (BlockThen inner rest) s = share_columns marked within next rest (share_columns marked (within + own_columns marked inner) within inner s)
+share_columns marked within next (CallsThen site function rest) s =
+    share_columns marked within next rest (record { numbers = s.numbers; taken = slice_set s.taken site within })
+share_columns marked within next (BlockThen inner rest) s =
+    share_columns marked within next rest (share_columns marked (within + own_columns marked inner) within inner s)
 
 -- of a whole block, around which so many columns are taken
 abbrev pub share_block : (marked : ℕ → Test) → (around : ℕ) → Outline → Columns → Columns
@@ -78,25 +88,36 @@ row lists n = unwrap_or (slice_get lists n) []
 
 -- which variables of a function cross
 abbrev pub crossing_of : (inside : List Test) → Function → List Test
-crossing_of inside f = mark_crossing (entry inside) (function_outline (entry inside) f) (replicate (length f.variables) false)
+crossing_of inside f =
+    mark_crossing (entry inside) (function_outline (entry inside) f) (replicate (length f.variables) false)
 
 -- the columns of a function of which these variables vary
 abbrev pub columns_of : (inside varying : List Test) → Function → (taken : List ℕ) → Columns
 columns_of inside varying f taken =
-    share_block (entry (both 0 (crossing_of inside f) varying)) 0 (function_outline (entry inside) f) (record { numbers = replicate (length f.variables) 0; taken = taken })
+    share_block (entry (both 0 (crossing_of inside f) varying)) 0 (function_outline (entry inside) f)
+    (record { numbers = replicate (length f.variables) 0; taken = taken })
 
 -- what is said with one function more
 abbrev pub with_function : (inside varying : List Test) → Function → Shares → Shares
 with_function inside varying f s =
     let columns = columns_of inside varying f s.taken in
-    record { crossing = s.crossing ++ crossing_of inside f ∷ []; numbers = s.numbers ++ columns.numbers ∷ []; taken = columns.taken }
+    record {
+      crossing = s.crossing ++ crossing_of inside f ∷ [];
+      numbers = s.numbers ++ columns.numbers ∷ [];
+      taken = columns.taken;
+    }
 
 -- and with functions, the first of which has this number
 abbrev pub shares_onto : (inside : List Test) → (varying : List (List Test)) → ℕ → List Function → Shares → Shares
 shares_onto inside varying n [] s = s
-shares_onto inside varying n (f ∷ functions) s = shares_onto inside varying (n + 1) functions (with_function inside (row varying n) f s)
+shares_onto inside varying n (f ∷ functions) s =
+    shares_onto inside varying (n + 1) functions (with_function inside (row varying n) f s)
 
 -- of a program
 abbrev pub shares_of : Program → (varying : List (List Test)) → Shares
 shares_of program varying =
-    shares_onto (holding_of program.functions) varying 0 program.functions (record { crossing = []; numbers = []; taken = replicate (length program.sites) 0 })
+    shares_onto (holding_of program.functions) varying 0 program.functions (record {
+      crossing = [];
+      numbers = [];
+      taken = replicate (length program.sites) 0;
+    })

@@ -16,7 +16,11 @@ varying_of v = map (λ l. l.items) v.list.items
 
 -- what is said of functions and sites
 abbrev pub shares_of : Sharing → spec.Shares
-shares_of s = record { crossing = map (λ l. l.items) s.crossing.items; numbers = map (λ l. l.items) s.numbers.items; taken = s.taken.items }
+shares_of s = record {
+  crossing = map (λ l. l.items) s.crossing.items;
+  numbers = map (λ l. l.items) s.numbers.items;
+  taken = s.taken.items;
+}
 
 -- the columns of a function
 abbrev pub plain_columns : Columns → spec.Columns

@@ -82,7 +82,8 @@ fn kept_of(
     function: u32,
     variable: u32,
 ) -> Result<Kept, Memory>
-    ensures { IfOk result (λ k. k ≡ made.kept_of (shares_of sharing.now) (varying_of varying.now) calls.now function variable) }
+    ensures { IfOk result (λ k. k ≡ made.kept_of (shares_of sharing.now) (varying_of varying.now) calls.now
+        function variable) }
 {
     if !crosses(sharing, function, variable) {
         return Ok(Kept::Nothing);
@@ -107,7 +108,8 @@ fn columns_for(kept: Kept) -> Result<u32, Memory>
 
 /// How many columns the variable of a cell needs.
 fn columns_of_cell(sharing: &Sharing, varying: &Varying, cell: &Cell) -> Result<u32, Memory>
-    ensures { IfOk result (λ n. n ≡ made.columns_of_kind (shares_of sharing.now) (varying_of varying.now) (cell_of cell.now).kind) }
+    ensures { IfOk result (λ n. n ≡ made.columns_of_kind (shares_of sharing.now) (varying_of varying.now)
+        (cell_of cell.now).kind) }
 {
     match &cell.kind {
         CellKind::Variable {
@@ -125,7 +127,8 @@ fn columns_of_cell(sharing: &Sharing, varying: &Varying, cell: &Cell) -> Result<
 
 /// How many columns the variables among the cells take.
 fn shared_columns(sharing: &Sharing, varying: &Varying, cells: &[Cell]) -> Result<u32, Memory>
-    ensures { IfOk result (λ n. n ≡ made.columns_onto (shares_of sharing.now) (varying_of varying.now) (map cell_of cells.now) 0) }
+    ensures { IfOk result (λ n. n ≡ made.columns_onto (shares_of sharing.now) (varying_of varying.now)
+        (map cell_of cells.now) 0) }
 {
     let mut columns: u32 = 0;
     for cell in cells {
@@ -136,7 +139,11 @@ fn shared_columns(sharing: &Sharing, varying: &Varying, cells: &[Cell]) -> Resul
 }
 
 fn add_home(homes: &mut Homes, home: Home) -> Result<(), Memory>
-    ensures { OnOk result (placed_of homes.new ≡ record { list = homes.old.list.items ++ home ∷ []; columns = homes.old.columns; slots = homes.old.slots }) }
+    ensures { OnOk result (placed_of homes.new ≡ record {
+      list = homes.old.list.items ++ home ∷ [];
+      columns = homes.old.columns;
+      slots = homes.old.slots;
+    }) }
 {
     match homes.list.push(home) {
         Ok(()) => Ok(()),
@@ -191,7 +198,8 @@ fn add_cell(
     cell: &Cell,
     keep: bool,
 ) -> Result<(), Memory>
-    ensures { OnOk result (placed_of homes.new ≡ made.with_home (shares_of sharing.now) (varying_of varying.now) keep (cell_of cell.now).kind (placed_of homes.old)) }
+    ensures { OnOk result (placed_of homes.new ≡ made.with_home (shares_of sharing.now) (varying_of varying.now)
+        keep (cell_of cell.now).kind (placed_of homes.old)) }
 {
     match &cell.kind {
         CellKind::Variable {
@@ -215,8 +223,13 @@ pub(crate) fn homes_of(
     cells: &[Cell],
     across: &[bool],
 ) -> Result<Homes, Memory>
-    ensures { IfOk result (λ h. placed_of h ≡ made.homes_onto (shares_of sharing.now) (varying_of varying.now) across.now 0 (map cell_of cells.now)
-        (record { list = []; columns = made.columns_onto (shares_of sharing.now) (varying_of varying.now) (map cell_of cells.now) 0; slots = 0 })) }
+    ensures { IfOk result (λ h. placed_of h ≡ made.homes_onto (shares_of sharing.now) (varying_of varying.now)
+        across.now 0 (map cell_of cells.now)
+        (record {
+          list = [];
+          columns = made.columns_onto (shares_of sharing.now) (varying_of varying.now) (map cell_of cells.now) 0;
+          slots = 0;
+        })) }
 {
     let columns = shared_columns(sharing, varying, cells)?;
     let mut homes = Homes {

@@ -2,8 +2,32 @@
 
 ghost use Rattle.std.specs.Prelude.{◌≡◌, ◌∷◌, [], ◌++◌, IfOk, OnOk};
 ghost use Rattle.cl_model.specs.Calls.{calls_in, calls_among, calls_in_optional};
-ghost use Rattle.cl_model.specs.View.{expression_of, argument_of, listed_expressions, optional_expression, statement_of, listed_statements, function_of};
-ghost use Rattle.ctx_plan.specs.Outline.{Outline, DeclaresThen, CutThen, CallsThen, BlockThen, NoPiece, cut_then, calls_then, outline_then, outlines_then, outlines_of_arms, parameters_then, function_outline, piece_then, pieces_then};
+ghost use Rattle.cl_model.specs.View.{
+  expression_of,
+  argument_of,
+  listed_expressions,
+  optional_expression,
+  statement_of,
+  listed_statements,
+  function_of,
+};
+ghost use Rattle.ctx_plan.specs.Outline.{
+  Outline,
+  DeclaresThen,
+  CutThen,
+  CallsThen,
+  BlockThen,
+  NoPiece,
+  cut_then,
+  calls_then,
+  outline_then,
+  outlines_then,
+  outlines_of_arms,
+  parameters_then,
+  function_outline,
+  piece_then,
+  pieces_then,
+};
 ghost use Rattle.ctx_plan.specs.Points.{calls_onto, listed_arguments, listed_arms, entry};
 
 use crate::holding::statement_holds;
@@ -31,14 +55,16 @@ pub(crate) fn put(pieces: &mut Vec<Piece>, piece: Piece) -> Result<(), Memory>
 }
 
 fn put_call(pieces: &mut Vec<Piece>, site: u32, function: u32) -> Result<(), Memory>
-    ensures { OnOk result (pieces.new.items ≡ calls_onto (record { site = site; function = function } ∷ []) pieces.old.items) }
+    ensures { OnOk result (pieces.new.items ≡ calls_onto (record { site = site; function = function } ∷ [])
+        pieces.old.items) }
 {
     put(pieces, Piece::Calls(site, function))
 }
 
 #[cycle(calls)]
 pub(crate) fn put_expressions(list: &[Expr], pieces: &mut Vec<Piece>) -> Result<(), Memory>
-    ensures { OnOk result (pieces.new.items ≡ calls_onto (calls_among (listed_expressions list.now)) pieces.old.items) }
+    ensures { OnOk result (pieces.new.items ≡ calls_onto (calls_among (listed_expressions list.now))
+        pieces.old.items) }
 {
     for e in list {
         put_expression(e, pieces)?;
@@ -108,7 +134,8 @@ pub(crate) fn put_expression(e: &Expr, pieces: &mut Vec<Piece>) -> Result<(), Me
 }
 
 pub(crate) fn put_optional(pieces: &mut Vec<Piece>, e: &Option<Expr>) -> Result<(), Memory>
-    ensures { OnOk result (pieces.new.items ≡ calls_onto (calls_in_optional (optional_expression e.now)) pieces.old.items) }
+    ensures { OnOk result (pieces.new.items ≡ calls_onto (calls_in_optional (optional_expression e.now))
+        pieces.old.items) }
 {
     match e {
         None => Ok(()),
@@ -118,7 +145,8 @@ pub(crate) fn put_optional(pieces: &mut Vec<Piece>, e: &Option<Expr>) -> Result<
 
 /// A cut, where there is one.
 fn put_cut(pieces: &mut Vec<Piece>, cut: bool) -> Result<(), Memory>
-    ensures { OnOk result ((rest : Outline) → pieces_then pieces.new.items rest ≡ pieces_then pieces.old.items (cut_then cut rest)) }
+    ensures { OnOk result ((rest : Outline) →
+        pieces_then pieces.new.items rest ≡ pieces_then pieces.old.items (cut_then cut rest)) }
 {
     if cut {
         put_piece(pieces, Piece::Cut)
@@ -128,25 +156,32 @@ fn put_cut(pieces: &mut Vec<Piece>, cut: bool) -> Result<(), Memory>
 }
 
 fn put_piece(pieces: &mut Vec<Piece>, piece: Piece) -> Result<(), Memory>
-    ensures { OnOk result ((rest : Outline) → pieces_then pieces.new.items rest ≡ pieces_then pieces.old.items (piece_then piece rest)) }
+    ensures { OnOk result ((rest : Outline) →
+        pieces_then pieces.new.items rest ≡ pieces_then pieces.old.items (piece_then piece rest)) }
 {
     put(pieces, piece)
 }
 
 fn put_calls(pieces: &mut Vec<Piece>, e: &Expr) -> Result<(), Memory>
-    ensures { OnOk result ((rest : Outline) → pieces_then pieces.new.items rest ≡ pieces_then pieces.old.items (calls_then (calls_in (expression_of e.now)) rest)) }
+    ensures { OnOk result ((rest : Outline) →
+        pieces_then pieces.new.items rest ≡
+        pieces_then pieces.old.items (calls_then (calls_in (expression_of e.now)) rest)) }
 {
     put_expression(e, pieces)
 }
 
 fn put_list_calls(pieces: &mut Vec<Piece>, list: &[Expr]) -> Result<(), Memory>
-    ensures { OnOk result ((rest : Outline) → pieces_then pieces.new.items rest ≡ pieces_then pieces.old.items (calls_then (calls_among (listed_expressions list.now)) rest)) }
+    ensures { OnOk result ((rest : Outline) →
+        pieces_then pieces.new.items rest ≡
+        pieces_then pieces.old.items (calls_then (calls_among (listed_expressions list.now)) rest)) }
 {
     put_expressions(list, pieces)
 }
 
 fn put_optional_calls(pieces: &mut Vec<Piece>, e: &Option<Expr>) -> Result<(), Memory>
-    ensures { OnOk result ((rest : Outline) → pieces_then pieces.new.items rest ≡ pieces_then pieces.old.items (calls_then (calls_in_optional (optional_expression e.now)) rest)) }
+    ensures { OnOk result ((rest : Outline) →
+        pieces_then pieces.new.items rest ≡
+        pieces_then pieces.old.items (calls_then (calls_in_optional (optional_expression e.now)) rest)) }
 {
     put_optional(pieces, e)
 }
@@ -158,7 +193,9 @@ fn put_statements(
     pieces: &mut Vec<Piece>,
     inside: &[bool],
 ) -> Result<(), Memory>
-    ensures { OnOk result ((rest : Outline) → pieces_then pieces.new.items rest ≡ pieces_then pieces.old.items (outlines_then (entry inside.now) (listed_statements list.now) rest)) }
+    ensures { OnOk result ((rest : Outline) →
+        pieces_then pieces.new.items rest ≡
+        pieces_then pieces.old.items (outlines_then (entry inside.now) (listed_statements list.now) rest)) }
 {
     for s in list {
         put_statement(alloc, s, pieces, inside)?;
@@ -173,7 +210,9 @@ fn put_arms(
     pieces: &mut Vec<Piece>,
     inside: &[bool],
 ) -> Result<(), Memory>
-    ensures { OnOk result ((rest : Outline) → pieces_then pieces.new.items rest ≡ pieces_then pieces.old.items (outlines_of_arms (entry inside.now) (listed_arms arms.now) rest)) }
+    ensures { OnOk result ((rest : Outline) →
+        pieces_then pieces.new.items rest ≡
+        pieces_then pieces.old.items (outlines_of_arms (entry inside.now) (listed_arms arms.now) rest)) }
 {
     for arm in arms {
         put_statements(alloc, &arm.body, pieces, inside)?;
@@ -190,7 +229,9 @@ fn put_statement(
     pieces: &mut Vec<Piece>,
     inside: &[bool],
 ) -> Result<(), Memory>
-    ensures { OnOk result ((rest : Outline) → pieces_then pieces.new.items rest ≡ pieces_then pieces.old.items (outline_then (entry inside.now) (statement_of s.now) rest)) }
+    ensures { OnOk result ((rest : Outline) →
+        pieces_then pieces.new.items rest ≡
+        pieces_then pieces.old.items (outline_then (entry inside.now) (statement_of s.now) rest)) }
 {
     match s {
         Stmt::Do(e) => put_calls(pieces, e),
@@ -257,7 +298,8 @@ fn put_statement(
 
 /// The declarations of so many parameters.
 fn put_parameters(pieces: &mut Vec<Piece>, count: u32) -> Result<(), Memory>
-    ensures { OnOk result ((rest : Outline) → pieces_then pieces.new.items rest ≡ pieces_then pieces.old.items (parameters_then 0 count rest)) }
+    ensures { OnOk result ((rest : Outline) →
+        pieces_then pieces.new.items rest ≡ pieces_then pieces.old.items (parameters_then 0 count rest)) }
 {
     for parameter in 0..count {
         put_piece(pieces, Piece::Declares(parameter))?;
@@ -271,7 +313,8 @@ pub(crate) fn outline_of(
     inside: &[bool],
     function: &Function,
 ) -> Result<Vec<Piece>, Memory>
-    ensures { IfOk result (λ v. pieces_then v.items NoPiece ≡ function_outline (entry inside.now) (function_of function.now)) }
+    ensures { IfOk result (λ v. pieces_then v.items NoPiece ≡ function_outline (entry inside.now)
+        (function_of function.now)) }
 {
     let mut pieces = Vec::new(alloc);
     put_parameters(&mut pieces, function.params)?;

@@ -88,7 +88,8 @@ pub fn plan(
     program: &Program,
     varying: &Varying,
 ) -> Result<Plan, Memory>
-    ensures made { IfOk result (λ p. planned_of p ≡ plan_of (program_of program.now) (kernel_of kernel.now) (varying_of varying.now)) }
+    ensures made { IfOk result (λ p. planned_of p ≡ plan_of (program_of program.now) (kernel_of kernel.now)
+        (varying_of varying.now)) }
     ensures counted { IfOk result (λ p. IsCounted (kernel_of kernel.now) (planned_of p)) }
 {
     let plan = made_plan(alloc, kernel, program, varying)?;
@@ -101,7 +102,8 @@ fn made_plan(
     program: &Program,
     varying: &Varying,
 ) -> Result<Plan, Memory>
-    ensures { IfOk result (λ p. planned_of p ≡ plan_of (program_of program.now) (kernel_of kernel.now) (varying_of varying.now)) }
+    ensures { IfOk result (λ p. planned_of p ≡ plan_of (program_of program.now) (kernel_of kernel.now)
+        (varying_of varying.now)) }
 {
     let inside = functions_hold(alloc, &program.functions)?;
     let sharing = sharing_of(alloc, program, varying, &inside)?;

@@ -1,7 +1,22 @@
 //! Which variables cross, and the columns that they share: in the inlined text the variables of a
 //! block take the first columns behind those of the blocks around it.
 
-ghost use Rattle.std.specs.Prelude.{◌≡◌, ◌+◌, ◌∷◌, [], ◌++◌, true, false, length, map, replicate, slice_set, IfOk, OnOk, if◌then◌else◌};
+ghost use Rattle.std.specs.Prelude.{
+  ◌≡◌,
+  ◌+◌,
+  ◌∷◌,
+  [],
+  ◌++◌,
+  true,
+  false,
+  length,
+  map,
+  replicate,
+  slice_set,
+  IfOk,
+  OnOk,
+  if◌then◌else◌,
+};
 ghost use Rattle.std.specs.Prelude.{List, Bool as Test};
 ghost use Rattle.cl_model.specs.View.{program_of, function_of};
 ghost use Rattle.ctx_plan.specs.Outline.{Outline, NoPiece, piece_then, pieces_then};
@@ -49,7 +64,8 @@ fn set_number(list: &mut Vec<u32>, place: u32, number: u32)
 #[cycle(mark)]
 fn mark_crossing(block: &[Piece], crossing: &mut Vec<bool>, inside: &[bool]) -> bool
     ensures cut { result ≡ spec.has_cut (entry inside.now) (pieces_then block.now NoPiece) }
-    ensures marks { crossing.new.items ≡ spec.mark_crossing (entry inside.now) (pieces_then block.now NoPiece) crossing.old.items }
+    ensures marks { crossing.new.items ≡ spec.mark_crossing (entry inside.now) (pieces_then block.now NoPiece)
+        crossing.old.items }
 {
     let mut cut = false;
     let mut i = block.len();
@@ -63,8 +79,10 @@ fn mark_crossing(block: &[Piece], crossing: &mut Vec<bool>, inside: &[bool]) -> 
 /// The same from a piece on, where it is said of what stands behind it.
 #[cycle(mark)]
 fn mark_piece(piece: &Piece, crossing: &mut Vec<bool>, inside: &[bool], cut: bool) -> bool
-    ensures cut { (rest : Outline) → cut ≡ spec.has_cut (entry inside.now) rest → result ≡ spec.has_cut (entry inside.now) (piece_then piece.now rest) }
-    ensures marks { (rest : Outline) (list : List Test) → cut ≡ spec.has_cut (entry inside.now) rest → crossing.old.items ≡ spec.mark_crossing (entry inside.now) rest list
+    ensures cut { (rest : Outline) → cut ≡ spec.has_cut (entry inside.now) rest →
+        result ≡ spec.has_cut (entry inside.now) (piece_then piece.now rest) }
+    ensures marks { (rest : Outline) (list : List Test) → cut ≡ spec.has_cut (entry inside.now) rest →
+        crossing.old.items ≡ spec.mark_crossing (entry inside.now) rest list
         → crossing.new.items ≡ spec.mark_crossing (entry inside.now) (piece_then piece.now rest) list }
 {
     match piece {
@@ -100,7 +118,8 @@ pub(crate) fn sum_of(a: u32, b: u32) -> Result<u32, Memory>
 
 /// How many columns the piece takes: one where it declares a marked variable.
 fn column_of(marked: &[bool], piece: &Piece) -> u32
-    ensures { (rest : Outline) → spec.own_columns (entry marked.now) (piece_then piece.now rest) ≡ result + spec.own_columns (entry marked.now) rest }
+    ensures { (rest : Outline) → spec.own_columns (entry marked.now) (piece_then piece.now rest) ≡ result +
+        spec.own_columns (entry marked.now) rest }
 {
     match piece {
         Piece::Declares(variable) => { if entry_of(marked, *variable) { 1 } else { 0 } }
@@ -138,7 +157,8 @@ fn share_block(
     marked: &[bool],
     around: u32,
 ) -> Result<(), Memory>
-    ensures { OnOk result (plain_columns columns.new ≡ spec.share_block (entry marked.now) around (pieces_then block.now NoPiece) (plain_columns columns.old)) }
+    ensures { OnOk result (plain_columns columns.new ≡ spec.share_block (entry marked.now) around
+        (pieces_then block.now NoPiece) (plain_columns columns.old)) }
 {
     let own = own_columns(marked, block)?;
     let within = sum_of(around, own)?;
@@ -158,7 +178,8 @@ fn share_piece(
     within: u32,
     next: u32,
 ) -> Result<u32, Memory>
-    ensures { IfOk result (λ behind. (rest : Outline) → spec.share_columns (entry marked.now) within next (piece_then piece.now rest) (plain_columns columns.old)
+    ensures { IfOk result (λ behind. (rest : Outline) →
+        spec.share_columns (entry marked.now) within next (piece_then piece.now rest) (plain_columns columns.old)
         ≡ spec.share_columns (entry marked.now) within behind rest (plain_columns columns.new)) }
 {
     match piece {
@@ -231,7 +252,8 @@ fn crossing_in(
     function: &Function,
     pieces: &[Piece],
 ) -> Result<Vec<bool>, Memory>
-    ensures { IfOk result (λ v. v.items ≡ spec.mark_crossing (entry inside.now) (pieces_then pieces.now NoPiece) (replicate (length (function_of function.now).variables) false)) }
+    ensures { IfOk result (λ v. v.items ≡ spec.mark_crossing (entry inside.now) (pieces_then pieces.now NoPiece)
+        (replicate (length (function_of function.now).variables) false)) }
 {
     let mut crosses = no_entries(alloc, function.vars.len())?;
     let _ = mark_crossing(pieces, &mut crosses, inside);
@@ -246,7 +268,8 @@ fn columns_in(
     pieces: &[Piece],
     taken: Vec<u32>,
 ) -> Result<Columns, Memory>
-    ensures { IfOk result (λ c. plain_columns c ≡ spec.share_block (entry marked.now) 0 (pieces_then pieces.now NoPiece)
+    ensures { IfOk result (λ c. plain_columns c ≡ spec.share_block (entry marked.now) 0
+        (pieces_then pieces.now NoPiece)
         (record { numbers = replicate (length (function_of function.now).variables) 0; taken = taken.items })) }
 {
     let numbers = zeros(alloc, function.vars.len())?;
@@ -263,7 +286,8 @@ fn add_function(
     varying: &[bool],
     function: &Function,
 ) -> Result<Sharing, Memory>
-    ensures { IfOk result (λ s. shares_of s ≡ spec.with_function inside.now varying.now (function_of function.now) (shares_of sharing)) }
+    ensures { IfOk result (λ s. shares_of s ≡ spec.with_function inside.now varying.now (function_of function.now)
+        (shares_of sharing)) }
 {
     let Sharing {
         crossing,
@@ -308,7 +332,8 @@ pub(crate) fn sharing_of(
     varying: &Varying,
     inside: &[bool],
 ) -> Result<Sharing, Memory>
-    ensures { IfOk result (λ s. inside.now ≡ spec.holding_of (program_of program.now).functions → shares_of s ≡ spec.shares_of (program_of program.now) (varying_of varying.now)) }
+    ensures { IfOk result (λ s. inside.now ≡ spec.holding_of (program_of program.now).functions →
+        shares_of s ≡ spec.shares_of (program_of program.now) (varying_of varying.now)) }
 {
     let taken = zeros(alloc, program.sites.len())?;
     let mut sharing = Sharing {

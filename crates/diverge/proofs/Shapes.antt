@@ -1,5 +1,6 @@
 -- The table keeps its shape: a row for each function, an entry for each of its variables.
-use Rattle.std.proofs.Common.{◌≡◌, ℕ, zero, suc, Bool, Result, Ok, Err, IfOk, List, [], ◌∷◌, length, map, set, replicate, refl, ap, ap₂, ◌∙◌}
+use Rattle.std.proofs.Common.{◌≡◌, ℕ, zero, suc, Bool, Result, Ok, Err, IfOk, List, [], ◌∷◌, length, map, set}
+use Rattle.std.proofs.Common.{replicate, refl, ap, ap₂, ◌∙◌}
 use Rattle.cl_model.specs.Tree.{Function, Program}
 use Rattle.diverge.specs.declared.known.Entry.{Entry}
 use Rattle.diverge.specs.Known.{Row, State, fresh, change_row, with_entry, with_result_entry}
@@ -18,7 +19,8 @@ length_set [] i x = refl
 length_set (y ∷ xs) zero x = refl
 length_set (y ∷ xs) (suc i) x = ap (λ n. suc n) (length_set xs i x)
 
-shape_changed : (change : Row → Row) → ((row : Row) → length (change row).variables ≡ length row.variables) → (f : ℕ) (rows : List Row) → shape (change_row f change rows) ≡ shape rows
+shape_changed : (change : Row → Row) → ((row : Row) → length (change row).variables ≡ length row.variables) →
+    (f : ℕ) (rows : List Row) → shape (change_row f change rows) ≡ shape rows
 shape_changed change same f [] = refl
 shape_changed change same zero (row ∷ rows) = ap (λ n. n ∷ shape rows) (same row)
 shape_changed change same (suc f) (row ∷ rows) = ap (λ l. length row.variables ∷ l) (shape_changed change same f rows)
@@ -50,11 +52,14 @@ varying_shape : (program : Program) (list : List (List Bool)) → list ≡ varyi
 varying_shape program list h =
     let shapes = map (λ (f : Function). length f.variables) program.functions in
     ap (map length) h ∙ marks_shape (rounds program (round_limit program) (start program)).rows
-    ∙ rounds_kept (λ s. shape s.rows ≡ shapes) (keeps_shape shapes) program (round_limit program) (start program) (start_shape program.functions)
+    ∙ rounds_kept (λ s. shape s.rows ≡ shapes) (keeps_shape shapes) program (round_limit program) (start program)
+    (start_shape program.functions)
 
 -- of an answer
-pub answer_shape : {E : Type 0} (program : Program) (answer : Result Varying E) (n : ℕ) (s t : State) → t ≡ rounds program n s → n ≡ round_limit program → s ≡ start program
+pub answer_shape : {E : Type 0} (program : Program) (answer : Result Varying E) (n : ℕ) (s t : State) →
+    t ≡ rounds program n s → n ≡ round_limit program → s ≡ start program
     → IfOk answer (λ v. marks v ≡ map marks_of t.rows) → IfOk answer (λ v. FitsProgram program (marks v))
 answer_shape program (Ok v) n s t h k q e =
-    varying_shape program (marks v) (e ∙ ap (λ (u : State). map marks_of u.rows) (h ∙ ap (λ m. rounds program m s) k ∙ ap (rounds program (round_limit program)) q))
+    varying_shape program (marks v) (e ∙ ap (λ (u : State). map marks_of u.rows) (h ∙ ap (λ m. rounds program m s) k ∙
+    ap (rounds program (round_limit program)) q))
 answer_shape program (Err x) n s t h k q e = e

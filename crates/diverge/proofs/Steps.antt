@@ -21,26 +21,33 @@ use Rattle.diverge.proofs.Rows.{call_listed, builtin_listed}
 abbrev pub behind_call : ℕ → State → Seen
 behind_call g t = record { varies = (result_at t g).varies; state = t }
 
-pub call_seen : (e : Expr) (site function : ℕ) (args : Vec Arg Global) (own : Function) (at : Spot) (xs : List Arg) (s t : State) → e ≡ expr.Call site function args → xs ≡ args.items
-    → t ≡ seen_arguments own at function 0 (listed_arguments xs) s → behind_call function t ≡ seen_in own at (expression_of e) s
+pub call_seen : (e : Expr) (site function : ℕ) (args : Vec Arg Global) (own : Function) (at : Spot) (xs : List Arg)
+    (s t : State) → e ≡ expr.Call site function args → xs ≡ args.items
+    → t ≡ seen_arguments own at function 0 (listed_arguments xs) s →
+    behind_call function t ≡ seen_in own at (expression_of e) s
 call_seen e site function args own at xs s t h k q =
     ap (behind_call function) (q ∙ ap (λ l. seen_arguments own at function 0 (listed_arguments l) s) k)
     ∙ sym (ap (λ x. seen_in own at x s) (ap expression_of h ∙ call_listed site function args))
 
-pub builtin_seen : (e : Expr) (f : Fun) (of : IntType) (args : Vec Expr Global) (own : Function) (at : Spot) (xs : List Expr) (s : State) → e ≡ expr.Builtin f of args → xs ≡ args.items
+pub builtin_seen : (e : Expr) (f : Fun) (of : IntType) (args : Vec Expr Global) (own : Function) (at : Spot)
+    (xs : List Expr) (s : State) → e ≡ expr.Builtin f of args → xs ≡ args.items
     → seen_among own at false (listed_expressions xs) (unseen s) ≡ seen_in own at (expression_of e) s
 builtin_seen e f of args own at xs s h k =
-    ap (λ l. seen_among own at false (listed_expressions l) (unseen s)) k ∙ sym (ap (λ x. seen_in own at x s) (ap expression_of h ∙ builtin_listed f of args))
+    ap (λ l. seen_among own at false (listed_expressions l) (unseen s)) k ∙
+    sym (ap (λ x. seen_in own at x s) (ap expression_of h ∙ builtin_listed f of args))
 
 -- an assignment, by its target and its right side
 abbrev pub after_target : Spot → Target → Bool → Seen → Seen
 after_target at t old r = record { varies = old || r.varies; state = set_target at t (old || r.varies) r.state }
 
-pub assigned_seen : (t : Target) (v : Expression) (own : Function) (at : Spot) (s : State) → seen_in own at (assigned t v) s ≡ after_target at t false (seen_in own at v (seen_target own at t s).state)
+pub assigned_seen : (t : Target) (v : Expression) (own : Function) (at : Spot) (s : State) →
+    seen_in own at (assigned t v) s ≡ after_target at t false (seen_in own at v (seen_target own at t s).state)
 assigned_seen (target.Var x) v own at s = refl
 assigned_seen (target.Element' site element root p i) v own at s = refl
 
-pub updated_seen : (t : Target) (op : Bin) (of back : IntType) (old : Bool) (v : Expression) (own : Function) (at : Spot) (s : State)
-    → seen_in own at (updated t op of back old v) s ≡ after_target at t (seen_target own at t s).varies (seen_in own at v (seen_target own at t s).state)
+pub updated_seen : (t : Target) (op : Bin) (of back : IntType) (old : Bool) (v : Expression) (own : Function)
+    (at : Spot) (s : State)
+    → seen_in own at (updated t op of back old v) s ≡ after_target at t (seen_target own at t s).varies
+    (seen_in own at v (seen_target own at t s).state)
 updated_seen (target.Var x) op of back old v own at s = refl
 updated_seen (target.Element' site element root p i) op of back old v own at s = refl

@@ -1,5 +1,7 @@
--- What is known of the variables and results of functions while the analysis goes on, and how a step of the text adds to it.
-use Rattle.std.specs.Prelude.{ℕ, zero, suc, List, [], ◌∷◌, Option, Some, None, map, nat_eq, not, ◌||◌, ◌&&◌, slice_get, slice_set, unwrap_or, if◌then◌else◌}
+-- What is known of the variables and results of functions while the analysis goes on, and how a step of the text adds
+-- to it.
+use Rattle.std.specs.Prelude.{ℕ, zero, suc, List, [], ◌∷◌, Option, Some, None, map, nat_eq, not, ◌||◌, ◌&&◌}
+use Rattle.std.specs.Prelude.{slice_get, slice_set, unwrap_or, if◌then◌else◌}
 use Rattle.std.specs.Prelude.{Bool as Test, true, false}
 use Rattle.diverge.specs.declared.known.Entry.{Entry}
 use Rattle.diverge.specs.declared.known.Row as rust_row
@@ -40,9 +42,11 @@ same_guard None (Some b) = false
 same_guard (Some a) None = false
 same_guard (Some a) (Some b) = nat_eq a b
 
--- behind an assignment: the variable varies if the value does, or if a condition that varies stands around the assignment and not around the declaration
+-- behind an assignment: the variable varies if the value does, or if a condition that varies stands around the
+-- assignment and not around the declaration
 abbrev pub assigned : Option ℕ → Test → Entry → Entry
-assigned guard varies e = record { varies = e.varies || (varies || not (same_guard e.since guard)); assigned = true; since = e.since }
+assigned guard varies e =
+    record { varies = e.varies || (varies || not (same_guard e.since guard)); assigned = true; since = e.since }
 
 -- behind a declaration
 abbrev pub declared : Option ℕ → Test → Entry → Entry
@@ -94,11 +98,13 @@ change_row (suc f) change (row ∷ rows) = row ∷ change_row f change rows
 
 -- with another entry of a variable
 abbrev pub with_variable : ℕ → ℕ → Entry → State → State
-with_variable f x e s = record { rows = change_row f (with_entry x e) s.rows; grew = s.grew || grows (variable_at s f x) e }
+with_variable f x e s =
+    record { rows = change_row f (with_entry x e) s.rows; grew = s.grew || grows (variable_at s f x) e }
 
 -- with another entry of a result
 abbrev pub with_result : ℕ → Entry → State → State
-with_result f e s = record { rows = change_row f (with_result_entry e) s.rows; grew = s.grew || grows (result_at s f) e }
+with_result f e s =
+    record { rows = change_row f (with_result_entry e) s.rows; grew = s.grew || grows (result_at s f) e }
 
 -- behind an assignment to a variable of the function
 abbrev pub assign : Spot → ℕ → Test → State → State
@@ -126,7 +132,8 @@ leave_result f s = with_result f (left (result_at s f)) s
 
 -- under a condition: it is the innermost that varies, if it varies
 abbrev pub under : ℕ → Test → Spot → Spot
-under site varies at = record { kernel = at.kernel; function = at.function; guard = if varies then Some site else at.guard }
+under site varies at =
+    record { kernel = at.kernel; function = at.function; guard = if varies then Some site else at.guard }
 
 -- no way out; a break, continue or return; the ways out of either of two parts
 abbrev pub no_way : Ways

@@ -1,4 +1,5 @@
--- A round at parts of a program that the plain tree does not have by themselves: those that stand in a Vec, and targets.
+-- A round at parts of a program that the plain tree does not have by themselves: those that stand in a Vec, and
+-- targets.
 use Rattle.std.specs.Prelude.{List, [], ◌∷◌, Option, true}
 use Rattle.std.specs.Prelude.{Bool as Test}
 use Rattle.cl_model.specs.declared.program.Arg.{Arg}
@@ -27,7 +28,8 @@ abbrev pub listed_arms : List rust_arm.SwitchArm → Arms
 listed_arms [] = no_arm
 listed_arms (a ∷ list) = arm a.labels.items a.other (listed_statements a.body.items) (listed_arms list)
 
--- behind a scope that holds a way out under a condition that varies, of each declaration among the statements, the last first
+-- behind a scope that holds a way out under a condition that varies, of each declaration among the statements, the
+-- last first
 abbrev pub all_closed : Spot → List Stmt → State → State
 all_closed at [] s = s
 all_closed at (first ∷ rest) s = closed at (statement_of first) true (all_closed at rest s)
@@ -35,7 +37,8 @@ all_closed at (first ∷ rest) s = closed at (statement_of first) true (all_clos
 -- whether the old value of a target varies: an element is loaded
 abbrev pub seen_target : Function → Spot → Target → State → Seen
 seen_target own at (target.Var x) s = record { varies = (variable_at s at.function x).varies; state = s }
-seen_target own at (target.Element' site element root p i) s = record { varies = true; state = (seen_in own at (expression_of i) s).state }
+seen_target own at (target.Element' site element root p i) s =
+    record { varies = true; state = (seen_in own at (expression_of i) s).state }
 
 -- behind an assignment to a target: a variable is noted
 abbrev pub set_target : Spot → Target → Test → State → State

@@ -1,11 +1,17 @@
--- The analysis as a function: rounds over the program, each of which adds what follows from what is known, until one adds nothing.
-use Rattle.std.specs.Prelude.{ℕ, zero, suc, ◌+◌, List, [], ◌∷◌, Option, Some, None, map, length, replicate, not, ◌||◌, if◌then◌else◌}
+-- The analysis as a function: rounds over the program, each of which adds what follows from what is known, until one
+-- adds nothing.
+use Rattle.std.specs.Prelude.{ℕ, zero, suc, ◌+◌, List, [], ◌∷◌, Option, Some, None, map, length, replicate, not, ◌||◌}
+use Rattle.std.specs.Prelude.{if◌then◌else◌}
 use Rattle.std.specs.Prelude.{Bool as Test, true, false}
-use Rattle.cl_model.specs.Tree.{Action, Variable, Ask, Set, Change, Load, Expression, Apply, Update, Choose, Call, Expressions, none, more, Statement, Do, Declare, Fill, Block, If, Loop, Switch, Break, Continue, Return, Barrier, Statements, empty, also, Arms, no_arm, arm, Function, Program}
+use Rattle.cl_model.specs.Tree.{Action, Variable, Ask, Set, Change, Load, Expression, Apply, Update, Choose, Call}
+use Rattle.cl_model.specs.Tree.{Expressions, none, more, Statement, Do, Declare, Fill, Block, If, Loop, Switch, Break}
+use Rattle.cl_model.specs.Tree.{Continue, Return, Barrier, Statements, empty, also, Arms, no_arm, arm, Function}
+use Rattle.cl_model.specs.Tree.{Program}
 use Rattle.cl_model.specs.Varying.{is_own, is_constant_root, is_store}
 use Rattle.diverge.specs.declared.known.Spot.{Spot}
 use Rattle.diverge.specs.declared.known.Ways.{Ways}
-use Rattle.diverge.specs.Known.{Row, State, fresh, variable_at, result_at, assign, declare, pass, give, leave, leave_result, under, no_way, way_out, joined, behind}
+use Rattle.diverge.specs.Known.{Row, State, fresh, variable_at, result_at, assign, declare, pass, give, leave}
+use Rattle.diverge.specs.Known.{leave_result, under, no_way, way_out, joined, behind}
 
 -- what a step over an expression finds: whether it varies, and what is known behind it
 pub record Seen : Type 0 where
@@ -17,7 +23,8 @@ pub record Gone : Type 0 where
   pub ways : Ways
   pub state : State
 
--- the action varies whatever its operands do: an own id, a load that is not from constant memory, a variable that varies
+-- the action varies whatever its operands do: an own id, a load that is not from constant memory, a variable that
+-- varies
 abbrev pub varies_itself : Function → Spot → Action → State → Test
 varies_itself own at (Ask what) s = is_own what
 varies_itself own at (Load site element root) s = not (is_constant_root own root)
@@ -41,7 +48,9 @@ settled at _ r = r
 -- a round over an expression of a function
 abbrev mutual
   pub seen_in : Function → Spot → Expression → State → Seen
-  seen_in own at (Apply action operands) s = settled at action (seen_among own at (is_store action) operands (record { varies = varies_itself own at action s; state = s }))
+  seen_in own at (Apply action operands) s =
+      settled at action (seen_among own at (is_store action) operands
+      (record { varies = varies_itself own at action s; state = s }))
   seen_in own at (Update site element root op of back old index value) s =
       record { varies = true; state = (seen_in own at value (seen_in own at index s).state).state }
   seen_in own at (Choose site test chosen other) s =
@@ -85,7 +94,8 @@ abbrev mutual
   gone_over own at (Declare x value) s =
       let v = seen_optional own at value s in
       record { ways = no_way; state = declare at x v.varies v.state }
-  gone_over own at (Fill site array values) s = record { ways = no_way; state = (seen_among own at false values (unseen s)).state }
+  gone_over own at (Fill site array values) s =
+      record { ways = no_way; state = (seen_among own at false values (unseen s)).state }
   gone_over own at (Block list) s = gone_over_all own at list s
   gone_over own at (If site test chosen other) s =
       let t = seen_in own at test s in
@@ -96,7 +106,8 @@ abbrev mutual
   gone_over own at (Loop site test_first test step body) s =
       let t = seen_optional own at test s in
       let inner = under site t.varies at in
-      let b = gone_over own inner body (seen_optional own inner step (seen_optional own inner test t.state).state).state in
+      let b =
+      gone_over own inner body (seen_optional own inner step (seen_optional own inner test t.state).state).state in
       record { ways = behind t.varies b.ways; state = b.state }
   gone_over own at (Switch site value arms) s =
       let v = seen_in own at value s in

@@ -61,8 +61,11 @@ fn is_constant(own: &Function, root: Root) -> bool
 /// Whether one of the expressions varies.
 #[cycle(expressions)]
 pub(crate) fn operands(list: &[Expr], own: &Function, at: Spot, known: &mut Known) -> bool
-    ensures varies { result ≡ (spec.seen_among (function_of own.now) at false (listed_expressions list.now) (spec.unseen (state_of known.old))).varies }
-    ensures known { state_of known.new ≡ (spec.seen_among (function_of own.now) at false (listed_expressions list.now) (spec.unseen (state_of known.old))).state }
+    ensures varies { result ≡ (spec.seen_among (function_of own.now) at false (listed_expressions list.now)
+        (spec.unseen (state_of known.old))).varies }
+    ensures known { state_of known.new ≡
+        (spec.seen_among (function_of own.now) at false (listed_expressions list.now)
+        (spec.unseen (state_of known.old))).state }
 {
     let mut varies = false;
     for e in list {
@@ -75,7 +78,8 @@ pub(crate) fn operands(list: &[Expr], own: &Function, at: Spot, known: &mut Know
 /// Notes what a call of a function passes to its parameters.
 #[cycle(expressions)]
 fn arguments(list: &[Arg], function: u32, own: &Function, at: Spot, known: &mut Known)
-    ensures { state_of known.new ≡ spec.seen_arguments (function_of own.now) at function 0 (listed_arguments list.now) (state_of known.old) }
+    ensures { state_of known.new ≡ spec.seen_arguments (function_of own.now) at function 0
+        (listed_arguments list.now) (state_of known.old) }
 {
     for (parameter, a) in list.iter().enumerate() {
         let varies = argument(a, own, at, known);
@@ -85,8 +89,10 @@ fn arguments(list: &[Arg], function: u32, own: &Function, at: Spot, known: &mut 
 
 #[cycle(expressions)]
 fn argument(a: &Arg, own: &Function, at: Spot, known: &mut Known) -> bool
-    ensures varies { result ≡ (spec.seen_in (function_of own.now) at (argument_of a.now) (state_of known.old)).varies }
-    ensures known { state_of known.new ≡ (spec.seen_in (function_of own.now) at (argument_of a.now) (state_of known.old)).state }
+    ensures varies { result ≡ (spec.seen_in (function_of own.now) at (argument_of a.now)
+        (state_of known.old)).varies }
+    ensures known { state_of known.new ≡
+        (spec.seen_in (function_of own.now) at (argument_of a.now) (state_of known.old)).state }
 {
     match a {
         Arg::Value(e) => expression(e, own, at, known),
@@ -107,7 +113,8 @@ fn set_target(target: &Target, at: Spot, varies: bool, known: &mut Known)
 #[cycle(expressions)]
 fn old_value(target: &Target, own: &Function, at: Spot, known: &mut Known) -> bool
     ensures varies { result ≡ (seen_target (function_of own.now) at target.now (state_of known.old)).varies }
-    ensures known { state_of known.new ≡ (seen_target (function_of own.now) at target.now (state_of known.old)).state }
+    ensures known { state_of known.new ≡
+        (seen_target (function_of own.now) at target.now (state_of known.old)).state }
 {
     match target {
         Target::Var(x) => variable_at(known, at.function, *x as usize).varies,
@@ -121,8 +128,10 @@ fn old_value(target: &Target, own: &Function, at: Spot, known: &mut Known) -> bo
 /// Whether an expression varies by what is known; what it assigns and passes is noted.
 #[cycle(expressions)]
 pub(crate) fn expression(e: &Expr, own: &Function, at: Spot, known: &mut Known) -> bool
-    ensures varies { result ≡ (spec.seen_in (function_of own.now) at (expression_of e.now) (state_of known.old)).varies }
-    ensures known { state_of known.new ≡ (spec.seen_in (function_of own.now) at (expression_of e.now) (state_of known.old)).state }
+    ensures varies { result ≡ (spec.seen_in (function_of own.now) at (expression_of e.now)
+        (state_of known.old)).varies }
+    ensures known { state_of known.new ≡
+        (spec.seen_in (function_of own.now) at (expression_of e.now) (state_of known.old)).state }
 {
     match e {
         Expr::Literal { .. } => false,
@@ -181,8 +190,10 @@ pub(crate) fn expression(e: &Expr, own: &Function, at: Spot, known: &mut Known) 
 
 /// The same of an expression that may be absent.
 pub(crate) fn optional(e: &Option<Expr>, own: &Function, at: Spot, known: &mut Known) -> bool
-    ensures varies { result ≡ (spec.seen_optional (function_of own.now) at (optional_expression e.now) (state_of known.old)).varies }
-    ensures known { state_of known.new ≡ (spec.seen_optional (function_of own.now) at (optional_expression e.now) (state_of known.old)).state }
+    ensures varies { result ≡ (spec.seen_optional (function_of own.now) at (optional_expression e.now)
+        (state_of known.old)).varies }
+    ensures known { state_of known.new ≡
+        (spec.seen_optional (function_of own.now) at (optional_expression e.now) (state_of known.old)).state }
 {
     match e {
         None => false,

@@ -33,8 +33,10 @@ fn close_all(list: &[Stmt], at: Spot, known: &mut Known)
 /// The ways out of the statements of a block.
 #[cycle(statements)]
 pub(crate) fn statements(list: &[Stmt], own: &Function, at: Spot, known: &mut Known) -> Ways
-    ensures ways { result ≡ (spec.gone_over_all (function_of own.now) at (listed_statements list.now) (state_of known.old)).ways }
-    ensures known { state_of known.new ≡ (spec.gone_over_all (function_of own.now) at (listed_statements list.now) (state_of known.old)).state }
+    ensures ways { result ≡ (spec.gone_over_all (function_of own.now) at (listed_statements list.now)
+        (state_of known.old)).ways }
+    ensures known { state_of known.new ≡
+        (spec.gone_over_all (function_of own.now) at (listed_statements list.now) (state_of known.old)).state }
 {
     let mut ways = no_way();
     // the statements in front of the last one that holds a way out under a condition that varies
@@ -52,8 +54,10 @@ pub(crate) fn statements(list: &[Stmt], own: &Function, at: Spot, known: &mut Kn
 
 #[cycle(statements)]
 fn arms(list: &[SwitchArm], own: &Function, at: Spot, known: &mut Known) -> Ways
-    ensures ways { result ≡ (spec.gone_over_arms (function_of own.now) at (listed_arms list.now) (state_of known.old)).ways }
-    ensures known { state_of known.new ≡ (spec.gone_over_arms (function_of own.now) at (listed_arms list.now) (state_of known.old)).state }
+    ensures ways { result ≡ (spec.gone_over_arms (function_of own.now) at (listed_arms list.now)
+        (state_of known.old)).ways }
+    ensures known { state_of known.new ≡
+        (spec.gone_over_arms (function_of own.now) at (listed_arms list.now) (state_of known.old)).state }
 {
     let mut ways = no_way();
     for arm in list {
@@ -67,7 +71,8 @@ fn arms(list: &[SwitchArm], own: &Function, at: Spot, known: &mut Known) -> Ways
 #[cycle(statements)]
 fn statement(s: &Stmt, own: &Function, at: Spot, known: &mut Known) -> Ways
     ensures ways { result ≡ (spec.gone_over (function_of own.now) at (statement_of s.now) (state_of known.old)).ways }
-    ensures known { state_of known.new ≡ (spec.gone_over (function_of own.now) at (statement_of s.now) (state_of known.old)).state }
+    ensures known { state_of known.new ≡
+        (spec.gone_over (function_of own.now) at (statement_of s.now) (state_of known.old)).state }
 {
     match s {
         Stmt::Do(e) => {

@@ -1,4 +1,5 @@
--- A condition on the text of a kernel alone, under which it is even in these cells: each gets values of such cells only where it is live, and is not set under a test of others.
+-- A condition on the text of a kernel alone, under which it is even in these cells: each gets values of such cells
+-- only where it is live, and is not set under a test of others.
 use Rattle.std.specs.Prelude.{◌≡◌, ℕ, List, [], ◌∷◌, ◌&&◌, ◌||◌, not, nat_eq, nat_lt, length, slice_get}
 use Rattle.std.specs.Prelude.{Bool as Test, true, false}
 use Rattle.cl_model.specs.declared.program.Root.{Root}
@@ -7,7 +8,8 @@ use Rattle.cl_model.specs.Objects.{is_constant_pointer}
 use Rattle.cl_model.specs.Varying.{is_own}
 use Rattle.kir.specs.declared.line.Atom.{Atom}
 use Rattle.kir.specs.declared.line.Atom.TheVariants.{Const, Cell as CellAtom}
-use Rattle.kir.specs.Tree.{Work, Unary, Binary, Builtin, Convert, Ask, Argument, Copy, Lines, NoLine, SetThen, LoadThen, StoreThen, ClearThen, IfThen, LoopThen, BarrierThen, Kernel}
+use Rattle.kir.specs.Tree.{Work, Unary, Binary, Builtin, Convert, Ask, Argument, Copy, Lines, NoLine, SetThen}
+use Rattle.kir.specs.Tree.{LoadThen, StoreThen, ClearThen, IfThen, LoopThen, BarrierThen, Kernel}
 use Rattle.kir.specs.Live.{reads, live_in}
 
 -- an atom, and what a line computes, are made of even cells alone
@@ -53,15 +55,22 @@ tested test answer body after c = reads c answer || (after c || live_in c body (
 -- the lines are steady, where `out` says which cells are live behind them
 abbrev pub IsSteady : Kernel → (even : ℕ → Test) → (out : ℕ → Test) → Lines → Type 0
 IsSteady kernel even out NoLine = Unit {0}
-IsSteady kernel even out (SetThen to work rest) = (live_in to rest (out to) ≡ true → even to ≡ true → work_even even work ≡ true) × IsSteady kernel even out rest
-IsSteady kernel even out (LoadThen site to element root index rest) = (live_in to rest (out to) ≡ true → even to ≡ true → (is_constant_root kernel root ≡ true) × (atom_even even index ≡ true)) × IsSteady kernel even out rest
+IsSteady kernel even out (SetThen to work rest) =
+    (live_in to rest (out to) ≡ true → even to ≡ true → work_even even work ≡ true) × IsSteady kernel even out rest
+IsSteady kernel even out (LoadThen site to element root index rest) =
+    (live_in to rest (out to) ≡ true → even to ≡ true → (is_constant_root kernel root ≡ true) ×
+    (atom_even even index ≡ true)) × IsSteady kernel even out rest
 IsSteady kernel even out (StoreThen site element root index from rest) = IsSteady kernel even out rest
 IsSteady kernel even out (ClearThen array rest) = IsSteady kernel even out rest
 IsSteady kernel even out (IfThen site test chosen other rest) =
-    (atom_even even test ≡ false → (c : ℕ) → even c ≡ true → live_in c rest (out c) ≡ true → (sets_in c chosen || sets_in c other) ≡ false)
-    × IsSteady kernel even (λ c. live_in c rest (out c)) chosen × IsSteady kernel even (λ c. live_in c rest (out c)) other × IsSteady kernel even out rest
+    (atom_even even test ≡ false → (c : ℕ) → even c ≡ true → live_in c rest (out c) ≡ true →
+    (sets_in c chosen || sets_in c other) ≡ false)
+    × IsSteady kernel even (λ c. live_in c rest (out c)) chosen ×
+    IsSteady kernel even (λ c. live_in c rest (out c)) other × IsSteady kernel even out rest
 IsSteady kernel even out (LoopThen site test_first test answer body rest) =
-    (atom_even even answer ≡ false → (c : ℕ) → even c ≡ true → live_in c rest (out c) ≡ true → (sets_in c test || sets_in c body) ≡ false)
+    (atom_even even answer ≡ false → (c : ℕ) → even c ≡ true → live_in c rest (out c) ≡ true →
+    (sets_in c test || sets_in c body) ≡ false)
     × IsSteady kernel even (tested test answer body (λ c. live_in c rest (out c))) test
-    × IsSteady kernel even (λ c. live_in c test (tested test answer body (λ d. live_in d rest (out d)) c)) body × IsSteady kernel even out rest
+    × IsSteady kernel even (λ c. live_in c test (tested test answer body (λ d. live_in d rest (out d)) c)) body ×
+    IsSteady kernel even out rest
 IsSteady kernel even out (BarrierThen site rest) = IsSteady kernel even out rest

@@ -43,9 +43,13 @@ impl Worker {
         requires fits { code_fits (names_of (plain_of program.now)) code.now.counts code.now.steps.items ≡ true }
         requires room { HasRoom code.now.counts (room_at program.now.width self.old.machine) }
         requires chunk { chunk < chunk_count (plain_of program.now) (launch_of launch.now) }
-        ensures end { chunk_ended (chunk_at (plain_of program.now) (launch_of launch.now) number chunk) (region_end (chunk_at (plain_of program.now) (launch_of launch.now) number chunk) code.now.steps.items code.now.counts self.old.turns self.old.group.kept (buffers_of buffers.old)) ≡ ended result self.new.turns self.new.group.kept (buffers_of buffers.new) }
+        ensures end { chunk_ended (chunk_at (plain_of program.now) (launch_of launch.now) number chunk)
+            (region_end (chunk_at (plain_of program.now) (launch_of launch.now) number chunk) code.now.steps.items
+            code.now.counts self.old.turns self.old.group.kept (buffers_of buffers.old)) ≡
+            ended result self.new.turns self.new.group.kept (buffers_of buffers.new) }
         ensures stands { Stands (plain_of program.now) (launch_of launch.now) number self.new.group }
-        ensures room { IsNoLess (room_at program.now.width self.old.machine) (room_at program.now.width self.new.machine) }
+        ensures room { IsNoLess (room_at program.now.width self.old.machine)
+            (room_at program.now.width self.new.machine) }
     {
         let end = self.machine.region(
             code,
@@ -71,9 +75,12 @@ impl Worker {
         requires stands { Stands (plain_of program.now) (launch_of launch.now) number self.old.group }
         requires fits { code_fits (names_of (plain_of program.now)) code.now.counts code.now.steps.items ≡ true }
         requires room { HasRoom code.now.counts (room_at program.now.width self.old.machine) }
-        ensures end { chunks_end (plain_of program.now) (launch_of launch.now) number (code_of code.now) 0 (chunk_count (plain_of program.now) (launch_of launch.now)) self.old.turns self.old.group.kept (buffers_of buffers.old) ≡ ended result self.new.turns self.new.group.kept (buffers_of buffers.new) }
+        ensures end { chunks_end (plain_of program.now) (launch_of launch.now) number (code_of code.now) 0
+            (chunk_count (plain_of program.now) (launch_of launch.now)) self.old.turns self.old.group.kept
+            (buffers_of buffers.old) ≡ ended result self.new.turns self.new.group.kept (buffers_of buffers.new) }
         ensures stands { Stands (plain_of program.now) (launch_of launch.now) number self.new.group }
-        ensures room { IsNoLess (room_at program.now.width self.old.machine) (room_at program.now.width self.new.machine) }
+        ensures room { IsNoLess (room_at program.now.width self.old.machine)
+            (room_at program.now.width self.new.machine) }
     {
         let count = chunks_in_group(program, launch);
         for chunk in 0..count {
@@ -97,9 +104,12 @@ impl Worker {
         requires stands { Stands (plain_of program.now) (launch_of launch.now) number self.old.group }
         requires fits { code_fits (names_of (plain_of program.now)) code.now.counts code.now.steps.items ≡ true }
         requires room { HasRoom code.now.counts (room_at program.now.width self.old.machine) }
-        ensures end { items_end (plain_of program.now) (launch_of launch.now) number (code_of code.now) self.old.turns self.old.group.kept (buffers_of buffers.old) ≡ ended result self.new.turns self.new.group.kept (buffers_of buffers.new) }
+        ensures end { items_end (plain_of program.now) (launch_of launch.now) number (code_of code.now) self.old.turns
+            self.old.group.kept (buffers_of buffers.old) ≡ ended result self.new.turns self.new.group.kept
+            (buffers_of buffers.new) }
         ensures stands { Stands (plain_of program.now) (launch_of launch.now) number self.new.group }
-        ensures room { IsNoLess (room_at program.now.width self.old.machine) (room_at program.now.width self.new.machine) }
+        ensures room { IsNoLess (room_at program.now.width self.old.machine)
+            (room_at program.now.width self.new.machine) }
     {
         self.group.begin();
         let end = self.chunks(program, launch, number, code, buffers);
@@ -122,9 +132,12 @@ impl Worker {
         requires stands { Stands (plain_of program.now) (launch_of launch.now) number self.old.group }
         requires fits { nodes_fit (names_of (plain_of program.now)) nodes.now.items ≡ true }
         requires room { HasRoomForEach (room_at program.now.width self.old.machine) nodes.now.items }
-        ensures end { nodes_end (plain_of program.now) (launch_of launch.now) number nodes.now.items self.old.turns self.old.group.kept (buffers_of buffers.old) ≡ ended result self.new.turns self.new.group.kept (buffers_of buffers.new) }
+        ensures end { nodes_end (plain_of program.now) (launch_of launch.now) number nodes.now.items self.old.turns
+            self.old.group.kept (buffers_of buffers.old) ≡ ended result self.new.turns self.new.group.kept
+            (buffers_of buffers.new) }
         ensures stands { Stands (plain_of program.now) (launch_of launch.now) number self.new.group }
-        ensures room { IsNoLess (room_at program.now.width self.old.machine) (room_at program.now.width self.new.machine) }
+        ensures room { IsNoLess (room_at program.now.width self.old.machine)
+            (room_at program.now.width self.new.machine) }
     {
         for one in nodes {
             let end = self.node(program, launch, number, one, buffers);
@@ -148,9 +161,12 @@ impl Worker {
         requires stands { Stands (plain_of program.now) (launch_of launch.now) number self.old.group }
         requires fits { work_fits (names_of (plain_of program.now)) (work_of body.now) ≡ true }
         requires room { HasRoomFor (room_at program.now.width self.old.machine) (work_of body.now) }
-        ensures end { turn_end (work_end (plain_of program.now) (launch_of launch.now) number (work_of body.now)) self.old.turns self.old.group.kept (buffers_of buffers.old) ≡ ended result self.new.turns self.new.group.kept (buffers_of buffers.new) }
+        ensures end { turn_end (work_end (plain_of program.now) (launch_of launch.now) number (work_of body.now))
+            self.old.turns self.old.group.kept (buffers_of buffers.old) ≡
+            ended result self.new.turns self.new.group.kept (buffers_of buffers.new) }
         ensures stands { Stands (plain_of program.now) (launch_of launch.now) number self.new.group }
-        ensures room { IsNoLess (room_at program.now.width self.old.machine) (room_at program.now.width self.new.machine) }
+        ensures room { IsNoLess (room_at program.now.width self.old.machine)
+            (room_at program.now.width self.new.machine) }
     {
         if self.turns == 0 {
             return RunEnd::Turns;
@@ -173,9 +189,12 @@ impl Worker {
         requires stands { Stands (plain_of program.now) (launch_of launch.now) number self.old.group }
         requires fits { work_fits (names_of (plain_of program.now)) (work_of node.now) ≡ true }
         requires room { HasRoomFor (room_at program.now.width self.old.machine) (work_of node.now) }
-        ensures end { work_end (plain_of program.now) (launch_of launch.now) number (work_of node.now) self.old.turns self.old.group.kept (buffers_of buffers.old) ≡ ended result self.new.turns self.new.group.kept (buffers_of buffers.new) }
+        ensures end { work_end (plain_of program.now) (launch_of launch.now) number (work_of node.now) self.old.turns
+            self.old.group.kept (buffers_of buffers.old) ≡ ended result self.new.turns self.new.group.kept
+            (buffers_of buffers.new) }
         ensures stands { Stands (plain_of program.now) (launch_of launch.now) number self.new.group }
-        ensures room { IsNoLess (room_at program.now.width self.old.machine) (room_at program.now.width self.new.machine) }
+        ensures room { IsNoLess (room_at program.now.width self.old.machine)
+            (room_at program.now.width self.new.machine) }
     {
         let Node::Loop {
             test_first,
@@ -227,9 +246,12 @@ impl Worker {
         requires stands { Stands (plain_of program.now) (launch_of launch.now) number self.old.group }
         requires fits { work_fits (names_of (plain_of program.now)) (work_of node.now) ≡ true }
         requires room { HasRoomFor (room_at program.now.width self.old.machine) (work_of node.now) }
-        ensures end { work_end (plain_of program.now) (launch_of launch.now) number (work_of node.now) self.old.turns self.old.group.kept (buffers_of buffers.old) ≡ ended result self.new.turns self.new.group.kept (buffers_of buffers.new) }
+        ensures end { work_end (plain_of program.now) (launch_of launch.now) number (work_of node.now) self.old.turns
+            self.old.group.kept (buffers_of buffers.old) ≡ ended result self.new.turns self.new.group.kept
+            (buffers_of buffers.new) }
         ensures stands { Stands (plain_of program.now) (launch_of launch.now) number self.new.group }
-        ensures room { IsNoLess (room_at program.now.width self.old.machine) (room_at program.now.width self.new.machine) }
+        ensures room { IsNoLess (room_at program.now.width self.old.machine)
+            (room_at program.now.width self.new.machine) }
     {
         match node {
             Node::Items(code) => self.items(program, launch, number, code, buffers),
@@ -261,10 +283,12 @@ impl Worker {
         launch: &Launch,
         buffers: &mut Buffers,
     ) -> RunEnd
-        requires fits { LaunchFits (plain_of program.now).params (sum (plain_of program.now).locals) (launch_of launch.now) }
+        requires fits { LaunchFits (plain_of program.now).params (sum (plain_of program.now).locals)
+            (launch_of launch.now) }
         requires made { IsGroupOf (plain_of program.now) (launch_of launch.now) self.old.group.kept }
         requires room { HasRoomFor (room_at program.now.width self.old.machine) (plain_of program.now).top }
-        ensures end { groups_end (plain_of program.now) (launch_of launch.now) 0 (group_count (launch_of launch.now)) self.old.turns (buffers_of buffers.old) ≡ run_end result self.new.turns (buffers_of buffers.new) }
+        ensures end { groups_end (plain_of program.now) (launch_of launch.now) 0 (group_count (launch_of launch.now))
+            self.old.turns (buffers_of buffers.old) ≡ run_end result self.new.turns (buffers_of buffers.new) }
         ensures made { IsGroupOf (plain_of program.now) (launch_of launch.now) self.new.group.kept }
         ensures room { HasRoomFor (room_at program.now.width self.new.machine) (plain_of program.now).top }
     {

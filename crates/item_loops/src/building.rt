@@ -52,7 +52,8 @@ fn build_nodes(
     plan: &Plan,
     kernel: &Kernel,
 ) -> Result<Vec<Node>, Memory>
-    ensures { IfOk result (λ v. map work_of v.items ≡ map (built_work (region_code (kernel_of kernel.now) plan.now.homes.items)) trees.now.items) }
+    ensures { IfOk result (λ v. map work_of v.items ≡
+        map (built_work (region_code (kernel_of kernel.now) plan.now.homes.items)) trees.now.items) }
 {
     let mut nodes = Vec::new(alloc);
     for tree in trees {
@@ -70,7 +71,8 @@ fn build_boxed(
     plan: &Plan,
     kernel: &Kernel,
 ) -> Result<Box<Node>, Memory>
-    ensures { IfOk result (λ b. work_of b.value ≡ built_work (region_code (kernel_of kernel.now) plan.now.homes.items) tree.now) }
+    ensures { IfOk result (λ b. work_of b.value ≡
+        built_work (region_code (kernel_of kernel.now) plan.now.homes.items) tree.now) }
 {
     let node = build_node(alloc, tree, plan, kernel)?;
     boxed(alloc, node)
@@ -84,7 +86,8 @@ fn build_node(
     plan: &Plan,
     kernel: &Kernel,
 ) -> Result<Node, Memory>
-    ensures { IfOk result (λ n. work_of n ≡ built_work (region_code (kernel_of kernel.now) plan.now.homes.items) tree.now) }
+    ensures { IfOk result (λ n. work_of n ≡ built_work (region_code (kernel_of kernel.now) plan.now.homes.items)
+        tree.now) }
 {
     match tree {
         RegionTree::Items(region) => {
@@ -142,7 +145,8 @@ struct Objects {
 fn objects_of(alloc: Global, kernel: &Kernel) -> Result<Objects, Memory>
     ensures tables { IfOk result (λ o. map table_of o.tables.items ≡ map table_of kernel.now.tables.items) }
     ensures locals { IfOk result (λ o. o.locals.items ≡ array_sizes false (map array_of kernel.now.arrays.items)) }
-    ensures privates { IfOk result (λ o. o.privates.items ≡ array_sizes true (map array_of kernel.now.arrays.items)) }
+    ensures privates { IfOk result (λ o. o.privates.items ≡
+        array_sizes true (map array_of kernel.now.arrays.items)) }
 {
     let tables = copy_tables(alloc, &kernel.tables)?;
     let locals = sizes_in(alloc, false, &kernel.arrays)?;
@@ -186,7 +190,8 @@ fn parts_for(
     name: &Word,
     width: Width,
 ) -> Result<GroupParts, Memory>
-    ensures plain { IfOk result (λ p. parts_of p ≡ built_of (kernel_of kernel.now) (planned_of plan.now) width tree.now) }
+    ensures plain { IfOk result (λ p. parts_of p ≡ built_of (kernel_of kernel.now) (planned_of plan.now) width
+        tree.now) }
     ensures name { IfOk result (λ p. p.kernel ≡ name.now) }
     ensures width { IfOk result (λ p. p.width ≡ width) }
 {
@@ -219,14 +224,17 @@ pub fn build(
     name: &Word,
     width: Width,
 ) -> Result<GroupProgram, Memory>
-    ensures plain { IfOk result (λ g. plain_of g ≡ built_of (kernel_of kernel.now) (planned_of plan.now) width tree.now) }
+    ensures plain { IfOk result (λ g. plain_of g ≡ built_of (kernel_of kernel.now) (planned_of plan.now) width
+        tree.now) }
     ensures name { IfOk result (λ g. g.kernel ≡ name.now) }
     ensures width { IfOk result (λ g. g.width ≡ width) }
     ensures parts { IfOk result (λ g. HasPartsOf (kernel_of kernel.now) (planned_of plan.now) width (plain_of g)) }
     ensures one { IfOk result (λ g. IsOneRegion tree.now → IsOneCode (plain_of g).top) }
 
     // The chain of codes is the tree's regions, each with its own code.
-    ensures built { IfOk result (λ g. IsBuilt (λ region code. code ≡ region_code (kernel_of kernel.now) plan.now.homes.items region) (tree_before tree.now NoRegion) (work_before (plain_of g).top NoWork)) }
+    ensures built { IfOk result (λ g.
+        IsBuilt (λ region code. code ≡ region_code (kernel_of kernel.now) plan.now.homes.items region)
+        (tree_before tree.now NoRegion) (work_before (plain_of g).top NoWork)) }
 {
     let parts = parts_for(alloc, tree, plan, kernel, name, width)?;
     match parts.checked() {

@@ -1,6 +1,9 @@
 -- Weights of expressions and statements, for the end of the recursion; a call weighs what its arguments do.
-use Rattle.std.proofs.Common.{◌≡◌, ℕ, zero, suc, ◌+◌, ◌*◌, ◌<◌, ◌≤◌, List, [], ◌∷◌, Option, Some, None, slice_get, unwrap_or, arith, ap, sym, ◌∙◌}
-use Rattle.cl_model.specs.Tree.{Expression, Apply, Update, Choose, Call, Expressions, none, more, Statement, Do, Declare, Fill, Block, If, Loop, Switch, Break, Continue, Return, Barrier, Statements, empty, also, Arms, no_arm, arm, Function, Program}
+use Rattle.std.proofs.Common.{◌≡◌, ℕ, zero, suc, ◌+◌, ◌*◌, ◌<◌, ◌≤◌, List, [], ◌∷◌, Option, Some, None, slice_get}
+use Rattle.std.proofs.Common.{unwrap_or, arith, ap, sym, ◌∙◌}
+use Rattle.cl_model.specs.Tree.{Expression, Apply, Update, Choose, Call, Expressions, none, more, Statement, Do}
+use Rattle.cl_model.specs.Tree.{Declare, Fill, Block, If, Loop, Switch, Break, Continue, Return, Barrier, Statements}
+use Rattle.cl_model.specs.Tree.{empty, also, Arms, no_arm, arm, Function, Program}
 use Rattle.cl_model.specs.Calls.{function_at, no_function}
 
 abbrev mutual
@@ -25,7 +28,8 @@ abbrev mutual
   weight_of (Fill site array values) = 3 + weight_among values
   weight_of (Block list) = 2 + weight_of_all list
   weight_of (If site test chosen other) = 4 + (weight_in test + (weight_of_all chosen + weight_of_all other))
-  weight_of (Loop site test_first test step body) = 5 + (weight_in_optional test + (weight_in_optional step + weight_of body))
+  weight_of (Loop site test_first test step body) =
+      5 + (weight_in_optional test + (weight_in_optional step + weight_of body))
   weight_of (Switch site value arms) = 5 + (weight_in value + weight_of_arms arms)
   weight_of (Break site) = 1
   weight_of (Continue site) = 1
@@ -62,7 +66,8 @@ some_weight (Continue site) = omega arith
 some_weight (Return site value) = omega arith
 some_weight (Barrier site) = omega arith
 
-found_fits : (fs : List Function) (n : ℕ) → 2 * weight_of_all (unwrap_or (slice_get fs n) no_function).body + 9 ≤ room_among fs
+found_fits : (fs : List Function) (n : ℕ) → 2 * weight_of_all (unwrap_or (slice_get fs n) no_function).body + 9 ≤
+    room_among fs
 found_fits [] n = omega arith
 found_fits (f ∷ fs) zero = omega arith
 found_fits (f ∷ fs) (suc n) = let h = found_fits fs n in omega arith
@@ -71,7 +76,8 @@ one_more : (n r : ℕ) → (n + 1) * r ≡ n * r + r
 one_more n r = grind arith
 
 -- a function one level deeper weighs less
-pub deeper : (program : Program) (function depth inner : ℕ) → inner + 1 ≡ depth → room program inner + (2 * weight_of_all (function_at program function).body + 5) < room program depth
+pub deeper : (program : Program) (function depth inner : ℕ) → inner + 1 ≡ depth →
+    room program inner + (2 * weight_of_all (function_at program function).body + 5) < room program depth
 deeper program function depth inner e =
     let r = room_among program.functions in
     let h = found_fits program.functions function in
@@ -79,5 +85,7 @@ deeper program function depth inner e =
     omega (arith, h, k)
 
 -- what stands behind the first weighs no more
-pub behind_first : (list : Expressions) (e : Expression) (others : Expressions) (bound : ℕ) → list ≡ more e others → weight_among list ≤ bound → weight_among others ≤ bound
-behind_first list e others bound h k = let w : weight_among list ≡ weight_in e + weight_among others = ap weight_among h in omega (arith, w, k)
+pub behind_first : (list : Expressions) (e : Expression) (others : Expressions) (bound : ℕ) → list ≡ more e others →
+    weight_among list ≤ bound → weight_among others ≤ bound
+behind_first list e others bound h k = let w : weight_among list ≡ weight_in e + weight_among others =
+    ap weight_among h in omega (arith, w, k)

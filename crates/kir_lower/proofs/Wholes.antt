@@ -9,15 +9,19 @@ use Rattle.kir.specs.Tree.{Kernel, Lines}
 use Rattle.kir_lower.specs.Made.{Made}
 
 abbrev kernel_from : List VarKind → Made → List Table → Lines → List Place → Kernel
-kernel_from params made tables body sites = record { params = params; cells = made.cells; arrays = made.arrays; tables = tables; body = body; sites = sites }
+kernel_from params made tables body sites =
+    record { params = params; cells = made.cells; arrays = made.arrays; tables = tables; body = body; sites = sites }
 
 -- kernels of equal parts
-pub kernel_parts : (kinds other_kinds : List VarKind) (made other_made : Made) (tables other_tables : List Table) (body other_body : Lines) (sites other_sites : List Place)
+pub kernel_parts : (kinds other_kinds : List VarKind) (made other_made : Made) (tables other_tables : List Table)
+    (body other_body : Lines) (sites other_sites : List Place)
     → kinds ≡ other_kinds → made ≡ other_made → tables ≡ other_tables → body ≡ other_body → sites ≡ other_sites
     → kernel_from kinds made tables body sites ≡ kernel_from other_kinds other_made other_tables other_body other_sites
 kernel_parts kinds other_kinds made other_made tables other_tables body other_body sites other_sites a b c d e =
-    ap (λ z. kernel_from z made tables body sites) a ∙ ap (λ z. kernel_from other_kinds z tables body sites) b ∙ ap (λ z. kernel_from other_kinds other_made z body sites) c
-    ∙ ap (λ z. kernel_from other_kinds other_made other_tables z sites) d ∙ ap (λ z. kernel_from other_kinds other_made other_tables other_body z) e
+    ap (λ z. kernel_from z made tables body sites) a ∙ ap (λ z. kernel_from other_kinds z tables body sites) b ∙
+    ap (λ z. kernel_from other_kinds other_made z body sites) c
+    ∙ ap (λ z. kernel_from other_kinds other_made other_tables z sites) d ∙
+    ap (λ z. kernel_from other_kinds other_made other_tables other_body z) e
 
 take_past : {A : Type 0} (n : ℕ) (list : List A) → length list ≤ n → take n list ≡ list
 take_past zero [] h = refl
@@ -29,5 +33,7 @@ abbrev kind_of : Var → VarKind
 kind_of v = v.kind
 
 -- the kinds of the first variables, all of which are looked at
-pub kinds_taken : (items vars : List Var) (n i : ℕ) → items ≡ vars → length (take n items) ≤ i → map kind_of (take i (take n items)) ≡ take n (map kind_of vars)
-kinds_taken items vars n i e h = ap (map kind_of) (take_past i (take n items) h) ∙ ap (λ z. map kind_of (take n z)) e ∙ sym (take-map kind_of n vars)
+pub kinds_taken : (items vars : List Var) (n i : ℕ) → items ≡ vars → length (take n items) ≤ i →
+    map kind_of (take i (take n items)) ≡ take n (map kind_of vars)
+kinds_taken items vars n i e h =
+    ap (map kind_of) (take_past i (take n items) h) ∙ ap (λ z. map kind_of (take n z)) e ∙ sym (take-map kind_of n vars)

@@ -15,7 +15,8 @@ use Rattle.cl_model.specs.Values.{number_of}
 use Rattle.cl_model.specs.Valid.{unary_type, binary_type, query_type, promoted}
 use Rattle.kir.specs.declared.line.Atom.{Atom}
 use Rattle.kir.specs.declared.line.Atom.TheVariants.{Const, Cell as CellAtom}
-use Rattle.kir.specs.Tree.{Work, Unary, Binary, Builtin, Convert, Ask, Copy, Lines, NoLine, SetThen, LoadThen, StoreThen, ClearThen, IfThen, LoopThen, BarrierThen, joined_to, OfFlag, OfValue}
+use Rattle.kir.specs.Tree.{Work, Unary, Binary, Builtin, Convert, Ask, Copy, Lines, NoLine, SetThen, LoadThen}
+use Rattle.kir.specs.Tree.{StoreThen, ClearThen, IfThen, LoopThen, BarrierThen, joined_to, OfFlag, OfValue}
 use Rattle.kir_lower.specs.declared.places.Value.{Value}
 use Rattle.kir_lower.specs.Made.{Made, next_cell, with_cell, Instance, type_at, root_in, int, constant}
 
@@ -58,7 +59,8 @@ truth a made = operated Ne a.of a.atom (Const (pos 0) a.of) made
 abbrev pub converted : IntType → Atom → Made → Code
 converted to a made = computed (Convert to a) to made
 
--- the new value of a compound assignment: the old one in the type in which it computes, the result, and that in the target's type
+-- the new value of a compound assignment: the old one in the type in which it computes, the result, and that in the
+-- target's type
 abbrev pub changed : (op : Bin) (of back : IntType) → (was by : Atom) → Made → Code
 changed op of back was by made =
     let cw = converted of was made in
@@ -82,7 +84,8 @@ abbrev pub stored : ℕ → IntType → Root → Atom → Atom → Lines
 stored site element root index from = StoreThen site element root index from NoLine
 
 -- the value of one of two branches, from the lines and the value of each: the last line of each sets one new cell
-abbrev pub choice_code : (site : ℕ) → (test : Atom) → (first : Lines) → (chosen : Value) → (second : Lines) → (other : Value) → Made → Code
+abbrev pub choice_code : (site : ℕ) → (test : Atom) → (first : Lines) → (chosen : Value) → (second : Lines) →
+    (other : Value) → Made → Code
 choice_code site test first chosen second other made = record {
   lines = IfThen site test
       (joined_to first (set_to (next_cell made) chosen.atom))
@@ -118,7 +121,8 @@ action_code here (tree.Ask what) values made = computed (Ask what (first values)
 action_code here tree.Second values made = given (second values) made
 action_code here tree.Truth values made = truth (first values) made
 action_code here (tree.Decided answer) values made = given (constant (number_of answer) Int) made
-action_code here (tree.Set x) values made = record { lines = set_to (here.base + x) (first values).atom; value = first values; made = made }
+action_code here (tree.Set x) values made =
+    record { lines = set_to (here.base + x) (first values).atom; value = first values; made = made }
 action_code here (tree.Change x op of back old) values made =
     let cc = changed op of back (first values).atom (second values).atom made in
     record {
@@ -126,9 +130,14 @@ action_code here (tree.Change x op of back old) values made =
       value = (if old then first values else cc.value);
       made = cc.made;
     }
-action_code here (tree.Load site element root) values made = loaded site element (root_in here root) (first values).atom made
+action_code here (tree.Load site element root) values made =
+    loaded site element (root_in here root) (first values).atom made
 action_code here (tree.Store site element root) values made =
-    record { lines = stored site element (root_in here root) (first values).atom (second values).atom; value = second values; made = made }
+    record {
+      lines = stored site element (root_in here root) (first values).atom (second values).atom;
+      value = second values;
+      made = made;
+    }
 
 -- the stores of values into the elements of a private array, the first into that with this number
 abbrev pub initial_lines : ℕ → IntType → ℕ → ℕ → List Value → Lines
@@ -147,7 +156,8 @@ pub record Opened : Type 0 where
 -- the cell is a new one where there is a way out
 abbrev pub opened : Option ℕ → (exit : ℕ) → Made → Opened
 opened None exit made = record { lines = NoLine; exit = exit; made = made }
-opened (Some site) exit made = record { lines = set_to (next_cell made) (int (pos 0)); exit = next_cell made; made = with_cell made OfFlag Int }
+opened (Some site) exit made =
+    record { lines = set_to (next_cell made) (int (pos 0)); exit = next_cell made; made = with_cell made OfFlag Int }
 
 -- there is no line
 abbrev pub is_none : Lines → Test
@@ -173,17 +183,25 @@ closed (Some site) exit inside rest = guarded_before site exit inside rest
 abbrev pub settled : ℕ → (exit : ℕ) → Made → Steps
 settled site exit made =
     let ct = operated Eq Int (CellAtom exit) (int (pos 1)) made in
-    record { lines = joined_to ct.lines (IfThen site ct.value.atom (set_to exit (int (pos 0))) NoLine NoLine); made = ct.made }
+    record {
+      lines = joined_to ct.lines (IfThen site ct.value.atom (set_to exit (int (pos 0))) NoLine NoLine);
+      made = ct.made;
+    }
 
 -- what is pending behind a construct is pending around it, but for a `break`, which ends
 abbrev pub outward : Option ℕ → (exit outer : ℕ) → Made → Steps
 outward None exit outer made = record { lines = NoLine; made = made }
 outward (Some site) exit outer made =
     let ct = operated Eq Int (CellAtom exit) (int (pos 2)) made in
-    record { lines = joined_to ct.lines (IfThen site ct.value.atom NoLine (set_to outer (CellAtom exit)) NoLine); made = ct.made }
+    record {
+      lines = joined_to ct.lines (IfThen site ct.value.atom NoLine (set_to outer (CellAtom exit)) NoLine);
+      made = ct.made;
+    }
 
--- a loop, from the lines of its parts; where there is a way out of its body, the test and the step are skipped where one is pending
-abbrev pub round_code : (site : ℕ) → (test_first : Test) → Option ℕ → (exit : ℕ) → (test : Lines) → (answer : Value) → (step body : Lines) → Made → Steps
+-- a loop, from the lines of its parts; where there is a way out of its body, the test and the step are skipped where
+-- one is pending
+abbrev pub round_code : (site : ℕ) → (test_first : Test) → Option ℕ → (exit : ℕ) → (test : Lines) → (answer : Value) →
+    (step body : Lines) → Made → Steps
 round_code site test_first None exit test answer step body made =
     record { lines = LoopThen site test_first test answer.atom (joined_to body step) NoLine; made = made }
 round_code site test_first (Some way) exit test answer step body made =
@@ -191,7 +209,8 @@ round_code site test_first (Some way) exit test answer step body made =
     let cs = settled way exit (with_cell made OfValue answer.of) in
     record {
       lines = LoopThen site test_first
-          (SetThen to (Copy (Const (pos 0) answer.of)) (IfThen way (CellAtom exit) NoLine (joined_to test (set_to to answer.atom)) NoLine))
+          (SetThen to (Copy (Const (pos 0) answer.of))
+          (IfThen way (CellAtom exit) NoLine (joined_to test (set_to to answer.atom)) NoLine))
           (CellAtom to)
           (joined_to body (joined_to cs.lines (guarded_before way exit step NoLine))) NoLine;
       made = cs.made;
@@ -208,7 +227,10 @@ default_number k (tree.arm labels other body rest) = if other then k else defaul
 abbrev pub label_code : (site : ℕ) → Value → (chosen : ℕ) → ℕ → ℤ → Made → Steps
 label_code site value chosen k label made =
     let ct = operated Eq value.of value.atom (Const label value.of) made in
-    record { lines = joined_to ct.lines (IfThen site ct.value.atom (set_to chosen (int (pos k))) NoLine NoLine); made = ct.made }
+    record {
+      lines = joined_to ct.lines (IfThen site ct.value.atom (set_to chosen (int (pos k))) NoLine NoLine);
+      made = ct.made;
+    }
 
 -- where it is one of the labels
 abbrev pub labels_code : (site : ℕ) → Value → (chosen : ℕ) → ℕ → List ℤ → Made → Steps

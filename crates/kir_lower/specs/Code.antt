@@ -5,16 +5,22 @@ use Rattle.wg_num.specs.declared.types.IntType.{IntType}
 use Rattle.wg_num.specs.declared.types.IntType.TheVariants.{Int}
 use Rattle.wg_num.specs.declared.types.Bin.TheVariants.{Or, Eq}
 use Rattle.cl_model.specs.declared.program.Root.{Root}
-use Rattle.cl_model.specs.Tree.{Expression, Apply, Update, Choose, Call, Expressions, none, more, Statement, Do, Declare, Fill, Block, If, Loop, Switch, Break, Continue, Return, Barrier, Statements, empty, also, Arms, no_arm, arm, Function}
+use Rattle.cl_model.specs.Tree.{Expression, Apply, Update, Choose, Call, Expressions, none, more, Statement, Do}
+use Rattle.cl_model.specs.Tree.{Declare, Fill, Block, If, Loop, Switch, Break, Continue, Return, Barrier, Statements}
+use Rattle.cl_model.specs.Tree.{empty, also, Arms, no_arm, arm, Function}
 use Rattle.kir.specs.declared.line.Atom.{Atom}
 use Rattle.kir.specs.declared.line.Atom.TheVariants.{Cell as CellAtom}
 use Rattle.kir.specs.Tree.{Lines, NoLine, ClearThen, IfThen, BarrierThen, joined_to, OfValue}
 use Rattle.kir_lower.specs.declared.places.Value.{Value}
-use Rattle.kir_lower.specs.Made.{Made, next_cell, with_cell, Instance, type_at, element_at, root_in, argument_roots, int, constant}
+use Rattle.kir_lower.specs.Made.{Made, next_cell, with_cell, Instance, type_at, element_at, root_in, argument_roots}
+use Rattle.kir_lower.specs.Made.{int, constant}
 use Rattle.kir_lower.specs.Ways.{way_out, way_out_of_all, way_out_of_arms, declares}
-use Rattle.kir_lower.specs.Actions.{Code, Steps, given, behind, operated, truth, changed, set_to, loaded, stored, choice_code, action_code, initial_lines, opened, guarded_before, outward, round_code, selected, fallen_code}
+use Rattle.kir_lower.specs.Actions.{Code, Steps, given, behind, operated, truth, changed, set_to, loaded, stored}
+use Rattle.kir_lower.specs.Actions.{choice_code, action_code, initial_lines, opened, guarded_before, outward}
+use Rattle.kir_lower.specs.Actions.{round_code, selected, fallen_code}
 
--- the lines of a call in an instance: at a site, of a function, with the kernel's root of each argument and the values of the arguments
+-- the lines of a call in an instance: at a site, of a function, with the kernel's root of each argument and the
+-- values of the arguments
 abbrev pub Calls : Type 0
 Calls = Instance → (site function : ℕ) → List Root → List Value → Made → Code
 
@@ -38,7 +44,10 @@ unfoldable mutual
       let cv = expression_code calls here value cl.made in
       let cc = changed op of back cl.value.atom cv.value.atom cv.made in
       record {
-        lines = joined_to ci.lines (joined_to cl.lines (joined_to cv.lines (joined_to cc.lines (stored site element (root_in here root) ci.value.atom cc.value.atom))));
+        lines =
+            joined_to ci.lines (joined_to cl.lines
+            (joined_to cv.lines (joined_to cc.lines (stored site element (root_in here root) ci.value.atom
+            cc.value.atom))));
         value = (if old then cl.value else cc.value);
         made = cc.made;
       }
@@ -61,7 +70,8 @@ unfoldable mutual
 -- a branch of an expression, or whether its value is not 0
 abbrev pub part_code : Calls → Instance → (is_truth : Test) → Expression → Made → Code
 part_code calls here false e made = expression_code calls here e made
-part_code calls here true e made = let ce = expression_code calls here e made in behind ce.lines (truth ce.value ce.made)
+part_code calls here true e made = let ce =
+    expression_code calls here e made in behind ce.lines (truth ce.value ce.made)
 
 -- an expression that may be absent, which then is 1: the test of a loop
 abbrev pub optional_code : Calls → Instance → Option Expression → Made → Code
@@ -70,23 +80,28 @@ optional_code calls here (Some e) made = expression_code calls here e made
 
 -- ---- statements
 
--- statements in order: the lines up to and with the first statement that has a way out, and the guarded lines behind them
+-- statements in order: the lines up to and with the first statement that has a way out, and the guarded lines behind
+-- them
 pub record Guarded : Type 0 where
   pub inside : Lines
   pub rest : Lines
   pub made : Made
 
--- the statements behind one stand under a guard of their own where it has a way out, and none where a guarded one declares a variable
+-- the statements behind one stand under a guard of their own where it has a way out, and none where a guarded one
+-- declares a variable
 abbrev pub is_guarded : (declared : Test) → Option ℕ → (guarded : Test) → Test
 is_guarded true way guarded = false
 is_guarded false None guarded = guarded
 is_guarded false (Some site) guarded = true
 
--- a statement before those behind it. A variable that is declared under a guard is in scope behind it, so all lines behind stand under that guard too
+-- a statement before those behind it. A variable that is declared under a guard is in scope behind it, so all lines
+-- behind stand under that guard too
 abbrev pub before_rest : (exit : ℕ) → (declared : Test) → Option ℕ → Lines → Guarded → Guarded
-before_rest exit true way lines cr = record { inside = joined_to lines (joined_to cr.inside cr.rest); rest = NoLine; made = cr.made }
+before_rest exit true way lines cr =
+    record { inside = joined_to lines (joined_to cr.inside cr.rest); rest = NoLine; made = cr.made }
 before_rest exit false None lines cr = record { inside = joined_to lines cr.inside; rest = cr.rest; made = cr.made }
-before_rest exit false (Some site) lines cr = record { inside = lines; rest = guarded_before site exit cr.inside cr.rest; made = cr.made }
+before_rest exit false (Some site) lines cr =
+    record { inside = lines; rest = guarded_before site exit cr.inside cr.rest; made = cr.made }
 
 -- all lines in order
 abbrev pub in_order : Guarded → Steps
@@ -110,7 +125,11 @@ entry_code chosen fallen k made =
 abbrev pub around_arm : (site exit : ℕ) → Option ℕ → Code → Steps → Code
 around_arm site exit way ce cb =
     let cf = fallen_code way exit ce.value cb.made in
-    record { lines = joined_to ce.lines (IfThen site ce.value.atom cb.lines NoLine cf.lines); value = cf.value; made = cf.made }
+    record {
+      lines = joined_to ce.lines (IfThen site ce.value.atom cb.lines NoLine cf.lines);
+      value = cf.value;
+      made = cf.made;
+    }
 
 unfoldable mutual
   -- exit: the cell of the construct around the statement that says which way out is pending
@@ -124,7 +143,11 @@ unfoldable mutual
   statement_code calls here exit (Fill site array values) made =
       let cv = operands_code calls here values made in
       let number = here.arrays + array in
-      record { lines = joined_to cv.lines (ClearThen number (initial_lines site (element_at here array) number 0 cv.values)); made = cv.made }
+      record {
+        lines = joined_to cv.lines
+            (ClearThen number (initial_lines site (element_at here array) number 0 cv.values));
+        made = cv.made;
+      }
   statement_code calls here exit (Block list) made = in_order (list_code calls here exit false list made)
   statement_code calls here exit (If site test chosen other) made =
       let ct = expression_code calls here test made in
@@ -146,13 +169,19 @@ unfoldable mutual
       let cs = selected site cv.value arms co.made in
       let ca = arms_code calls here co.exit site cs.value.atom (int (pos 0)) 0 arms cs.made in
       let cw = outward (way_out_of_arms false true arms) co.exit exit ca.made in
-      record { lines = joined_to cv.lines (joined_to co.lines (joined_to cs.lines (joined_to ca.lines cw.lines))); made = cw.made }
+      record {
+        lines = joined_to cv.lines (joined_to co.lines (joined_to cs.lines (joined_to ca.lines cw.lines)));
+        made = cw.made;
+      }
   statement_code calls here exit (Break site) made = record { lines = set_exit exit 2; made = made }
   statement_code calls here exit (Continue site) made = record { lines = set_exit exit 1; made = made }
   statement_code calls here exit (Return site None) made = record { lines = set_exit exit 3; made = made }
   statement_code calls here exit (Return site (Some e)) made =
       let ce = expression_code calls here e made in
-      record { lines = joined_to ce.lines (joined_to (set_to here.answer ce.value.atom) (set_exit exit 3)); made = ce.made }
+      record {
+        lines = joined_to ce.lines (joined_to (set_to here.answer ce.value.atom) (set_exit exit 3));
+        made = ce.made;
+      }
   statement_code calls here exit (Barrier site) made = record { lines = BarrierThen site NoLine; made = made }
 
   -- guarded: the statements stand under a guard

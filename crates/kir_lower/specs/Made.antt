@@ -27,8 +27,9 @@ next_cell made = length made.cells
 abbrev pub with_cell : Made → CellKind → IntType → Made
 with_cell made kind of = record { cells = made.cells ++ record { kind = kind; of = of } ∷ []; arrays = made.arrays }
 
--- a function as it stands in the inlined kernel: the sites of the calls that lead to it and their places, the kernel's root of each parameter,
--- the types of its variables and of the elements of its arrays, the cell of its first variable, its first array, and the cell of its result
+-- a function as it stands in the inlined kernel: the sites of the calls that lead to it and their places, the
+-- kernel's root of each parameter, the types of its variables and of the elements of its arrays, the cell of its
+-- first variable, its first array, and the cell of its result
 pub record Instance : Type 0 where
   pub calls : List ℕ
   pub places : List Place
@@ -76,5 +77,9 @@ abbrev pub variable_cells : List ℕ → List Place → ℕ → ℕ → List Nam
 variable_cells calls places function x [] kinds = []
 variable_cells calls places function x (n ∷ names) [] = []
 variable_cells calls places function x (n ∷ names) (kind ∷ kinds) =
-    record { kind = OfVariable (record { calls = calls; function = function; number = x }) (places ++ n.place ∷ []) n.name; of = kind_type kind }
+    record {
+      kind = OfVariable (record { calls = calls; function = function; number = x }) (places ++ n.place ∷ [])
+          n.name;
+      of = kind_type kind;
+    }
     ∷ variable_cells calls places function (x + 1) names kinds

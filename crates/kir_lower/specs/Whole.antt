@@ -63,7 +63,8 @@ parameter_lines cell (v ∷ values) = SetThen cell (Copy v.atom) (parameter_line
 -- a function that is called: its parameters are set to the arguments, then its body
 abbrev pub entered_code : Calls → Way → List Named → Function → List Value → Made → Code
 entered_code calls way names f values made =
-    behind (parameter_lines (next_cell made) values) (body_code calls (instance_at way f made) f (with_instance way names f made))
+    behind (parameter_lines (next_cell made) values)
+    (body_code calls (instance_at way f made) f (with_instance way names f made))
 
 -- the function behind one more call
 abbrev pub way_behind : Program → Instance → (site function : ℕ) → List Root → Way
@@ -78,7 +79,8 @@ way_behind program here site function roots = record {
 unfoldable pub call_code : Program → List (List Named) → ℕ → Calls
 call_code program names zero here site function roots values made = given (constant (pos 0) Int) made
 call_code program names (suc depth) here site function roots values made =
-    entered_code (call_code program names depth) (way_behind program here site function roots) (names_at names function) (function_at program function) values made
+    entered_code (call_code program names depth) (way_behind program here site function roots)
+    (names_at names function) (function_at program function) values made
 
 -- the kernel's own parameters as roots, the first with this number
 abbrev pub own_roots : ℕ → List VarKind → List Root
@@ -96,14 +98,20 @@ nothing_made = record { cells = []; arrays = [] }
 
 -- the kernel as no call leads to it
 abbrev pub kernel_way : Program → Way
-kernel_way program = record { calls = []; places = []; roots = own_roots 0 (parameter_kinds (called.kernel_of program)); function = program.kernel }
+kernel_way program = record {
+  calls = [];
+  places = [];
+  roots = own_roots 0 (parameter_kinds (called.kernel_of program));
+  function = program.kernel;
+}
 
 -- the lines of the kernel, with what is made
 abbrev pub kernel_code : Program → List (List Named) → Code
 kernel_code program names =
     let f = called.kernel_of program in
     let way = kernel_way program in
-    behind (bound_lines 0 0 (parameter_kinds f)) (body_code (call_code program names (length program.functions)) (instance_at way f nothing_made) f (with_instance way (names_at names program.kernel) f nothing_made))
+    behind (bound_lines 0 0 (parameter_kinds f)) (body_code (call_code program names (length program.functions))
+    (instance_at way f nothing_made) f (with_instance way (names_at names program.kernel) f nothing_made))
 
 -- the kernel that the program, whose variables have these names, is lowered to
 unfoldable pub lowered_of : Program → List (List Named) → Kernel

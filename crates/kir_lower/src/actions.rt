@@ -52,9 +52,12 @@ pub fn put_variable(
     lines: &mut Vec<Line>,
     x: u32,
 ) -> Result<Value, Memory>
-    ensures lines { OnOk result (lines_of lines.new.items ≡ joined_to (lines_of lines.old.items) (spec.action_code (instance_of here.now) (tree.Variable x) [] (made_of made.old)).lines) }
-    ensures value { IfOk result (λ v. v ≡ (spec.action_code (instance_of here.now) (tree.Variable x) [] (made_of made.old)).value) }
-    ensures made { OnOk result (made_of made.new ≡ (spec.action_code (instance_of here.now) (tree.Variable x) [] (made_of made.old)).made) }
+    ensures lines { OnOk result (lines_of lines.new.items ≡ joined_to (lines_of lines.old.items)
+        (spec.action_code (instance_of here.now) (tree.Variable x) [] (made_of made.old)).lines) }
+    ensures value { IfOk result (λ v. v ≡
+        (spec.action_code (instance_of here.now) (tree.Variable x) [] (made_of made.old)).value) }
+    ensures made { OnOk result (made_of made.new ≡
+        (spec.action_code (instance_of here.now) (tree.Variable x) [] (made_of made.old)).made) }
 {
     let of = type_at(here, x)?;
     let cell = cell_at(here, x)?;
@@ -69,7 +72,8 @@ pub fn put_assigned(
     x: u32,
     value: Value,
 ) -> Result<(), Memory>
-    ensures { OnOk result (lines_of lines.new.items ≡ joined_to (lines_of lines.old.items) (spec.set_to ((instance_of here.now).base + x) value.atom)) }
+    ensures { OnOk result (lines_of lines.new.items ≡ joined_to (lines_of lines.old.items)
+        (spec.set_to ((instance_of here.now).base + x) value.atom)) }
 {
     let cell = cell_at(here, x)?;
     put_copy(lines, cell, value.atom)
@@ -83,9 +87,12 @@ pub fn put_unary(
     of: IntType,
     a: Value,
 ) -> Result<Value, Memory>
-    ensures lines { OnOk result (lines_of lines.new.items ≡ joined_to (lines_of lines.old.items) (spec.computed (Unary op of a.atom) (valid.unary_type op of) (made_of made.old)).lines) }
-    ensures value { IfOk result (λ v. v ≡ (spec.computed (Unary op of a.atom) (valid.unary_type op of) (made_of made.old)).value) }
-    ensures made { OnOk result (made_of made.new ≡ (spec.computed (Unary op of a.atom) (valid.unary_type op of) (made_of made.old)).made) }
+    ensures lines { OnOk result (lines_of lines.new.items ≡ joined_to (lines_of lines.old.items)
+        (spec.computed (Unary op of a.atom) (valid.unary_type op of) (made_of made.old)).lines) }
+    ensures value { IfOk result (λ v. v ≡
+        (spec.computed (Unary op of a.atom) (valid.unary_type op of) (made_of made.old)).value) }
+    ensures made { OnOk result (made_of made.new ≡
+        (spec.computed (Unary op of a.atom) (valid.unary_type op of) (made_of made.old)).made) }
 {
     put_computed(
         made,
@@ -104,7 +111,8 @@ pub fn put_binary(
     a: Atom,
     b: Atom,
 ) -> Result<Value, Memory>
-    ensures lines { OnOk result (lines_of lines.new.items ≡ joined_to (lines_of lines.old.items) (spec.operated op of a b (made_of made.old)).lines) }
+    ensures lines { OnOk result (lines_of lines.new.items ≡ joined_to (lines_of lines.old.items)
+        (spec.operated op of a b (made_of made.old)).lines) }
     ensures value { IfOk result (λ v. v ≡ (spec.operated op of a b (made_of made.old)).value) }
     ensures made { OnOk result (made_of made.new ≡ (spec.operated op of a b (made_of made.old)).made) }
 {
@@ -135,9 +143,15 @@ pub fn put_builtin(
     of: IntType,
     values: &[Value],
 ) -> Result<Value, Memory>
-    ensures lines { OnOk result (lines_of lines.new.items ≡ joined_to (lines_of lines.old.items) (spec.computed (Builtin f of (spec.atoms_of values.now)) (builtins.result_type f of) (made_of made.old)).lines) }
-    ensures value { IfOk result (λ v. v ≡ (spec.computed (Builtin f of (spec.atoms_of values.now)) (builtins.result_type f of) (made_of made.old)).value) }
-    ensures made { OnOk result (made_of made.new ≡ (spec.computed (Builtin f of (spec.atoms_of values.now)) (builtins.result_type f of) (made_of made.old)).made) }
+    ensures lines { OnOk result (lines_of lines.new.items ≡ joined_to (lines_of lines.old.items)
+        (spec.computed (Builtin f of (spec.atoms_of values.now)) (builtins.result_type f of)
+        (made_of made.old)).lines) }
+    ensures value { IfOk result (λ v. v ≡
+        (spec.computed (Builtin f of (spec.atoms_of values.now)) (builtins.result_type f of)
+        (made_of made.old)).value) }
+    ensures made { OnOk result (made_of made.new ≡
+        (spec.computed (Builtin f of (spec.atoms_of values.now)) (builtins.result_type f of)
+        (made_of made.old)).made) }
 {
     let args = atoms_of(alloc, values)?;
     put_computed(
@@ -155,7 +169,8 @@ pub fn put_converted(
     to: IntType,
     a: Atom,
 ) -> Result<Value, Memory>
-    ensures lines { OnOk result (lines_of lines.new.items ≡ joined_to (lines_of lines.old.items) (spec.converted to a (made_of made.old)).lines) }
+    ensures lines { OnOk result (lines_of lines.new.items ≡ joined_to (lines_of lines.old.items)
+        (spec.converted to a (made_of made.old)).lines) }
     ensures value { IfOk result (λ v. v ≡ (spec.converted to a (made_of made.old)).value) }
     ensures made { OnOk result (made_of made.new ≡ (spec.converted to a (made_of made.old)).made) }
 {
@@ -169,9 +184,12 @@ pub fn put_answer(
     what: cl_model::Query,
     dim: Value,
 ) -> Result<Value, Memory>
-    ensures lines { OnOk result (lines_of lines.new.items ≡ joined_to (lines_of lines.old.items) (spec.computed (Ask what dim.atom) (valid.query_type what) (made_of made.old)).lines) }
-    ensures value { IfOk result (λ v. v ≡ (spec.computed (Ask what dim.atom) (valid.query_type what) (made_of made.old)).value) }
-    ensures made { OnOk result (made_of made.new ≡ (spec.computed (Ask what dim.atom) (valid.query_type what) (made_of made.old)).made) }
+    ensures lines { OnOk result (lines_of lines.new.items ≡ joined_to (lines_of lines.old.items)
+        (spec.computed (Ask what dim.atom) (valid.query_type what) (made_of made.old)).lines) }
+    ensures value { IfOk result (λ v. v ≡
+        (spec.computed (Ask what dim.atom) (valid.query_type what) (made_of made.old)).value) }
+    ensures made { OnOk result (made_of made.new ≡
+        (spec.computed (Ask what dim.atom) (valid.query_type what) (made_of made.old)).made) }
 {
     put_computed(
         made,
@@ -187,7 +205,8 @@ pub fn put_answer(
 /// Whether a value is not 0.
 #[inline(never)]
 pub fn put_truth(made: &mut Made, lines: &mut Vec<Line>, a: Value) -> Result<Value, Memory>
-    ensures lines { OnOk result (lines_of lines.new.items ≡ joined_to (lines_of lines.old.items) (spec.truth a (made_of made.old)).lines) }
+    ensures lines { OnOk result (lines_of lines.new.items ≡ joined_to (lines_of lines.old.items)
+        (spec.truth a (made_of made.old)).lines) }
     ensures value { IfOk result (λ v. v ≡ (spec.truth a (made_of made.old)).value) }
     ensures made { OnOk result (made_of made.new ≡ (spec.truth a (made_of made.old)).made) }
 {
@@ -196,9 +215,12 @@ pub fn put_truth(made: &mut Made, lines: &mut Vec<Line>, a: Value) -> Result<Val
 
 #[inline(never)]
 pub fn put_loaded(made: &mut Made, lines: &mut Vec<Line>, element: Element) -> Result<Value, Memory>
-    ensures lines { OnOk result (lines_of lines.new.items ≡ joined_to (lines_of lines.old.items) (spec.loaded element.site element.of element.root element.index (made_of made.old)).lines) }
-    ensures value { IfOk result (λ v. v ≡ (spec.loaded element.site element.of element.root element.index (made_of made.old)).value) }
-    ensures made { OnOk result (made_of made.new ≡ (spec.loaded element.site element.of element.root element.index (made_of made.old)).made) }
+    ensures lines { OnOk result (lines_of lines.new.items ≡ joined_to (lines_of lines.old.items)
+        (spec.loaded element.site element.of element.root element.index (made_of made.old)).lines) }
+    ensures value { IfOk result (λ v. v ≡
+        (spec.loaded element.site element.of element.root element.index (made_of made.old)).value) }
+    ensures made { OnOk result (made_of made.new ≡
+        (spec.loaded element.site element.of element.root element.index (made_of made.old)).made) }
 {
     let to = add_value(made, element.of)?;
     put(
@@ -219,7 +241,8 @@ pub fn put_loaded(made: &mut Made, lines: &mut Vec<Line>, element: Element) -> R
 
 #[inline(never)]
 pub fn put_stored(lines: &mut Vec<Line>, element: Element, from: Atom) -> Result<(), Memory>
-    ensures { OnOk result (lines_of lines.new.items ≡ joined_to (lines_of lines.old.items) (spec.stored element.site element.of element.root element.index from)) }
+    ensures { OnOk result (lines_of lines.new.items ≡ joined_to (lines_of lines.old.items)
+        (spec.stored element.site element.of element.root element.index from)) }
 {
     put(
         lines,
@@ -243,9 +266,12 @@ pub fn put_changed(
     was: Atom,
     by: Atom,
 ) -> Result<Value, Memory>
-    ensures lines { OnOk result (lines_of lines.new.items ≡ joined_to (lines_of lines.old.items) (spec.changed change.op change.of change.back was by (made_of made.old)).lines) }
-    ensures value { IfOk result (λ v. v ≡ (spec.changed change.op change.of change.back was by (made_of made.old)).value) }
-    ensures made { OnOk result (made_of made.new ≡ (spec.changed change.op change.of change.back was by (made_of made.old)).made) }
+    ensures lines { OnOk result (lines_of lines.new.items ≡ joined_to (lines_of lines.old.items)
+        (spec.changed change.op change.of change.back was by (made_of made.old)).lines) }
+    ensures value { IfOk result (λ v. v ≡
+        (spec.changed change.op change.of change.back was by (made_of made.old)).value) }
+    ensures made { OnOk result (made_of made.new ≡
+        (spec.changed change.op change.of change.back was by (made_of made.old)).made) }
 {
     let was = put_converted(made, lines, change.of, was)?;
     let now = put_binary(made, lines, change.op, change.of, was.atom, by)?;
@@ -262,9 +288,15 @@ pub fn put_choice(
     yes: Part,
     no: Part,
 ) -> Result<Value, Memory>
-    ensures lines { OnOk result (lines_of lines.new.items ≡ joined_to (lines_of lines.old.items) (spec.choice_code site test (lines_of yes.lines.items) yes.value (lines_of no.lines.items) no.value (made_of made.old)).lines) }
-    ensures value { IfOk result (λ v. v ≡ (spec.choice_code site test (lines_of yes.lines.items) yes.value (lines_of no.lines.items) no.value (made_of made.old)).value) }
-    ensures made { OnOk result (made_of made.new ≡ (spec.choice_code site test (lines_of yes.lines.items) yes.value (lines_of no.lines.items) no.value (made_of made.old)).made) }
+    ensures lines { OnOk result (lines_of lines.new.items ≡ joined_to (lines_of lines.old.items)
+        (spec.choice_code site test (lines_of yes.lines.items) yes.value (lines_of no.lines.items) no.value
+        (made_of made.old)).lines) }
+    ensures value { IfOk result (λ v. v ≡
+        (spec.choice_code site test (lines_of yes.lines.items) yes.value (lines_of no.lines.items) no.value
+        (made_of made.old)).value) }
+    ensures made { OnOk result (made_of made.new ≡
+        (spec.choice_code site test (lines_of yes.lines.items) yes.value (lines_of no.lines.items) no.value
+        (made_of made.old)).made) }
 {
     let of = yes.value.of;
     let Part {
@@ -294,7 +326,8 @@ fn put_initial(
     array: u32,
     values: &[Value],
 ) -> Result<(), Memory>
-    ensures { OnOk result (lines_of lines.new.items ≡ joined_to (lines_of lines.old.items) (spec.initial_lines site of array 0 values.now)) }
+    ensures { OnOk result (lines_of lines.new.items ≡ joined_to (lines_of lines.old.items)
+        (spec.initial_lines site of array 0 values.now)) }
 {
     let mut rest = values;
     let mut k = 0u32;
@@ -322,7 +355,8 @@ pub fn put_filled(
     array: u32,
     values: &[Value],
 ) -> Result<(), Memory>
-    ensures { OnOk result (lines_of lines.new.items ≡ joined_to (lines_of lines.old.items) (ClearThen array (spec.initial_lines site of array 0 values.now))) }
+    ensures { OnOk result (lines_of lines.new.items ≡ joined_to (lines_of lines.old.items)
+        (ClearThen array (spec.initial_lines site of array 0 values.now))) }
 {
     put(lines, Line::Clear { array })?;
     put_initial(lines, site, of, array, values)
@@ -331,7 +365,8 @@ pub fn put_filled(
 /// Sets an exit's cell.
 #[inline(never)]
 pub fn put_exit(lines: &mut Vec<Line>, exit: u32, way: i128) -> Result<(), Memory>
-    ensures { OnOk result (lines_of lines.new.items ≡ joined_to (lines_of lines.old.items) (spec.set_to exit (made_spec.int way))) }
+    ensures { OnOk result (lines_of lines.new.items ≡ joined_to (lines_of lines.old.items)
+        (spec.set_to exit (made_spec.int way))) }
 {
     put_copy(lines, exit, int(way))
 }

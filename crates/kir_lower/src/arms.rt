@@ -46,8 +46,10 @@ fn put_labels(
     number: u32,
     labels: &[i128],
 ) -> Result<(), Memory>
-    ensures lines { OnOk result (lines_of lines.new.items ≡ joined_to (lines_of lines.old.items) (spec.labels_code of.site of.value of.chosen number labels.now (made_of made.old)).lines) }
-    ensures made { OnOk result (made_of made.new ≡ (spec.labels_code of.site of.value of.chosen number labels.now (made_of made.old)).made) }
+    ensures lines { OnOk result (lines_of lines.new.items ≡ joined_to (lines_of lines.old.items)
+        (spec.labels_code of.site of.value of.chosen number labels.now (made_of made.old)).lines) }
+    ensures made { OnOk result (made_of made.new ≡
+        (spec.labels_code of.site of.value of.chosen number labels.now (made_of made.old)).made) }
 {
     let mut rest = labels;
     while let Some((label, others)) = rest.split_first() {
@@ -67,8 +69,10 @@ fn put_label(
     number: u32,
     label: i128,
 ) -> Result<(), Memory>
-    ensures lines { OnOk result (lines_of lines.new.items ≡ joined_to (lines_of lines.old.items) (spec.label_code of.site of.value of.chosen number label (made_of made.old)).lines) }
-    ensures made { OnOk result (made_of made.new ≡ (spec.label_code of.site of.value of.chosen number label (made_of made.old)).made) }
+    ensures lines { OnOk result (lines_of lines.new.items ≡ joined_to (lines_of lines.old.items)
+        (spec.label_code of.site of.value of.chosen number label (made_of made.old)).lines) }
+    ensures made { OnOk result (made_of made.new ≡
+        (spec.label_code of.site of.value of.chosen number label (made_of made.old)).made) }
 {
     let label = constant(label, of.value.of);
     let test = put_binary(made, lines, Bin::Eq, of.value.of, of.value.atom, label.atom)?;
@@ -86,8 +90,10 @@ fn put_all_labels(
     of: Compared,
     arms: &[SwitchArm],
 ) -> Result<(), Memory>
-    ensures lines { OnOk result (lines_of lines.new.items ≡ joined_to (lines_of lines.old.items) ((spec.all_labels_code of.site of.value of.chosen 0 (listed_arms arms.now) (made_of made.old)).lines)) }
-    ensures made { OnOk result (made_of made.new ≡ (spec.all_labels_code of.site of.value of.chosen 0 (listed_arms arms.now) (made_of made.old)).made) }
+    ensures lines { OnOk result (lines_of lines.new.items ≡ joined_to (lines_of lines.old.items)
+        ((spec.all_labels_code of.site of.value of.chosen 0 (listed_arms arms.now) (made_of made.old)).lines)) }
+    ensures made { OnOk result (made_of made.new ≡
+        (spec.all_labels_code of.site of.value of.chosen 0 (listed_arms arms.now) (made_of made.old)).made) }
 {
     let mut rest = arms;
     let mut k = 0u32;
@@ -110,9 +116,12 @@ pub fn put_chosen(
     value: Value,
     arms: &[SwitchArm],
 ) -> Result<Atom, Memory>
-    ensures lines { OnOk result (lines_of lines.new.items ≡ joined_to (lines_of lines.old.items) (spec.selected site value (listed_arms arms.now) (made_of made.old)).lines) }
-    ensures value { IfOk result (λ a. a ≡ (spec.selected site value (listed_arms arms.now) (made_of made.old)).value.atom) }
-    ensures made { OnOk result (made_of made.new ≡ (spec.selected site value (listed_arms arms.now) (made_of made.old)).made) }
+    ensures lines { OnOk result (lines_of lines.new.items ≡ joined_to (lines_of lines.old.items)
+        (spec.selected site value (listed_arms arms.now) (made_of made.old)).lines) }
+    ensures value { IfOk result (λ a. a ≡
+        (spec.selected site value (listed_arms arms.now) (made_of made.old)).value.atom) }
+    ensures made { OnOk result (made_of made.new ≡
+        (spec.selected site value (listed_arms arms.now) (made_of made.old)).made) }
 {
     let value = put_converted(made, lines, promoted(value.of), value.atom)?;
     let to = add_value(made, IntType::Int)?;

@@ -15,7 +15,8 @@ use wg_num::{IntType, Memory};
 #[tactic(auto, using(crate::proofs::Lists::lines_put))]
 #[inline(never)]
 pub fn put(lines: &mut Vec<Line>, line: Line) -> Result<(), Memory>
-    ensures { OnOk result (lines_of lines.new.items ≡ joined_to (lines_of lines.old.items) (line_before line NoLine)) }
+    ensures { OnOk result (lines_of lines.new.items ≡ joined_to (lines_of lines.old.items)
+        (line_before line NoLine)) }
 {
     add(lines, line)
 }
@@ -23,7 +24,8 @@ pub fn put(lines: &mut Vec<Line>, line: Line) -> Result<(), Memory>
 /// One more line, which sets a cell.
 #[inline(never)]
 pub fn put_set(lines: &mut Vec<Line>, to: u32, work: Work) -> Result<(), Memory>
-    ensures { OnOk result (lines_of lines.new.items ≡ joined_to (lines_of lines.old.items) (SetThen to (work_of work) NoLine)) }
+    ensures { OnOk result (lines_of lines.new.items ≡ joined_to (lines_of lines.old.items)
+        (SetThen to (work_of work) NoLine)) }
 {
     put(lines, Line::Set { to, work })
 }
@@ -45,7 +47,8 @@ pub fn put_copy(lines: &mut Vec<Line>, to: u32, atom: Atom) -> Result<(), Memory
 /// One more line, a barrier.
 #[inline(never)]
 pub fn put_barrier(lines: &mut Vec<Line>, site: u32) -> Result<(), Memory>
-    ensures { OnOk result (lines_of lines.new.items ≡ joined_to (lines_of lines.old.items) (BarrierThen site NoLine)) }
+    ensures { OnOk result (lines_of lines.new.items ≡ joined_to (lines_of lines.old.items)
+        (BarrierThen site NoLine)) }
 {
     put(lines, Line::Barrier { site })
 }
@@ -60,7 +63,8 @@ pub fn put_if(
     yes: Vec<Line>,
     no: Vec<Line>,
 ) -> Result<(), Memory>
-    ensures { OnOk result (lines_of lines.new.items ≡ joined_to (lines_of lines.old.items) (IfThen site test (lines_of yes.items) (lines_of no.items) NoLine)) }
+    ensures { OnOk result (lines_of lines.new.items ≡ joined_to (lines_of lines.old.items)
+        (IfThen site test (lines_of yes.items) (lines_of no.items) NoLine)) }
 {
     put(
         lines,
@@ -81,7 +85,8 @@ pub fn put_computed(
     work: Work,
     of: IntType,
 ) -> Result<Value, Memory>
-    ensures lines { OnOk result (lines_of lines.new.items ≡ joined_to (lines_of lines.old.items) (spec.computed (work_of work) of (made_of made.old)).lines) }
+    ensures lines { OnOk result (lines_of lines.new.items ≡ joined_to (lines_of lines.old.items)
+        (spec.computed (work_of work) of (made_of made.old)).lines) }
     ensures value { IfOk result (λ v. v ≡ (spec.computed (work_of work) of (made_of made.old)).value) }
     ensures made { OnOk result (made_of made.new ≡ (spec.computed (work_of work) of (made_of made.old)).made) }
 {
@@ -122,7 +127,8 @@ pub fn put_guarded(
     exit: u32,
     inside: Vec<Line>,
 ) -> Result<(), Memory>
-    ensures { OnOk result (lines_of lines.new.items ≡ joined_to (lines_of lines.old.items) (spec.guarded_before site exit (lines_of inside.items) NoLine)) }
+    ensures { OnOk result (lines_of lines.new.items ≡ joined_to (lines_of lines.old.items)
+        (spec.guarded_before site exit (lines_of inside.items) NoLine)) }
 {
     if inside.len() == 0 {
         drop(inside);

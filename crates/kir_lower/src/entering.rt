@@ -58,7 +58,12 @@ fn variable_cell(
     var: u32,
     declared: &Var,
 ) -> Result<Cell, Memory>
-    ensures { IfOk result (λ c. cell_of c ≡ record { kind = OfVariable (record { calls = calls.now; function = function; number = var }) (places.now ++ declared.now.place ∷ []) declared.now.name; of = valid.kind_type declared.now.kind }) }
+    ensures { IfOk result (λ c. cell_of c ≡
+        record {
+          kind = OfVariable (record { calls = calls.now; function = function; number = var }) (places.now ++
+              declared.now.place ∷ []) declared.now.name;
+          of = valid.kind_type declared.now.kind;
+        }) }
 {
     let path = longer_places(alloc, places, declared.place)?;
     let name = declared.name.copy(alloc)?;
@@ -87,7 +92,8 @@ fn add_variables(
     vars: &[Var],
 ) -> Result<(), Memory>
     ensures arrays { OnOk result (made.new.arrays ≡ made.old.arrays) }
-    ensures cells { OnOk result (map cell_of made.new.cells.items ≡ map cell_of made.old.cells.items ++ spec.variable_cells calls.now places.now function 0 (names_listed vars.now) (map (λ v. v.kind) vars.now)) }
+    ensures cells { OnOk result (map cell_of made.new.cells.items ≡ map cell_of made.old.cells.items ++
+        spec.variable_cells calls.now places.now function 0 (names_listed vars.now) (map (λ v. v.kind) vars.now)) }
 {
     let mut rest = vars;
     let mut var = 0u32;
@@ -123,10 +129,12 @@ struct Room {
 /// The room of a function behind what is made.
 fn room_for(alloc: Global, made: &Made, function: &Function) -> Result<Room, Memory>
     ensures types { IfOk result (λ r. r.types.items ≡ map valid.kind_type (function_of function.now).variables) }
-    ensures elements { IfOk result (λ r. r.elements.items ≡ map (λ (a : tree.Array). a.element) (function_of function.now).arrays) }
+    ensures elements { IfOk result (λ r. r.elements.items ≡ map (λ (a : tree.Array). a.element)
+        (function_of function.now).arrays) }
     ensures base { IfOk result (λ r. r.base ≡ spec.next_cell (made_of made.now)) }
     ensures arrays { IfOk result (λ r. r.arrays ≡ length (made_of made.now).arrays) }
-    ensures answer { IfOk result (λ r. r.answer ≡ spec.next_cell (made_of made.now) + length (function_of function.now).variables) }
+    ensures answer { IfOk result (λ r. r.answer ≡ spec.next_cell (made_of made.now) +
+        length (function_of function.now).variables) }
 {
     let base = number(made.cells.len())?;
     let arrays = number(made.arrays.len())?;
@@ -144,7 +152,8 @@ fn room_for(alloc: Global, made: &Made, function: &Function) -> Result<Room, Mem
 
 /// Makes the cells of a function's variables and its arrays.
 fn make_cells(alloc: Global, made: &mut Made, way: &Way, function: &Function) -> Result<(), Memory>
-    ensures { OnOk result (made_of made.new ≡ whole.with_instance (way_of way.now) (names_in function.now) (function_of function.now) (made_of made.old)) }
+    ensures { OnOk result (made_of made.new ≡ whole.with_instance (way_of way.now) (names_in function.now)
+        (function_of function.now) (made_of made.old)) }
 {
     add_variables(
         alloc,
@@ -166,10 +175,12 @@ pub fn placed<'a>(
     way: Way,
     function: &Function,
 ) -> Result<Instance<'a>, Memory>
-    ensures here { IfOk result (λ i. instance_of i ≡ whole.instance_at (way_of way) (function_of function.now) (made_of made.old)) }
+    ensures here { IfOk result (λ i. instance_of i ≡ whole.instance_at (way_of way) (function_of function.now)
+        (made_of made.old)) }
     ensures depth { IfOk result (λ i. i.depth ≡ way.depth) }
     ensures program { IfOk result (λ i. i.program.now ≡ program.now) }
-    ensures made { OnOk result (made_of made.new ≡ whole.with_instance (way_of way) (names_in function.now) (function_of function.now) (made_of made.old)) }
+    ensures made { OnOk result (made_of made.new ≡ whole.with_instance (way_of way) (names_in function.now)
+        (function_of function.now) (made_of made.old)) }
 {
     let room = room_for(alloc, made, function)?;
     make_cells(alloc, made, &way, function)?;
@@ -206,10 +217,14 @@ pub fn enter<'a>(
     callee: Callee,
     function: &Function,
 ) -> Result<Box<Instance<'a>>, Memory>
-    ensures here { IfOk result (λ i. instance_of i.value ≡ whole.instance_at (whole.way_behind (program_of here.now.program.now) (instance_of here.now) callee.site callee.function callee.roots.items) (function_of function.now) (made_of made.old)) }
+    ensures here { IfOk result (λ i. instance_of i.value ≡
+        whole.instance_at (whole.way_behind (program_of here.now.program.now) (instance_of here.now) callee.site
+        callee.function callee.roots.items) (function_of function.now) (made_of made.old)) }
     ensures depth { IfOk result (λ i. i.value.depth + 1 ≡ here.now.depth) }
     ensures program { IfOk result (λ i. i.value.program.now ≡ here.now.program.now) }
-    ensures made { OnOk result (made_of made.new ≡ whole.with_instance (whole.way_behind (program_of here.now.program.now) (instance_of here.now) callee.site callee.function callee.roots.items) (names_in function.now) (function_of function.now) (made_of made.old)) }
+    ensures made { OnOk result (made_of made.new ≡
+        whole.with_instance (whole.way_behind (program_of here.now.program.now) (instance_of here.now) callee.site
+        callee.function callee.roots.items) (names_in function.now) (function_of function.now) (made_of made.old)) }
 {
     if here.depth == 0 {
         return Err(Memory);
@@ -232,7 +247,8 @@ pub fn enter<'a>(
 #[tactic(auto, using(crate::proofs::Lists::join_assoc, crate::proofs::Lists::join_none))]
 #[inline(never)]
 pub fn put_parameters(lines: &mut Vec<Line>, base: u32, values: &[Value]) -> Result<(), Memory>
-    ensures { OnOk result (lines_of lines.new.items ≡ joined_to (lines_of lines.old.items) (whole.parameter_lines base values.now)) }
+    ensures { OnOk result (lines_of lines.new.items ≡ joined_to (lines_of lines.old.items)
+        (whole.parameter_lines base values.now)) }
 {
     let mut rest = values;
     let mut cell = base;
@@ -247,7 +263,8 @@ pub fn put_parameters(lines: &mut Vec<Line>, base: u32, values: &[Value]) -> Res
 /// The kernel's parameters are set to what the launch binds to them.
 #[tactic(auto, using(crate::proofs::Lists::join_assoc, crate::proofs::Lists::join_none))]
 pub fn put_bound(lines: &mut Vec<Line>, base: u32, kinds: &[VarKind]) -> Result<(), Memory>
-    ensures { OnOk result (lines_of lines.new.items ≡ joined_to (lines_of lines.old.items) (whole.bound_lines base 0 kinds.now)) }
+    ensures { OnOk result (lines_of lines.new.items ≡ joined_to (lines_of lines.old.items)
+        (whole.bound_lines base 0 kinds.now)) }
 {
     let mut rest = kinds;
     let mut cell = base;
@@ -269,7 +286,8 @@ pub fn put_result(
     lines: &mut Vec<Line>,
     gives: Option<IntType>,
 ) -> Result<Value, Memory>
-    ensures lines { OnOk result (lines_of lines.new.items ≡ joined_to (lines_of lines.old.items) (code.result_code gives (made_of made.old)).lines) }
+    ensures lines { OnOk result (lines_of lines.new.items ≡ joined_to (lines_of lines.old.items)
+        (code.result_code gives (made_of made.old)).lines) }
     ensures value { IfOk result (λ v. v ≡ (code.result_code gives (made_of made.old)).value) }
     ensures made { OnOk result (made_of made.new ≡ (code.result_code gives (made_of made.old)).made) }
 {

@@ -34,9 +34,12 @@ pub fn put_expression(
     e: &Expr,
     value: &mut Value,
 ) -> Result<(), Memory>
-    ensures lines { OnOk result (lines_of lines.new.items ≡ joined_to (lines_of lines.old.items) (expression_code (calls_in here.now) (instance_of here.now) (expression_of e.now) (made_of made.old)).lines) }
-    ensures value { OnOk result (value.new ≡ (expression_code (calls_in here.now) (instance_of here.now) (expression_of e.now) (made_of made.old)).value) }
-    ensures made { OnOk result (made_of made.new ≡ (expression_code (calls_in here.now) (instance_of here.now) (expression_of e.now) (made_of made.old)).made) }
+    ensures lines { OnOk result (lines_of lines.new.items ≡ joined_to (lines_of lines.old.items)
+        (expression_code (calls_in here.now) (instance_of here.now) (expression_of e.now) (made_of made.old)).lines) }
+    ensures value { OnOk result (value.new ≡
+        (expression_code (calls_in here.now) (instance_of here.now) (expression_of e.now) (made_of made.old)).value) }
+    ensures made { OnOk result (made_of made.new ≡
+        (expression_code (calls_in here.now) (instance_of here.now) (expression_of e.now) (made_of made.old)).made) }
 {
     match e {
         Expr::Literal { value: number, of } => {
@@ -74,9 +77,12 @@ fn put_operation(
     e: &Expr,
     value: &mut Value,
 ) -> Result<(), Memory>
-    ensures lines { OnOk result (lines_of lines.new.items ≡ joined_to (lines_of lines.old.items) (expression_code (calls_in here.now) (instance_of here.now) (expression_of e.now) (made_of made.old)).lines) }
-    ensures value { OnOk result (value.new ≡ (expression_code (calls_in here.now) (instance_of here.now) (expression_of e.now) (made_of made.old)).value) }
-    ensures made { OnOk result (made_of made.new ≡ (expression_code (calls_in here.now) (instance_of here.now) (expression_of e.now) (made_of made.old)).made) }
+    ensures lines { OnOk result (lines_of lines.new.items ≡ joined_to (lines_of lines.old.items)
+        (expression_code (calls_in here.now) (instance_of here.now) (expression_of e.now) (made_of made.old)).lines) }
+    ensures value { OnOk result (value.new ≡
+        (expression_code (calls_in here.now) (instance_of here.now) (expression_of e.now) (made_of made.old)).value) }
+    ensures made { OnOk result (made_of made.new ≡
+        (expression_code (calls_in here.now) (instance_of here.now) (expression_of e.now) (made_of made.old)).made) }
 {
     match e {
         Expr::Unary { op, of, a } => {
@@ -111,9 +117,12 @@ fn put_pair(
     e: &Expr,
     value: &mut Value,
 ) -> Result<(), Memory>
-    ensures lines { OnOk result (lines_of lines.new.items ≡ joined_to (lines_of lines.old.items) (expression_code (calls_in here.now) (instance_of here.now) (expression_of e.now) (made_of made.old)).lines) }
-    ensures value { OnOk result (value.new ≡ (expression_code (calls_in here.now) (instance_of here.now) (expression_of e.now) (made_of made.old)).value) }
-    ensures made { OnOk result (made_of made.new ≡ (expression_code (calls_in here.now) (instance_of here.now) (expression_of e.now) (made_of made.old)).made) }
+    ensures lines { OnOk result (lines_of lines.new.items ≡ joined_to (lines_of lines.old.items)
+        (expression_code (calls_in here.now) (instance_of here.now) (expression_of e.now) (made_of made.old)).lines) }
+    ensures value { OnOk result (value.new ≡
+        (expression_code (calls_in here.now) (instance_of here.now) (expression_of e.now) (made_of made.old)).value) }
+    ensures made { OnOk result (made_of made.new ≡
+        (expression_code (calls_in here.now) (instance_of here.now) (expression_of e.now) (made_of made.old)).made) }
 {
     match e {
         Expr::Binary { op, of, a, b } => {
@@ -138,9 +147,12 @@ fn put_load(
     e: &Expr,
     value: &mut Value,
 ) -> Result<(), Memory>
-    ensures lines { OnOk result (lines_of lines.new.items ≡ joined_to (lines_of lines.old.items) (expression_code (calls_in here.now) (instance_of here.now) (expression_of e.now) (made_of made.old)).lines) }
-    ensures value { OnOk result (value.new ≡ (expression_code (calls_in here.now) (instance_of here.now) (expression_of e.now) (made_of made.old)).value) }
-    ensures made { OnOk result (made_of made.new ≡ (expression_code (calls_in here.now) (instance_of here.now) (expression_of e.now) (made_of made.old)).made) }
+    ensures lines { OnOk result (lines_of lines.new.items ≡ joined_to (lines_of lines.old.items)
+        (expression_code (calls_in here.now) (instance_of here.now) (expression_of e.now) (made_of made.old)).lines) }
+    ensures value { OnOk result (value.new ≡
+        (expression_code (calls_in here.now) (instance_of here.now) (expression_of e.now) (made_of made.old)).value) }
+    ensures made { OnOk result (made_of made.new ≡
+        (expression_code (calls_in here.now) (instance_of here.now) (expression_of e.now) (made_of made.old)).made) }
 {
     match e {
         Expr::Load {
@@ -174,9 +186,12 @@ fn put_application(
     e: &Expr,
     value: &mut Value,
 ) -> Result<(), Memory>
-    ensures lines { OnOk result (lines_of lines.new.items ≡ joined_to (lines_of lines.old.items) (expression_code (calls_in here.now) (instance_of here.now) (expression_of e.now) (made_of made.old)).lines) }
-    ensures value { OnOk result (value.new ≡ (expression_code (calls_in here.now) (instance_of here.now) (expression_of e.now) (made_of made.old)).value) }
-    ensures made { OnOk result (made_of made.new ≡ (expression_code (calls_in here.now) (instance_of here.now) (expression_of e.now) (made_of made.old)).made) }
+    ensures lines { OnOk result (lines_of lines.new.items ≡ joined_to (lines_of lines.old.items)
+        (expression_code (calls_in here.now) (instance_of here.now) (expression_of e.now) (made_of made.old)).lines) }
+    ensures value { OnOk result (value.new ≡
+        (expression_code (calls_in here.now) (instance_of here.now) (expression_of e.now) (made_of made.old)).value) }
+    ensures made { OnOk result (made_of made.new ≡
+        (expression_code (calls_in here.now) (instance_of here.now) (expression_of e.now) (made_of made.old)).made) }
 {
     match e {
         Expr::Builtin { f, of, args } => {
@@ -199,9 +214,12 @@ fn put_decision(
     e: &Expr,
     value: &mut Value,
 ) -> Result<(), Memory>
-    ensures lines { OnOk result (lines_of lines.new.items ≡ joined_to (lines_of lines.old.items) (expression_code (calls_in here.now) (instance_of here.now) (expression_of e.now) (made_of made.old)).lines) }
-    ensures value { OnOk result (value.new ≡ (expression_code (calls_in here.now) (instance_of here.now) (expression_of e.now) (made_of made.old)).value) }
-    ensures made { OnOk result (made_of made.new ≡ (expression_code (calls_in here.now) (instance_of here.now) (expression_of e.now) (made_of made.old)).made) }
+    ensures lines { OnOk result (lines_of lines.new.items ≡ joined_to (lines_of lines.old.items)
+        (expression_code (calls_in here.now) (instance_of here.now) (expression_of e.now) (made_of made.old)).lines) }
+    ensures value { OnOk result (value.new ≡
+        (expression_code (calls_in here.now) (instance_of here.now) (expression_of e.now) (made_of made.old)).value) }
+    ensures made { OnOk result (made_of made.new ≡
+        (expression_code (calls_in here.now) (instance_of here.now) (expression_of e.now) (made_of made.old)).made) }
 {
     match e {
         Expr::Both { site, a, b } => {
@@ -234,9 +252,12 @@ fn put_truth_of(
     e: &Expr,
     value: &mut Value,
 ) -> Result<(), Memory>
-    ensures lines { OnOk result (lines_of lines.new.items ≡ joined_to (lines_of lines.old.items) (part_code (calls_in here.now) (instance_of here.now) true (expression_of e.now) (made_of made.old)).lines) }
-    ensures value { OnOk result (value.new ≡ (part_code (calls_in here.now) (instance_of here.now) true (expression_of e.now) (made_of made.old)).value) }
-    ensures made { OnOk result (made_of made.new ≡ (part_code (calls_in here.now) (instance_of here.now) true (expression_of e.now) (made_of made.old)).made) }
+    ensures lines { OnOk result (lines_of lines.new.items ≡ joined_to (lines_of lines.old.items)
+        (part_code (calls_in here.now) (instance_of here.now) true (expression_of e.now) (made_of made.old)).lines) }
+    ensures value { OnOk result (value.new ≡
+        (part_code (calls_in here.now) (instance_of here.now) true (expression_of e.now) (made_of made.old)).value) }
+    ensures made { OnOk result (made_of made.new ≡
+        (part_code (calls_in here.now) (instance_of here.now) true (expression_of e.now) (made_of made.old)).made) }
 {
     put_expression(alloc, here, made, lines, e, value)?;
     step_truth(made, lines, value)
@@ -254,9 +275,12 @@ fn put_alternative(
     e: &Expr,
     value: &mut Value,
 ) -> Result<(), Memory>
-    ensures lines { OnOk result (lines_of lines.new.items ≡ joined_to (lines_of lines.old.items) (expression_code (calls_in here.now) (instance_of here.now) (expression_of e.now) (made_of made.old)).lines) }
-    ensures value { OnOk result (value.new ≡ (expression_code (calls_in here.now) (instance_of here.now) (expression_of e.now) (made_of made.old)).value) }
-    ensures made { OnOk result (made_of made.new ≡ (expression_code (calls_in here.now) (instance_of here.now) (expression_of e.now) (made_of made.old)).made) }
+    ensures lines { OnOk result (lines_of lines.new.items ≡ joined_to (lines_of lines.old.items)
+        (expression_code (calls_in here.now) (instance_of here.now) (expression_of e.now) (made_of made.old)).lines) }
+    ensures value { OnOk result (value.new ≡
+        (expression_code (calls_in here.now) (instance_of here.now) (expression_of e.now) (made_of made.old)).value) }
+    ensures made { OnOk result (made_of made.new ≡
+        (expression_code (calls_in here.now) (instance_of here.now) (expression_of e.now) (made_of made.old)).made) }
 {
     match e {
         Expr::Choose {
@@ -295,9 +319,15 @@ fn put_assignment(
     from: &Expr,
     value: &mut Value,
 ) -> Result<(), Memory>
-    ensures lines { OnOk result (lines_of lines.new.items ≡ joined_to (lines_of lines.old.items) (expression_code (calls_in here.now) (instance_of here.now) (assigned target.now (expression_of from.now)) (made_of made.old)).lines) }
-    ensures value { OnOk result (value.new ≡ (expression_code (calls_in here.now) (instance_of here.now) (assigned target.now (expression_of from.now)) (made_of made.old)).value) }
-    ensures made { OnOk result (made_of made.new ≡ (expression_code (calls_in here.now) (instance_of here.now) (assigned target.now (expression_of from.now)) (made_of made.old)).made) }
+    ensures lines { OnOk result (lines_of lines.new.items ≡ joined_to (lines_of lines.old.items)
+        (expression_code (calls_in here.now) (instance_of here.now) (assigned target.now (expression_of from.now))
+        (made_of made.old)).lines) }
+    ensures value { OnOk result (value.new ≡
+        (expression_code (calls_in here.now) (instance_of here.now) (assigned target.now (expression_of from.now))
+        (made_of made.old)).value) }
+    ensures made { OnOk result (made_of made.new ≡
+        (expression_code (calls_in here.now) (instance_of here.now) (assigned target.now (expression_of from.now))
+        (made_of made.old)).made) }
 {
     match target {
         Target::Var(x) => {
@@ -336,9 +366,12 @@ fn put_update(
     e: &Expr,
     value: &mut Value,
 ) -> Result<(), Memory>
-    ensures lines { OnOk result (lines_of lines.new.items ≡ joined_to (lines_of lines.old.items) (expression_code (calls_in here.now) (instance_of here.now) (expression_of e.now) (made_of made.old)).lines) }
-    ensures value { OnOk result (value.new ≡ (expression_code (calls_in here.now) (instance_of here.now) (expression_of e.now) (made_of made.old)).value) }
-    ensures made { OnOk result (made_of made.new ≡ (expression_code (calls_in here.now) (instance_of here.now) (expression_of e.now) (made_of made.old)).made) }
+    ensures lines { OnOk result (lines_of lines.new.items ≡ joined_to (lines_of lines.old.items)
+        (expression_code (calls_in here.now) (instance_of here.now) (expression_of e.now) (made_of made.old)).lines) }
+    ensures value { OnOk result (value.new ≡
+        (expression_code (calls_in here.now) (instance_of here.now) (expression_of e.now) (made_of made.old)).value) }
+    ensures made { OnOk result (made_of made.new ≡
+        (expression_code (calls_in here.now) (instance_of here.now) (expression_of e.now) (made_of made.old)).made) }
 {
     match e {
         Expr::Update {
@@ -398,9 +431,15 @@ pub fn put_expressions(
     list: &[Expr],
     value: &mut Value,
 ) -> Result<Vec<Value>, Memory>
-    ensures lines { OnOk result (lines_of lines.new.items ≡ joined_to (lines_of lines.old.items) (operands_code (calls_in here.now) (instance_of here.now) (listed_expressions list.now) (made_of made.old)).lines) }
-    ensures values { IfOk result (λ v. v.items ≡ (operands_code (calls_in here.now) (instance_of here.now) (listed_expressions list.now) (made_of made.old)).values) }
-    ensures made { OnOk result (made_of made.new ≡ (operands_code (calls_in here.now) (instance_of here.now) (listed_expressions list.now) (made_of made.old)).made) }
+    ensures lines { OnOk result (lines_of lines.new.items ≡ joined_to (lines_of lines.old.items)
+        (operands_code (calls_in here.now) (instance_of here.now) (listed_expressions list.now)
+        (made_of made.old)).lines) }
+    ensures values { IfOk result (λ v. v.items ≡
+        (operands_code (calls_in here.now) (instance_of here.now) (listed_expressions list.now)
+        (made_of made.old)).values) }
+    ensures made { OnOk result (made_of made.new ≡
+        (operands_code (calls_in here.now) (instance_of here.now) (listed_expressions list.now)
+        (made_of made.old)).made) }
 {
     let mut values = Vec::new(alloc);
     let mut rest = list;
@@ -424,9 +463,15 @@ fn put_argument(
     argument: &Arg,
     value: &mut Value,
 ) -> Result<(), Memory>
-    ensures lines { OnOk result (lines_of lines.new.items ≡ joined_to (lines_of lines.old.items) (expression_code (calls_in here.now) (instance_of here.now) (argument_of argument.now) (made_of made.old)).lines) }
-    ensures value { OnOk result (value.new ≡ (expression_code (calls_in here.now) (instance_of here.now) (argument_of argument.now) (made_of made.old)).value) }
-    ensures made { OnOk result (made_of made.new ≡ (expression_code (calls_in here.now) (instance_of here.now) (argument_of argument.now) (made_of made.old)).made) }
+    ensures lines { OnOk result (lines_of lines.new.items ≡ joined_to (lines_of lines.old.items)
+        (expression_code (calls_in here.now) (instance_of here.now) (argument_of argument.now)
+        (made_of made.old)).lines) }
+    ensures value { OnOk result (value.new ≡
+        (expression_code (calls_in here.now) (instance_of here.now) (argument_of argument.now)
+        (made_of made.old)).value) }
+    ensures made { OnOk result (made_of made.new ≡
+        (expression_code (calls_in here.now) (instance_of here.now) (argument_of argument.now)
+        (made_of made.old)).made) }
 {
     match argument {
         Arg::Value(e) => put_expression(alloc, here, made, lines, e, value),
@@ -446,9 +491,15 @@ fn put_arguments(
     list: &[Arg],
     value: &mut Value,
 ) -> Result<Vec<Value>, Memory>
-    ensures lines { OnOk result (lines_of lines.new.items ≡ joined_to (lines_of lines.old.items) (operands_code (calls_in here.now) (instance_of here.now) (listed_arguments list.now) (made_of made.old)).lines) }
-    ensures values { IfOk result (λ v. v.items ≡ (operands_code (calls_in here.now) (instance_of here.now) (listed_arguments list.now) (made_of made.old)).values) }
-    ensures made { OnOk result (made_of made.new ≡ (operands_code (calls_in here.now) (instance_of here.now) (listed_arguments list.now) (made_of made.old)).made) }
+    ensures lines { OnOk result (lines_of lines.new.items ≡ joined_to (lines_of lines.old.items)
+        (operands_code (calls_in here.now) (instance_of here.now) (listed_arguments list.now)
+        (made_of made.old)).lines) }
+    ensures values { IfOk result (λ v. v.items ≡
+        (operands_code (calls_in here.now) (instance_of here.now) (listed_arguments list.now)
+        (made_of made.old)).values) }
+    ensures made { OnOk result (made_of made.new ≡
+        (operands_code (calls_in here.now) (instance_of here.now) (listed_arguments list.now)
+        (made_of made.old)).made) }
 {
     let mut values = Vec::new(alloc);
     let mut rest = list;
@@ -472,9 +523,12 @@ fn put_call(
     e: &Expr,
     value: &mut Value,
 ) -> Result<(), Memory>
-    ensures lines { OnOk result (lines_of lines.new.items ≡ joined_to (lines_of lines.old.items) (expression_code (calls_in here.now) (instance_of here.now) (expression_of e.now) (made_of made.old)).lines) }
-    ensures value { OnOk result (value.new ≡ (expression_code (calls_in here.now) (instance_of here.now) (expression_of e.now) (made_of made.old)).value) }
-    ensures made { OnOk result (made_of made.new ≡ (expression_code (calls_in here.now) (instance_of here.now) (expression_of e.now) (made_of made.old)).made) }
+    ensures lines { OnOk result (lines_of lines.new.items ≡ joined_to (lines_of lines.old.items)
+        (expression_code (calls_in here.now) (instance_of here.now) (expression_of e.now) (made_of made.old)).lines) }
+    ensures value { OnOk result (value.new ≡
+        (expression_code (calls_in here.now) (instance_of here.now) (expression_of e.now) (made_of made.old)).value) }
+    ensures made { OnOk result (made_of made.new ≡
+        (expression_code (calls_in here.now) (instance_of here.now) (expression_of e.now) (made_of made.old)).made) }
 {
     match e {
         Expr::Call {

@@ -261,7 +261,8 @@ pub fn copy_array(alloc: Global, array: &Array) -> Result<Array, Memory>
 /// Makes a function's arrays.
 pub fn add_arrays(alloc: Global, made: &mut Made, arrays: &[Array]) -> Result<(), Memory>
     ensures cells { OnOk result (made.new.cells ≡ made.old.cells) }
-    ensures arrays { OnOk result (map array_of made.new.arrays.items ≡ map array_of made.old.arrays.items ++ map array_of arrays.now) }
+    ensures arrays { OnOk result (map array_of made.new.arrays.items ≡ map array_of made.old.arrays.items ++
+        map array_of arrays.now) }
 {
     for array in arrays {
         let array = copy_array(alloc, array)?;

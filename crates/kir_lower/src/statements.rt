@@ -7,7 +7,16 @@ ghost use Rattle.cl_model.specs.View.{optional_expression, statement_of, listed_
 ghost use Rattle.kir.specs.Listed.{lines_of};
 ghost use Rattle.kir.specs.Tree.{joined_to};
 ghost use Rattle.program_build.specs.Lists.{listed_arms};
-ghost use Rattle.kir_lower.specs.Code.{optional_code, statement_code, list_code, in_order, arm_code, arms_code, cases_code, body_code};
+ghost use Rattle.kir_lower.specs.Code.{
+  optional_code,
+  statement_code,
+  list_code,
+  in_order,
+  arm_code,
+  arms_code,
+  cases_code,
+  body_code,
+};
 ghost use Rattle.kir_lower.specs.View.{made_of, instance_of, calls_in, optional_listed};
 
 use crate::actions::{Part, put_assigned, put_exit, put_filled};
@@ -35,9 +44,12 @@ pub fn put_body(
     function: &Function,
     value: &mut Value,
 ) -> Result<(), Memory>
-    ensures lines { OnOk result (lines_of lines.new.items ≡ joined_to (lines_of lines.old.items) (body_code (calls_in here.now) (instance_of here.now) (function_of function.now) (made_of made.old)).lines) }
-    ensures value { OnOk result (value.new ≡ (body_code (calls_in here.now) (instance_of here.now) (function_of function.now) (made_of made.old)).value) }
-    ensures made { OnOk result (made_of made.new ≡ (body_code (calls_in here.now) (instance_of here.now) (function_of function.now) (made_of made.old)).made) }
+    ensures lines { OnOk result (lines_of lines.new.items ≡ joined_to (lines_of lines.old.items)
+        (body_code (calls_in here.now) (instance_of here.now) (function_of function.now) (made_of made.old)).lines) }
+    ensures value { OnOk result (value.new ≡
+        (body_code (calls_in here.now) (instance_of here.now) (function_of function.now) (made_of made.old)).value) }
+    ensures made { OnOk result (made_of made.new ≡
+        (body_code (calls_in here.now) (instance_of here.now) (function_of function.now) (made_of made.old)).made) }
 {
     step_result(made, lines, function.result, value)?;
     let given = *value;
@@ -62,8 +74,12 @@ fn put_statement(
     s: &Stmt,
     value: &mut Value,
 ) -> Result<(), Memory>
-    ensures lines { OnOk result (lines_of lines.new.items ≡ joined_to (lines_of lines.old.items) (statement_code (calls_in here.now) (instance_of here.now) exit (statement_of s.now) (made_of made.old)).lines) }
-    ensures made { OnOk result (made_of made.new ≡ (statement_code (calls_in here.now) (instance_of here.now) exit (statement_of s.now) (made_of made.old)).made) }
+    ensures lines { OnOk result (lines_of lines.new.items ≡ joined_to (lines_of lines.old.items)
+        (statement_code (calls_in here.now) (instance_of here.now) exit (statement_of s.now)
+        (made_of made.old)).lines) }
+    ensures made { OnOk result (made_of made.new ≡
+        (statement_code (calls_in here.now) (instance_of here.now) exit (statement_of s.now)
+        (made_of made.old)).made) }
 {
     match s {
         Stmt::Do(e) => put_expression(alloc, here, made, lines, e, value),
@@ -97,8 +113,12 @@ fn put_array(
     s: &Stmt,
     value: &mut Value,
 ) -> Result<(), Memory>
-    ensures lines { OnOk result (lines_of lines.new.items ≡ joined_to (lines_of lines.old.items) (statement_code (calls_in here.now) (instance_of here.now) exit (statement_of s.now) (made_of made.old)).lines) }
-    ensures made { OnOk result (made_of made.new ≡ (statement_code (calls_in here.now) (instance_of here.now) exit (statement_of s.now) (made_of made.old)).made) }
+    ensures lines { OnOk result (lines_of lines.new.items ≡ joined_to (lines_of lines.old.items)
+        (statement_code (calls_in here.now) (instance_of here.now) exit (statement_of s.now)
+        (made_of made.old)).lines) }
+    ensures made { OnOk result (made_of made.new ≡
+        (statement_code (calls_in here.now) (instance_of here.now) exit (statement_of s.now)
+        (made_of made.old)).made) }
 {
     match s {
         Stmt::Fill {
@@ -128,8 +148,12 @@ fn put_declared(
     from: &Option<Expr>,
     value: &mut Value,
 ) -> Result<(), Memory>
-    ensures lines { OnOk result (lines_of lines.new.items ≡ joined_to (lines_of lines.old.items) (statement_code (calls_in here.now) (instance_of here.now) 0 (Declare var (optional_expression from.now)) (made_of made.old)).lines) }
-    ensures made { OnOk result (made_of made.new ≡ (statement_code (calls_in here.now) (instance_of here.now) 0 (Declare var (optional_expression from.now)) (made_of made.old)).made) }
+    ensures lines { OnOk result (lines_of lines.new.items ≡ joined_to (lines_of lines.old.items)
+        (statement_code (calls_in here.now) (instance_of here.now) 0 (Declare var (optional_expression from.now))
+        (made_of made.old)).lines) }
+    ensures made { OnOk result (made_of made.new ≡
+        (statement_code (calls_in here.now) (instance_of here.now) 0 (Declare var (optional_expression from.now))
+        (made_of made.old)).made) }
 {
     match from {
         None => {
@@ -154,8 +178,12 @@ fn put_returned(
     from: &Option<Expr>,
     value: &mut Value,
 ) -> Result<(), Memory>
-    ensures lines { OnOk result (lines_of lines.new.items ≡ joined_to (lines_of lines.old.items) (statement_code (calls_in here.now) (instance_of here.now) exit (Return 0 (optional_expression from.now)) (made_of made.old)).lines) }
-    ensures made { OnOk result (made_of made.new ≡ (statement_code (calls_in here.now) (instance_of here.now) exit (Return 0 (optional_expression from.now)) (made_of made.old)).made) }
+    ensures lines { OnOk result (lines_of lines.new.items ≡ joined_to (lines_of lines.old.items)
+        (statement_code (calls_in here.now) (instance_of here.now) exit (Return 0 (optional_expression from.now))
+        (made_of made.old)).lines) }
+    ensures made { OnOk result (made_of made.new ≡
+        (statement_code (calls_in here.now) (instance_of here.now) exit (Return 0 (optional_expression from.now))
+        (made_of made.old)).made) }
 {
     match from {
         None => put_exit(lines, exit, RETURNS),
@@ -180,8 +208,12 @@ fn put_branches(
     s: &Stmt,
     value: &mut Value,
 ) -> Result<(), Memory>
-    ensures lines { OnOk result (lines_of lines.new.items ≡ joined_to (lines_of lines.old.items) (statement_code (calls_in here.now) (instance_of here.now) exit (statement_of s.now) (made_of made.old)).lines) }
-    ensures made { OnOk result (made_of made.new ≡ (statement_code (calls_in here.now) (instance_of here.now) exit (statement_of s.now) (made_of made.old)).made) }
+    ensures lines { OnOk result (lines_of lines.new.items ≡ joined_to (lines_of lines.old.items)
+        (statement_code (calls_in here.now) (instance_of here.now) exit (statement_of s.now)
+        (made_of made.old)).lines) }
+    ensures made { OnOk result (made_of made.new ≡
+        (statement_code (calls_in here.now) (instance_of here.now) exit (statement_of s.now)
+        (made_of made.old)).made) }
 {
     match s {
         Stmt::If {
@@ -215,8 +247,12 @@ fn put_other(
     s: &Option<Box<Stmt>>,
     value: &mut Value,
 ) -> Result<(), Memory>
-    ensures lines { OnOk result (lines_of lines.new.items ≡ joined_to (lines_of lines.old.items) (in_order (list_code (calls_in here.now) (instance_of here.now) exit false (optional_listed s.now) (made_of made.old))).lines) }
-    ensures made { OnOk result (made_of made.new ≡ (in_order (list_code (calls_in here.now) (instance_of here.now) exit false (optional_listed s.now) (made_of made.old))).made) }
+    ensures lines { OnOk result (lines_of lines.new.items ≡ joined_to (lines_of lines.old.items)
+        (in_order (list_code (calls_in here.now) (instance_of here.now) exit false (optional_listed s.now)
+        (made_of made.old))).lines) }
+    ensures made { OnOk result (made_of made.new ≡
+        (in_order (list_code (calls_in here.now) (instance_of here.now) exit false (optional_listed s.now)
+        (made_of made.old))).made) }
 {
     match s {
         None => Ok(()),
@@ -236,9 +272,15 @@ fn put_optional(
     e: &Option<Expr>,
     value: &mut Value,
 ) -> Result<(), Memory>
-    ensures lines { OnOk result (lines_of lines.new.items ≡ joined_to (lines_of lines.old.items) (optional_code (calls_in here.now) (instance_of here.now) (optional_expression e.now) (made_of made.old)).lines) }
-    ensures value { OnOk result (value.new ≡ (optional_code (calls_in here.now) (instance_of here.now) (optional_expression e.now) (made_of made.old)).value) }
-    ensures made { OnOk result (made_of made.new ≡ (optional_code (calls_in here.now) (instance_of here.now) (optional_expression e.now) (made_of made.old)).made) }
+    ensures lines { OnOk result (lines_of lines.new.items ≡ joined_to (lines_of lines.old.items)
+        (optional_code (calls_in here.now) (instance_of here.now) (optional_expression e.now)
+        (made_of made.old)).lines) }
+    ensures value { OnOk result (value.new ≡
+        (optional_code (calls_in here.now) (instance_of here.now) (optional_expression e.now)
+        (made_of made.old)).value) }
+    ensures made { OnOk result (made_of made.new ≡
+        (optional_code (calls_in here.now) (instance_of here.now) (optional_expression e.now)
+        (made_of made.old)).made) }
 {
     match e {
         None => {
@@ -262,8 +304,12 @@ fn put_loop(
     s: &Stmt,
     value: &mut Value,
 ) -> Result<(), Memory>
-    ensures lines { OnOk result (lines_of lines.new.items ≡ joined_to (lines_of lines.old.items) (statement_code (calls_in here.now) (instance_of here.now) exit (statement_of s.now) (made_of made.old)).lines) }
-    ensures made { OnOk result (made_of made.new ≡ (statement_code (calls_in here.now) (instance_of here.now) exit (statement_of s.now) (made_of made.old)).made) }
+    ensures lines { OnOk result (lines_of lines.new.items ≡ joined_to (lines_of lines.old.items)
+        (statement_code (calls_in here.now) (instance_of here.now) exit (statement_of s.now)
+        (made_of made.old)).lines) }
+    ensures made { OnOk result (made_of made.new ≡
+        (statement_code (calls_in here.now) (instance_of here.now) exit (statement_of s.now)
+        (made_of made.old)).made) }
 {
     match s {
         Stmt::Loop {
@@ -311,8 +357,12 @@ fn put_switch(
     s: &Stmt,
     value: &mut Value,
 ) -> Result<(), Memory>
-    ensures lines { OnOk result (lines_of lines.new.items ≡ joined_to (lines_of lines.old.items) (statement_code (calls_in here.now) (instance_of here.now) exit (statement_of s.now) (made_of made.old)).lines) }
-    ensures made { OnOk result (made_of made.new ≡ (statement_code (calls_in here.now) (instance_of here.now) exit (statement_of s.now) (made_of made.old)).made) }
+    ensures lines { OnOk result (lines_of lines.new.items ≡ joined_to (lines_of lines.old.items)
+        (statement_code (calls_in here.now) (instance_of here.now) exit (statement_of s.now)
+        (made_of made.old)).lines) }
+    ensures made { OnOk result (made_of made.new ≡
+        (statement_code (calls_in here.now) (instance_of here.now) exit (statement_of s.now)
+        (made_of made.old)).made) }
 {
     match s {
         Stmt::Switch {
@@ -340,8 +390,12 @@ fn put_cases(
     arms: &[SwitchArm],
     value: &mut Value,
 ) -> Result<(), Memory>
-    ensures lines { OnOk result (lines_of lines.new.items ≡ joined_to (lines_of lines.old.items) (cases_code (calls_in here.now) (instance_of here.now) of.1 of.0 value.old (listed_arms arms.now) (made_of made.old)).lines) }
-    ensures made { OnOk result (made_of made.new ≡ (cases_code (calls_in here.now) (instance_of here.now) of.1 of.0 value.old (listed_arms arms.now) (made_of made.old)).made) }
+    ensures lines { OnOk result (lines_of lines.new.items ≡ joined_to (lines_of lines.old.items)
+        (cases_code (calls_in here.now) (instance_of here.now) of.1 of.0 value.old (listed_arms arms.now)
+        (made_of made.old)).lines) }
+    ensures made { OnOk result (made_of made.new ≡
+        (cases_code (calls_in here.now) (instance_of here.now) of.1 of.0 value.old (listed_arms arms.now)
+        (made_of made.old)).made) }
 {
     let (site, exit) = of;
     let way = way_out_of_arms(arms, true, true);
@@ -372,9 +426,15 @@ fn put_arm(
     body: &[Stmt],
     value: &mut Value,
 ) -> Result<(), Memory>
-    ensures lines { OnOk result (lines_of lines.new.items ≡ joined_to (lines_of lines.old.items) (arm_code (calls_in here.now) (instance_of here.now) entered.now.exit entered.now.site entered.now.chosen entered.now.fallen entered.now.number (listed_statements body.now) (made_of made.old)).lines) }
-    ensures value { OnOk result (value.new ≡ (arm_code (calls_in here.now) (instance_of here.now) entered.now.exit entered.now.site entered.now.chosen entered.now.fallen entered.now.number (listed_statements body.now) (made_of made.old)).value) }
-    ensures made { OnOk result (made_of made.new ≡ (arm_code (calls_in here.now) (instance_of here.now) entered.now.exit entered.now.site entered.now.chosen entered.now.fallen entered.now.number (listed_statements body.now) (made_of made.old)).made) }
+    ensures lines { OnOk result (lines_of lines.new.items ≡ joined_to (lines_of lines.old.items)
+        (arm_code (calls_in here.now) (instance_of here.now) entered.now.exit entered.now.site entered.now.chosen
+        entered.now.fallen entered.now.number (listed_statements body.now) (made_of made.old)).lines) }
+    ensures value { OnOk result (value.new ≡
+        (arm_code (calls_in here.now) (instance_of here.now) entered.now.exit entered.now.site entered.now.chosen
+        entered.now.fallen entered.now.number (listed_statements body.now) (made_of made.old)).value) }
+    ensures made { OnOk result (made_of made.new ≡
+        (arm_code (calls_in here.now) (instance_of here.now) entered.now.exit entered.now.site entered.now.chosen
+        entered.now.fallen entered.now.number (listed_statements body.now) (made_of made.old)).made) }
 {
     step_entry(made, lines, entered, value)?;
     let entry = *value;
@@ -398,8 +458,12 @@ fn put_arms(
     arms: &[SwitchArm],
     value: &mut Value,
 ) -> Result<(), Memory>
-    ensures lines { OnOk result (lines_of lines.new.items ≡ joined_to (lines_of lines.old.items) (arms_code (calls_in here.now) (instance_of here.now) entered.exit entered.site entered.chosen entered.fallen entered.number (listed_arms arms.now) (made_of made.old)).lines) }
-    ensures made { OnOk result (made_of made.new ≡ (arms_code (calls_in here.now) (instance_of here.now) entered.exit entered.site entered.chosen entered.fallen entered.number (listed_arms arms.now) (made_of made.old)).made) }
+    ensures lines { OnOk result (lines_of lines.new.items ≡ joined_to (lines_of lines.old.items)
+        (arms_code (calls_in here.now) (instance_of here.now) entered.exit entered.site entered.chosen
+        entered.fallen entered.number (listed_arms arms.now) (made_of made.old)).lines) }
+    ensures made { OnOk result (made_of made.new ≡
+        (arms_code (calls_in here.now) (instance_of here.now) entered.exit entered.site entered.chosen
+        entered.fallen entered.number (listed_arms arms.now) (made_of made.old)).made) }
 {
     let mut entered = entered;
     let mut rest = arms;
@@ -426,8 +490,12 @@ fn put_statements(
     list: &[Stmt],
     value: &mut Value,
 ) -> Result<(), Memory>
-    ensures lines { OnOk result (lines_of lines.new.items ≡ joined_to (lines_of lines.old.items) (in_order (list_code (calls_in here.now) (instance_of here.now) exit false (listed_statements list.now) (made_of made.old))).lines) }
-    ensures made { OnOk result (made_of made.new ≡ (in_order (list_code (calls_in here.now) (instance_of here.now) exit false (listed_statements list.now) (made_of made.old))).made) }
+    ensures lines { OnOk result (lines_of lines.new.items ≡ joined_to (lines_of lines.old.items)
+        (in_order (list_code (calls_in here.now) (instance_of here.now) exit false (listed_statements list.now)
+        (made_of made.old))).lines) }
+    ensures made { OnOk result (made_of made.new ≡
+        (in_order (list_code (calls_in here.now) (instance_of here.now) exit false (listed_statements list.now)
+        (made_of made.old))).made) }
 {
     let mut guard = None;
     let mut inside = Vec::new(alloc);

@@ -46,9 +46,12 @@ pub fn step_variable(
     x: u32,
     value: &mut Value,
 ) -> Result<(), Memory>
-    ensures lines { OnOk result (lines_of lines.new.items ≡ joined_to (lines_of lines.old.items) (spec.action_code (instance_of here.now) (tree.Variable x) [] (made_of made.old)).lines) }
-    ensures value { OnOk result (value.new ≡ (spec.action_code (instance_of here.now) (tree.Variable x) [] (made_of made.old)).value) }
-    ensures made { OnOk result (made_of made.new ≡ (spec.action_code (instance_of here.now) (tree.Variable x) [] (made_of made.old)).made) }
+    ensures lines { OnOk result (lines_of lines.new.items ≡ joined_to (lines_of lines.old.items)
+        (spec.action_code (instance_of here.now) (tree.Variable x) [] (made_of made.old)).lines) }
+    ensures value { OnOk result (value.new ≡
+        (spec.action_code (instance_of here.now) (tree.Variable x) [] (made_of made.old)).value) }
+    ensures made { OnOk result (made_of made.new ≡
+        (spec.action_code (instance_of here.now) (tree.Variable x) [] (made_of made.old)).made) }
 {
     *value = put_variable(here, made, lines, x)?;
     Ok(())
@@ -63,9 +66,12 @@ pub fn step_unary(
     of: IntType,
     value: &mut Value,
 ) -> Result<(), Memory>
-    ensures lines { OnOk result (lines_of lines.new.items ≡ joined_to (lines_of lines.old.items) (spec.computed (Unary op of value.old.atom) (valid.unary_type op of) (made_of made.old)).lines) }
-    ensures value { OnOk result (value.new ≡ (spec.computed (Unary op of value.old.atom) (valid.unary_type op of) (made_of made.old)).value) }
-    ensures made { OnOk result (made_of made.new ≡ (spec.computed (Unary op of value.old.atom) (valid.unary_type op of) (made_of made.old)).made) }
+    ensures lines { OnOk result (lines_of lines.new.items ≡ joined_to (lines_of lines.old.items)
+        (spec.computed (Unary op of value.old.atom) (valid.unary_type op of) (made_of made.old)).lines) }
+    ensures value { OnOk result (value.new ≡
+        (spec.computed (Unary op of value.old.atom) (valid.unary_type op of) (made_of made.old)).value) }
+    ensures made { OnOk result (made_of made.new ≡
+        (spec.computed (Unary op of value.old.atom) (valid.unary_type op of) (made_of made.old)).made) }
 {
     *value = put_unary(made, lines, op, of, *value)?;
     Ok(())
@@ -81,9 +87,12 @@ pub fn step_binary(
     first: &Value,
     value: &mut Value,
 ) -> Result<(), Memory>
-    ensures lines { OnOk result (lines_of lines.new.items ≡ joined_to (lines_of lines.old.items) (spec.operated op of first.now.atom value.old.atom (made_of made.old)).lines) }
-    ensures value { OnOk result (value.new ≡ (spec.operated op of first.now.atom value.old.atom (made_of made.old)).value) }
-    ensures made { OnOk result (made_of made.new ≡ (spec.operated op of first.now.atom value.old.atom (made_of made.old)).made) }
+    ensures lines { OnOk result (lines_of lines.new.items ≡ joined_to (lines_of lines.old.items)
+        (spec.operated op of first.now.atom value.old.atom (made_of made.old)).lines) }
+    ensures value { OnOk result (value.new ≡
+        (spec.operated op of first.now.atom value.old.atom (made_of made.old)).value) }
+    ensures made { OnOk result (made_of made.new ≡
+        (spec.operated op of first.now.atom value.old.atom (made_of made.old)).made) }
 {
     *value = put_binary(made, lines, op, of, first.atom, value.atom)?;
     Ok(())
@@ -97,7 +106,8 @@ pub fn step_converted(
     to: IntType,
     value: &mut Value,
 ) -> Result<(), Memory>
-    ensures lines { OnOk result (lines_of lines.new.items ≡ joined_to (lines_of lines.old.items) (spec.converted to value.old.atom (made_of made.old)).lines) }
+    ensures lines { OnOk result (lines_of lines.new.items ≡ joined_to (lines_of lines.old.items)
+        (spec.converted to value.old.atom (made_of made.old)).lines) }
     ensures value { OnOk result (value.new ≡ (spec.converted to value.old.atom (made_of made.old)).value) }
     ensures made { OnOk result (made_of made.new ≡ (spec.converted to value.old.atom (made_of made.old)).made) }
 {
@@ -113,9 +123,12 @@ pub fn step_answer(
     what: Query,
     value: &mut Value,
 ) -> Result<(), Memory>
-    ensures lines { OnOk result (lines_of lines.new.items ≡ joined_to (lines_of lines.old.items) (spec.computed (Ask what value.old.atom) (valid.query_type what) (made_of made.old)).lines) }
-    ensures value { OnOk result (value.new ≡ (spec.computed (Ask what value.old.atom) (valid.query_type what) (made_of made.old)).value) }
-    ensures made { OnOk result (made_of made.new ≡ (spec.computed (Ask what value.old.atom) (valid.query_type what) (made_of made.old)).made) }
+    ensures lines { OnOk result (lines_of lines.new.items ≡ joined_to (lines_of lines.old.items)
+        (spec.computed (Ask what value.old.atom) (valid.query_type what) (made_of made.old)).lines) }
+    ensures value { OnOk result (value.new ≡
+        (spec.computed (Ask what value.old.atom) (valid.query_type what) (made_of made.old)).value) }
+    ensures made { OnOk result (made_of made.new ≡
+        (spec.computed (Ask what value.old.atom) (valid.query_type what) (made_of made.old)).made) }
 {
     *value = put_answer(made, lines, what, *value)?;
     Ok(())
@@ -124,7 +137,8 @@ pub fn step_answer(
 /// Whether the value is not 0.
 #[inline(never)]
 pub fn step_truth(made: &mut Made, lines: &mut Vec<Line>, value: &mut Value) -> Result<(), Memory>
-    ensures lines { OnOk result (lines_of lines.new.items ≡ joined_to (lines_of lines.old.items) (spec.truth value.old (made_of made.old)).lines) }
+    ensures lines { OnOk result (lines_of lines.new.items ≡ joined_to (lines_of lines.old.items)
+        (spec.truth value.old (made_of made.old)).lines) }
     ensures value { OnOk result (value.new ≡ (spec.truth value.old (made_of made.old)).value) }
     ensures made { OnOk result (made_of made.new ≡ (spec.truth value.old (made_of made.old)).made) }
 {
@@ -143,9 +157,15 @@ pub fn step_builtin(
     values: &[Value],
     value: &mut Value,
 ) -> Result<(), Memory>
-    ensures lines { OnOk result (lines_of lines.new.items ≡ joined_to (lines_of lines.old.items) (spec.computed (Builtin f of (spec.atoms_of values.now)) (builtins.result_type f of) (made_of made.old)).lines) }
-    ensures value { OnOk result (value.new ≡ (spec.computed (Builtin f of (spec.atoms_of values.now)) (builtins.result_type f of) (made_of made.old)).value) }
-    ensures made { OnOk result (made_of made.new ≡ (spec.computed (Builtin f of (spec.atoms_of values.now)) (builtins.result_type f of) (made_of made.old)).made) }
+    ensures lines { OnOk result (lines_of lines.new.items ≡ joined_to (lines_of lines.old.items)
+        (spec.computed (Builtin f of (spec.atoms_of values.now)) (builtins.result_type f of)
+        (made_of made.old)).lines) }
+    ensures value { OnOk result (value.new ≡
+        (spec.computed (Builtin f of (spec.atoms_of values.now)) (builtins.result_type f of)
+        (made_of made.old)).value) }
+    ensures made { OnOk result (made_of made.new ≡
+        (spec.computed (Builtin f of (spec.atoms_of values.now)) (builtins.result_type f of)
+        (made_of made.old)).made) }
 {
     *value = put_builtin(alloc, made, lines, f, of, values)?;
     Ok(())
@@ -159,9 +179,12 @@ pub fn step_loaded(
     element: &Element,
     value: &mut Value,
 ) -> Result<(), Memory>
-    ensures lines { OnOk result (lines_of lines.new.items ≡ joined_to (lines_of lines.old.items) (spec.loaded element.now.site element.now.of element.now.root element.now.index (made_of made.old)).lines) }
-    ensures value { OnOk result (value.new ≡ (spec.loaded element.now.site element.now.of element.now.root element.now.index (made_of made.old)).value) }
-    ensures made { OnOk result (made_of made.new ≡ (spec.loaded element.now.site element.now.of element.now.root element.now.index (made_of made.old)).made) }
+    ensures lines { OnOk result (lines_of lines.new.items ≡ joined_to (lines_of lines.old.items)
+        (spec.loaded element.now.site element.now.of element.now.root element.now.index (made_of made.old)).lines) }
+    ensures value { OnOk result (value.new ≡
+        (spec.loaded element.now.site element.now.of element.now.root element.now.index (made_of made.old)).value) }
+    ensures made { OnOk result (made_of made.new ≡
+        (spec.loaded element.now.site element.now.of element.now.root element.now.index (made_of made.old)).made) }
 {
     *value = put_loaded(made, lines, *element)?;
     Ok(())
@@ -179,9 +202,15 @@ pub fn step_changed(
     was: &Value,
     value: &mut Value,
 ) -> Result<(), Memory>
-    ensures lines { OnOk result (lines_of lines.new.items ≡ joined_to (lines_of lines.old.items) (spec.action_code (instance_of here.now) (tree.Change x change.op change.of change.back change.old) (was.now ∷ value.old ∷ []) (made_of made.old)).lines) }
-    ensures value { OnOk result (value.new ≡ (spec.action_code (instance_of here.now) (tree.Change x change.op change.of change.back change.old) (was.now ∷ value.old ∷ []) (made_of made.old)).value) }
-    ensures made { OnOk result (made_of made.new ≡ (spec.action_code (instance_of here.now) (tree.Change x change.op change.of change.back change.old) (was.now ∷ value.old ∷ []) (made_of made.old)).made) }
+    ensures lines { OnOk result (lines_of lines.new.items ≡ joined_to (lines_of lines.old.items)
+        (spec.action_code (instance_of here.now) (tree.Change x change.op change.of change.back change.old)
+        (was.now ∷ value.old ∷ []) (made_of made.old)).lines) }
+    ensures value { OnOk result (value.new ≡
+        (spec.action_code (instance_of here.now) (tree.Change x change.op change.of change.back change.old)
+        (was.now ∷ value.old ∷ []) (made_of made.old)).value) }
+    ensures made { OnOk result (made_of made.new ≡
+        (spec.action_code (instance_of here.now) (tree.Change x change.op change.of change.back change.old)
+        (was.now ∷ value.old ∷ []) (made_of made.old)).made) }
 {
     let now = put_changed(made, lines, change, was.atom, value.atom)?;
     put_assigned(here, lines, x, now)?;
@@ -200,9 +229,16 @@ pub fn step_changed_element(
     was: &Value,
     value: &mut Value,
 ) -> Result<(), Memory>
-    ensures lines { OnOk result (lines_of lines.new.items ≡ joined_to (lines_of lines.old.items) (joined_to (spec.changed change.op change.of change.back was.now.atom value.old.atom (made_of made.old)).lines (spec.stored element.now.site element.now.of element.now.root element.now.index (spec.changed change.op change.of change.back was.now.atom value.old.atom (made_of made.old)).value.atom))) }
-    ensures value { OnOk result (value.new ≡ (if change.old then was.now else (spec.changed change.op change.of change.back was.now.atom value.old.atom (made_of made.old)).value)) }
-    ensures made { OnOk result (made_of made.new ≡ (spec.changed change.op change.of change.back was.now.atom value.old.atom (made_of made.old)).made) }
+    ensures lines { OnOk result (lines_of lines.new.items ≡ joined_to (lines_of lines.old.items)
+        (joined_to (spec.changed change.op change.of change.back was.now.atom value.old.atom
+        (made_of made.old)).lines (spec.stored element.now.site element.now.of element.now.root
+        element.now.index (spec.changed change.op change.of change.back was.now.atom value.old.atom
+        (made_of made.old)).value.atom))) }
+    ensures value { OnOk result (value.new ≡
+        (if change.old then was.now else (spec.changed change.op change.of change.back was.now.atom value.old.atom
+        (made_of made.old)).value)) }
+    ensures made { OnOk result (made_of made.new ≡
+        (spec.changed change.op change.of change.back was.now.atom value.old.atom (made_of made.old)).made) }
 {
     let now = put_changed(made, lines, change, was.atom, value.atom)?;
     put_stored(lines, *element, now.atom)?;
@@ -221,9 +257,15 @@ pub fn step_choice(
     no: Vec<Line>,
     value: &mut Value,
 ) -> Result<(), Memory>
-    ensures lines { OnOk result (lines_of lines.new.items ≡ joined_to (lines_of lines.old.items) (spec.choice_code site test.now.atom (lines_of yes.lines.items) yes.value (lines_of no.items) value.old (made_of made.old)).lines) }
-    ensures value { OnOk result (value.new ≡ (spec.choice_code site test.now.atom (lines_of yes.lines.items) yes.value (lines_of no.items) value.old (made_of made.old)).value) }
-    ensures made { OnOk result (made_of made.new ≡ (spec.choice_code site test.now.atom (lines_of yes.lines.items) yes.value (lines_of no.items) value.old (made_of made.old)).made) }
+    ensures lines { OnOk result (lines_of lines.new.items ≡ joined_to (lines_of lines.old.items)
+        (spec.choice_code site test.now.atom (lines_of yes.lines.items) yes.value (lines_of no.items) value.old
+        (made_of made.old)).lines) }
+    ensures value { OnOk result (value.new ≡
+        (spec.choice_code site test.now.atom (lines_of yes.lines.items) yes.value (lines_of no.items) value.old
+        (made_of made.old)).value) }
+    ensures made { OnOk result (made_of made.new ≡
+        (spec.choice_code site test.now.atom (lines_of yes.lines.items) yes.value (lines_of no.items) value.old
+        (made_of made.old)).made) }
 {
     let no = Part {
         lines: no,
@@ -244,9 +286,15 @@ pub fn step_both(
     inside: Vec<Line>,
     value: &mut Value,
 ) -> Result<(), Memory>
-    ensures lines { OnOk result (lines_of lines.new.items ≡ joined_to (lines_of lines.old.items) (spec.choice_code site test.now.atom (lines_of inside.items) value.old NoLine (made_spec.constant (pos 0) IntType.Int) (made_of made.old)).lines) }
-    ensures value { OnOk result (value.new ≡ (spec.choice_code site test.now.atom (lines_of inside.items) value.old NoLine (made_spec.constant (pos 0) IntType.Int) (made_of made.old)).value) }
-    ensures made { OnOk result (made_of made.new ≡ (spec.choice_code site test.now.atom (lines_of inside.items) value.old NoLine (made_spec.constant (pos 0) IntType.Int) (made_of made.old)).made) }
+    ensures lines { OnOk result (lines_of lines.new.items ≡ joined_to (lines_of lines.old.items)
+        (spec.choice_code site test.now.atom (lines_of inside.items) value.old NoLine
+        (made_spec.constant (pos 0) IntType.Int) (made_of made.old)).lines) }
+    ensures value { OnOk result (value.new ≡
+        (spec.choice_code site test.now.atom (lines_of inside.items) value.old NoLine
+        (made_spec.constant (pos 0) IntType.Int) (made_of made.old)).value) }
+    ensures made { OnOk result (made_of made.new ≡
+        (spec.choice_code site test.now.atom (lines_of inside.items) value.old NoLine
+        (made_spec.constant (pos 0) IntType.Int) (made_of made.old)).made) }
 {
     let yes = Part {
         lines: inside,
@@ -271,9 +319,15 @@ pub fn step_either(
     inside: Vec<Line>,
     value: &mut Value,
 ) -> Result<(), Memory>
-    ensures lines { OnOk result (lines_of lines.new.items ≡ joined_to (lines_of lines.old.items) (spec.choice_code site test.now.atom NoLine (made_spec.constant (pos 1) IntType.Int) (lines_of inside.items) value.old (made_of made.old)).lines) }
-    ensures value { OnOk result (value.new ≡ (spec.choice_code site test.now.atom NoLine (made_spec.constant (pos 1) IntType.Int) (lines_of inside.items) value.old (made_of made.old)).value) }
-    ensures made { OnOk result (made_of made.new ≡ (spec.choice_code site test.now.atom NoLine (made_spec.constant (pos 1) IntType.Int) (lines_of inside.items) value.old (made_of made.old)).made) }
+    ensures lines { OnOk result (lines_of lines.new.items ≡ joined_to (lines_of lines.old.items)
+        (spec.choice_code site test.now.atom NoLine (made_spec.constant (pos 1) IntType.Int) (lines_of inside.items)
+        value.old (made_of made.old)).lines) }
+    ensures value { OnOk result (value.new ≡
+        (spec.choice_code site test.now.atom NoLine (made_spec.constant (pos 1) IntType.Int) (lines_of inside.items)
+        value.old (made_of made.old)).value) }
+    ensures made { OnOk result (made_of made.new ≡
+        (spec.choice_code site test.now.atom NoLine (made_spec.constant (pos 1) IntType.Int) (lines_of inside.items)
+        value.old (made_of made.old)).made) }
 {
     let yes = Part {
         lines: Vec::new(alloc),
@@ -295,7 +349,8 @@ pub fn step_result(
     gives: Option<IntType>,
     value: &mut Value,
 ) -> Result<(), Memory>
-    ensures lines { OnOk result (lines_of lines.new.items ≡ joined_to (lines_of lines.old.items) (code.result_code gives (made_of made.old)).lines) }
+    ensures lines { OnOk result (lines_of lines.new.items ≡ joined_to (lines_of lines.old.items)
+        (code.result_code gives (made_of made.old)).lines) }
     ensures value { OnOk result (value.new ≡ (code.result_code gives (made_of made.old)).value) }
     ensures made { OnOk result (made_of made.new ≡ (code.result_code gives (made_of made.old)).made) }
 {
@@ -312,9 +367,12 @@ pub fn step_entry(
     entered: &Entered,
     value: &mut Value,
 ) -> Result<(), Memory>
-    ensures lines { OnOk result (lines_of lines.new.items ≡ joined_to (lines_of lines.old.items) (code.entry_code entered.now.chosen entered.now.fallen entered.now.number (made_of made.old)).lines) }
-    ensures value { OnOk result (value.new ≡ (code.entry_code entered.now.chosen entered.now.fallen entered.now.number (made_of made.old)).value) }
-    ensures made { OnOk result (made_of made.new ≡ (code.entry_code entered.now.chosen entered.now.fallen entered.now.number (made_of made.old)).made) }
+    ensures lines { OnOk result (lines_of lines.new.items ≡ joined_to (lines_of lines.old.items)
+        (code.entry_code entered.now.chosen entered.now.fallen entered.now.number (made_of made.old)).lines) }
+    ensures value { OnOk result (value.new ≡
+        (code.entry_code entered.now.chosen entered.now.fallen entered.now.number (made_of made.old)).value) }
+    ensures made { OnOk result (made_of made.new ≡
+        (code.entry_code entered.now.chosen entered.now.fallen entered.now.number (made_of made.old)).made) }
 {
     let number = int(i128::from(entered.number));
     let chosen = put_binary(made, lines, Bin::Eq, IntType::Int, entered.chosen, number)?;
@@ -342,9 +400,13 @@ pub fn step_arm(
     inside: &mut Vec<Line>,
     value: &mut Value,
 ) -> Result<(), Memory>
-    ensures lines { OnOk result (lines_of lines.new.items ≡ joined_to (lines_of lines.old.items) (IfThen entered.now.site value.old.atom (lines_of inside.old.items) NoLine (spec.fallen_code way entered.now.exit value.old (made_of made.old)).lines)) }
-    ensures value { OnOk result (value.new ≡ (spec.fallen_code way entered.now.exit value.old (made_of made.old)).value) }
-    ensures made { OnOk result (made_of made.new ≡ (spec.fallen_code way entered.now.exit value.old (made_of made.old)).made) }
+    ensures lines { OnOk result (lines_of lines.new.items ≡ joined_to (lines_of lines.old.items)
+        (IfThen entered.now.site value.old.atom (lines_of inside.old.items) NoLine
+        (spec.fallen_code way entered.now.exit value.old (made_of made.old)).lines)) }
+    ensures value { OnOk result (value.new ≡
+        (spec.fallen_code way entered.now.exit value.old (made_of made.old)).value) }
+    ensures made { OnOk result (made_of made.new ≡
+        (spec.fallen_code way entered.now.exit value.old (made_of made.old)).made) }
 {
     let taken = replace(inside, Vec::new(alloc));
     put_if(lines, entered.site, value.atom, taken, Vec::new(alloc))?;
@@ -361,7 +423,8 @@ pub fn step_closed(
     exit: u32,
     inside: &mut Vec<Line>,
 ) -> Result<(), Memory>
-    ensures lines { OnOk result (lines_of lines.new.items ≡ joined_to (lines_of lines.old.items) (spec.closed guard exit (lines_of inside.old.items) NoLine)) }
+    ensures lines { OnOk result (lines_of lines.new.items ≡ joined_to (lines_of lines.old.items)
+        (spec.closed guard exit (lines_of inside.old.items) NoLine)) }
     ensures inside { OnOk result (inside.new.items ≡ []) }
 {
     let taken = replace(inside, Vec::new(alloc));

@@ -40,7 +40,8 @@ pub fn put_opened(
     way: Option<u32>,
     exit: u32,
 ) -> Result<u32, Memory>
-    ensures lines { OnOk result (lines_of lines.new.items ≡ joined_to (lines_of lines.old.items) (spec.opened way exit (made_of made.old)).lines) }
+    ensures lines { OnOk result (lines_of lines.new.items ≡ joined_to (lines_of lines.old.items)
+        (spec.opened way exit (made_of made.old)).lines) }
     ensures exit { IfOk result (λ c. c ≡ (spec.opened way exit (made_of made.old)).exit) }
     ensures made { OnOk result (made_of made.new ≡ (spec.opened way exit (made_of made.old)).made) }
 {
@@ -63,7 +64,8 @@ pub fn put_settled(
     site: u32,
     exit: u32,
 ) -> Result<(), Memory>
-    ensures lines { OnOk result (lines_of lines.new.items ≡ joined_to (lines_of lines.old.items) (spec.settled site exit (made_of made.old)).lines) }
+    ensures lines { OnOk result (lines_of lines.new.items ≡ joined_to (lines_of lines.old.items)
+        (spec.settled site exit (made_of made.old)).lines) }
     ensures made { OnOk result (made_of made.new ≡ (spec.settled site exit (made_of made.old)).made) }
 {
     let test = put_binary(
@@ -90,7 +92,8 @@ pub fn put_outward(
     exit: u32,
     outer: u32,
 ) -> Result<(), Memory>
-    ensures lines { OnOk result (lines_of lines.new.items ≡ joined_to (lines_of lines.old.items) (spec.outward way exit outer (made_of made.old)).lines) }
+    ensures lines { OnOk result (lines_of lines.new.items ≡ joined_to (lines_of lines.old.items)
+        (spec.outward way exit outer (made_of made.old)).lines) }
     ensures made { OnOk result (made_of made.new ≡ (spec.outward way exit outer (made_of made.old)).made) }
 {
     match way {
@@ -123,8 +126,12 @@ pub fn put_round(
     steps: Vec<Line>,
     body: Vec<Line>,
 ) -> Result<(), Memory>
-    ensures lines { OnOk result (lines_of lines.new.items ≡ joined_to (lines_of lines.old.items) (spec.round_code round.site round.test_first round.way round.exit (lines_of tests.lines.items) tests.value (lines_of steps.items) (lines_of body.items) (made_of made.old)).lines) }
-    ensures made { OnOk result (made_of made.new ≡ (spec.round_code round.site round.test_first round.way round.exit (lines_of tests.lines.items) tests.value (lines_of steps.items) (lines_of body.items) (made_of made.old)).made) }
+    ensures lines { OnOk result (lines_of lines.new.items ≡ joined_to (lines_of lines.old.items)
+        (spec.round_code round.site round.test_first round.way round.exit (lines_of tests.lines.items) tests.value
+        (lines_of steps.items) (lines_of body.items) (made_of made.old)).lines) }
+    ensures made { OnOk result (made_of made.new ≡
+        (spec.round_code round.site round.test_first round.way round.exit (lines_of tests.lines.items) tests.value
+        (lines_of steps.items) (lines_of body.items) (made_of made.old)).made) }
 {
     let Part {
         lines: mut test,
@@ -163,7 +170,8 @@ fn put_loop(
     answer: Atom,
     body: Vec<Line>,
 ) -> Result<(), Memory>
-    ensures { OnOk result (lines_of lines.new.items ≡ joined_to (lines_of lines.old.items) (LoopThen round.site round.test_first (lines_of test.items) answer (lines_of body.items) NoLine)) }
+    ensures { OnOk result (lines_of lines.new.items ≡ joined_to (lines_of lines.old.items)
+        (LoopThen round.site round.test_first (lines_of test.items) answer (lines_of body.items) NoLine)) }
 {
     put(
         lines,
@@ -188,7 +196,8 @@ pub fn put_fallen(
     exit: u32,
     entered: Value,
 ) -> Result<Value, Memory>
-    ensures lines { OnOk result (lines_of lines.new.items ≡ joined_to (lines_of lines.old.items) (spec.fallen_code way exit entered (made_of made.old)).lines) }
+    ensures lines { OnOk result (lines_of lines.new.items ≡ joined_to (lines_of lines.old.items)
+        (spec.fallen_code way exit entered (made_of made.old)).lines) }
     ensures value { IfOk result (λ v. v ≡ (spec.fallen_code way exit entered (made_of made.old)).value) }
     ensures made { OnOk result (made_of made.new ≡ (spec.fallen_code way exit entered (made_of made.old)).made) }
 {
@@ -223,7 +232,8 @@ pub fn put_closed(
     exit: u32,
     inside: Vec<Line>,
 ) -> Result<(), Memory>
-    ensures { OnOk result (lines_of lines.new.items ≡ joined_to (lines_of lines.old.items) (closed guard exit (lines_of inside.items) NoLine)) }
+    ensures { OnOk result (lines_of lines.new.items ≡ joined_to (lines_of lines.old.items)
+        (closed guard exit (lines_of inside.items) NoLine)) }
 {
     match guard {
         None => put_all(lines, inside),

@@ -89,9 +89,12 @@ struct Lowered {
 
 /// The lines of the kernel.
 fn lower_parts(alloc: Global, program: &Program) -> Result<Lowered, Memory>
-    ensures kinds { IfOk result (λ r. r.kinds.items ≡ valid.parameter_kinds (called.kernel_of (program_of program.now))) }
-    ensures body { IfOk result (λ r. lines_of r.body.items ≡ (whole.kernel_code (program_of program.now) (names_of program.now)).lines) }
-    ensures made { IfOk result (λ r. made_of r.made ≡ (whole.kernel_code (program_of program.now) (names_of program.now)).made) }
+    ensures kinds { IfOk result (λ r. r.kinds.items ≡
+        valid.parameter_kinds (called.kernel_of (program_of program.now))) }
+    ensures body { IfOk result (λ r. lines_of r.body.items ≡
+        (whole.kernel_code (program_of program.now) (names_of program.now)).lines) }
+    ensures made { IfOk result (λ r. made_of r.made ≡
+        (whole.kernel_code (program_of program.now) (names_of program.now)).made) }
 {
     let function = function_at(program, program.kernel)?;
     let kinds = kinds_of(alloc, function)?;

@@ -5,7 +5,11 @@ use Rattle.lane_code.specs.declared.step.Bank.{Bank}
 use Rattle.lane_code.specs.declared.step.Bank.TheVariants.{Narrow, Wide, Mask, Scalar}
 use Rattle.lane_code.specs.declared.step.Reg.{Reg}
 use Rattle.lane_code.specs.declared.step.Step.{Step}
-use Rattle.lane_code.specs.declared.step.Step.TheVariants.{Const, Copy, Unary, Binary, Builtin, Convert, Spread, First, Ask, Argument, Load, Store, Clear, ColumnGet, ColumnPut, OnceGet, OncePut, VoteGet, VotePut, Test as TestStep, MaskAnd, MaskOr, MaskLess, Jump, SkipNone, SkipZero, Turn, Mark}
+use Rattle.lane_code.specs.declared.step.Step.TheVariants.{Const, Copy, Unary, Binary, Builtin, Convert, Spread}
+use Rattle.lane_code.specs.declared.step.Step.TheVariants.{First, Ask, Argument, Load, Store, Clear, ColumnGet}
+use Rattle.lane_code.specs.declared.step.Step.TheVariants.{ColumnPut, OnceGet, OncePut, VoteGet, VotePut}
+use Rattle.lane_code.specs.declared.step.Step.TheVariants.{Test as TestStep, MaskAnd, MaskOr, MaskLess, Jump}
+use Rattle.lane_code.specs.declared.step.Step.TheVariants.{SkipNone, SkipZero, Turn, Mark}
 use Rattle.lane_code.specs.declared.code.Counts.{Counts}
 use Rattle.lane_code.specs.Fits.{is_bank, is_code}
 
@@ -61,7 +65,8 @@ counted steps = record {
 
 -- each count is a number of 32 bits
 abbrev pub are_few : Counts → Test
-are_few counts = nat_lt counts.narrow (2 ^ 32) && nat_lt counts.wide (2 ^ 32) && nat_lt counts.masks (2 ^ 32) && nat_lt counts.scalars (2 ^ 32)
+are_few counts = nat_lt counts.narrow (2 ^ 32) && nat_lt counts.wide (2 ^ 32) && nat_lt counts.masks (2 ^ 32) &&
+    nat_lt counts.scalars (2 ^ 32)
 
 -- with as many registers as they name the steps are a code
 abbrev pub make_code : List Step → Test

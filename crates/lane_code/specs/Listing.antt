@@ -1,4 +1,5 @@
--- The listing of a group program: the kernel's name and the width, then what a group does, one line each, indented by two blanks per depth.
+-- The listing of a group program: the kernel's name and the width, then what a group does, one line each, indented by
+-- two blanks per depth.
 use Rattle.std.specs.Prelude.{ℕ, suc, ◌++◌, List, [], ◌∷◌, codes, decimal}
 use Rattle.std.specs.Prelude.{Bool as Test, true, false}
 use Rattle.lane_code.specs.declared.step.Step.{Step}
@@ -41,10 +42,14 @@ abbrev mutual
   work_text indent (Items code) = part_text indent (codes "items") code
   work_text indent (Seq works) = line_text indent (codes "seq") ++ works_text (deeper indent) works
   work_text indent (Vote test agreed refused mixed) =
-      line_text indent (codes "vote") ++ (part_text (deeper indent) (codes "test") test ++ (named_text (deeper indent) (codes "yes") (work_text (deeper (deeper indent)) agreed)
-      ++ (named_text (deeper indent) (codes "no") (work_text (deeper (deeper indent)) refused) ++ part_text (deeper indent) (codes "mixed") mixed)))
+      line_text indent (codes "vote") ++ (part_text (deeper indent) (codes "test") test ++
+      (named_text (deeper indent) (codes "yes") (work_text (deeper (deeper indent)) agreed)
+      ++ (named_text (deeper indent) (codes "no") (work_text (deeper (deeper indent)) refused) ++
+      part_text (deeper indent) (codes "mixed") mixed)))
   work_text indent (Loop test_first test body rest) =
-      line_text indent (loop_name test_first) ++ (named_text (deeper indent) (codes "test") (work_text (deeper (deeper indent)) test) ++ (named_text (deeper indent) (codes "body") (work_text (deeper (deeper indent)) body)
+      line_text indent (loop_name test_first) ++
+      (named_text (deeper indent) (codes "test") (work_text (deeper (deeper indent)) test) ++
+      (named_text (deeper indent) (codes "body") (work_text (deeper (deeper indent)) body)
       ++ part_text (deeper indent) (codes "rest") rest))
 
   pub works_text : (indent : List ℕ) → Works → List ℕ
@@ -57,4 +62,5 @@ nodes_text indent [] = []
 nodes_text indent (n ∷ nodes) = work_text indent (work_of n) ++ nodes_text indent nodes
 
 abbrev pub listing_text : (kernel : List ℕ) → Plain → List ℕ
-listing_text kernel p = codes "kernel " ++ (kernel ++ (codes ", width " ++ (decimal p.width ++ (codes "\n" ++ work_text [] p.top))))
+listing_text kernel p =
+    codes "kernel " ++ (kernel ++ (codes ", width " ++ (decimal p.width ++ (codes "\n" ++ work_text [] p.top))))

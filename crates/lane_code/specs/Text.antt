@@ -17,11 +17,19 @@ use Rattle.cl_model.specs.declared.program.Root.TheVariants as root
 use Rattle.lane_code.specs.declared.step.Bank.{Bank}
 use Rattle.lane_code.specs.declared.step.Bank.TheVariants.{Narrow, Wide, Mask as MaskBank, Scalar}
 use Rattle.lane_code.specs.declared.step.Step.{Step}
-use Rattle.lane_code.specs.declared.step.Step.TheVariants.{Const, Copy, Unary, Binary, Builtin, Convert, Spread, First, Ask, Argument, Load, Store, Clear, ColumnGet, ColumnPut, OnceGet, OncePut, VoteGet, VotePut, Test as TestStep, MaskAnd, MaskOr, MaskLess, Jump, SkipNone, SkipZero, Turn, Mark}
+use Rattle.lane_code.specs.declared.step.Step.TheVariants.{Const, Copy, Unary, Binary, Builtin, Convert, Spread}
+use Rattle.lane_code.specs.declared.step.Step.TheVariants.{First, Ask, Argument, Load, Store, Clear, ColumnGet}
+use Rattle.lane_code.specs.declared.step.Step.TheVariants.{ColumnPut, OnceGet, OncePut, VoteGet, VotePut}
+use Rattle.lane_code.specs.declared.step.Step.TheVariants.{Test as TestStep, MaskAnd, MaskOr, MaskLess, Jump}
+use Rattle.lane_code.specs.declared.step.Step.TheVariants.{SkipNone, SkipZero, Turn, Mark}
 use Rattle.lane_code.specs.declared.field.Label.{Label}
-use Rattle.lane_code.specs.declared.field.Label.TheVariants.{To, From, A, B, C, Index, Dim, Mask, Of, Was, Kind, Op, F, What, Root as RootLabel, Value as ValueLabel, Site, Number as NumberLabel, Array, Column, Slot, Target}
+use Rattle.lane_code.specs.declared.field.Label.TheVariants.{To, From, A, B, C, Index, Dim, Mask, Of, Was, Kind, Op}
+use Rattle.lane_code.specs.declared.field.Label.TheVariants.{F, What, Root as RootLabel, Value as ValueLabel, Site}
+use Rattle.lane_code.specs.declared.field.Label.TheVariants.{Number as NumberLabel, Array, Column, Slot, Target}
 use Rattle.lane_code.specs.declared.field.Field.{Field}
-use Rattle.lane_code.specs.declared.field.Field.TheVariants.{Register, Number, TypeName, Value, Unary as UnaryField, Binary as BinaryField, Function, Query as QueryField, Root as RootField}
+use Rattle.lane_code.specs.declared.field.Field.TheVariants.{Register, Number, TypeName, Value, Unary as UnaryField}
+use Rattle.lane_code.specs.declared.field.Field.TheVariants.{Binary as BinaryField, Function, Query as QueryField}
+use Rattle.lane_code.specs.declared.field.Field.TheVariants.{Root as RootField}
 
 -- types, operators, functions and queries by their names
 abbrev pub type_name : IntType → List ℕ
@@ -130,7 +138,8 @@ label_name Target = codes "target"
 
 -- a field: a blank, its name, `=` and its value
 abbrev pub field_text : Field → List ℕ
-field_text (Register label x) = codes " " ++ (label_name label ++ (codes "=" ++ (bank_letter x.bank ++ decimal x.number)))
+field_text (Register label x) =
+    codes " " ++ (label_name label ++ (codes "=" ++ (bank_letter x.bank ++ decimal x.number)))
 field_text (Number label n) = codes " " ++ (label_name label ++ (codes "=" ++ decimal n))
 field_text (TypeName label t) = codes " " ++ (label_name label ++ (codes "=" ++ type_name t))
 field_text (Value v) = codes " value=" ++ signed_decimal v
@@ -177,16 +186,23 @@ step_name (Mark site mask) = codes "Mark"
 abbrev pub fields_of : Step → List Field
 fields_of (Const to on value) = Register To to ∷ TypeName Of on ∷ Value value ∷ []
 fields_of (Copy to from mask) = Register To to ∷ Register From from ∷ Register Mask mask ∷ []
-fields_of (Unary op on to a mask) = UnaryField op ∷ TypeName Of on ∷ Register To to ∷ Register A a ∷ Register Mask mask ∷ []
-fields_of (Binary op on to a b mask) = BinaryField op ∷ TypeName Of on ∷ Register To to ∷ Register A a ∷ Register B b ∷ Register Mask mask ∷ []
-fields_of (Builtin f on to a b c mask) = Function f ∷ TypeName Of on ∷ Register To to ∷ Register A a ∷ Register B b ∷ Register C c ∷ Register Mask mask ∷ []
-fields_of (Convert to kind from was mask) = Register To to ∷ TypeName Kind kind ∷ Register From from ∷ TypeName Was was ∷ Register Mask mask ∷ []
+fields_of (Unary op on to a mask) =
+    UnaryField op ∷ TypeName Of on ∷ Register To to ∷ Register A a ∷ Register Mask mask ∷ []
+fields_of (Binary op on to a b mask) =
+    BinaryField op ∷ TypeName Of on ∷ Register To to ∷ Register A a ∷ Register B b ∷ Register Mask mask ∷ []
+fields_of (Builtin f on to a b c mask) =
+    Function f ∷ TypeName Of on ∷ Register To to ∷ Register A a ∷ Register B b ∷ Register C c ∷ Register Mask mask ∷ []
+fields_of (Convert to kind from was mask) =
+    Register To to ∷ TypeName Kind kind ∷ Register From from ∷ TypeName Was was ∷ Register Mask mask ∷ []
 fields_of (Spread to from) = Register To to ∷ Register From from ∷ []
 fields_of (First to from on mask) = Register To to ∷ Register From from ∷ TypeName Of on ∷ Register Mask mask ∷ []
 fields_of (Ask what to dim mask) = QueryField what ∷ Register To to ∷ Register Dim dim ∷ Register Mask mask ∷ []
 fields_of (Argument number to mask) = Number NumberLabel number ∷ Register To to ∷ Register Mask mask ∷ []
-fields_of (Load site on root index to mask) = Number Site site ∷ TypeName Of on ∷ RootField root ∷ Register Index index ∷ Register To to ∷ Register Mask mask ∷ []
-fields_of (Store site on root index from mask) = Number Site site ∷ TypeName Of on ∷ RootField root ∷ Register Index index ∷ Register From from ∷ Register Mask mask ∷ []
+fields_of (Load site on root index to mask) =
+    Number Site site ∷ TypeName Of on ∷ RootField root ∷ Register Index index ∷ Register To to ∷ Register Mask mask ∷ []
+fields_of (Store site on root index from mask) =
+    Number Site site ∷ TypeName Of on ∷ RootField root ∷ Register Index index ∷ Register From from ∷
+    Register Mask mask ∷ []
 fields_of (Clear array mask) = Number Array array ∷ Register Mask mask ∷ []
 fields_of (ColumnGet column to) = Number Column column ∷ Register To to ∷ []
 fields_of (ColumnPut column from mask) = Number Column column ∷ Register From from ∷ Register Mask mask ∷ []

@@ -1,7 +1,19 @@
 //! The listing of a group program.
 
 ghost use Rattle.std.specs.Prelude.{◌≡◌, ◌++◌, ℕ, OnOk, IfOk, codes};
-ghost use Rattle.lane_code.specs.Listing.{deeper, line_text, step_line, steps_text, code_text, part_text, named_text, nodes_text, loop_name, work_text, listing_text};
+ghost use Rattle.lane_code.specs.Listing.{
+  deeper,
+  line_text,
+  step_line,
+  steps_text,
+  code_text,
+  part_text,
+  named_text,
+  nodes_text,
+  loop_name,
+  work_text,
+  listing_text,
+};
 ghost use Rattle.lane_code.specs.Program.{work_of, code_of};
 ghost use Rattle.wg_num.specs.Operators.{lanes_of};
 ghost use Rattle.lane_code.specs.View.{plain_of};
@@ -77,7 +89,8 @@ fn put_branch(
     word: &[u8],
     node: &Node,
 ) -> Result<(), Memory>
-    ensures { OnOk result (out.new.items ≡ out.old.items ++ named_text indent.now word.now (work_text (deeper indent.now) (work_of node.now))) }
+    ensures { OnOk result (out.new.items ≡ out.old.items ++
+        named_text indent.now word.now (work_text (deeper indent.now) (work_of node.now))) }
 {
     let inner = further(alloc, indent)?;
     put_line(out, indent, word)?;

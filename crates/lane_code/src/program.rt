@@ -23,5 +23,6 @@ pub struct GroupProgram {
     pub slots: u32,
     pub sites: Vec<Place>,
     pub top: Node,
-    ghost valid: { is_group_program (plain_with width params.items tables.items locals.items privates.items columns slots sites.items top) ≡ true },
+    ghost valid: { is_group_program (plain_with width params.items tables.items locals.items privates.items columns
+        slots sites.items top) ≡ true },
 }

@@ -1,5 +1,7 @@
 -- Laws of loads and stores.
-use Rattle.std.proofs.Common.{◌≡◌, ℕ, zero, suc, ◌+◌, ◌-◌, ◌*◌, ◌/◌, ◌%◌, ◌^◌, ◌<◌, ◌≤◌, refl, sym, ap, ap₂, ◌∙◌, arith, Bool, false, List, [], ◌∷◌, length, take, set, get_or, drop-cons, add-one, add-zero, ℤ, map, cond, not, nat_eq, true, pos, true≢false, eqb-true, eq-eqb}
+use Rattle.std.proofs.Common.{◌≡◌, ℕ, zero, suc, ◌+◌, ◌-◌, ◌*◌, ◌/◌, ◌%◌, ◌^◌, ◌<◌, ◌≤◌, refl, sym, ap, ap₂, ◌∙◌}
+use Rattle.std.proofs.Common.{arith, Bool, false, List, [], ◌∷◌, length, take, set, get_or, drop-cons, add-one}
+use Rattle.std.proofs.Common.{add-zero, ℤ, map, cond, not, nat_eq, true, pos, true≢false, eqb-true, eq-eqb}
 use Rattle.std.proofs.lemmas.Int.{ints}
 use Rattle.std.specs.Simd.Lanes.{chunk, put_chunk, number_l, digits_l}
 use Rattle.std.specs.Simd.Lanes.{zip2}
@@ -16,8 +18,10 @@ use Rattle.lane_kernels.proofs.LaneLaws as K
 
 -- ---- loads
 
-pub gathered_64 : (t : IntType) (bytes : List ℕ) (m : List Bool) (index : List ℕ) → map (extended 64 t) (zip2 (number_from (size_of t) bytes) m index) ≡ gathered 64 t bytes m index
-gathered_64 t bytes m index = map_of_zip2 (extended 64 t) (number_from (size_of t) bytes) m index ∙ zip2_same _ (lane_from 64 t bytes) one m index
+pub gathered_64 : (t : IntType) (bytes : List ℕ) (m : List Bool) (index : List ℕ) →
+    map (extended 64 t) (zip2 (number_from (size_of t) bytes) m index) ≡ gathered 64 t bytes m index
+gathered_64 t bytes m index =
+    map_of_zip2 (extended 64 t) (number_from (size_of t) bytes) m index ∙ zip2_same _ (lane_from 64 t bytes) one m index
   where
     one : (on : Bool) (at : ℕ) → extended 64 t (number_from (size_of t) bytes on at) ≡ lane_from 64 t bytes on at
     one true at = refl
@@ -32,7 +36,8 @@ truth_number x = by (nat_eq x 0) refl
     by : (b : Bool) → nat_eq x 0 ≡ b → truth_of (pos (from_bool (not (nat_eq x 0)))) ≡ truth_of (pos x)
     by true e = ap (λ b. truth_of (pos (from_bool (not b)))) e ∙ ap (λ n. truth_of (pos n)) (sym (eqb-true x 0 e))
     by false e = ap (λ b. truth_of (pos (from_bool (not b)))) e
-        ∙ sym (K.truth_nonzero 32 (2 ^ 31) refl refl (omega arith) (omega arith) (pos x) (λ z. true≢false (sym (eq-eqb x 0 (number x z)) ∙ e)))
+        ∙ sym (K.truth_nonzero 32 (2 ^ 31) refl refl (omega arith) (omega arith) (pos x)
+        (λ z. true≢false (sym (eq-eqb x 0 (number x z)) ∙ e)))
 
 abbrev low_of : IntType → ℕ → ℕ
 low_of t x = cond (is_bool t) (from_bool (not (nat_eq x 0))) (x % 2 ^ 32)
@@ -44,18 +49,23 @@ low_extended t x n = by (is_bool t) refl
   where
     by : (b : Bool) → is_bool t ≡ b → extended 32 t (low_of t x) ≡ extended 32 t x
     by true e = ap (λ b. extended 32 t (cond b (from_bool (not (nat_eq x 0))) (x % 2 ^ 32))) e
-        ∙ ap (lane 32) (K.stands 32 (2 ^ 31) refl refl (omega arith) (omega arith) t (from_bool (not (nat_eq x 0))) (pos x) n (λ f. absurd (true≢false (sym e ∙ f))) (λ f. truth_number x))
+        ∙ ap (lane 32) (K.stands 32 (2 ^ 31) refl refl (omega arith) (omega arith) t (from_bool (not (nat_eq x 0)))
+        (pos x) n (λ f. absurd (true≢false (sym e ∙ f))) (λ f. truth_number x))
     by false e = ap (λ b. extended 32 t (cond b (from_bool (not (nat_eq x 0))) (x % 2 ^ 32))) e
-        ∙ ap (lane 32) (K.stands 32 (2 ^ 31) refl refl (omega arith) (omega arith) t (x % 2 ^ 32) (pos x) n (λ f. K.mod_congruent 32 (2 ^ 31) refl refl (omega arith) (omega arith) x) (λ f. absurd (true≢false (sym f ∙ e))))
+        ∙ ap (lane 32) (K.stands 32 (2 ^ 31) refl refl (omega arith) (omega arith) t (x % 2 ^ 32) (pos x) n
+        (λ f. K.mod_congruent 32 (2 ^ 31) refl refl (omega arith) (omega arith) x)
+        (λ f. absurd (true≢false (sym f ∙ e))))
 
 pub gathered_32 : (t : IntType) (bytes : List ℕ) (m : List Bool) (index : List ℕ) → FitsLane 32 t
-    → map (extended 32 t) (map (λ x. cond (is_bool t) (from_bool (not (nat_eq x 0))) (x % 2 ^ 32)) (zip2 (number_from (size_of t) bytes) m index)) ≡ gathered 32 t bytes m index
+    → map (extended 32 t) (map (λ x. cond (is_bool t) (from_bool (not (nat_eq x 0))) (x % 2 ^ 32))
+    (zip2 (number_from (size_of t) bytes) m index)) ≡ gathered 32 t bytes m index
 gathered_32 t bytes m index n =
     map_of_map (extended 32 t) (low_of t) (zip2 (number_from (size_of t) bytes) m index)
     ∙ map_of_zip2 (λ x. extended 32 t (low_of t x)) (number_from (size_of t) bytes) m index
     ∙ zip2_same _ (lane_from 32 t bytes) one m index
   where
-    one : (on : Bool) (at : ℕ) → extended 32 t (low_of t (number_from (size_of t) bytes on at)) ≡ lane_from 32 t bytes on at
+    one : (on : Bool) (at : ℕ) → extended 32 t (low_of t (number_from (size_of t) bytes on at)) ≡
+        lane_from 32 t bytes on at
     one true at = low_extended t (number_from (size_of t) bytes true at) n
     one false at = low_extended t 0 n ∙ K.extended_zero 32 (2 ^ 31) refl refl (omega arith) (omega arith) t
 
@@ -63,7 +73,8 @@ gathered_32 t bytes m index n =
 pub bits_lane : (z : ℤ) → bits_of z % 2 ^ 32 ≡ lane 32 z
 bits_lane z =
     sym (K.lane_unique 32 (2 ^ 31) refl refl (omega arith) (omega arith) (bits_of z % 2 ^ 32) z (omega arith)
-    (congruent_trans (K.mod_congruent 32 (2 ^ 31) refl refl (omega arith) (omega arith) (bits_of z)) (congruent_divides (2 ^ 32) (2 ^ 32) refl (bits_congruent z))))
+    (congruent_trans (K.mod_congruent 32 (2 ^ 31) refl refl (omega arith) (omega arith) (bits_of z))
+    (congruent_divides (2 ^ 32) (2 ^ 32) refl (bits_congruent z))))
 
 -- a pattern is the lane of 64 bits
 pub bits_lane_64 : (z : ℤ) → bits_of z ≡ lane 64 z
@@ -78,26 +89,38 @@ chunk_cons i n xs h = ap (take (suc n)) (drop-cons xs i 0 h) ∙ rw add-one refl
 pub number_1 : (i : ℕ) (xs : List ℕ) → i + 1 ≤ length xs → get_or xs i 0 ≡ number_l 256 (chunk i 1 xs)
 number_1 i xs h = sym (ap (number_l 256) (chunk_cons i 0 xs (omega arith)) ∙ add-zero (get_or xs i 0))
 
-pub number_2 : (i : ℕ) (xs : List ℕ) → i + 2 ≤ length xs → get_or xs i 0 + 256 * get_or xs (i + 1) 0 ≡ number_l 256 (chunk i 2 xs)
-number_2 i xs h = sym (ap (number_l 256) (chunk_cons i 1 xs (omega arith)) ∙ ap (λ n. get_or xs i 0 + 256 * n) (sym (number_1 (i + 1) xs (omega arith))))
+pub number_2 : (i : ℕ) (xs : List ℕ) → i + 2 ≤ length xs →
+    get_or xs i 0 + 256 * get_or xs (i + 1) 0 ≡ number_l 256 (chunk i 2 xs)
+number_2 i xs h = sym (ap (number_l 256) (chunk_cons i 1 xs (omega arith)) ∙
+    ap (λ n. get_or xs i 0 + 256 * n) (sym (number_1 (i + 1) xs (omega arith))))
 
-pub number_4 : (i : ℕ) (xs : List ℕ) → i + 4 ≤ length xs → get_or xs i 0 + 256 * (get_or xs (i + 1) 0 + 256 * (get_or xs (i + 2) 0 + 256 * get_or xs (i + 3) 0)) ≡ number_l 256 (chunk i 4 xs)
+pub number_4 : (i : ℕ) (xs : List ℕ) → i + 4 ≤ length xs →
+    get_or xs i 0 + 256 * (get_or xs (i + 1) 0 + 256 * (get_or xs (i + 2) 0 + 256 * get_or xs (i + 3) 0)) ≡
+    number_l 256 (chunk i 4 xs)
 number_4 i xs h =
     let two : i + 1 + 1 ≡ i + 2 = omega arith in
     let three : i + 2 + 1 ≡ i + 3 = omega arith in
     sym (ap (number_l 256) (chunk_cons i 3 xs (omega arith))
     ∙ ap (λ n. get_or xs i 0 + 256 * n) (ap (number_l 256) (chunk_cons (i + 1) 2 xs (omega arith))
-    ∙ ap (λ n. get_or xs (i + 1) 0 + 256 * n) (ap (λ k. number_l 256 (chunk k 2 xs)) two ∙ sym (number_2 (i + 2) xs (omega arith)) ∙ ap (λ k. get_or xs (i + 2) 0 + 256 * get_or xs k 0) three)))
+    ∙ ap (λ n. get_or xs (i + 1) 0 + 256 * n) (ap (λ k. number_l 256 (chunk k 2 xs)) two ∙
+    sym (number_2 (i + 2) xs (omega arith)) ∙ ap (λ k. get_or xs (i + 2) 0 + 256 * get_or xs k 0) three)))
 
-pub number_8 : (i : ℕ) (xs : List ℕ) → i + 8 ≤ length xs → number_l 256 (chunk i 4 xs) + 2 ^ 32 * number_l 256 (chunk (i + 4) 4 xs) ≡ number_l 256 (chunk i 8 xs)
+pub number_8 : (i : ℕ) (xs : List ℕ) → i + 8 ≤ length xs →
+    number_l 256 (chunk i 4 xs) + 2 ^ 32 * number_l 256 (chunk (i + 4) 4 xs) ≡ number_l 256 (chunk i 8 xs)
 number_8 i xs h =
     let low = number_4 i xs (omega arith) in
-    let e : number_l 256 (chunk i 8 xs) ≡ get_or xs i 0 + 256 * (get_or xs (i + 1) 0 + 256 * (get_or xs (i + 2) 0 + 256 * (get_or xs (i + 3) 0 + 256 * number_l 256 (chunk (i + 4) 4 xs)))) =
+    let e : number_l 256 (chunk i 8 xs) ≡ get_or xs i 0 + 256 *
+    (get_or xs (i + 1) 0 + 256 * (get_or xs (i + 2) 0 + 256 *
+    (get_or xs (i + 3) 0 + 256 * number_l 256 (chunk (i + 4) 4 xs)))) =
     ap (number_l 256) (chunk_cons i 7 xs (omega arith))
     ∙ ap (λ n. get_or xs i 0 + 256 * n) (ap (number_l 256) (chunk_cons (i + 1) 6 xs (omega arith)))
-    ∙ ap (λ n. get_or xs i 0 + 256 * (get_or xs (i + 1) 0 + 256 * n)) (ap (λ k. number_l 256 (chunk k 6 xs)) two ∙ ap (number_l 256) (chunk_cons (i + 2) 5 xs (omega arith)))
-    ∙ ap (λ n. get_or xs i 0 + 256 * (get_or xs (i + 1) 0 + 256 * (get_or xs (i + 2) 0 + 256 * n))) (ap (λ k. number_l 256 (chunk k 5 xs)) three ∙ ap (number_l 256) (chunk_cons (i + 3) 4 xs (omega arith)))
-    ∙ ap (λ k. get_or xs i 0 + 256 * (get_or xs (i + 1) 0 + 256 * (get_or xs (i + 2) 0 + 256 * (get_or xs (i + 3) 0 + 256 * number_l 256 (chunk k 4 xs))))) four in
+    ∙ ap (λ n. get_or xs i 0 + 256 * (get_or xs (i + 1) 0 + 256 * n)) (ap (λ k. number_l 256 (chunk k 6 xs)) two ∙
+    ap (number_l 256) (chunk_cons (i + 2) 5 xs (omega arith)))
+    ∙ ap (λ n. get_or xs i 0 + 256 * (get_or xs (i + 1) 0 + 256 * (get_or xs (i + 2) 0 + 256 * n)))
+    (ap (λ k. number_l 256 (chunk k 5 xs)) three ∙ ap (number_l 256) (chunk_cons (i + 3) 4 xs (omega arith)))
+    ∙ ap (λ k. get_or xs i 0 + 256 *
+    (get_or xs (i + 1) 0 + 256 * (get_or xs (i + 2) 0 + 256 *
+    (get_or xs (i + 3) 0 + 256 * number_l 256 (chunk k 4 xs))))) four in
     omega (arith, low, e)
   where
     two : i + 1 + 1 ≡ i + 2
@@ -128,13 +151,15 @@ put_next i xs y ys = put_next' i xs y ys ∙ rw add-one refl
 pub put_1 : (i x : ℕ) (xs : List ℕ) → put_chunk i xs (digits_l 256 1 x) ≡ set xs i (x % 256)
 put_1 i x xs = put_next i xs (x % 256) [] ∙ put_none (i + 1) (set xs i (x % 256))
 
-pub put_2 : (i x : ℕ) (xs : List ℕ) → put_chunk i xs (digits_l 256 2 x) ≡ set (set xs i (x % 256)) (i + 1) (x / 256 % 256)
+pub put_2 : (i x : ℕ) (xs : List ℕ) →
+    put_chunk i xs (digits_l 256 2 x) ≡ set (set xs i (x % 256)) (i + 1) (x / 256 % 256)
 put_2 i x xs = put_next i xs (x % 256) (digits_l 256 1 (x / 256)) ∙ put_1 (i + 1) (x / 256) (set xs i (x % 256))
 
 abbrev set_4 : ℕ → List ℕ → (a b c d : ℕ) → List ℕ
 set_4 i xs a b c d = set (set (set (set xs i a) (i + 1) b) (i + 2) c) (i + 3) d
 
-put_first : (i : ℕ) (xs : List ℕ) (a b c d : ℕ) (ys : List ℕ) → put_chunk i xs (a ∷ b ∷ c ∷ d ∷ ys) ≡ put_chunk (i + 4) (set_4 i xs a b c d) ys
+put_first : (i : ℕ) (xs : List ℕ) (a b c d : ℕ) (ys : List ℕ) →
+    put_chunk i xs (a ∷ b ∷ c ∷ d ∷ ys) ≡ put_chunk (i + 4) (set_4 i xs a b c d) ys
 put_first i xs a b c d ys =
     let two : i + 1 + 1 ≡ i + 2 = omega arith in
     let three : i + 2 + 1 ≡ i + 3 = omega arith in
@@ -147,27 +172,38 @@ put_first i xs a b c d ys =
     ∙ ap (λ k. put_chunk k x3 (d ∷ ys)) three ∙ put_next (i + 3) x3 d ys
     ∙ ap (λ k. put_chunk k (set x3 (i + 3) d) ys) four
 
-pub put_4 : (i x : ℕ) (xs : List ℕ) → put_chunk i xs (digits_l 256 4 x) ≡ set_4 i xs (x % 256) (x / 256 % 256) (x / 256 / 256 % 256) (x / 256 / 256 / 256 % 256)
-put_4 i x xs = put_first i xs (x % 256) (x / 256 % 256) (x / 256 / 256 % 256) (x / 256 / 256 / 256 % 256) [] ∙ put_none (i + 4) _
+pub put_4 : (i x : ℕ) (xs : List ℕ) →
+    put_chunk i xs (digits_l 256 4 x) ≡ set_4 i xs (x % 256) (x / 256 % 256) (x / 256 / 256 % 256) (x / 256 / 256 /
+    256 % 256)
+put_4 i x xs =
+    put_first i xs (x % 256) (x / 256 % 256) (x / 256 / 256 % 256) (x / 256 / 256 / 256 % 256) [] ∙ put_none (i + 4) _
 
 -- eight bytes are four and four
-pub put_8 : (i x : ℕ) (xs : List ℕ) → put_chunk (i + 4) (put_chunk i xs (digits_l 256 4 x)) (digits_l 256 4 (x / 2 ^ 32)) ≡ put_chunk i xs (digits_l 256 8 x)
+pub put_8 : (i x : ℕ) (xs : List ℕ) →
+    put_chunk (i + 4) (put_chunk i xs (digits_l 256 4 x)) (digits_l 256 4 (x / 2 ^ 32)) ≡
+    put_chunk i xs (digits_l 256 8 x)
 put_8 i x xs =
     let rest : x / 2 ^ 32 ≡ x / 256 / 256 / 256 / 256 = omega arith in
     ap₂ (λ ys z. put_chunk (i + 4) ys (digits_l 256 4 z)) (put_4 i x xs) rest
-    ∙ sym (put_first i xs (x % 256) (x / 256 % 256) (x / 256 / 256 % 256) (x / 256 / 256 / 256 % 256) (digits_l 256 4 (x / 256 / 256 / 256 / 256)))
+    ∙ sym (put_first i xs (x % 256) (x / 256 % 256) (x / 256 / 256 % 256) (x / 256 / 256 / 256 % 256)
+    (digits_l 256 4 (x / 256 / 256 / 256 / 256)))
 
 -- one more lane
-pub scattered_next : (size : ℕ) (bytes : List ℕ) (m : List Bool) (index from : List ℕ) (i : ℕ) → i < length m → i < length index → i < length from
+pub scattered_next : (size : ℕ) (bytes : List ℕ) (m : List Bool) (index from : List ℕ) (i : ℕ) → i < length m →
+    i < length index → i < length from
     → scattered size bytes (take (i + 1) m) (take (i + 1) index) (take (i + 1) from)
-    ≡ (let before = scattered size bytes (take i m) (take i index) (take i from) in lane_put size before (get_or m i false) (get_or index i 0) (get_or from i 0))
+    ≡ (let before = scattered size bytes (take i m) (take i index) (take i from) in
+    lane_put size before (get_or m i false) (get_or index i 0) (get_or from i 0))
 scattered_next size bytes m index from i a b c = rw add-one (by bytes m index from i a b c)
   where
-    by : (bytes : List ℕ) (m : List Bool) (index from : List ℕ) (i : ℕ) → i < length m → i < length index → i < length from
+    by : (bytes : List ℕ) (m : List Bool) (index from : List ℕ) (i : ℕ) → i < length m → i < length index →
+        i < length from
         → scattered size bytes (take (suc i) m) (take (suc i) index) (take (suc i) from)
-        ≡ (let before = scattered size bytes (take i m) (take i index) (take i from) in lane_put size before (get_or m i false) (get_or index i 0) (get_or from i 0))
+        ≡ (let before = scattered size bytes (take i m) (take i index) (take i from) in
+        lane_put size before (get_or m i false) (get_or index i 0) (get_or from i 0))
     by bytes [] index from i a b c = absurd (omega arith)
     by bytes (on ∷ m) [] from i a b c = absurd (omega arith)
     by bytes (on ∷ m) (at ∷ index) [] i a b c = absurd (omega arith)
     by bytes (on ∷ m) (at ∷ index) (x ∷ from) zero a b c = refl
-    by bytes (on ∷ m) (at ∷ index) (x ∷ from) (suc i) a b c = by (lane_put size bytes on at x) m index from i (omega arith) (omega arith) (omega arith)
+    by bytes (on ∷ m) (at ∷ index) (x ∷ from) (suc i) a b c =
+        by (lane_put size bytes on at x) m index from i (omega arith) (omega arith) (omega arith)

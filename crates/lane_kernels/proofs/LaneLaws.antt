@@ -1,6 +1,10 @@
 -- What a lane of W bits stands for: W is 32 in narrow lanes and 64 in wide ones.
-use Rattle.std.proofs.Common.{◌≡◌, ℕ, zero, suc, ◌+◌, ◌-◌, ◌*◌, ◌/◌, ◌%◌, ◌^◌, ◌<◌, ◌≤◌, refl, sym, ap, ap₂, subst, subst₂, ◌∙◌, arith, Bool, true, false, cond, inl, inr, ◌⊎◌, ⊎_elim, mod-lt, mod-eq_of_lt, mul-le-mul, div-add-mod', pow_pos, pow_mono, not}
-use Rattle.std.proofs.Common.{ℤ, pos, negsuc, ◌+ℤ◌, ◌-ℤ◌, ◌*ℤ◌, neg_ℤ, ◌≤ℤ◌, bit_and, bit_or, bit_xor, int_lt, int_le, nat_eq, nat_lt, nat_le, ltb, eqb-true, eq-eqb, zero-mul, unsigned_abs, int_div, int_rem, ltb-true, true≢false}
+use Rattle.std.proofs.Common.{◌≡◌, ℕ, zero, suc, ◌+◌, ◌-◌, ◌*◌, ◌/◌, ◌%◌, ◌^◌, ◌<◌, ◌≤◌, refl, sym, ap, ap₂, subst}
+use Rattle.std.proofs.Common.{subst₂, ◌∙◌, arith, Bool, true, false, cond, inl, inr, ◌⊎◌, ⊎_elim, mod-lt}
+use Rattle.std.proofs.Common.{mod-eq_of_lt, mul-le-mul, div-add-mod', pow_pos, pow_mono, not}
+use Rattle.std.proofs.Common.{ℤ, pos, negsuc, ◌+ℤ◌, ◌-ℤ◌, ◌*ℤ◌, neg_ℤ, ◌≤ℤ◌, bit_and, bit_or, bit_xor, int_lt, int_le}
+use Rattle.std.proofs.Common.{nat_eq, nat_lt, nat_le, ltb, eqb-true, eq-eqb, zero-mul, unsigned_abs, int_div, int_rem}
+use Rattle.std.proofs.Common.{ltb-true, true≢false}
 use Rattle.std.proofs.Math.IntN.{neg_ℤ-neg_ℤ}
 use Rattle.std.specs.Int.{int_shr, from_bool}
 use Rattle.std.specs.Ordering.{int_eq}
@@ -19,7 +23,10 @@ use Rattle.wg_num.specs.declared.types.Bin.{Bin}
 use Rattle.wg_num.specs.declared.types.Bin.TheVariants.{Add, Sub, Mul, Div, Rem, Shl, Shr, And, Or, Xor, Eq, Ne, Lt, Le, Gt, Ge}
 use Rattle.wg_num.specs.Wrap.{IsCongruent, IsValue, residue, truth_of, wrap_of, value_of, bits_of, modulus, half, is_bool, is_signed, width_bits}
 use Rattle.wg_num.specs.Operators.{unary_of, unary_exact, binary_of, binary_exact, is_shift, number_of, quotient_of, rest_of}
-use Rattle.wg_num.proofs.WrapLaws.{residue-lt, residue_congruent, residue_unique, congruent_refl, congruent_sym, congruent_trans, congruent-add, congruent-sub, congruent-mul, congruent_divides, wrap_same, wrap_bool, wrap_whole, wrap_value, wrap_congruent, either_type, some_modulus, half-below, IsValue-value, bits_congruent, value_whole, value_bool}
+use Rattle.wg_num.proofs.WrapLaws.{residue-lt, residue_congruent, residue_unique, congruent_refl, congruent_sym}
+use Rattle.wg_num.proofs.WrapLaws.{congruent_trans, congruent-add, congruent-sub, congruent-mul, congruent_divides}
+use Rattle.wg_num.proofs.WrapLaws.{wrap_same, wrap_bool, wrap_whole, wrap_value, wrap_congruent, either_type}
+use Rattle.wg_num.proofs.WrapLaws.{some_modulus, half-below, IsValue-value, bits_congruent, value_whole, value_bool}
 use Rattle.wg_num.specs.declared.types.Fun.TheVariants.{Min, Max}
 use Rattle.wg_num.specs.Builtins.{builtin_of}
 use Rattle.lane_values.specs.Lanes.{builtin_lane, FitsLane, IsLane, lane, right_value, binary_value, extended, unary_value, convert_lane}
@@ -92,10 +99,12 @@ module _ (W H : ℕ) (twice : 2 ^ W ≡ H + H) (high : H ≡ 2 ^ (W - 1)) (big :
   value_one t e = wrap_bool t (pos 1) e
 
   pub value_lane_bool : (t : IntType) (p : ℕ) → is_bool t ≡ true → IsLane W t p → value_of t p ≡ pos p
-  value_lane_bool t p e l = ⊎_elim (λ i. subst (λ x. value_of t x ≡ pos x) (sym i) (value_zero t e)) (λ i. subst (λ x. value_of t x ≡ pos x) (sym i) (value_one t e)) (lane_bool t p e l)
+  value_lane_bool t p e l = ⊎_elim (λ i. subst (λ x. value_of t x ≡ pos x) (sym i) (value_zero t e))
+      (λ i. subst (λ x. value_of t x ≡ pos x) (sym i) (value_one t e)) (lane_bool t p e l)
 
   -- a number stands for an exact result: the lane's value is the result, wrapped
-  pub stands : (t : IntType) (r : ℕ) (z : ℤ) → FitsLane W t → (is_bool t ≡ false → IsCongruent (2 ^ W) (pos r) z) → (is_bool t ≡ true → truth_of (pos r) ≡ truth_of z) → value_of t r ≡ wrap_of t z
+  pub stands : (t : IntType) (r : ℕ) (z : ℤ) → FitsLane W t → (is_bool t ≡ false → IsCongruent (2 ^ W) (pos r) z) →
+      (is_bool t ≡ true → truth_of (pos r) ≡ truth_of z) → value_of t r ≡ wrap_of t z
   unfolding value_of
   stands t r z n c b = ⊎_elim
       (λ e. wrap_bool t (pos r) e ∙ b e ∙ sym (wrap_bool t z e))
@@ -119,7 +128,8 @@ module _ (W H : ℕ) (twice : 2 ^ W ≡ H + H) (high : H ≡ 2 ^ (W - 1)) (big :
 
   -- a small number is 0 where its lane is
   truth_small : (r : ℕ) (z : ℤ) → r < 2 ^ W → IsCongruent (2 ^ W) (pos r) z → neg_ℤ (pos 2) ≤ℤ z → z ≤ℤ pos 2 → truth_of (pos r) ≡ truth_of z
-  truth_small r (pos a) h e lo hi = ap (λ n. truth_of (pos n)) (sym (residue_unique r (pos a) (2 ^ W) h e) ∙ residue_unique a (pos a) (2 ^ W) (omega (arith, ints)) (congruent_refl (2 ^ W) (pos a)))
+  truth_small r (pos a) h e lo hi = ap (λ n. truth_of (pos n)) (sym (residue_unique r (pos a) (2 ^ W) h e) ∙
+      residue_unique a (pos a) (2 ^ W) (omega (arith, ints)) (congruent_refl (2 ^ W) (pos a)))
   truth_small r (negsuc a) h e lo hi =
       let is = residue_unique r (negsuc a) (2 ^ W) h e in
       let few : a % 2 ^ W ≤ a = mod-le a (2 ^ W) in
@@ -149,7 +159,9 @@ module _ (W H : ℕ) (twice : 2 ^ W ≡ H + H) (high : H ≡ 2 ^ (W - 1)) (big :
 
   pub lane_sub : (t : IntType) → FitsLane W t → (p q : ℕ) → IsLane W t p → IsLane W t q → value_of t ((p + (2 ^ W - q)) % 2 ^ W) ≡ binary_value Sub t p q
   lane_sub t n p q l r = lane_by Sub t ((p + (2 ^ W - q)) % 2 ^ W) p q refl n l r (mod-lt (p + (2 ^ W - q)) some_lane)
-      (congruent_trans (mod_congruent (p + (2 ^ W - q))) (congruent_trans (let h = lane-lt t q r in record { more = 0; less = 1; same = omega (arith, ints) }) (congruent-sub (lane_congruent t p l) (lane_congruent t q r))))
+      (congruent_trans (mod_congruent (p + (2 ^ W - q))) (congruent_trans (let h = lane-lt t q r in
+      record { more = 0; less = 1; same = omega (arith, ints) })
+      (congruent-sub (lane_congruent t p l) (lane_congruent t q r))))
       (λ x y u v. (omega (arith, ints), omega (arith, ints)))
 
   pub lane_mul : (t : IntType) → FitsLane W t → (p q : ℕ) → IsLane W t p → IsLane W t q → value_of t ((p * q) % 2 ^ W) ≡ binary_value Mul t p q
@@ -230,18 +242,29 @@ module _ (W H : ℕ) (twice : 2 ^ W ≡ H + H) (high : H ≡ 2 ^ (W - 1)) (big :
 
   pub lane_and : (t : IntType) → FitsLane W t → (p q : ℕ) → IsLane W t p → IsLane W t q → value_of t (bit_and p q) ≡ binary_value And t p q
   lane_and t n p q l r = lane_by And t (bit_and p q) p q refl n l r (let h = lane-lt t p l in omega (arith, and_le_l p q))
-      (same_low (bit_and (bits_of (value_of t p)) (bits_of (value_of t q))) (bit_and p q) (and_mod (bits_of (value_of t p)) (bits_of (value_of t q)) W ∙ ap₂ bit_and (bits_low t p l) (bits_low t q r)))
+      (same_low (bit_and (bits_of (value_of t p)) (bits_of (value_of t q))) (bit_and p q)
+      (and_mod (bits_of (value_of t p)) (bits_of (value_of t q)) W ∙
+      ap₂ bit_and (bits_low t p l) (bits_low t q r)))
       (λ x y u v. (omega (arith, ints), omega (arith, ints, and_le_l (bits_of (pos x)) (bits_of (pos y)), bit_small x u)))
 
   pub lane_or : (t : IntType) → FitsLane W t → (p q : ℕ) → IsLane W t p → IsLane W t q → value_of t (bit_or p q) ≡ binary_value Or t p q
   lane_or t n p q l r = lane_by Or t (bit_or p q) p q refl n l r (or_lt W p q (lane-lt t p l) (lane-lt t q r))
-      (same_low (bit_or (bits_of (value_of t p)) (bits_of (value_of t q))) (bit_or p q) (or_mod (bits_of (value_of t p)) (bits_of (value_of t q)) W ∙ ap₂ bit_or (bits_low t p l) (bits_low t q r)))
-      (λ x y u v. let few = or_lt 1 (bits_of (pos x)) (bits_of (pos y)) (omega (arith, bit_small x u)) (omega (arith, bit_small y v)) in (omega (arith, ints), omega (arith, ints, few)))
+      (same_low (bit_or (bits_of (value_of t p)) (bits_of (value_of t q))) (bit_or p q)
+      (or_mod (bits_of (value_of t p)) (bits_of (value_of t q)) W ∙ ap₂ bit_or (bits_low t p l) (bits_low t q r)))
+      (λ x y u v. let few = or_lt 1 (bits_of (pos x)) (bits_of (pos y)) (omega (arith, bit_small x u)) (omega (
+        arith,
+        bit_small y v,
+      )) in (omega (arith, ints), omega (arith, ints, few)))
 
   pub lane_xor : (t : IntType) → FitsLane W t → (p q : ℕ) → IsLane W t p → IsLane W t q → value_of t (bit_xor p q) ≡ binary_value Xor t p q
   lane_xor t n p q l r = lane_by Xor t (bit_xor p q) p q refl n l r (xor_lt W p q (lane-lt t p l) (lane-lt t q r))
-      (same_low (bit_xor (bits_of (value_of t p)) (bits_of (value_of t q))) (bit_xor p q) (xor_mod (bits_of (value_of t p)) (bits_of (value_of t q)) W ∙ ap₂ bit_xor (bits_low t p l) (bits_low t q r)))
-      (λ x y u v. let few = xor_lt 1 (bits_of (pos x)) (bits_of (pos y)) (omega (arith, bit_small x u)) (omega (arith, bit_small y v)) in (omega (arith, ints), omega (arith, ints, few)))
+      (same_low (bit_xor (bits_of (value_of t p)) (bits_of (value_of t q))) (bit_xor p q)
+      (xor_mod (bits_of (value_of t p)) (bits_of (value_of t q)) W ∙
+      ap₂ bit_xor (bits_low t p l) (bits_low t q r)))
+      (λ x y u v. let few = xor_lt 1 (bits_of (pos x)) (bits_of (pos y)) (omega (arith, bit_small x u)) (omega (
+        arith,
+        bit_small y v,
+      )) in (omega (arith, ints), omega (arith, ints, few)))
 
   -- ---- the order of values is that of raised lanes
 
@@ -288,8 +311,13 @@ module _ (W H : ℕ) (twice : 2 ^ W ≡ H + H) (high : H ≡ 2 ^ (W - 1)) (big :
       let r = value_range t v n (IsValue-value t p) in
       let m = up v + b - down v in
       let is : pos m ≡ v +ℤ pos b = omega (arith, ints, r.0) in
-      let first : residue (v +ℤ pos b) (2 ^ W) ≡ m = residue_unique m (v +ℤ pos b) (2 ^ W) (omega (arith, ints, r.1, is)) (subst (λ z. IsCongruent (2 ^ W) (pos m) z) is (congruent_refl (2 ^ W) (pos m))) in
-      let second : residue (v +ℤ pos b) (2 ^ W) ≡ raised W b p = residue_unique (raised W b p) (v +ℤ pos b) (2 ^ W) (mod-lt (p + b) (omega arith)) (congruent_trans (mod_congruent (p + b)) (congruent-add (lane_congruent t p l) (congruent_refl (2 ^ W) (pos b)))) in
+      let first : residue (v +ℤ pos b) (2 ^ W) ≡ m =
+      residue_unique m (v +ℤ pos b) (2 ^ W) (omega (arith, ints, r.1, is))
+      (subst (λ z. IsCongruent (2 ^ W) (pos m) z) is (congruent_refl (2 ^ W) (pos m))) in
+      let second : residue (v +ℤ pos b) (2 ^ W) ≡ raised W b p =
+      residue_unique (raised W b p) (v +ℤ pos b) (2 ^ W) (mod-lt (p + b) (omega arith))
+      (congruent_trans (mod_congruent (p + b))
+      (congruent-add (lane_congruent t p l) (congruent_refl (2 ^ W) (pos b)))) in
       ap pos (sym second ∙ first) ∙ is
 
   -- tests of numbers that are raised alike
@@ -314,7 +342,8 @@ module _ (W H : ℕ) (twice : 2 ^ W ≡ H + H) (high : H ≡ 2 ^ (W - 1)) (big :
   ) (Decides-int_eq v w)
 
   -- a test, as 1 or 0
-  lane_test : (op : Bin) (t : IntType) (b : Bool) (p q : ℕ) → is_shift op ≡ false → number_of b ≡ binary_exact op t (value_of t p) (value_of t q) → value_of t (from_bool b) ≡ binary_value op t p q
+  lane_test : (op : Bin) (t : IntType) (b : Bool) (p q : ℕ) → is_shift op ≡ false →
+      number_of b ≡ binary_exact op t (value_of t p) (value_of t q) → value_of t (from_bool b) ≡ binary_value op t p q
   unfolding binary_of value_of
   lane_test op t b p q s e = ap (wrap_of t) e ∙ ap (λ y. wrap_of t (binary_exact op t (value_of t p) y)) (sym (right_is_value op t q s))
 
@@ -398,10 +427,14 @@ module _ (W H : ℕ) (twice : 2 ^ W ≡ H + H) (high : H ≡ 2 ^ (W - 1)) (big :
 
   -- a number of 32 bits that is congruent to 0 or 1 is that number
   small_same : (r : ℕ) (z : ℤ) → r < 2 ^ W → IsCongruent (2 ^ W) (pos r) z → pos 0 ≤ℤ z → z ≤ℤ pos 1 → pos r ≡ z
-  small_same r (pos a) h e lo hi = ap pos (sym (residue_unique r (pos a) (2 ^ W) h e) ∙ residue_unique a (pos a) (2 ^ W) (omega (arith, ints)) (congruent_refl (2 ^ W) (pos a)))
+  small_same r (pos a) h e lo hi =
+      ap pos (sym (residue_unique r (pos a) (2 ^ W) h e) ∙
+      residue_unique a (pos a) (2 ^ W) (omega (arith, ints)) (congruent_refl (2 ^ W) (pos a)))
   small_same r (negsuc a) h e lo hi = absurd (omega (arith, ints))
 
-  shr_congruent : (t : IntType) (p q : ℕ) → FitsLane W t → IsLane W t p → IsCongruent (2 ^ W) (pos (shr_lane W (bias_of W t) (width_bits t) p q)) (int_shr (value_of t p) (q % width_bits t))
+  shr_congruent : (t : IntType) (p q : ℕ) → FitsLane W t → IsLane W t p →
+      IsCongruent (2 ^ W) (pos (shr_lane W (bias_of W t) (width_bits t) p q))
+      (int_shr (value_of t p) (q % width_bits t))
   shr_congruent t p q n l =
       let k = q % width_bits t in
       let m = 2 ^ k in
@@ -445,7 +478,8 @@ module _ (W H : ℕ) (twice : 2 ^ W ≡ H + H) (high : H ≡ 2 ^ (W - 1)) (big :
   sign_lane : (t : IntType) (p : ℕ) → FitsLane W t → IsLane W t p → nat_lt (raised W (bias_of W t) p) (bias_of W t) ≡ int_lt (value_of t p) (pos 0)
   sign_lane t p n l = lt_raised (raised W (bias_of W t) p) (bias_of W t) (bias_of W t) (value_of t p) (pos 0) (raise_is t p n l) (omega (arith, ints))
 
-  signed_congruent : (t : IntType) (p x : ℕ) → FitsLane W t → IsLane W t p → x ≤ 2 ^ W → IsCongruent (2 ^ W) (pos (signed_by W (bias_of W t) p x)) (signed_as (int_lt (value_of t p) (pos 0)) (pos x))
+  signed_congruent : (t : IntType) (p x : ℕ) → FitsLane W t → IsLane W t p → x ≤ 2 ^ W →
+      IsCongruent (2 ^ W) (pos (signed_by W (bias_of W t) p x)) (signed_as (int_lt (value_of t p) (pos 0)) (pos x))
   unfolding signed_as
   signed_congruent t p x n l h = by (int_lt (value_of t p) (pos 0)) (sign_lane t p n l)
     where
@@ -474,7 +508,9 @@ module _ (W H : ℕ) (twice : 2 ^ W ≡ H + H) (high : H ≡ 2 ^ (W - 1)) (big :
       let s = int_lt v (pos 0) in
       let small = lane-lt t p l in
       let e : IsCongruent (2 ^ W) (pos (signed_by W (bias_of W t) p p)) (pos (unsigned_abs v)) =
-      congruent_trans (signed_congruent t p p n l (omega arith)) (subst (λ z. IsCongruent (2 ^ W) (signed_as s (pos p)) z) (abs_signed v) (congruent_signed s (lane_congruent t p l))) in
+      congruent_trans (signed_congruent t p p n l (omega arith))
+      (subst (λ z. IsCongruent (2 ^ W) (signed_as s (pos p)) z) (abs_signed v)
+      (congruent_signed s (lane_congruent t p l))) in
       let r = value_range t v n (IsValue-value t p) in
       let top = lane_range t n in
       sym (residue_unique (signed_by W (bias_of W t) p p) (pos (unsigned_abs v)) (2 ^ W) (signed-lt (bias_of W t) p p small) e)
@@ -524,12 +560,18 @@ module _ (W H : ℕ) (twice : 2 ^ W ≡ H + H) (high : H ≡ 2 ^ (W - 1)) (big :
   divisor_is t q n r e = by (nat_eq (signed_by W (bias_of W t) q q) 0) refl
     where
       by : (b : Bool) → nat_eq (signed_by W (bias_of W t) q q) 0 ≡ b → divisor_of W (bias_of W t) q ≡ unsigned_abs (value_of t q)
-      by true h = absurd (true≢false (sym ((Decides-int_eq (value_of t q) (pos 0)).1 (abs_zero (value_of t q) (sym (magnitude t q n r) ∙ eqb-true (signed_by W (bias_of W t) q q) 0 h))) ∙ e))
+      by true h =
+          absurd (true≢false (sym ((Decides-int_eq (value_of t q) (pos 0)).1
+          (abs_zero (value_of t q) (sym (magnitude t q n r) ∙ eqb-true (signed_by W (bias_of W t) q q) 0 h))) ∙
+          e))
       by false h = ap (λ b. cond b 1 (signed_by W (bias_of W t) q q)) h ∙ magnitude t q n r
 
   -- a quotient of lanes that are not divided by 0, and a rest
   divided : (t : IntType) (p q : ℕ) → FitsLane W t → IsLane W t p → IsLane W t q → int_eq (value_of t q) (pos 0) ≡ false
-      → IsCongruent (2 ^ W) (pos (signed_by W (bias_of W t) q (signed_by W (bias_of W t) p (signed_by W (bias_of W t) p p / divisor_of W (bias_of W t) q)))) (int_div (value_of t p) (value_of t q))
+      →
+      IsCongruent (2 ^ W) (pos (signed_by W (bias_of W t) q
+      (signed_by W (bias_of W t) p (signed_by W (bias_of W t) p p / divisor_of W (bias_of W t) q))))
+      (int_div (value_of t p) (value_of t q))
   divided t p q n l r e =
       let v = value_of t p in
       let w = value_of t q in
@@ -552,16 +594,19 @@ module _ (W H : ℕ) (twice : 2 ^ W ≡ H + H) (high : H ≡ 2 ^ (W - 1)) (big :
       subst₂ (λ a c. IsCongruent (2 ^ W) (pos a) c) (sym is) (rem_signed v w) (signed_congruent t p z n l (omega arith))
 
   -- one choice made by two tests that agree
-  chosen : (a b : Bool) (x x' : ℕ) (z z' : ℤ) → a ≡ b → (b ≡ true → IsCongruent (2 ^ W) (pos x) z) → (b ≡ false → IsCongruent (2 ^ W) (pos x') z') → IsCongruent (2 ^ W) (pos (cond a x x')) (cond b z z')
+  chosen : (a b : Bool) (x x' : ℕ) (z z' : ℤ) → a ≡ b → (b ≡ true → IsCongruent (2 ^ W) (pos x) z) →
+      (b ≡ false → IsCongruent (2 ^ W) (pos x') z') → IsCongruent (2 ^ W) (pos (cond a x x')) (cond b z z')
   chosen true true x x' z z' e f g = f refl
   chosen false false x x' z z' e f g = g refl
   chosen true false x x' z z' e f g = absurd (true≢false e)
   chosen false true x x' z z' e f g = absurd (true≢false (sym e))
 
-  quotient_congruent : (t : IntType) (p q : ℕ) → FitsLane W t → IsLane W t p → IsLane W t q → IsCongruent (2 ^ W) (pos (quotient_lane W (bias_of W t) p q)) (quotient_of (value_of t p) (value_of t q))
+  quotient_congruent : (t : IntType) (p q : ℕ) → FitsLane W t → IsLane W t p → IsLane W t q →
+      IsCongruent (2 ^ W) (pos (quotient_lane W (bias_of W t) p q)) (quotient_of (value_of t p) (value_of t q))
   quotient_congruent t p q n l r = chosen _ _ 0 _ (pos 0) _ (zero_lane t q r) (λ e. congruent_refl (2 ^ W) (pos 0)) (λ e. divided t p q n l r e)
 
-  rest_congruent : (t : IntType) (p q : ℕ) → FitsLane W t → IsLane W t p → IsLane W t q → IsCongruent (2 ^ W) (pos (rest_lane W (bias_of W t) p q)) (rest_of (value_of t p) (value_of t q))
+  rest_congruent : (t : IntType) (p q : ℕ) → FitsLane W t → IsLane W t p → IsLane W t q →
+      IsCongruent (2 ^ W) (pos (rest_lane W (bias_of W t) p q)) (rest_of (value_of t p) (value_of t q))
   rest_congruent t p q n l r = chosen _ _ p _ (value_of t p) _ (zero_lane t q r) (λ e. lane_congruent t p l) (λ e. left_over t p q n l r e)
 
   chosen-lt : (b : Bool) (x y : ℕ) → x < 2 ^ W → y < 2 ^ W → cond b x y < 2 ^ W
@@ -592,7 +637,10 @@ module _ (W H : ℕ) (twice : 2 ^ W ≡ H + H) (high : H ≡ 2 ^ (W - 1)) (big :
 
   -- ---- one operand
 
-  unary_by : (op : Un) (t : IntType) (r p : ℕ) → FitsLane W t → IsCongruent (2 ^ W) (pos r) (unary_exact op (value_of t p)) → (is_bool t ≡ true → truth_of (pos r) ≡ truth_of (unary_exact op (value_of t p))) → value_of t r ≡ unary_value op t p
+  unary_by : (op : Un) (t : IntType) (r p : ℕ) → FitsLane W t →
+      IsCongruent (2 ^ W) (pos r) (unary_exact op (value_of t p)) →
+      (is_bool t ≡ true → truth_of (pos r) ≡ truth_of (unary_exact op (value_of t p))) →
+      value_of t r ≡ unary_value op t p
   unfolding unary_of
   unary_by op t r p n c b = stands t r (unary_exact op (value_of t p)) n (λ e. c) b
 
@@ -605,9 +653,18 @@ module _ (W H : ℕ) (twice : 2 ^ W ≡ H + H) (high : H ≡ 2 ^ (W - 1)) (big :
     lane_minus =
         let small = lane-lt t p l in
         let c : IsCongruent (2 ^ W) (pos ((0 + (2 ^ W - p)) % 2 ^ W)) (neg_ℤ (value_of t p)) =
-        congruent_trans (mod_congruent (0 + (2 ^ W - p))) (congruent_trans (record { more = 0; less = 1; same = omega (arith, ints) }) (congruent-neg (lane_congruent t p l))) in
+        congruent_trans (mod_congruent (0 + (2 ^ W - p))) (congruent_trans (record {
+          more = 0;
+          less = 1;
+          same = omega (arith, ints);
+        }) (congruent-neg (lane_congruent t p l))) in
         unary_by Minus t ((0 + (2 ^ W - p)) % 2 ^ W) p n c
-        (λ e. let v = value_bool t (value_of t p) e (IsValue-value t p) in truth_small _ (neg_ℤ (value_of t p)) (mod-lt _ some_lane) c (omega (arith, ints, v.1)) (omega (arith, ints, v.0)))
+        (λ e. let v = value_bool t (value_of t p) e (IsValue-value t p) in
+        truth_small _ (neg_ℤ (value_of t p)) (mod-lt _ some_lane) c (omega (arith, ints, v.1)) (omega (
+          arith,
+          ints,
+          v.0,
+        )))
 
     pub lane_flip : value_of t (2 ^ W - 1 - p) ≡ unary_value Flip t p
     lane_flip =
@@ -615,7 +672,12 @@ module _ (W H : ℕ) (twice : 2 ^ W ≡ H + H) (high : H ≡ 2 ^ (W - 1)) (big :
         let k = lane_congruent t p l in
         let c : IsCongruent (2 ^ W) (pos (2 ^ W - 1 - p)) (neg_ℤ (value_of t p) -ℤ pos 1) = record { more = k.less; less = k.more + 1; same = omega (arith, ints, k.same) } in
         unary_by Flip t (2 ^ W - 1 - p) p n c
-        (λ e. let v = value_bool t (value_of t p) e (IsValue-value t p) in truth_small _ (neg_ℤ (value_of t p) -ℤ pos 1) (omega arith) c (omega (arith, ints, v.1)) (omega (arith, ints, v.0)))
+        (λ e. let v = value_bool t (value_of t p) e (IsValue-value t p) in
+        truth_small _ (neg_ℤ (value_of t p) -ℤ pos 1) (omega arith) c (omega (arith, ints, v.1)) (omega (
+          arith,
+          ints,
+          v.0,
+        )))
 
     pub lane_not : value_of t (cond (nat_eq p 0) 1 0) ≡ unary_value Not t p
     unfolding unary_of value_of
@@ -694,11 +756,15 @@ module _ (W H : ℕ) (twice : 2 ^ W ≡ H + H) (high : H ≡ 2 ^ (W - 1)) (big :
 
     pub lane_lesser : lesser_lane W (bias_of W t) (extended W t p) (extended W t q) ≡ builtin_lane W Min t p q r
     unfolding builtin_of
-    lane_lesser = ap (λ b. cond b (extended W t q) (extended W t p)) below_as ∙ one_of (int_lt (value_of t q) (value_of t p)) (value_of t q) (value_of t p) (IsValue-value t q) (IsValue-value t p)
+    lane_lesser = ap (λ b. cond b (extended W t q) (extended W t p)) below_as ∙
+        one_of (int_lt (value_of t q) (value_of t p)) (value_of t q) (value_of t p) (IsValue-value t q)
+        (IsValue-value t p)
 
     pub lane_greater : greater_lane W (bias_of W t) (extended W t p) (extended W t q) ≡ builtin_lane W Max t p q r
     unfolding builtin_of
-    lane_greater = ap (λ b. cond b (extended W t p) (extended W t q)) below_as ∙ one_of (int_lt (value_of t q) (value_of t p)) (value_of t p) (value_of t q) (IsValue-value t p) (IsValue-value t q)
+    lane_greater = ap (λ b. cond b (extended W t p) (extended W t q)) below_as ∙
+        one_of (int_lt (value_of t q) (value_of t p)) (value_of t p) (value_of t q) (IsValue-value t p)
+        (IsValue-value t q)
 
 pub is_no_shift : (op : Bin) → ¬ (op ≡ Shl) → ¬ (op ≡ Shr) → is_shift op ≡ false
 is_no_shift Add a b = refl

@@ -20,7 +20,8 @@ abbrev pub divisor_of : ℕ → ℕ → ℕ → ℕ
 divisor_of W bias q = if nat_eq (signed_by W bias q q) 0 then 1 else signed_by W bias q q
 
 abbrev pub quotient_lane : ℕ → ℕ → ℕ → ℕ → ℕ
-quotient_lane W bias p q = if nat_eq q 0 then 0 else signed_by W bias q (signed_by W bias p (signed_by W bias p p / divisor_of W bias q))
+quotient_lane W bias p q =
+    if nat_eq q 0 then 0 else signed_by W bias q (signed_by W bias p (signed_by W bias p p / divisor_of W bias q))
 
 abbrev pub rest_lane : ℕ → ℕ → ℕ → ℕ → ℕ
 rest_lane W bias p q = if nat_eq q 0 then p else signed_by W bias p (signed_by W bias p p % divisor_of W bias q)

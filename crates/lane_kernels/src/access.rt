@@ -1,5 +1,23 @@
 //! One element of an object: where it stands, its bytes read and written; and lanes of elements.
-ghost use Rattle.std.specs.Prelude.{◌≡◌, ◌+◌, ◌*◌, ◌/◌, ◌<◌, ◌≤◌, ◌^◌, ◌⊎◌, length, take, MatchResult, MatchOption, IfErr, OnOk, not, true, false};
+ghost use Rattle.std.specs.Prelude.{
+  ◌≡◌,
+  ◌+◌,
+  ◌*◌,
+  ◌/◌,
+  ◌<◌,
+  ◌≤◌,
+  ◌^◌,
+  ◌⊎◌,
+  length,
+  take,
+  MatchResult,
+  MatchOption,
+  IfErr,
+  OnOk,
+  not,
+  true,
+  false,
+};
 ghost use Rattle.std.specs.Bool.{OnTrue, OnFalse};
 ghost use Rattle.std.specs.Simd.Lanes.{number_l, digits_l, chunk, put_chunk, zip2};
 ghost use Rattle.wg_num.specs.Bytes.{size_of};
@@ -130,7 +148,8 @@ fn gather_of<const W: usize, const S: usize>(
     requires size { IsSize S }
     requires lanes { W ≤ 64 }
     ensures { MatchResult result
-        (λ v. IsEmpty (faults S (length bytes.now) mask.entry places.entry) × (v ≡ zip2 (number_from S bytes.now) mask.entry places.entry))
+        (λ v. IsEmpty (faults S (length bytes.now) mask.entry places.entry) ×
+        (v ≡ zip2 (number_from S bytes.now) mask.entry places.entry))
         (IsLowest (faults S (length bytes.now) mask.entry places.entry)) }
 {
     let mut lanes = [0u64; W];
@@ -152,7 +171,8 @@ pub(crate) fn gather_numbers<const W: usize>(
 ) -> Result<[u64; W], u32>
     requires lanes { W ≤ 64 }
     ensures { MatchResult result
-        (λ v. IsEmpty (faults (size_of t) (length bytes.now) mask.entry places.entry) × (v ≡ zip2 (number_from (size_of t) bytes.now) mask.entry places.entry))
+        (λ v. IsEmpty (faults (size_of t) (length bytes.now) mask.entry places.entry) ×
+        (v ≡ zip2 (number_from (size_of t) bytes.now) mask.entry places.entry))
         (IsLowest (faults (size_of t) (length bytes.now) mask.entry places.entry)) }
 {
     match size_in_bytes(t) {
@@ -197,7 +217,8 @@ fn scatter_of<const W: usize, const S: usize>(
         (λ _. IsEmpty (faults S (length bytes.old) mask.entry places.entry))
         (IsLowest (faults S (length bytes.old) mask.entry places.entry)) }
     ensures stored { OnOk result (bytes.new ≡ scattered S bytes.old mask.entry places.entry lanes.entry) }
-    ensures below { IfErr result (λ k. bytes.new ≡ scattered S bytes.old (take k mask.entry) (take k places.entry) (take k lanes.entry)) }
+    ensures below { IfErr result (λ k. bytes.new ≡ scattered S bytes.old (take k mask.entry) (take k places.entry)
+        (take k lanes.entry)) }
 {
     for i in 0..W {
         if !put_lane(bytes, S, mask[i], places[i], lanes[i]) {
@@ -220,7 +241,8 @@ pub(crate) fn scatter_numbers<const W: usize>(
         (λ _. IsEmpty (faults (size_of t) (length bytes.old) mask.entry places.entry))
         (IsLowest (faults (size_of t) (length bytes.old) mask.entry places.entry)) }
     ensures stored { OnOk result (bytes.new ≡ scattered (size_of t) bytes.old mask.entry places.entry lanes.entry) }
-    ensures below { IfErr result (λ k. bytes.new ≡ scattered (size_of t) bytes.old (take k mask.entry) (take k places.entry) (take k lanes.entry)) }
+    ensures below { IfErr result (λ k. bytes.new ≡ scattered (size_of t) bytes.old (take k mask.entry)
+        (take k places.entry) (take k lanes.entry)) }
 {
     match size_in_bytes(t) {
         1 => scatter_of::<W, 1>(bytes, places, lanes, mask),

@@ -1,5 +1,23 @@
 //! Loads and stores of wide lanes.
-ghost use Rattle.std.specs.Prelude.{◌≡◌, ◌+◌, ◌-◌, ◌*◌, ◌<◌, ◌≤◌, ◌^◌, min, length, take, MatchResult, MatchOption, IfErr, OnOk, not, true, false};
+ghost use Rattle.std.specs.Prelude.{
+  ◌≡◌,
+  ◌+◌,
+  ◌-◌,
+  ◌*◌,
+  ◌<◌,
+  ◌≤◌,
+  ◌^◌,
+  min,
+  length,
+  take,
+  MatchResult,
+  MatchOption,
+  IfErr,
+  OnOk,
+  not,
+  true,
+  false,
+};
 ghost use Rattle.std.specs.Bool.{OnTrue, OnFalse};
 ghost use Rattle.wg_num.specs.Bytes.{size_of};
 ghost use Rattle.lane_values.specs.Lanes.{FitsLane};
@@ -24,7 +42,8 @@ pub fn gather64<const W: usize>(
     requires fits { FitsLane 64 t }
     requires lanes { W ≤ 64 }
     ensures cases { MatchResult result
-        (λ v. IsEmpty (faults (size_of t) (length bytes.now) mask.entry index.entry) × (v ≡ gathered 64 t bytes.now mask.entry index.entry))
+        (λ v. IsEmpty (faults (size_of t) (length bytes.now) mask.entry index.entry) ×
+        (v ≡ gathered 64 t bytes.now mask.entry index.entry))
         (IsLowest (faults (size_of t) (length bytes.now) mask.entry index.entry)) }
     ensures counted { tally.new ≡ min (tally.old + 1) (2 ^ 64 - 1) }
 {
@@ -51,7 +70,8 @@ pub fn scatter64<const W: usize>(
         (λ _. IsEmpty (faults (size_of t) (length bytes.old) mask.entry index.entry))
         (IsLowest (faults (size_of t) (length bytes.old) mask.entry index.entry)) }
     ensures stored { OnOk result (bytes.new ≡ scattered (size_of t) bytes.old mask.entry index.entry from.entry) }
-    ensures below { IfErr result (λ k. bytes.new ≡ scattered (size_of t) bytes.old (take k mask.entry) (take k index.entry) (take k from.entry)) }
+    ensures below { IfErr result (λ k. bytes.new ≡ scattered (size_of t) bytes.old (take k mask.entry)
+        (take k index.entry) (take k from.entry)) }
     ensures counted { tally.new ≡ min (tally.old + 1) (2 ^ 64 - 1) }
 {
     tally.raise();

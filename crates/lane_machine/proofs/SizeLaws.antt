@@ -1,5 +1,6 @@
 -- Sizes in three dimensions.
-use Rattle.std.proofs.Common.{◌≡◌, ℕ, zero, suc, ◌+◌, ◌-◌, ◌*◌, ◌/◌, ◌%◌, ◌<◌, ◌≤◌, ◌^◌, refl, sym, ap, subst, arith, List, [], ◌∷◌, mul_assoc, mul-one, mul-le-mul_right, mul-le-mul, div-add-mod', le_trans}
+use Rattle.std.proofs.Common.{◌≡◌, ℕ, zero, suc, ◌+◌, ◌-◌, ◌*◌, ◌/◌, ◌%◌, ◌<◌, ◌≤◌, ◌^◌, refl, sym, ap, subst, arith}
+use Rattle.std.proofs.Common.{List, [], ◌∷◌, mul_assoc, mul-one, mul-le-mul_right, mul-le-mul, div-add-mod', le_trans}
 use Rattle.std.proofs.Math.Nat.{div-le_self, div-mul-le_self, mul-pos}
 use Rattle.cl_model.specs.Sizes.{product, size_at, offset_at}
 use Rattle.cl_model.specs.View.{launch_of}
@@ -37,7 +38,8 @@ some_groups g l some h e = by (g / l) (div-add-mod' g l)
 pub few_three : (a b c x y z : ℕ) → a ≤ x → b ≤ y → c ≤ z → product (a ∷ b ∷ c ∷ []) ≤ product (x ∷ y ∷ z ∷ [])
 few_three a b c x y z h k l = mul-le-mul h (mul-le-mul k (mul-le-mul l (omega arith)))
 
-pub groups_are_sizes : (a b c x y z : ℕ) → AreSizes (a ∷ b ∷ c ∷ []) → AreSizes (x ∷ y ∷ z ∷ []) → ((d : ℕ) → size_at (a ∷ b ∷ c ∷ []) d % size_at (x ∷ y ∷ z ∷ []) d ≡ 0)
+pub groups_are_sizes : (a b c x y z : ℕ) → AreSizes (a ∷ b ∷ c ∷ []) → AreSizes (x ∷ y ∷ z ∷ []) →
+    ((d : ℕ) → size_at (a ∷ b ∷ c ∷ []) d % size_at (x ∷ y ∷ z ∷ []) d ≡ 0)
     → AreSizes (a / x ∷ b / y ∷ c / z ∷ [])
 groups_are_sizes a b c x y z g l e = record {
   some = each;
@@ -79,13 +81,16 @@ number_le g l group item h k m =
     omega (arith, most, few, split)
 
 -- the items of all groups together are no more than the launch has
-pub all_items : (a b c x y z : ℕ) → product (a / x ∷ b / y ∷ c / z ∷ []) * product (x ∷ y ∷ z ∷ []) ≤ product (a ∷ b ∷ c ∷ [])
+pub all_items : (a b c x y z : ℕ) → product (a / x ∷ b / y ∷ c / z ∷ []) * product (x ∷ y ∷ z ∷ []) ≤
+    product (a ∷ b ∷ c ∷ [])
 all_items a b c x y z =
     let p = a / x in
     let q = b / y in
     let r = c / z in
     let e : product (p ∷ q ∷ r ∷ []) * product (x ∷ y ∷ z ∷ []) ≡ p * x * (q * y * (r * z * 1)) = omega arith in
-    subst (λ n. n ≤ product (a ∷ b ∷ c ∷ [])) (sym e) (mul-le-mul (div-mul-le_self a x) (mul-le-mul (div-mul-le_self b y) (mul-le-mul (div-mul-le_self c z) (omega arith))))
+    subst (λ n. n ≤ product (a ∷ b ∷ c ∷ [])) (sym e)
+    (mul-le-mul (div-mul-le_self a x)
+    (mul-le-mul (div-mul-le_self b y) (mul-le-mul (div-mul-le_self c z) (omega arith))))
 
 -- the first item of a chunk that a group has is one of its items
 pub chunk_starts : (size width chunk : ℕ) → 1 ≤ width → chunk < (size + (width - 1)) / width → chunk * width < size
@@ -96,7 +101,8 @@ chunk_starts size width chunk h k =
     omega (arith, most, few, split, h)
 
 -- and the number in the launch of any item of a group is small
-pub item_small : (groups size number item : ℕ) → groups * size ≤ 2 ^ 24 → number < groups → item < size → number * size + item < 2 ^ 24
+pub item_small : (groups size number item : ℕ) → groups * size ≤ 2 ^ 24 → number < groups → item < size →
+    number * size + item < 2 ^ 24
 item_small groups size number item h k m =
     let most : suc number * size ≤ groups * size = mul-le-mul_right size k in
     let split : suc number * size ≡ number * size + size = omega arith in

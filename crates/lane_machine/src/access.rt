@@ -1,5 +1,16 @@
 //! The steps that load and store.
-ghost use Rattle.std.specs.Prelude.{◌≡◌, ◌≢◌, ◌<◌, ◌≤◌, ◌^◌, ℕ, [], length, map, slice_index_or};
+ghost use Rattle.std.specs.Prelude.{
+  ◌≡◌,
+  ◌≢◌,
+  ◌<◌,
+  ◌≤◌,
+  ◌^◌,
+  ℕ,
+  [],
+  length,
+  map,
+  slice_index_or,
+};
 ghost use Rattle.cl_model.specs.Sizes.{Launch as PlainLaunch};
 ghost use Rattle.cl_model.specs.View.{buffers_of, launch_of};
 ghost use Rattle.lane_code.specs.Groups.{reached};
@@ -33,7 +44,8 @@ fn table_at(tables: &[Table], n: usize) -> &[u8]
 
 /// The objects of a private array.
 fn array_at(arrays: &[Vec<Vec<u8>>], n: usize) -> &[Vec<u8>]
-    ensures { map (λ v. v.items) result.now ≡ slice_index_or (map (λ a. map (λ v. v.items) a.items) arrays.now) n [] }
+    ensures { map (λ v. v.items) result.now ≡ slice_index_or (map (λ a. map (λ v. v.items) a.items) arrays.now) n
+        [] }
 {
     match arrays.get(n) {
         Some(objects) => objects,
@@ -56,7 +68,8 @@ fn bytes_of<'a>(
     program: &'a GroupProgram,
 ) -> &'a [u8]
     ensures { (r : PlainRegisters) (launch : PlainLaunch) (number first width : ℕ)
-        → result.now ≡ shared_bytes (chunk_from (plain_of program.now) launch number first width) (standing r group.now.kept (buffers_of buffers.now)) (reached_of object) }
+        → result.now ≡ shared_bytes (chunk_from (plain_of program.now) launch number first width)
+        (standing r group.now.kept (buffers_of buffers.now)) (reached_of object) }
 {
     match object {
         Object::Buffer(n) => bytes_at(&buffers.list, n as usize),
@@ -90,7 +103,8 @@ pub(crate) fn load_step<const W: usize>(
     requires index { index.number < length r.old.plain.wide }
     requires mask { mask.number < length r.old.plain.masks }
     ensures act { (launch : PlainLaunch) (number site : ℕ)
-        → load_at (chunk_from (plain_of program.now) launch number first W) (standing r.old.plain group.now.kept (buffers_of buffers.now)) site t index to mask (reached_of object)
+        → load_at (chunk_from (plain_of program.now) launch number first W)
+        (standing r.old.plain group.now.kept (buffers_of buffers.now)) site t index to mask (reached_of object)
         ≡ accessed site result (standing r.new.plain group.now.kept (buffers_of buffers.now)) }
     ensures room { r.new.room ≡ r.old.room }
 {
@@ -140,7 +154,8 @@ pub(crate) fn store_step<const W: usize>(
     requires index { index.number < length r.now.plain.wide }
     requires mask { mask.number < length r.now.plain.masks }
     ensures act { (p : Plain) (launch : PlainLaunch) (number site : ℕ)
-        → store_at (chunk_from p launch number first W) (standing r.now.plain group.old.kept (buffers_of buffers.old)) site t index from mask (reached_of object)
+        → store_at (chunk_from p launch number first W)
+        (standing r.now.plain group.old.kept (buffers_of buffers.old)) site t index from mask (reached_of object)
         ≡ accessed site result (standing r.now.plain group.new.kept (buffers_of buffers.new)) }
     ensures number { group.new.number ≡ group.old.number }
 {
@@ -204,7 +219,9 @@ pub(crate) fn load<const W: usize>(
     requires index { index.number < length r.old.plain.wide }
     requires mask { mask.number < length r.old.plain.masks }
     ensures act { (number site : ℕ)
-        → load_at (chunk_from (plain_of program.now) (launch_of launch.now) number first W) (standing r.old.plain group.now.kept (buffers_of buffers.now)) site t index to mask (reached (length program.now.locals.items) (launch_of launch.now) root)
+        → load_at (chunk_from (plain_of program.now) (launch_of launch.now) number first W)
+        (standing r.old.plain group.now.kept (buffers_of buffers.now)) site t index to mask
+        (reached (length program.now.locals.items) (launch_of launch.now) root)
         ≡ accessed site result (standing r.new.plain group.now.kept (buffers_of buffers.now)) }
     ensures room { r.new.room ≡ r.old.room }
 {
@@ -240,7 +257,9 @@ pub(crate) fn store<const W: usize>(
     requires index { index.number < length r.now.plain.wide }
     requires mask { mask.number < length r.now.plain.masks }
     ensures act { (number site : ℕ)
-        → store_at (chunk_from (plain_of program.now) (launch_of launch.now) number first W) (standing r.now.plain group.old.kept (buffers_of buffers.old)) site t index from mask (reached (length program.now.locals.items) (launch_of launch.now) root)
+        → store_at (chunk_from (plain_of program.now) (launch_of launch.now) number first W)
+        (standing r.now.plain group.old.kept (buffers_of buffers.old)) site t index from mask
+        (reached (length program.now.locals.items) (launch_of launch.now) root)
         ≡ accessed site result (standing r.now.plain group.new.kept (buffers_of buffers.new)) }
     ensures number { group.new.number ≡ group.old.number }
 {

@@ -1,5 +1,17 @@
 //! Work-item functions and kernel arguments, in lanes.
-ghost use Rattle.std.specs.Prelude.{◌≡◌, ◌≢◌, ◌<◌, ◌≤◌, ◌+◌, ◌^◌, length, replicate, slice_get, IfSome, if◌then◌else◌};
+ghost use Rattle.std.specs.Prelude.{
+  ◌≡◌,
+  ◌≢◌,
+  ◌<◌,
+  ◌≤◌,
+  ◌+◌,
+  ◌^◌,
+  length,
+  replicate,
+  slice_get,
+  IfSome,
+  if◌then◌else◌,
+};
 ghost use Rattle.wg_num.specs.declared.types.IntType.TheVariants.{Uint};
 ghost use Rattle.wg_num.specs.Wrap.{value_of};
 ghost use Rattle.cl_model.specs.Sizes.{answer_of, local_id, size_at};
@@ -142,7 +154,9 @@ pub(crate) fn ask_step<const W: usize>(
     requires mask { mask.number < length r.old.plain.masks }
     requires sizes { HasSizes (launch_of launch.now) }
     requires item { item < 2 ^ 32 }
-    ensures written { r.new.plain ≡ written r.old.plain to mask (answers (bits_in to.bank) (launch_of launch.now) item what (lanes_of r.old.plain dim)) }
+    ensures written { r.new.plain ≡
+        written r.old.plain to mask (answers (bits_in to.bank) (launch_of launch.now) item what
+        (lanes_of r.old.plain dim)) }
     ensures room { r.new.room ≡ r.old.room }
 {
     match to.bank {
@@ -186,7 +200,9 @@ pub(crate) fn argument_step<const W: usize>(
     requires to { IsIn r.old.plain to }
     requires bank { to.bank ≢ Mask }
     requires mask { mask.number < length r.old.plain.masks }
-    ensures written { r.new.plain ≡ written r.old.plain to mask (replicate (lane_count W to.bank) (lane (bits_in to.bank) (bound_value (slice_get args.now.items number)))) }
+    ensures written { r.new.plain ≡
+        written r.old.plain to mask (replicate (lane_count W to.bank)
+        (lane (bits_in to.bank) (bound_value (slice_get args.now.items number)))) }
     ensures room { r.new.room ≡ r.old.room }
 {
     let value = value_bound(args, number);

@@ -40,7 +40,8 @@ fn clear_objects(objects: &mut Vec<Vec<u8>>)
 
 /// Each object of each private array becomes zeros.
 fn clear_arrays(arrays: &mut Vec<Vec<Vec<u8>>>)
-    ensures { map (λ a. map (λ v. v.items) a.items) arrays.new.items ≡ map blanks (map (λ a. map (λ v. v.items) a.items) arrays.old.items) }
+    ensures { map (λ a. map (λ v. v.items) a.items) arrays.new.items ≡
+        map blanks (map (λ a. map (λ v. v.items) a.items) arrays.old.items) }
 {
     for i in 0..arrays.len() {
         clear_objects(&mut arrays[i]);

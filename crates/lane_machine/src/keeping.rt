@@ -1,5 +1,18 @@
 //! Columns, once slots and votes.
-ghost use Rattle.std.specs.Prelude.{◌≡◌, ◌≢◌, ◌<◌, ◌≤◌, ◌%◌, ◌^◌, [], false, map, length, slice_index_or, slice_set};
+ghost use Rattle.std.specs.Prelude.{
+  ◌≡◌,
+  ◌≢◌,
+  ◌<◌,
+  ◌≤◌,
+  ◌%◌,
+  ◌^◌,
+  [],
+  false,
+  map,
+  length,
+  slice_index_or,
+  slice_set,
+};
 ghost use Rattle.std.specs.Simd.Lanes.{sel_l};
 ghost use Rattle.lane_values.specs.Lanes.{zip3};
 ghost use Rattle.lane_code.specs.Registers.{with_lanes, with_mask, with_scalar, lanes_of, mask_of, scalar_of, bits_in};
@@ -34,7 +47,9 @@ pub(crate) fn once_put_step<const W: usize>(
 )
     requires slot { slot < length group.old.kept.exits }
     requires from { from.number < length r.now.plain.scalars }
-    ensures { group.new ≡ record group.old { kept = record group.old.kept { exits = slice_set group.old.kept.exits slot (scalar_of r.now.plain from) } } }
+    ensures { group.new ≡ record group.old {
+      kept = record group.old.kept { exits = slice_set group.old.kept.exits slot (scalar_of r.now.plain from) };
+    } }
 {
     group.exits[slot as usize] = r.scalars[from.number as usize];
 }
@@ -67,7 +82,10 @@ pub(crate) fn vote_put_step<const W: usize>(
     requires first { first < 2 ^ 32 }
     requires from { from.number < length r.now.plain.masks }
     requires mask { mask.number < length r.now.plain.masks }
-    ensures { group.new ≡ record group.old { kept = voted group.old.kept first W (mask_of r.now.plain mask) (mask_of r.now.plain from) } }
+    ensures { group.new ≡ record group.old {
+      kept = voted group.old.kept first W (mask_of r.now.plain mask)
+          (mask_of r.now.plain from);
+    } }
 {
     let old = truths_at(&group.votes, first);
     let new = chosen_truths(
@@ -92,7 +110,9 @@ pub(crate) fn column_get_step<const W: usize>(
     requires to { IsIn r.old.plain to }
     requires mask { to.bank ≢ Mask }
     requires scalar { to.bank ≢ Scalar }
-    ensures written { r.new.plain ≡ with_lanes r.old.plain to (column_lanes to.bank (window 0 (slice_index_or group.now.kept.columns column []) first W)) }
+    ensures written { r.new.plain ≡
+        with_lanes r.old.plain to (column_lanes to.bank (window 0 (slice_index_or group.now.kept.columns column [])
+        first W)) }
     ensures room { r.new.room ≡ r.old.room }
 {
     let values = numbers_at(&group.columns[column as usize], first);
@@ -119,7 +139,10 @@ pub(crate) fn column_put_step<const W: usize>(
     requires bank { from.bank ≢ Mask }
     requires scalar { from.bank ≢ Scalar }
     requires mask { mask.number < length r.now.plain.masks }
-    ensures { group.new ≡ record group.old { kept = column_stored group.old.kept first W column (mask_of r.now.plain mask) (lanes_of r.now.plain from) } }
+    ensures { group.new ≡ record group.old {
+      kept = column_stored group.old.kept first W column
+          (mask_of r.now.plain mask) (lanes_of r.now.plain from);
+    } }
 {
     let lanes = lanes_for_column(r, from);
     let active = r.masks[mask.number as usize];
@@ -189,7 +212,9 @@ fn store_in<const W: usize>(
     requires first { first < 2 ^ 32 }
     requires column { column < length columns.old.items }
     ensures { map (λ v. v.items) columns.new.items ≡ slice_set (map (λ v. v.items) columns.old.items) column
-        (with_window (slice_index_or (map (λ v. v.items) columns.old.items) column []) first (sel_l active.entry lanes.entry (window 0 (slice_index_or (map (λ v. v.items) columns.old.items) column []) first W))) }
+        (with_window (slice_index_or (map (λ v. v.items) columns.old.items) column []) first
+        (sel_l active.entry lanes.entry
+        (window 0 (slice_index_or (map (λ v. v.items) columns.old.items) column []) first W))) }
 {
     store_column(&mut columns[column], first, active, lanes);
 }
@@ -203,7 +228,8 @@ fn store_column<const W: usize>(
 )
     requires lanes { W ≤ 64 }
     requires first { first < 2 ^ 32 }
-    ensures { column.new.items ≡ with_window column.old.items first (sel_l active.entry lanes.entry (window 0 column.old.items first W)) }
+    ensures { column.new.items ≡ with_window column.old.items first
+        (sel_l active.entry lanes.entry (window 0 column.old.items first W)) }
 {
     let old = Simd::from_array(numbers_at(column, first));
     put_numbers(column, first, blend64(active, lanes, old).to_array());

@@ -38,7 +38,13 @@ impl Model for Machine {
 
     ghost Value = { Machinery };
 
-    ghost view = { λ m. record { tally = m.tally; one = m.one.room; four = m.four.room; eight = m.eight.room; sixteen = m.sixteen.room } };
+    ghost view = { λ m. record {
+      tally = m.tally;
+      one = m.one.room;
+      four = m.four.room;
+      eight = m.eight.room;
+      sixteen = m.sixteen.room;
+    } };
 }
 
 impl Machine {
@@ -76,15 +82,23 @@ impl Machine {
         turns: &mut u64,
     ) -> RegionEnd
         requires code { code_fits (names_of (plain_of program.now)) code.now.counts code.now.steps.items ≡ true }
-        requires launch { LaunchFits (plain_of program.now).params (sum (plain_of program.now).locals) (launch_of launch.now) }
+        requires launch { LaunchFits (plain_of program.now).params (sum (plain_of program.now).locals)
+            (launch_of launch.now) }
         requires chunk { chunk < chunk_count (plain_of program.now) (launch_of launch.now) }
         requires number { group.old.number < group_count (launch_of launch.now) }
         requires made { IsGroupOf (plain_of program.now) (launch_of launch.now) group.old.kept }
         requires room { HasRoom code.now.counts (room_at program.now.width self.old) }
-        ensures end { (region_end (chunk_at (plain_of program.now) (launch_of launch.now) group.old.number chunk) code.now.steps.items code.now.counts turns.old group.old.kept (buffers_of buffers.old)).end ≡ result }
-        ensures turns { (region_end (chunk_at (plain_of program.now) (launch_of launch.now) group.old.number chunk) code.now.steps.items code.now.counts turns.old group.old.kept (buffers_of buffers.old)).turns ≡ turns.new }
-        ensures group { (region_end (chunk_at (plain_of program.now) (launch_of launch.now) group.old.number chunk) code.now.steps.items code.now.counts turns.old group.old.kept (buffers_of buffers.old)).state.group ≡ group.new.kept }
-        ensures buffers { (region_end (chunk_at (plain_of program.now) (launch_of launch.now) group.old.number chunk) code.now.steps.items code.now.counts turns.old group.old.kept (buffers_of buffers.old)).state.buffers ≡ buffers_of buffers.new }
+        ensures end { (region_end (chunk_at (plain_of program.now) (launch_of launch.now) group.old.number chunk)
+            code.now.steps.items code.now.counts turns.old group.old.kept (buffers_of buffers.old)).end ≡ result }
+        ensures turns { (region_end (chunk_at (plain_of program.now) (launch_of launch.now) group.old.number chunk)
+            code.now.steps.items code.now.counts turns.old group.old.kept (buffers_of buffers.old)).turns ≡
+            turns.new }
+        ensures group { (region_end (chunk_at (plain_of program.now) (launch_of launch.now) group.old.number chunk)
+            code.now.steps.items code.now.counts turns.old group.old.kept (buffers_of buffers.old)).state.group ≡
+            group.new.kept }
+        ensures buffers { (region_end (chunk_at (plain_of program.now) (launch_of launch.now) group.old.number chunk)
+            code.now.steps.items code.now.counts turns.old group.old.kept (buffers_of buffers.old)).state.buffers
+            ≡ buffers_of buffers.new }
         ensures made { IsGroupOf (plain_of program.now) (launch_of launch.now) group.new.kept }
         ensures number { group.new.number ≡ group.old.number }
         ensures room { IsNoLess (room_at program.now.width self.old) (room_at program.now.width self.new) }

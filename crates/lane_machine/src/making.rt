@@ -59,7 +59,8 @@ pub(crate) fn zero_arrays(
     sizes: &[u64],
     items: usize,
 ) -> Result<Vec<Vec<Vec<u8>>>, Memory>
-    ensures { IfOk result (λ l. map (λ a. map (λ v. v.items) a.items) l.items ≡ map (λ n. replicate items (zeros n)) sizes.now) }
+    ensures { IfOk result (λ l. map (λ a. map (λ v. v.items) a.items) l.items ≡
+        map (λ n. replicate items (zeros n)) sizes.now) }
 {
     let mut list = Vec::new(alloc);
     for i in 0..sizes.len() {
@@ -97,7 +98,8 @@ pub(crate) fn zero_columns(alloc: Global, n: usize, items: usize) -> Result<Vec<
 
 /// Adds an object of zeros, if the argument is of local memory.
 fn add_argument(alloc: Global, mut list: Vec<Vec<u8>>, b: Bound) -> Result<Vec<Vec<u8>>, Memory>
-    ensures { IfOk result (λ l. map (λ v. v.items) l.items ≡ map (λ v. v.items) list.items ++ map zeros (local_arguments (b ∷ []))) }
+    ensures { IfOk result (λ l. map (λ v. v.items) l.items ≡ map (λ v. v.items) list.items ++
+        map zeros (local_arguments (b ∷ []))) }
 {
     match b {
         Bound::Local(n) => {
@@ -117,7 +119,8 @@ fn add_arguments(
     mut list: Vec<Vec<u8>>,
     args: &[Bound],
 ) -> Result<Vec<Vec<u8>>, Memory>
-    ensures { IfOk result (λ l. map (λ v. v.items) l.items ≡ map (λ v. v.items) list.items ++ map zeros (local_arguments args.now)) }
+    ensures { IfOk result (λ l. map (λ v. v.items) l.items ≡ map (λ v. v.items) list.items ++
+        map zeros (local_arguments args.now)) }
 {
     for i in 0..args.len() {
         list = add_argument(alloc, list, args[i])?;
@@ -137,7 +140,8 @@ fn no_votes(alloc: Global, n: usize) -> Result<Vec<bool>, Memory>
 
 /// A group with number 0 and zeros in all that it keeps.
 fn at_start(alloc: Global, program: &GroupProgram, launch: &Launch) -> Result<Group, Memory>
-    requires fits { LaunchFits (plain_of program.now).params (sum (plain_of program.now).locals) (launch_of launch.now) }
+    requires fits { LaunchFits (plain_of program.now).params (sum (plain_of program.now).locals)
+        (launch_of launch.now) }
     ensures kept { IfOk result (λ g. g.kept ≡ start_group (plain_of program.now) (launch_of launch.now)) }
     ensures number { IfOk result (λ g. g.number ≡ 0) }
 {
@@ -164,7 +168,8 @@ impl Group {
     /// What a group of the launch keeps at its start, with number 0; `Memory` where there is none
     /// for it.
     pub fn new(alloc: Global, program: &GroupProgram, launch: &Launch) -> Result<Group, Memory>
-        requires fits { LaunchFits (plain_of program.now).params (sum (plain_of program.now).locals) (launch_of launch.now) }
+        requires fits { LaunchFits (plain_of program.now).params (sum (plain_of program.now).locals)
+            (launch_of launch.now) }
         ensures kept { IfOk result (λ g. g.kept ≡ start_group (plain_of program.now) (launch_of launch.now)) }
         ensures made { IfOk result (λ g. IsGroupOf (plain_of program.now) (launch_of launch.now) g.kept) }
         ensures number { IfOk result (λ g. g.number ≡ 0) }

@@ -79,7 +79,8 @@ pub(crate) fn and_step<const W: usize>(r: &mut Registers<W>, to: Reg, a: Reg, b:
     requires to { to.number < length r.old.plain.masks }
     requires a { a.number < length r.old.plain.masks }
     requires b { b.number < length r.old.plain.masks }
-    ensures written { r.new.plain ≡ with_mask r.old.plain to (zip2 (λ x y. x && y) (mask_of r.old.plain a) (mask_of r.old.plain b)) }
+    ensures written { r.new.plain ≡
+        with_mask r.old.plain to (zip2 (λ x y. x && y) (mask_of r.old.plain a) (mask_of r.old.plain b)) }
     ensures room { r.new.room ≡ r.old.room }
 {
     r.masks[to.number as usize] = both(r.masks[a.number as usize], r.masks[b.number as usize]);
@@ -91,7 +92,8 @@ pub(crate) fn or_step<const W: usize>(r: &mut Registers<W>, to: Reg, a: Reg, b: 
     requires to { to.number < length r.old.plain.masks }
     requires a { a.number < length r.old.plain.masks }
     requires b { b.number < length r.old.plain.masks }
-    ensures written { r.new.plain ≡ with_mask r.old.plain to (zip2 (λ x y. x || y) (mask_of r.old.plain a) (mask_of r.old.plain b)) }
+    ensures written { r.new.plain ≡
+        with_mask r.old.plain to (zip2 (λ x y. x || y) (mask_of r.old.plain a) (mask_of r.old.plain b)) }
     ensures room { r.new.room ≡ r.old.room }
 {
     r.masks[to.number as usize] = either(r.masks[a.number as usize], r.masks[b.number as usize]);
@@ -103,7 +105,8 @@ pub(crate) fn less_step<const W: usize>(r: &mut Registers<W>, to: Reg, a: Reg, b
     requires to { to.number < length r.old.plain.masks }
     requires a { a.number < length r.old.plain.masks }
     requires b { b.number < length r.old.plain.masks }
-    ensures written { r.new.plain ≡ with_mask r.old.plain to (zip2 (λ x y. x && not y) (mask_of r.old.plain a) (mask_of r.old.plain b)) }
+    ensures written { r.new.plain ≡
+        with_mask r.old.plain to (zip2 (λ x y. x && not y) (mask_of r.old.plain a) (mask_of r.old.plain b)) }
     ensures room { r.new.room ≡ r.old.room }
 {
     r.masks[to.number as usize] = less(r.masks[a.number as usize], r.masks[b.number as usize]);
@@ -117,7 +120,9 @@ pub(crate) fn test_step<const W: usize>(r: &mut Registers<W>, to: Reg, from: Reg
     requires bank { from.bank ≢ Mask }
     requires number { from.bank ≢ Scalar }
     requires mask { mask.number < length r.old.plain.masks }
-    ensures written { r.new.plain ≡ with_mask r.old.plain to (zip2 (λ on x. on && not (nat_eq x 0)) (mask_of r.old.plain mask) (lanes_of r.old.plain from)) }
+    ensures written { r.new.plain ≡
+        with_mask r.old.plain to (zip2 (λ on x. on && not (nat_eq x 0)) (mask_of r.old.plain mask)
+        (lanes_of r.old.plain from)) }
     ensures room { r.new.room ≡ r.old.room }
 {
     let active = r.masks[mask.number as usize];

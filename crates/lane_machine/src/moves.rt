@@ -1,8 +1,29 @@
 //! Constants, copies and conversions of registers, and scalars to lanes and back.
-ghost use Rattle.std.specs.Prelude.{◌≡◌, ◌≢◌, ◌<◌, ◌≤◌, ◌%◌, ◌^◌, map, length, replicate, true, IfSome};
+ghost use Rattle.std.specs.Prelude.{
+  ◌≡◌,
+  ◌≢◌,
+  ◌<◌,
+  ◌≤◌,
+  ◌%◌,
+  ◌^◌,
+  map,
+  length,
+  replicate,
+  true,
+  IfSome,
+};
 ghost use Rattle.wg_num.specs.Wrap.{bits_of, value_of, width_bits};
 ghost use Rattle.lane_values.specs.Lanes.{FitsLane, lane, convert_lane};
-ghost use Rattle.lane_code.specs.Registers.{written, with_lanes, lanes_of, bits_in, lane_count, scalar_of, mask_of, lowest};
+ghost use Rattle.lane_code.specs.Registers.{
+  written,
+  with_lanes,
+  lanes_of,
+  bits_in,
+  lane_count,
+  scalar_of,
+  mask_of,
+  lowest,
+};
 ghost use Rattle.lane_code.specs.Acts.{first_of};
 ghost use Rattle.lane_code.specs.declared.step.Bank.TheVariants.{Narrow, Wide, Mask, Scalar};
 ghost use Rattle.lane_machine.specs.State.{IsIn, FitsBank, FitsConvert};
@@ -20,7 +41,8 @@ use wg_num::{IntType, bits, value};
 pub(crate) fn const_step<const W: usize>(r: &mut Registers<W>, to: Reg, number: i128)
     requires to { IsIn r.old.plain to }
     requires bank { to.bank ≢ Mask }
-    ensures written { r.new.plain ≡ with_lanes r.old.plain to (replicate (lane_count W to.bank) (lane (bits_in to.bank) number)) }
+    ensures written { r.new.plain ≡
+        with_lanes r.old.plain to (replicate (lane_count W to.bank) (lane (bits_in to.bank) number)) }
     ensures room { r.new.room ≡ r.old.room }
 {
     match to.bank {
@@ -70,7 +92,8 @@ pub(crate) fn spread_step<const W: usize>(r: &mut Registers<W>, to: Reg, from: R
     requires from { from.number < length r.old.plain.scalars }
     requires mask { to.bank ≢ Mask }
     requires scalar { to.bank ≢ Scalar }
-    ensures written { r.new.plain ≡ with_lanes r.old.plain to (replicate W (scalar_of r.old.plain from % 2 ^ bits_in to.bank)) }
+    ensures written { r.new.plain ≡
+        with_lanes r.old.plain to (replicate W (scalar_of r.old.plain from % 2 ^ bits_in to.bank)) }
     ensures room { r.new.room ≡ r.old.room }
 {
     let one = r.scalars[from.number as usize];
@@ -112,7 +135,8 @@ pub(crate) fn first_step<const W: usize>(
     requires bank { from.bank ≢ Mask }
     requires number { from.bank ≢ Scalar }
     requires mask { mask.number < length r.old.plain.masks }
-    ensures written { r.new.plain ≡ first_of r.old.plain to t (lanes_of r.old.plain from) (lowest (mask_of r.old.plain mask)) }
+    ensures written { r.new.plain ≡ first_of r.old.plain to t (lanes_of r.old.plain from)
+        (lowest (mask_of r.old.plain mask)) }
     ensures room { r.new.room ≡ r.old.room }
 {
     if let Some(place) = lowest_place(r.masks[mask.number as usize]) {
@@ -140,7 +164,8 @@ fn convert_narrow<const W: usize>(
     requires to { to.number < length r.old.plain.narrow }
     requires from { IsIn r.old.plain from }
     requires mask { mask.number < length r.old.plain.masks }
-    ensures written { r.new.plain ≡ written r.old.plain to mask (map (convert_lane (bits_in to.bank) kind was) (lanes_of r.old.plain from)) }
+    ensures written { r.new.plain ≡
+        written r.old.plain to mask (map (convert_lane (bits_in to.bank) kind was) (lanes_of r.old.plain from)) }
     ensures room { r.new.room ≡ r.old.room }
 {
     let old = r.narrow[to.number as usize];
@@ -167,7 +192,8 @@ fn convert_wide<const W: usize>(
     requires to { to.number < length r.old.plain.wide }
     requires from { IsIn r.old.plain from }
     requires mask { mask.number < length r.old.plain.masks }
-    ensures written { r.new.plain ≡ written r.old.plain to mask (map (convert_lane (bits_in to.bank) kind was) (lanes_of r.old.plain from)) }
+    ensures written { r.new.plain ≡
+        written r.old.plain to mask (map (convert_lane (bits_in to.bank) kind was) (lanes_of r.old.plain from)) }
     ensures room { r.new.room ≡ r.old.room }
 {
     let old = r.wide[to.number as usize];
@@ -202,7 +228,8 @@ pub(crate) fn convert_step<const W: usize>(
     requires to { IsIn r.old.plain to }
     requires from { IsIn r.old.plain from }
     requires mask { mask.number < length r.old.plain.masks }
-    ensures written { r.new.plain ≡ written r.old.plain to mask (map (convert_lane (bits_in to.bank) kind was) (lanes_of r.old.plain from)) }
+    ensures written { r.new.plain ≡
+        written r.old.plain to mask (map (convert_lane (bits_in to.bank) kind was) (lanes_of r.old.plain from)) }
     ensures room { r.new.room ≡ r.old.room }
 {
     match to.bank {
@@ -226,7 +253,8 @@ fn convert_scalar<const W: usize>(
     requires bank { to.bank ≡ Scalar }
     requires to { to.number < length r.old.plain.scalars }
     requires from { IsIn r.old.plain from }
-    ensures written { r.new.plain ≡ written r.old.plain to mask (map (convert_lane (bits_in to.bank) kind was) (lanes_of r.old.plain from)) }
+    ensures written { r.new.plain ≡
+        written r.old.plain to mask (map (convert_lane (bits_in to.bank) kind was) (lanes_of r.old.plain from)) }
     ensures room { r.new.room ≡ r.old.room }
 {
     match from.bank {

@@ -57,7 +57,8 @@ fn unary_narrow<const W: usize>(
     requires to { to.number < length r.old.plain.narrow }
     requires a { a.number < length r.old.plain.narrow }
     requires mask { mask.number < length r.old.plain.masks }
-    ensures written { r.new.plain ≡ written r.old.plain to mask (map (unary_lane (bits_in to.bank) op t) (lanes_of r.old.plain a)) }
+    ensures written { r.new.plain ≡
+        written r.old.plain to mask (map (unary_lane (bits_in to.bank) op t) (lanes_of r.old.plain a)) }
     ensures room { r.new.room ≡ r.old.room }
 {
     let new = unary32(op, t, r.narrow[a.number as usize], tally);
@@ -81,7 +82,8 @@ fn unary_wide<const W: usize>(
     requires to { to.number < length r.old.plain.wide }
     requires a { a.number < length r.old.plain.wide }
     requires mask { mask.number < length r.old.plain.masks }
-    ensures written { r.new.plain ≡ written r.old.plain to mask (map (unary_lane (bits_in to.bank) op t) (lanes_of r.old.plain a)) }
+    ensures written { r.new.plain ≡
+        written r.old.plain to mask (map (unary_lane (bits_in to.bank) op t) (lanes_of r.old.plain a)) }
     ensures room { r.new.room ≡ r.old.room }
 {
     let new = unary64(op, t, r.wide[a.number as usize], tally);
@@ -103,7 +105,8 @@ fn unary_scalar<const W: usize>(
     requires beside_a { a.bank ≡ Scalar }
     requires to { to.number < length r.old.plain.scalars }
     requires a { a.number < length r.old.plain.scalars }
-    ensures written { r.new.plain ≡ written r.old.plain to mask (map (unary_lane (bits_in to.bank) op t) (lanes_of r.old.plain a)) }
+    ensures written { r.new.plain ≡
+        written r.old.plain to mask (map (unary_lane (bits_in to.bank) op t) (lanes_of r.old.plain a)) }
     ensures room { r.new.room ≡ r.old.room }
 {
     r.scalars[to.number as usize] = one_unary(op, t, r.scalars[a.number as usize], tally);
@@ -125,7 +128,8 @@ pub(crate) fn unary_step<const W: usize>(
     requires to { IsIn r.old.plain to }
     requires a { IsIn r.old.plain a }
     requires mask { mask.number < length r.old.plain.masks }
-    ensures written { r.new.plain ≡ written r.old.plain to mask (map (unary_lane (bits_in to.bank) op t) (lanes_of r.old.plain a)) }
+    ensures written { r.new.plain ≡
+        written r.old.plain to mask (map (unary_lane (bits_in to.bank) op t) (lanes_of r.old.plain a)) }
     ensures room { r.new.room ≡ r.old.room }
 {
     match to.bank {
@@ -155,7 +159,9 @@ fn binary_narrow<const W: usize>(
     requires a { a.number < length r.old.plain.narrow }
     requires b { b.number < length r.old.plain.narrow }
     requires mask { mask.number < length r.old.plain.masks }
-    ensures written { r.new.plain ≡ written r.old.plain to mask (zip2 (binary_lane (bits_in to.bank) op t) (lanes_of r.old.plain a) (lanes_of r.old.plain b)) }
+    ensures written { r.new.plain ≡
+        written r.old.plain to mask (zip2 (binary_lane (bits_in to.bank) op t) (lanes_of r.old.plain a)
+        (lanes_of r.old.plain b)) }
     ensures room { r.new.room ≡ r.old.room }
 {
     let new = binary32(
@@ -188,7 +194,9 @@ fn binary_wide<const W: usize>(
     requires a { a.number < length r.old.plain.wide }
     requires b { b.number < length r.old.plain.wide }
     requires mask { mask.number < length r.old.plain.masks }
-    ensures written { r.new.plain ≡ written r.old.plain to mask (zip2 (binary_lane (bits_in to.bank) op t) (lanes_of r.old.plain a) (lanes_of r.old.plain b)) }
+    ensures written { r.new.plain ≡
+        written r.old.plain to mask (zip2 (binary_lane (bits_in to.bank) op t) (lanes_of r.old.plain a)
+        (lanes_of r.old.plain b)) }
     ensures room { r.new.room ≡ r.old.room }
 {
     let new = binary64(
@@ -219,7 +227,9 @@ fn binary_scalar<const W: usize>(
     requires to { to.number < length r.old.plain.scalars }
     requires a { a.number < length r.old.plain.scalars }
     requires b { b.number < length r.old.plain.scalars }
-    ensures written { r.new.plain ≡ written r.old.plain to mask (zip2 (binary_lane (bits_in to.bank) op t) (lanes_of r.old.plain a) (lanes_of r.old.plain b)) }
+    ensures written { r.new.plain ≡
+        written r.old.plain to mask (zip2 (binary_lane (bits_in to.bank) op t) (lanes_of r.old.plain a)
+        (lanes_of r.old.plain b)) }
     ensures room { r.new.room ≡ r.old.room }
 {
     r.scalars[to.number as usize] = one_binary(
@@ -250,7 +260,9 @@ pub(crate) fn binary_step<const W: usize>(
     requires a { IsIn r.old.plain a }
     requires b { IsIn r.old.plain b }
     requires mask { mask.number < length r.old.plain.masks }
-    ensures written { r.new.plain ≡ written r.old.plain to mask (zip2 (binary_lane (bits_in to.bank) op t) (lanes_of r.old.plain a) (lanes_of r.old.plain b)) }
+    ensures written { r.new.plain ≡
+        written r.old.plain to mask (zip2 (binary_lane (bits_in to.bank) op t) (lanes_of r.old.plain a)
+        (lanes_of r.old.plain b)) }
     ensures room { r.new.room ≡ r.old.room }
 {
     match to.bank {
@@ -283,7 +295,9 @@ fn builtin_narrow<const W: usize>(
     requires b { b.number < length r.old.plain.narrow }
     requires c { c.number < length r.old.plain.narrow }
     requires mask { mask.number < length r.old.plain.masks }
-    ensures written { r.new.plain ≡ written r.old.plain to mask (zip3 (builtin_lane (bits_in to.bank) f t) (lanes_of r.old.plain a) (lanes_of r.old.plain b) (lanes_of r.old.plain c)) }
+    ensures written { r.new.plain ≡
+        written r.old.plain to mask (zip3 (builtin_lane (bits_in to.bank) f t) (lanes_of r.old.plain a)
+        (lanes_of r.old.plain b) (lanes_of r.old.plain c)) }
     ensures room { r.new.room ≡ r.old.room }
 {
     let new = builtin32(
@@ -320,7 +334,9 @@ fn builtin_wide<const W: usize>(
     requires b { b.number < length r.old.plain.wide }
     requires c { c.number < length r.old.plain.wide }
     requires mask { mask.number < length r.old.plain.masks }
-    ensures written { r.new.plain ≡ written r.old.plain to mask (zip3 (builtin_lane (bits_in to.bank) f t) (lanes_of r.old.plain a) (lanes_of r.old.plain b) (lanes_of r.old.plain c)) }
+    ensures written { r.new.plain ≡
+        written r.old.plain to mask (zip3 (builtin_lane (bits_in to.bank) f t) (lanes_of r.old.plain a)
+        (lanes_of r.old.plain b) (lanes_of r.old.plain c)) }
     ensures room { r.new.room ≡ r.old.room }
 {
     let new = builtin64(
@@ -355,7 +371,9 @@ fn builtin_scalar<const W: usize>(
     requires a { a.number < length r.old.plain.scalars }
     requires b { b.number < length r.old.plain.scalars }
     requires c { c.number < length r.old.plain.scalars }
-    ensures written { r.new.plain ≡ written r.old.plain to mask (zip3 (builtin_lane (bits_in to.bank) f t) (lanes_of r.old.plain a) (lanes_of r.old.plain b) (lanes_of r.old.plain c)) }
+    ensures written { r.new.plain ≡
+        written r.old.plain to mask (zip3 (builtin_lane (bits_in to.bank) f t) (lanes_of r.old.plain a)
+        (lanes_of r.old.plain b) (lanes_of r.old.plain c)) }
     ensures room { r.new.room ≡ r.old.room }
 {
     r.scalars[to.number as usize] = one_builtin(
@@ -390,7 +408,9 @@ pub(crate) fn builtin_step<const W: usize>(
     requires b { IsIn r.old.plain b }
     requires c { IsIn r.old.plain c }
     requires mask { mask.number < length r.old.plain.masks }
-    ensures written { r.new.plain ≡ written r.old.plain to mask (zip3 (builtin_lane (bits_in to.bank) f t) (lanes_of r.old.plain a) (lanes_of r.old.plain b) (lanes_of r.old.plain c)) }
+    ensures written { r.new.plain ≡
+        written r.old.plain to mask (zip3 (builtin_lane (bits_in to.bank) f t) (lanes_of r.old.plain a)
+        (lanes_of r.old.plain b) (lanes_of r.old.plain c)) }
     ensures room { r.new.room ≡ r.old.room }
 {
     match to.bank {

@@ -1,5 +1,26 @@
 //! Loads and stores of private arrays, of which each lane has its own.
-ghost use Rattle.std.specs.Prelude.{◌≡◌, ◌≢◌, ◌<◌, ◌≤◌, ◌^◌, ◌+◌, None, Some, [], true, false, not, length, take, map, slice_index_or, slice_set, if◌then◌else◌, MatchOption, MatchResult};
+ghost use Rattle.std.specs.Prelude.{
+  ◌≡◌,
+  ◌≢◌,
+  ◌<◌,
+  ◌≤◌,
+  ◌^◌,
+  ◌+◌,
+  None,
+  Some,
+  [],
+  true,
+  false,
+  not,
+  length,
+  take,
+  map,
+  slice_index_or,
+  slice_set,
+  if◌then◌else◌,
+  MatchOption,
+  MatchResult,
+};
 ghost use Rattle.std.specs.Bool.{OnTrue, OnFalse};
 ghost use Rattle.wg_num.specs.Bytes.{size_of};
 ghost use Rattle.lane_values.specs.Access.{is_fault, lane_from, lane_put};
@@ -83,7 +104,8 @@ fn gather_own<const W: usize>(
     requires fits { FitsLane 64 t }
     ensures { let own = window [] (map (λ v. v.items) objects.now) first W in
         MatchResult result
-        (λ v. (lowest (own_faults (size_of t) mask.entry index.entry own) ≡ None) × (v ≡ own_loaded 64 t mask.entry index.entry own))
+        (λ v. (lowest (own_faults (size_of t) mask.entry index.entry own) ≡ None) ×
+        (v ≡ own_loaded 64 t mask.entry index.entry own))
         (λ k. lowest (own_faults (size_of t) mask.entry index.entry own) ≡ Some k) }
 {
     let mut lanes = [0u64; W];
@@ -123,8 +145,11 @@ fn store_item(
     tally: &mut Tally,
 ) -> bool
     requires { FitsLane 64 t }
-    ensures done { result ≡ not (is_fault (size_of t) (length (slice_index_or (map (λ v. v.items) objects.old.items) item [])) on at) }
-    ensures stored { OnTrue result (map (λ v. v.items) objects.new.items ≡ slice_set (map (λ v. v.items) objects.old.items) item (lane_put (size_of t) (slice_index_or (map (λ v. v.items) objects.old.items) item []) on at x)) }
+    ensures done { result ≡ not (is_fault (size_of t)
+        (length (slice_index_or (map (λ v. v.items) objects.old.items) item [])) on at) }
+    ensures stored { OnTrue result (map (λ v. v.items) objects.new.items ≡
+        slice_set (map (λ v. v.items) objects.old.items) item
+        (lane_put (size_of t) (slice_index_or (map (λ v. v.items) objects.old.items) item []) on at x)) }
     ensures kept { OnFalse result (map (λ v. v.items) objects.new.items ≡ map (λ v. v.items) objects.old.items) }
 {
     if item < objects.len() {
@@ -152,9 +177,12 @@ fn scatter_own<const W: usize>(
         let own = window [] old first W in
         MatchOption result
         ((lowest (own_faults (size_of t) mask.entry index.entry own) ≡ None)
-        × (map (λ v. v.items) objects.new.items ≡ with_window old first (own_stored (size_of t) mask.entry index.entry from.entry own)))
+        × (map (λ v. v.items) objects.new.items ≡
+        with_window old first (own_stored (size_of t) mask.entry index.entry from.entry own)))
         (λ k. (lowest (own_faults (size_of t) mask.entry index.entry own) ≡ Some k)
-        × (map (λ v. v.items) objects.new.items ≡ with_window old first (own_stored (size_of t) (take k mask.entry) (take k index.entry) (take k from.entry) own))) }
+        × (map (λ v. v.items) objects.new.items ≡
+        with_window old first (own_stored (size_of t) (take k mask.entry) (take k index.entry) (take k from.entry)
+        own))) }
 {
     for i in 0..W {
         if !store_item(objects, first + i, t, mask[i], index[i], from[i], tally) {
@@ -167,7 +195,8 @@ fn scatter_own<const W: usize>(
 /// Makes the object of an item zero, if the lane is active.
 fn clear_item(objects: &mut Vec<Vec<u8>>, item: usize, on: bool)
     ensures { map (λ v. v.items) objects.new.items ≡ slice_set (map (λ v. v.items) objects.old.items) item
-        (let bytes = slice_index_or (map (λ v. v.items) objects.old.items) item [] in if on then map (λ b. 0) bytes else bytes) }
+        (let bytes = slice_index_or (map (λ v. v.items) objects.old.items) item [] in
+        if on then map (λ b. 0) bytes else bytes) }
 {
     if on && item < objects.len() {
         zero_vec(&mut objects[item]);
@@ -193,7 +222,8 @@ pub(crate) fn zero_vec(bytes: &mut Vec<u8>)
 pub(crate) fn clear_own<const W: usize>(objects: &mut Vec<Vec<u8>>, first: usize, mask: [bool; W])
     requires lanes { W ≤ 64 }
     requires first { first < 2 ^ 32 }
-    ensures { map (λ v. v.items) objects.new.items ≡ with_window (map (λ v. v.items) objects.old.items) first (own_cleared mask.entry (window [] (map (λ v. v.items) objects.old.items) first W)) }
+    ensures { map (λ v. v.items) objects.new.items ≡ with_window (map (λ v. v.items) objects.old.items) first
+        (own_cleared mask.entry (window [] (map (λ v. v.items) objects.old.items) first W)) }
 {
     for i in 0..W {
         clear_item(objects, first + i, mask[i]);
@@ -214,7 +244,8 @@ fn gather_low<const W: usize>(
     requires fits { FitsLane 64 t }
     ensures { let own = window [] (map (λ v. v.items) objects.now) first W in
         MatchResult result
-        (λ v. (lowest (own_faults (size_of t) mask.entry index.entry own) ≡ None) × (v ≡ own_loaded 32 t mask.entry index.entry own))
+        (λ v. (lowest (own_faults (size_of t) mask.entry index.entry own) ≡ None) ×
+        (v ≡ own_loaded 32 t mask.entry index.entry own))
         (λ k. lowest (own_faults (size_of t) mask.entry index.entry own) ≡ Some k) }
 {
     match gather_own(objects, first, t, index, mask, tally) {
@@ -243,8 +274,11 @@ fn load_own_narrow<const W: usize>(
     requires mask { mask.number < length r.old.plain.masks }
     ensures written { let own = window [] (map (λ v. v.items) objects.now) first W in
         MatchOption result
-        ((lowest (own_faults (size_of t) (mask_of r.old.plain mask) (lanes_of r.old.plain index) own) ≡ None) × (r.new.plain ≡ written r.old.plain to mask (own_loaded (bits_in to.bank) t (mask_of r.old.plain mask) (lanes_of r.old.plain index) own)))
-        (λ k. (lowest (own_faults (size_of t) (mask_of r.old.plain mask) (lanes_of r.old.plain index) own) ≡ Some k) × (r.new.plain ≡ r.old.plain)) }
+        ((lowest (own_faults (size_of t) (mask_of r.old.plain mask) (lanes_of r.old.plain index) own) ≡ None) ×
+        (r.new.plain ≡ written r.old.plain to mask (own_loaded (bits_in to.bank) t (mask_of r.old.plain mask)
+        (lanes_of r.old.plain index) own)))
+        (λ k. (lowest (own_faults (size_of t) (mask_of r.old.plain mask) (lanes_of r.old.plain index) own) ≡
+        Some k) × (r.new.plain ≡ r.old.plain)) }
     ensures room { r.new.room ≡ r.old.room }
 {
     let active = r.masks[mask.number as usize];
@@ -279,8 +313,11 @@ fn load_own_wide<const W: usize>(
     requires mask { mask.number < length r.old.plain.masks }
     ensures written { let own = window [] (map (λ v. v.items) objects.now) first W in
         MatchOption result
-        ((lowest (own_faults (size_of t) (mask_of r.old.plain mask) (lanes_of r.old.plain index) own) ≡ None) × (r.new.plain ≡ written r.old.plain to mask (own_loaded (bits_in to.bank) t (mask_of r.old.plain mask) (lanes_of r.old.plain index) own)))
-        (λ k. (lowest (own_faults (size_of t) (mask_of r.old.plain mask) (lanes_of r.old.plain index) own) ≡ Some k) × (r.new.plain ≡ r.old.plain)) }
+        ((lowest (own_faults (size_of t) (mask_of r.old.plain mask) (lanes_of r.old.plain index) own) ≡ None) ×
+        (r.new.plain ≡ written r.old.plain to mask (own_loaded (bits_in to.bank) t (mask_of r.old.plain mask)
+        (lanes_of r.old.plain index) own)))
+        (λ k. (lowest (own_faults (size_of t) (mask_of r.old.plain mask) (lanes_of r.old.plain index) own) ≡
+        Some k) × (r.new.plain ≡ r.old.plain)) }
     ensures room { r.new.room ≡ r.old.room }
 {
     let active = r.masks[mask.number as usize];
@@ -317,8 +354,11 @@ pub(crate) fn load_own<const W: usize>(
     requires mask { mask.number < length r.old.plain.masks }
     ensures written { let own = window [] (map (λ v. v.items) objects.now) first W in
         MatchOption result
-        ((lowest (own_faults (size_of t) (mask_of r.old.plain mask) (lanes_of r.old.plain index) own) ≡ None) × (r.new.plain ≡ written r.old.plain to mask (own_loaded (bits_in to.bank) t (mask_of r.old.plain mask) (lanes_of r.old.plain index) own)))
-        (λ k. (lowest (own_faults (size_of t) (mask_of r.old.plain mask) (lanes_of r.old.plain index) own) ≡ Some k) × (r.new.plain ≡ r.old.plain)) }
+        ((lowest (own_faults (size_of t) (mask_of r.old.plain mask) (lanes_of r.old.plain index) own) ≡ None) ×
+        (r.new.plain ≡ written r.old.plain to mask (own_loaded (bits_in to.bank) t (mask_of r.old.plain mask)
+        (lanes_of r.old.plain index) own)))
+        (λ k. (lowest (own_faults (size_of t) (mask_of r.old.plain mask) (lanes_of r.old.plain index) own) ≡
+        Some k) × (r.new.plain ≡ r.old.plain)) }
     ensures room { r.new.room ≡ r.old.room }
 {
     match to.bank {
@@ -352,9 +392,13 @@ fn store_objects<const W: usize>(
         let own = window [] old first W in
         MatchOption result
         ((lowest (own_faults (size_of t) (mask_of r.now.plain mask) (lanes_of r.now.plain index) own) ≡ None)
-        × (map (λ v. v.items) objects.new.items ≡ with_window old first (own_stored (size_of t) (mask_of r.now.plain mask) (lanes_of r.now.plain index) (lanes_of r.now.plain from) own)))
+        × (map (λ v. v.items) objects.new.items ≡
+        with_window old first (own_stored (size_of t) (mask_of r.now.plain mask) (lanes_of r.now.plain index)
+        (lanes_of r.now.plain from) own)))
         (λ k. (lowest (own_faults (size_of t) (mask_of r.now.plain mask) (lanes_of r.now.plain index) own) ≡ Some k)
-        × (map (λ v. v.items) objects.new.items ≡ with_window old first (own_stored (size_of t) (take k (mask_of r.now.plain mask)) (take k (lanes_of r.now.plain index)) (take k (lanes_of r.now.plain from)) own))) }
+        × (map (λ v. v.items) objects.new.items ≡
+        with_window old first (own_stored (size_of t) (take k (mask_of r.now.plain mask))
+        (take k (lanes_of r.now.plain index)) (take k (lanes_of r.now.plain from)) own))) }
 {
     let lanes = lanes_for_column(r, from).to_array();
     let places = r.wide[index.number as usize].to_array();
@@ -396,9 +440,13 @@ pub(crate) fn store_own<const W: usize>(
         let own = window [] old first W in
         MatchOption result
         ((lowest (own_faults (size_of t) (mask_of r.now.plain mask) (lanes_of r.now.plain index) own) ≡ None)
-        × (map (λ a. map (λ v. v.items) a.items) privates.new.items ≡ slice_set arrays array (with_window old first (own_stored (size_of t) (mask_of r.now.plain mask) (lanes_of r.now.plain index) (lanes_of r.now.plain from) own))))
+        × (map (λ a. map (λ v. v.items) a.items) privates.new.items ≡
+        slice_set arrays array (with_window old first (own_stored (size_of t) (mask_of r.now.plain mask)
+        (lanes_of r.now.plain index) (lanes_of r.now.plain from) own))))
         (λ k. (lowest (own_faults (size_of t) (mask_of r.now.plain mask) (lanes_of r.now.plain index) own) ≡ Some k)
-        × (map (λ a. map (λ v. v.items) a.items) privates.new.items ≡ slice_set arrays array (with_window old first (own_stored (size_of t) (take k (mask_of r.now.plain mask)) (take k (lanes_of r.now.plain index)) (take k (lanes_of r.now.plain from)) own)))) }
+        × (map (λ a. map (λ v. v.items) a.items) privates.new.items ≡
+        slice_set arrays array (with_window old first (own_stored (size_of t) (take k (mask_of r.now.plain mask))
+        (take k (lanes_of r.now.plain index)) (take k (lanes_of r.now.plain from)) own)))) }
 {
     store_objects(r, &mut privates[array], first, t, index, from, mask, tally)
 }
@@ -415,7 +463,8 @@ fn clear_in<const W: usize>(
     requires first { first < 2 ^ 32 }
     ensures { let arrays = map (λ a. map (λ v. v.items) a.items) privates.old.items in
         let old = slice_index_or arrays array [] in
-        map (λ a. map (λ v. v.items) a.items) privates.new.items ≡ slice_set arrays array (with_window old first (own_cleared mask.entry (window [] old first W))) }
+        map (λ a. map (λ v. v.items) a.items) privates.new.items ≡
+        slice_set arrays array (with_window old first (own_cleared mask.entry (window [] old first W))) }
 {
     clear_own(&mut privates[array], first, mask);
 }
@@ -432,7 +481,11 @@ pub(crate) fn clear_step<const W: usize>(
     requires array { array < length group.old.kept.privates }
     requires first { first < 2 ^ 32 }
     requires mask { mask.number < length r.now.plain.masks }
-    ensures { group.new ≡ record group.old { kept = objects_stored group.old.kept first array (own_cleared (mask_of r.now.plain mask) (window [] (slice_index_or group.old.kept.privates array []) first W)) } }
+    ensures { group.new ≡ record group.old {
+      kept = objects_stored group.old.kept first array
+          (own_cleared (mask_of r.now.plain mask) (window [] (slice_index_or group.old.kept.privates array []) first
+          W));
+    } }
 {
     clear_in(
         &mut group.privates,

@@ -1,6 +1,31 @@
 //! What the work-item functions give an item (OpenCL 1.2, section 6.12.1).
-ghost use Rattle.std.specs.Prelude.{◌≡◌, ◌<◌, ◌≤◌, ◌+◌, ◌*◌, ◌^◌, pos, take, List, ℕ, slice_index};
-ghost use Rattle.cl_model.specs.Sizes.{product, size_at, offset_at, group_size, groups_of, groups_at, local_id, group_id, global_id, answer_within, answer_outside, answer_of};
+ghost use Rattle.std.specs.Prelude.{
+  ◌≡◌,
+  ◌<◌,
+  ◌≤◌,
+  ◌+◌,
+  ◌*◌,
+  ◌^◌,
+  pos,
+  take,
+  List,
+  ℕ,
+  slice_index,
+};
+ghost use Rattle.cl_model.specs.Sizes.{
+  product,
+  size_at,
+  offset_at,
+  group_size,
+  groups_of,
+  groups_at,
+  local_id,
+  group_id,
+  global_id,
+  answer_within,
+  answer_outside,
+  answer_of,
+};
 ghost use Rattle.cl_model.specs.View.{launch_of, three_of};
 ghost use Rattle.lane_machine.specs.Sizes.{HasSizes, AreSizes};
 ghost use Rattle.lane_machine.specs.Rows.{does_grow};
@@ -119,7 +144,8 @@ fn global_in(launch: &Launch, item: u64, d: u32) -> u64
 pub(crate) fn is_row(launch: &Launch, item: u64, count: u64) -> bool
     requires sizes { HasSizes (launch_of launch.now) }
     requires few { count ≤ 64 }
-    ensures { OnTrue result (local_id (launch_of launch.now) item 0 + count ≤ size_at (launch_of launch.now).local 0) }
+    ensures { OnTrue result (local_id (launch_of launch.now) item 0 + count ≤ size_at (launch_of launch.now).local
+        0) }
 {
     let place = local_in(launch, item, 0);
     count <= size_in(&launch.local, 0) - place

@@ -60,10 +60,16 @@ pub(crate) fn region_at<const W: usize>(
     requires number { group.old.number < group_count (launch_of launch.now) }
     requires names { HasNames (names_of (plain_of program.now)) group.old.kept }
     requires room { HasRoom code.now.counts r.old.room }
-    ensures end { (region_end (chunk_at (plain_of program.now) (launch_of launch.now) group.old.number chunk) code.now.steps.items code.now.counts turns.old group.old.kept (buffers_of buffers.old)).end ≡ result }
-    ensures turns { (region_end (chunk_at (plain_of program.now) (launch_of launch.now) group.old.number chunk) code.now.steps.items code.now.counts turns.old group.old.kept (buffers_of buffers.old)).turns ≡ turns.new }
-    ensures group { (region_end (chunk_at (plain_of program.now) (launch_of launch.now) group.old.number chunk) code.now.steps.items code.now.counts turns.old group.old.kept (buffers_of buffers.old)).state.group ≡ group.new.kept }
-    ensures buffers { (region_end (chunk_at (plain_of program.now) (launch_of launch.now) group.old.number chunk) code.now.steps.items code.now.counts turns.old group.old.kept (buffers_of buffers.old)).state.buffers ≡ buffers_of buffers.new }
+    ensures end { (region_end (chunk_at (plain_of program.now) (launch_of launch.now) group.old.number chunk)
+        code.now.steps.items code.now.counts turns.old group.old.kept (buffers_of buffers.old)).end ≡ result }
+    ensures turns { (region_end (chunk_at (plain_of program.now) (launch_of launch.now) group.old.number chunk)
+        code.now.steps.items code.now.counts turns.old group.old.kept (buffers_of buffers.old)).turns ≡ turns.new }
+    ensures group { (region_end (chunk_at (plain_of program.now) (launch_of launch.now) group.old.number chunk)
+        code.now.steps.items code.now.counts turns.old group.old.kept (buffers_of buffers.old)).state.group ≡
+        group.new.kept }
+    ensures buffers { (region_end (chunk_at (plain_of program.now) (launch_of launch.now) group.old.number chunk)
+        code.now.steps.items code.now.counts turns.old group.old.kept (buffers_of buffers.old)).state.buffers ≡
+        buffers_of buffers.new }
     ensures names { HasNames (names_of (plain_of program.now)) group.new.kept }
     ensures zeroed { zeroed group.new.kept ≡ zeroed group.old.kept }
     ensures number { group.new.number ≡ group.old.number }

@@ -21,6 +21,11 @@ impl<const W: usize> Model for Registers<W> {
 
     ghost view = { λ r. record {
       plain = record { narrow = r.narrow.items; wide = r.wide.items; masks = r.masks.items; scalars = r.scalars.items };
-      room = record { narrow = vec_capacity r.narrow; wide = vec_capacity r.wide; masks = vec_capacity r.masks; scalars = vec_capacity r.scalars };
+      room = record {
+        narrow = vec_capacity r.narrow;
+        wide = vec_capacity r.wide;
+        masks = vec_capacity r.masks;
+        scalars = vec_capacity r.scalars;
+      };
     } };
 }

@@ -38,7 +38,8 @@ impl<const W: usize> Registers<W> {
         requires first { first < 2 ^ 32 }
         requires mask { 0 < counts.masks }
         requires room { HasRoom counts self.old.room }
-        ensures written { self.new.plain ≡ start_registers counts.narrow counts.wide counts.masks counts.scalars W size first }
+        ensures written { self.new.plain ≡ start_registers counts.narrow counts.wide counts.masks counts.scalars W
+            size first }
         ensures room { IsNoLess self.old.room self.new.room }
     {
         refill(&mut self.narrow, counts.narrow as usize, Simd::splat(0));

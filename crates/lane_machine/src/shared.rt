@@ -1,5 +1,20 @@
 //! Loads and stores at which all lanes share one object.
-ghost use Rattle.std.specs.Prelude.{◌≡◌, ◌≢◌, ◌<◌, ◌≤◌, None, Some, [], length, take, map, slice_index_or, slice_set, MatchOption, MatchResult};
+ghost use Rattle.std.specs.Prelude.{
+  ◌≡◌,
+  ◌≢◌,
+  ◌<◌,
+  ◌≤◌,
+  None,
+  Some,
+  [],
+  length,
+  take,
+  map,
+  slice_index_or,
+  slice_set,
+  MatchOption,
+  MatchResult,
+};
 ghost use Rattle.wg_num.specs.Bytes.{size_of};
 ghost use Rattle.lane_values.specs.Access.{faults, gathered, scattered};
 ghost use Rattle.lane_values.specs.Lanes.{FitsLane};
@@ -23,7 +38,8 @@ fn gather_narrow<const W: usize>(
     requires lanes { W ≤ 64 }
     requires fits { FitsLane 32 t }
     ensures { MatchResult result
-        (λ v. (lowest (faults (size_of t) (length bytes.now) mask.entry index.entry) ≡ None) × (v ≡ gathered 32 t bytes.now mask.entry index.entry))
+        (λ v. (lowest (faults (size_of t) (length bytes.now) mask.entry index.entry) ≡ None) ×
+        (v ≡ gathered 32 t bytes.now mask.entry index.entry))
         (λ k. lowest (faults (size_of t) (length bytes.now) mask.entry index.entry) ≡ Some k) }
 {
     gather32(bytes, t, index, mask, tally)
@@ -39,7 +55,8 @@ fn gather_wide<const W: usize>(
     requires lanes { W ≤ 64 }
     requires fits { FitsLane 64 t }
     ensures { MatchResult result
-        (λ v. (lowest (faults (size_of t) (length bytes.now) mask.entry index.entry) ≡ None) × (v ≡ gathered 64 t bytes.now mask.entry index.entry))
+        (λ v. (lowest (faults (size_of t) (length bytes.now) mask.entry index.entry) ≡ None) ×
+        (v ≡ gathered 64 t bytes.now mask.entry index.entry))
         (λ k. lowest (faults (size_of t) (length bytes.now) mask.entry index.entry) ≡ Some k) }
 {
     gather64(bytes, t, index, mask, tally)
@@ -62,8 +79,11 @@ fn load_narrow<const W: usize>(
     requires index { index.number < length r.old.plain.wide }
     requires mask { mask.number < length r.old.plain.masks }
     ensures written { MatchOption result
-        ((lowest (faults (size_of t) (length bytes.now) (mask_of r.old.plain mask) (lanes_of r.old.plain index)) ≡ None) × (r.new.plain ≡ written r.old.plain to mask (gathered (bits_in to.bank) t bytes.now (mask_of r.old.plain mask) (lanes_of r.old.plain index))))
-        (λ k. (lowest (faults (size_of t) (length bytes.now) (mask_of r.old.plain mask) (lanes_of r.old.plain index)) ≡ Some k) × (r.new.plain ≡ r.old.plain)) }
+        ((lowest (faults (size_of t) (length bytes.now) (mask_of r.old.plain mask) (lanes_of r.old.plain index)) ≡
+        None) × (r.new.plain ≡ written r.old.plain to mask
+        (gathered (bits_in to.bank) t bytes.now (mask_of r.old.plain mask) (lanes_of r.old.plain index))))
+        (λ k. (lowest (faults (size_of t) (length bytes.now) (mask_of r.old.plain mask) (lanes_of r.old.plain index))
+        ≡ Some k) × (r.new.plain ≡ r.old.plain)) }
     ensures room { r.new.room ≡ r.old.room }
 {
     let active = r.masks[mask.number as usize];
@@ -94,8 +114,11 @@ fn load_wide<const W: usize>(
     requires index { index.number < length r.old.plain.wide }
     requires mask { mask.number < length r.old.plain.masks }
     ensures written { MatchOption result
-        ((lowest (faults (size_of t) (length bytes.now) (mask_of r.old.plain mask) (lanes_of r.old.plain index)) ≡ None) × (r.new.plain ≡ written r.old.plain to mask (gathered (bits_in to.bank) t bytes.now (mask_of r.old.plain mask) (lanes_of r.old.plain index))))
-        (λ k. (lowest (faults (size_of t) (length bytes.now) (mask_of r.old.plain mask) (lanes_of r.old.plain index)) ≡ Some k) × (r.new.plain ≡ r.old.plain)) }
+        ((lowest (faults (size_of t) (length bytes.now) (mask_of r.old.plain mask) (lanes_of r.old.plain index)) ≡
+        None) × (r.new.plain ≡ written r.old.plain to mask
+        (gathered (bits_in to.bank) t bytes.now (mask_of r.old.plain mask) (lanes_of r.old.plain index))))
+        (λ k. (lowest (faults (size_of t) (length bytes.now) (mask_of r.old.plain mask) (lanes_of r.old.plain index))
+        ≡ Some k) × (r.new.plain ≡ r.old.plain)) }
     ensures room { r.new.room ≡ r.old.room }
 {
     let active = r.masks[mask.number as usize];
@@ -127,8 +150,11 @@ pub(crate) fn load_shared<const W: usize>(
     requires index { index.number < length r.old.plain.wide }
     requires mask { mask.number < length r.old.plain.masks }
     ensures written { MatchOption result
-        ((lowest (faults (size_of t) (length bytes.now) (mask_of r.old.plain mask) (lanes_of r.old.plain index)) ≡ None) × (r.new.plain ≡ written r.old.plain to mask (gathered (bits_in to.bank) t bytes.now (mask_of r.old.plain mask) (lanes_of r.old.plain index))))
-        (λ k. (lowest (faults (size_of t) (length bytes.now) (mask_of r.old.plain mask) (lanes_of r.old.plain index)) ≡ Some k) × (r.new.plain ≡ r.old.plain)) }
+        ((lowest (faults (size_of t) (length bytes.now) (mask_of r.old.plain mask) (lanes_of r.old.plain index)) ≡
+        None) × (r.new.plain ≡ written r.old.plain to mask
+        (gathered (bits_in to.bank) t bytes.now (mask_of r.old.plain mask) (lanes_of r.old.plain index))))
+        (λ k. (lowest (faults (size_of t) (length bytes.now) (mask_of r.old.plain mask) (lanes_of r.old.plain index))
+        ≡ Some k) × (r.new.plain ≡ r.old.plain)) }
     ensures room { r.new.room ≡ r.old.room }
 {
     match to.bank {
@@ -149,8 +175,11 @@ fn scatter_narrow<const W: usize>(
     requires lanes { W ≤ 64 }
     requires fits { FitsLane 32 t }
     ensures { MatchOption result
-        ((lowest (faults (size_of t) (length bytes.old) mask.entry index.entry) ≡ None) × (bytes.new ≡ scattered (size_of t) bytes.old mask.entry index.entry from.entry))
-        (λ k. (lowest (faults (size_of t) (length bytes.old) mask.entry index.entry) ≡ Some k) × (bytes.new ≡ scattered (size_of t) bytes.old (take k mask.entry) (take k index.entry) (take k from.entry))) }
+        ((lowest (faults (size_of t) (length bytes.old) mask.entry index.entry) ≡ None) ×
+        (bytes.new ≡ scattered (size_of t) bytes.old mask.entry index.entry from.entry))
+        (λ k. (lowest (faults (size_of t) (length bytes.old) mask.entry index.entry) ≡ Some k) ×
+        (bytes.new ≡ scattered (size_of t) bytes.old (take k mask.entry) (take k index.entry)
+        (take k from.entry))) }
 {
     match scatter32(bytes, t, index, from, mask, tally) {
         Ok(()) => None,
@@ -169,8 +198,11 @@ fn scatter_wide<const W: usize>(
     requires lanes { W ≤ 64 }
     requires fits { FitsLane 64 t }
     ensures { MatchOption result
-        ((lowest (faults (size_of t) (length bytes.old) mask.entry index.entry) ≡ None) × (bytes.new ≡ scattered (size_of t) bytes.old mask.entry index.entry from.entry))
-        (λ k. (lowest (faults (size_of t) (length bytes.old) mask.entry index.entry) ≡ Some k) × (bytes.new ≡ scattered (size_of t) bytes.old (take k mask.entry) (take k index.entry) (take k from.entry))) }
+        ((lowest (faults (size_of t) (length bytes.old) mask.entry index.entry) ≡ None) ×
+        (bytes.new ≡ scattered (size_of t) bytes.old mask.entry index.entry from.entry))
+        (λ k. (lowest (faults (size_of t) (length bytes.old) mask.entry index.entry) ≡ Some k) ×
+        (bytes.new ≡ scattered (size_of t) bytes.old (take k mask.entry) (take k index.entry)
+        (take k from.entry))) }
 {
     match scatter64(bytes, t, index, from, mask, tally) {
         Ok(()) => None,
@@ -195,9 +227,13 @@ pub(crate) fn store_slice<const W: usize>(
     requires index { index.number < length r.now.plain.wide }
     requires mask { mask.number < length r.now.plain.masks }
     ensures { MatchOption result
-        ((lowest (faults (size_of t) (length bytes.old) (mask_of r.now.plain mask) (lanes_of r.now.plain index)) ≡ None) × (bytes.new ≡ scattered (size_of t) bytes.old (mask_of r.now.plain mask) (lanes_of r.now.plain index) (lanes_of r.now.plain from)))
-        (λ k. (lowest (faults (size_of t) (length bytes.old) (mask_of r.now.plain mask) (lanes_of r.now.plain index)) ≡ Some k)
-        × (bytes.new ≡ scattered (size_of t) bytes.old (take k (mask_of r.now.plain mask)) (take k (lanes_of r.now.plain index)) (take k (lanes_of r.now.plain from)))) }
+        ((lowest (faults (size_of t) (length bytes.old) (mask_of r.now.plain mask) (lanes_of r.now.plain index)) ≡
+        None) × (bytes.new ≡ scattered (size_of t) bytes.old (mask_of r.now.plain mask)
+        (lanes_of r.now.plain index) (lanes_of r.now.plain from)))
+        (λ k. (lowest (faults (size_of t) (length bytes.old) (mask_of r.now.plain mask) (lanes_of r.now.plain index))
+        ≡ Some k)
+        × (bytes.new ≡ scattered (size_of t) bytes.old (take k (mask_of r.now.plain mask))
+        (take k (lanes_of r.now.plain index)) (take k (lanes_of r.now.plain from)))) }
 {
     let places = r.wide[index.number as usize];
     let active = r.masks[mask.number as usize];
@@ -231,9 +267,13 @@ fn store_shared<const W: usize>(
     requires index { index.number < length r.now.plain.wide }
     requires mask { mask.number < length r.now.plain.masks }
     ensures { MatchOption result
-        ((lowest (faults (size_of t) (length bytes.old.items) (mask_of r.now.plain mask) (lanes_of r.now.plain index)) ≡ None) × (bytes.new.items ≡ scattered (size_of t) bytes.old.items (mask_of r.now.plain mask) (lanes_of r.now.plain index) (lanes_of r.now.plain from)))
-        (λ k. (lowest (faults (size_of t) (length bytes.old.items) (mask_of r.now.plain mask) (lanes_of r.now.plain index)) ≡ Some k)
-        × (bytes.new.items ≡ scattered (size_of t) bytes.old.items (take k (mask_of r.now.plain mask)) (take k (lanes_of r.now.plain index)) (take k (lanes_of r.now.plain from)))) }
+        ((lowest (faults (size_of t) (length bytes.old.items) (mask_of r.now.plain mask) (lanes_of r.now.plain index))
+        ≡ None) × (bytes.new.items ≡ scattered (size_of t) bytes.old.items (mask_of r.now.plain mask)
+        (lanes_of r.now.plain index) (lanes_of r.now.plain from)))
+        (λ k. (lowest (faults (size_of t) (length bytes.old.items) (mask_of r.now.plain mask)
+        (lanes_of r.now.plain index)) ≡ Some k)
+        × (bytes.new.items ≡ scattered (size_of t) bytes.old.items (take k (mask_of r.now.plain mask))
+        (take k (lanes_of r.now.plain index)) (take k (lanes_of r.now.plain from)))) }
 {
     store_slice(r, bytes, t, index, from, mask, tally)
 }
@@ -262,9 +302,14 @@ fn store_one<const W: usize>(
         let bytes = slice_index_or old object [] in
         MatchOption result
         ((lowest (faults (size_of t) (length bytes) (mask_of r.now.plain mask) (lanes_of r.now.plain index)) ≡ None)
-        × (map (λ v. v.items) objects.new.items ≡ slice_set old object (scattered (size_of t) bytes (mask_of r.now.plain mask) (lanes_of r.now.plain index) (lanes_of r.now.plain from))))
-        (λ k. (lowest (faults (size_of t) (length bytes) (mask_of r.now.plain mask) (lanes_of r.now.plain index)) ≡ Some k)
-        × (map (λ v. v.items) objects.new.items ≡ slice_set old object (scattered (size_of t) bytes (take k (mask_of r.now.plain mask)) (take k (lanes_of r.now.plain index)) (take k (lanes_of r.now.plain from))))) }
+        × (map (λ v. v.items) objects.new.items ≡
+        slice_set old object (scattered (size_of t) bytes (mask_of r.now.plain mask) (lanes_of r.now.plain index)
+        (lanes_of r.now.plain from))))
+        (λ k. (lowest (faults (size_of t) (length bytes) (mask_of r.now.plain mask) (lanes_of r.now.plain index)) ≡
+        Some k)
+        × (map (λ v. v.items) objects.new.items ≡
+        slice_set old object (scattered (size_of t) bytes (take k (mask_of r.now.plain mask))
+        (take k (lanes_of r.now.plain index)) (take k (lanes_of r.now.plain from))))) }
 {
     store_shared(r, &mut objects[object], t, index, from, mask, tally)
 }
@@ -291,9 +336,14 @@ pub(crate) fn store_into<const W: usize>(
         let bytes = slice_index_or old object [] in
         MatchOption result
         ((lowest (faults (size_of t) (length bytes) (mask_of r.now.plain mask) (lanes_of r.now.plain index)) ≡ None)
-        × (map (λ v. v.items) objects.new.items ≡ slice_set old object (scattered (size_of t) bytes (mask_of r.now.plain mask) (lanes_of r.now.plain index) (lanes_of r.now.plain from))))
-        (λ k. (lowest (faults (size_of t) (length bytes) (mask_of r.now.plain mask) (lanes_of r.now.plain index)) ≡ Some k)
-        × (map (λ v. v.items) objects.new.items ≡ slice_set old object (scattered (size_of t) bytes (take k (mask_of r.now.plain mask)) (take k (lanes_of r.now.plain index)) (take k (lanes_of r.now.plain from))))) }
+        × (map (λ v. v.items) objects.new.items ≡
+        slice_set old object (scattered (size_of t) bytes (mask_of r.now.plain mask) (lanes_of r.now.plain index)
+        (lanes_of r.now.plain from))))
+        (λ k. (lowest (faults (size_of t) (length bytes) (mask_of r.now.plain mask) (lanes_of r.now.plain index)) ≡
+        Some k)
+        × (map (λ v. v.items) objects.new.items ≡
+        slice_set old object (scattered (size_of t) bytes (take k (mask_of r.now.plain mask))
+        (take k (lanes_of r.now.plain index)) (take k (lanes_of r.now.plain from))))) }
 {
     if object < objects.len() {
         return store_one(r, objects, object, t, index, from, mask, tally);

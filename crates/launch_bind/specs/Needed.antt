@@ -4,8 +4,8 @@ use Rattle.cl_meaning.specs.Typed.{Function}
 use Rattle.cl_limits.specs.Limits.{local_bytes}
 use Rattle.launch_file.specs.Binding.{Needs}
 
--- a kernel: the kinds of its parameters, the bytes of its local arrays and scalars as far as 64 bits count them, and the work-group size
--- that it requires
+-- a kernel: the kinds of its parameters, the bytes of its local arrays and scalars as far as 64 bits count them, and
+-- the work-group size that it requires
 abbrev pub needs_in : Function → Needs
 needs_in g = record {
   kinds = take g.parameters (map (λ v. v.kind) g.variables);

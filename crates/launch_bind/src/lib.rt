@@ -57,7 +57,8 @@ fn needs_of(alloc: Global, kernel: &Function) -> Result<KernelNeeds, Memory>
 /// local memory that it declares (OpenCL 1.2, section 6.5.2), and the work-group size that it
 /// requires (OpenCL 1.2, section 6.7.2).
 pub fn needs(alloc: Global, program: &Program) -> Result<KernelNeeds, Memory>
-    ensures { IfOk result (λ n. needs_of n ≡ needs_of_kernel (map function_of program.now.functions.items) program.now.kernel) }
+    ensures { IfOk result (λ n. needs_of n ≡ needs_of_kernel (map function_of program.now.functions.items)
+        program.now.kernel) }
 {
     match program.functions.get(program.kernel as usize) {
         Some(kernel) => needs_of(alloc, kernel),
@@ -82,9 +83,12 @@ pub fn bind(
 ) -> Result<Launch, LaunchError>
     requires within { which < length text.now.list.items }
     requires lengths { All (λ p. HasOneLength (part_of p)) text.now.list.items }
-    ensures bound { IfOk result (spec.Binds (needs_of_kernel (map function_of program.now.functions.items) program.now.kernel) (text_of text.now) (spec.part_at (text_of text.now) which)) }
+    ensures bound { IfOk result (spec.Binds (needs_of_kernel (map function_of program.now.functions.items)
+        program.now.kernel) (text_of text.now) (spec.part_at (text_of text.now) which)) }
     ensures offsets { IfOk result (λ l. spec.AreOffsets l.offset) }
-    ensures refused { (number : ℕ) → result ≡ Err (Fault number) → spec.launch_refusal (needs_of_kernel (map function_of program.now.functions.items) program.now.kernel) (text_of text.now).buffers (spec.part_at (text_of text.now) which) ≡ Some number }
+    ensures refused { (number : ℕ) → result ≡ Err (Fault number) →
+        spec.launch_refusal (needs_of_kernel (map function_of program.now.functions.items) program.now.kernel)
+        (text_of text.now).buffers (spec.part_at (text_of text.now) which) ≡ Some number }
 {
     match needs(alloc, program) {
         Ok(asked) => bind_kernel(alloc, &asked, text, which),

@@ -1,5 +1,6 @@
 -- What an accepted launch is, condition by condition.
-use Rattle.std.proofs.Common.{◌≡◌, ℕ, zero, suc, ℤ, pos, ◌%◌, ◌<◌, ◌≤◌, ◌==◌, ◌||◌, Bool, true, false, not, List, [], ◌∷◌, length, get_or, None, inl, inr, refl, arith}
+use Rattle.std.proofs.Common.{◌≡◌, ℕ, zero, suc, ℤ, pos, ◌%◌, ◌<◌, ◌≤◌, ◌==◌, ◌||◌, Bool, true, false, not, List, []}
+use Rattle.std.proofs.Common.{◌∷◌, length, get_or, None, inl, inr, refl, arith}
 use Rattle.std.specs.Prelude.{nat_lt}
 use Rattle.std.specs.List.{list_any}
 use Rattle.std.proofs.lemmas.Bool.{or_parts, cases_Bool, eqb-true, ltb-false}
@@ -10,7 +11,8 @@ use Rattle.launch_file.specs.Texts.{Part}
 use Rattle.launch_file.specs.Binding as spec
 
 -- where none stands, the first does not
-pub first_none : (number : ℕ) (stands : Bool) (later : List Condition) → first_of (when number stands ∷ later) ≡ None → (stands ≡ false) × (first_of later ≡ None)
+pub first_none : (number : ℕ) (stands : Bool) (later : List Condition) →
+    first_of (when number stands ∷ later) ≡ None → (stands ≡ false) × (first_of later ≡ None)
 first_none number false later none = (refl, none)
 first_none number true later none = absurd (let never : ⊥ = cc in never)
 
@@ -31,7 +33,8 @@ pub not_not : (b : Bool) → not b ≡ false → b ≡ true
 not_not true is = refl
 not_not false is = absurd (let never : ⊥ = cc in never)
 
-pub accepts : (needs : spec.Needs) (buffers : List BufferText) (part : Part) → spec.launch_refusal needs buffers part ≡ None → Accepts needs buffers part
+pub accepts : (needs : spec.Needs) (buffers : List BufferText) (part : Part) →
+    spec.launch_refusal needs buffers part ≡ None → Accepts needs buffers part
 accepts needs buffers part none =
     let c14 = when 14 (spec.buffers_wrong buffers) ∷ [] in
     let c13 = when 13 (spec.local_wrong needs part) ∷ c14 in
@@ -50,10 +53,21 @@ accepts needs buffers part none =
     let g = first_none 12 (spec.is_another_size (spec.three_sizes part.local) needs.required) c13 f.1 in
     let h = first_none 13 (spec.local_wrong needs part) c14 g.1 in
     let i = first_none 14 (spec.buffers_wrong buffers) [] h.1 in
-    record { sizes = a.0; count = not_not (length part.args == length needs.kinds) b.0; kinds = c.0; values = d.0; listed = e.0; apart = f.0; required = g.0; local = h.0; buffers_fit = i.0 }
+    record {
+      sizes = a.0;
+      count = not_not (length part.args == length needs.kinds) b.0;
+      kinds = c.0;
+      values = d.0;
+      listed = e.0;
+      apart = f.0;
+      required = g.0;
+      local = h.0;
+      buffers_fit = i.0;
+    }
 
 -- there are at most 64 buffers
-pub few_buffers : (needs : spec.Needs) (buffers : List BufferText) (part : Part) → spec.launch_refusal needs buffers part ≡ None → length buffers ≤ 64
+pub few_buffers : (needs : spec.Needs) (buffers : List BufferText) (part : Part) →
+    spec.launch_refusal needs buffers part ≡ None → length buffers ≤ 64
 few_buffers needs buffers part none =
     let fits = (accepts needs buffers part none).buffers_fit in
     let counts = (or_parts (list_any spec.length_wrong buffers) _ fits).1 in
@@ -73,7 +87,11 @@ is_even : (global local : ℕ) → spec.is_uneven global local ≡ false → IsE
 is_even global local even =
     let parts = or_parts (global == 0 || local == 0) (not (global % local == 0)) even in
     let sizes = or_parts (global == 0) (local == 0) parts.0 in
-    record { some_global = some_from global sizes.0; some_local = some_from local sizes.1; divides = eqb-true (global % local) 0 (not_not _ parts.1) }
+    record {
+      some_global = some_from global sizes.0;
+      some_local = some_from local sizes.1;
+      divides = eqb-true (global % local) 0 (not_not _ parts.1);
+    }
 
 -- the sizes of an accepted launch
 pub record SizesFit (part : Part) (a b c x y z : ℕ) : Type 0 where
@@ -83,26 +101,39 @@ pub record SizesFit (part : Part) (a b c x y z : ℕ) : Type 0 where
   pub group : product (x ∷ y ∷ z ∷ []) ≤ 1024
   pub items : product (a ∷ b ∷ c ∷ []) ≤ 16777216
 
-sizes_at : (part : Part) (a b c x y z : ℕ) → (spec.is_uneven a x || (spec.is_uneven b y || (spec.is_uneven c z || false))) ≡ false → product (x ∷ y ∷ z ∷ []) ≤ 1024 → product (a ∷ b ∷ c ∷ []) ≤ 16777216 → SizesFit part a b c x y z
+sizes_at : (part : Part) (a b c x y z : ℕ) →
+    (spec.is_uneven a x || (spec.is_uneven b y || (spec.is_uneven c z || false))) ≡ false →
+    product (x ∷ y ∷ z ∷ []) ≤ 1024 → product (a ∷ b ∷ c ∷ []) ≤ 16777216 → SizesFit part a b c x y z
 sizes_at part a b c x y z even group items =
     let one = or_parts (spec.is_uneven a x) _ even in
     let two = or_parts (spec.is_uneven b y) _ one.1 in
     let three = or_parts (spec.is_uneven c z) false two.1 in
-    record { first = is_even a x one.0; second = is_even b y two.0; third = is_even c z three.0; group = group; items = items }
+    record {
+      first = is_even a x one.0;
+      second = is_even b y two.0;
+      third = is_even c z three.0;
+      group = group;
+      items = items;
+    }
 
 -- the size in a dimension
 abbrev pub size_in : List ℤ → ℕ → ℕ
 size_in sizes d = spec.count_of (get_or sizes d (pos 1))
 
-pub sizes_fit : (part : Part) → spec.sizes_wrong part ≡ false → SizesFit part (size_in part.global 0) (size_in part.global 1) (size_in part.global 2) (size_in part.local 0) (size_in part.local 1) (size_in part.local 2)
+pub sizes_fit : (part : Part) → spec.sizes_wrong part ≡ false →
+    SizesFit part (size_in part.global 0) (size_in part.global 1) (size_in part.global 2) (size_in part.local 0)
+    (size_in part.local 1) (size_in part.local 2)
 sizes_fit part right =
     let p = or_parts (spec.are_uneven (spec.three_sizes part.global) (spec.three_sizes part.local)) _ right in
-    let q = or_parts (nat_lt 1024 (product (spec.three_sizes part.local)) || nat_lt 16777216 (product (spec.three_sizes part.global))) _ p.1 in
+    let q = or_parts (nat_lt 1024 (product (spec.three_sizes part.local)) ||
+    nat_lt 16777216 (product (spec.three_sizes part.global))) _ p.1 in
     let r = or_parts (nat_lt 1024 (product (spec.three_sizes part.local))) _ q.0 in
-    sizes_at part _ _ _ _ _ _ p.0 (ltb-false 1024 (product (spec.three_sizes part.local)) r.0) (ltb-false 16777216 (product (spec.three_sizes part.global)) r.1)
+    sizes_at part _ _ _ _ _ _ p.0 (ltb-false 1024 (product (spec.three_sizes part.local)) r.0)
+    (ltb-false 16777216 (product (spec.three_sizes part.global)) r.1)
 
 -- a name that is listed has a number
-pub number_in : (name : List ℕ) (buffers : List BufferText) → list_any (is_named name) buffers ≡ true → spec.number_of name buffers < length buffers
+pub number_in : (name : List ℕ) (buffers : List BufferText) → list_any (is_named name) buffers ≡ true →
+    spec.number_of name buffers < length buffers
 number_in name [] among = absurd (let never : ⊥ = cc in never)
 number_in name (buffer ∷ buffers) among = elim (cases_Bool (is_named name buffer)) [
   | inl here ↦ let first : spec.number_of name (buffer ∷ buffers) ≡ 0 = rw here refl in omega arith

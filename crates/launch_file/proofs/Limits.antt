@@ -20,15 +20,18 @@ min_is n last more = omega arith
 product_is : (x y z : ℕ) → product (x ∷ y ∷ z ∷ []) ≡ x * y * z
 product_is x y z = let one : z * 1 ≡ z = omega arith in ap (λ t. x * (y * t)) one ∙ sym (mul_assoc x y z)
 
-pub product_below_end : (x y z limit last : ℕ) → limit < last → 1 ≤ z → nat_lt limit (min (min (x * y) last * z) last) ≡ nat_lt limit (product (x ∷ y ∷ z ∷ []))
+pub product_below_end : (x y z limit last : ℕ) → limit < last → 1 ≤ z →
+    nat_lt limit (min (min (x * y) last * z) last) ≡ nat_lt limit (product (x ∷ y ∷ z ∷ []))
 product_below_end x y z limit last small some = elim (cases_lt last (x * y)) [
   | inl more ↦
       let still : min (x * y) last ≡ last = omega arith in
       let up : last ≤ last * z = omega (arith, mul-le-mul_left {m = 1} {n = z} last some) in
       let top : min (min (x * y) last * z) last ≡ last = ap (λ t. min (t * z) last) still ∙ min_is (last * z) last up in
       let beyond : x * y ≤ x * y * z = omega (arith, mul-le-mul_left {m = 1} {n = z} (x * y) some) in
-      lt-ltb limit _ (omega (arith, top)) ∙ sym (lt-ltb limit (product (x ∷ y ∷ z ∷ [])) (omega (arith, product_is x y z)))
+      lt-ltb limit _ (omega (arith, top)) ∙
+      sym (lt-ltb limit (product (x ∷ y ∷ z ∷ [])) (omega (arith, product_is x y z)))
   | inr less ↦
       let same : min (x * y) last ≡ x * y = omega arith in
-      ap (λ t. nat_lt limit (min (t * z) last)) same ∙ (below_end (x * y * z) limit last small ∙ ap (nat_lt limit) (sym (product_is x y z)))
+      ap (λ t. nat_lt limit (min (t * z) last)) same ∙
+      (below_end (x * y * z) limit last small ∙ ap (nat_lt limit) (sym (product_is x y z)))
 ]

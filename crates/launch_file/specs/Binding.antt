@@ -1,5 +1,7 @@
 -- What the launches of a launch file are refused for once the kernel is known, and what an accepted one is.
-use Rattle.std.specs.Prelude.{◌≡◌, ◌&&◌, ◌||◌, ◌==◌, ◌+◌, ◌%◌, ◌≤◌, Bool, true, false, not, nat_lt, bytes_eq, ℕ, suc, ℤ, pos, negsuc, List, [], ◌∷◌, length, map, Option, Some, None, slice_index, slice_index_or, if◌then◌else◌}
+use Rattle.std.specs.Prelude.{◌≡◌, ◌&&◌, ◌||◌, ◌==◌, ◌+◌, ◌%◌, ◌≤◌, Bool, true, false, not, nat_lt, bytes_eq, ℕ, suc}
+use Rattle.std.specs.Prelude.{ℤ, pos, negsuc, List, [], ◌∷◌, length, map, Option, Some, None, slice_index}
+use Rattle.std.specs.Prelude.{slice_index_or, if◌then◌else◌}
 use Rattle.std.specs.List.{list_any}
 use Rattle.std.specs.Ordering.{int_eq}
 use Rattle.wg_num.specs.Wrap.{wrap_of}
@@ -17,7 +19,8 @@ use Rattle.launch_file.specs.declared.text.ArgText.TheVariants as arg
 use Rattle.launch_file.specs.Refusals.{Condition, when, first_of, is_named}
 use Rattle.launch_file.specs.Texts.{Text, Part}
 
--- what a kernel asks of its launches: the kinds of its parameters, the bytes of local memory that it declares, and the work-group size that it requires, if it does
+-- what a kernel asks of its launches: the kinds of its parameters, the bytes of local memory that it declares, and
+-- the work-group size that it requires, if it does
 pub record Needs : Type 0 where
   pub kinds : List VarKind
   pub local_bytes : ℕ
@@ -43,7 +46,8 @@ is_below_zero (negsuc n) = true
 
 -- three numbers, with this one in each dimension that is not there
 abbrev pub padded : ℤ → List ℤ → List ℤ
-padded other numbers = slice_index_or numbers 0 other ∷ slice_index_or numbers 1 other ∷ slice_index_or numbers 2 other ∷ []
+padded other numbers =
+    slice_index_or numbers 0 other ∷ slice_index_or numbers 1 other ∷ slice_index_or numbers 2 other ∷ []
 
 -- the sizes in the three dimensions: 1 in one that the launch does not have
 abbrev pub three_sizes : List ℤ → List ℕ
@@ -62,7 +66,8 @@ abbrev pub are_uneven : List ℕ → List ℕ → Bool
 are_uneven (global ∷ globals) (local ∷ locals) = is_uneven global local || are_uneven globals locals
 are_uneven _ _ = false
 
--- a size is below 1, a global size is no multiple of its local size, a group has more than 1,024 items, the launch has more than 2^24, or an offset is below 0
+-- a size is below 1, a global size is no multiple of its local size, a group has more than 1,024 items, the launch
+-- has more than 2^24, or an offset is below 0
 abbrev pub sizes_wrong : Part → Bool
 sizes_wrong part =
     are_uneven (three_sizes part.global) (three_sizes part.local)
@@ -74,7 +79,8 @@ abbrev pub some_pair : (VarKind → ArgText → Bool) → List VarKind → List 
 some_pair test (kind ∷ kinds) (arg ∷ args) = test kind arg || some_pair test kinds args
 some_pair test _ _ = false
 
--- the argument is of another kind: a value is for a number, a buffer for a pointer to global or constant memory, and bytes for one to local memory
+-- the argument is of another kind: a value is for a number, a buffer for a pointer to global or constant memory, and
+-- bytes for one to local memory
 abbrev pub kind_wrong : VarKind → ArgText → Bool
 kind_wrong (Scalar t) (arg.Value z) = false
 kind_wrong (Pointer space.Global element root) (arg.Buffer name) = false
@@ -99,13 +105,15 @@ is_global_named name _ _ = false
 
 -- the parameter points to constant memory, and its argument is bound to a global parameter too
 abbrev pub is_shared : List VarKind → List ArgText → VarKind → ArgText → Bool
-is_shared kinds args (Pointer space.Constant element root) (arg.Buffer name) = some_pair (is_global_named name) kinds args
+is_shared kinds args (Pointer space.Constant element root) (arg.Buffer name) =
+    some_pair (is_global_named name) kinds args
 is_shared kinds args _ _ = false
 
 -- the required work-group size is another
 abbrev pub is_another_size : List ℕ → Option (List ℕ) → Bool
 is_another_size locals None = false
-is_another_size locals (Some (x ∷ y ∷ z ∷ [])) = not (slice_index_or locals 0 1 == x && (slice_index_or locals 1 1 == y && slice_index_or locals 2 1 == z))
+is_another_size locals (Some (x ∷ y ∷ z ∷ [])) =
+    not (slice_index_or locals 0 1 == x && (slice_index_or locals 1 1 == y && slice_index_or locals 2 1 == z))
 is_another_size locals (Some _) = true
 
 -- the bytes of local memory that an argument gives
@@ -206,7 +214,8 @@ pub record IsLaunchOf (turns : ℕ) (buffers : List BufferText) (part : Part) (l
 
 -- the launch of a text with that number
 abbrev pub part_at : Text → ℕ → Part
-part_at text which = slice_index_or text.list which (record { kernel = []; global = []; local = []; offset = []; args = [] })
+part_at text which =
+    slice_index_or text.list which (record { kernel = []; global = []; local = []; offset = []; args = [] })
 
 -- no condition stands on that part, and the launch is what it says
 pub record Binds (needs : Needs) (text : Text) (part : Part) (launch : Bindings) : Type 0 where

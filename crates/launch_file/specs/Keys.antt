@@ -1,7 +1,9 @@
 -- What stands at a key of a table.
-use Rattle.std.specs.Prelude.{◌&&◌, Bool, true, bytes_eq, ℕ, ℤ, List, ◌∷◌, Option, Some, None, option_and_then, option_map}
+use Rattle.std.specs.Prelude.{◌&&◌, Bool, true, bytes_eq, ℕ, ℤ, List, ◌∷◌, Option, Some, None, option_and_then}
+use Rattle.std.specs.Prelude.{option_map}
 use Rattle.std.specs.List.{list_any}
-use Rattle.toml.specs.Data.{Data, Items, Members, no_items, item, no_members, member, as_array, as_integer, as_str, as_table, get_member}
+use Rattle.toml.specs.Data.{Data, Items, Members, no_items, item, no_members, member, as_array, as_integer, as_str}
+use Rattle.toml.specs.Data.{as_table, get_member}
 
 -- the string at a key that is needed
 abbrev pub string_at : List ℕ → Members → Option (List ℕ)

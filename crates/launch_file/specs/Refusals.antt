@@ -1,5 +1,7 @@
 -- What a launch file is refused for, and what an accepted one says.
-use Rattle.std.specs.Prelude.{◌≡◌, ◌<◌, ◌⊎◌, ◌&&◌, ◌||◌, ◌==◌, Bool, false, not, nat_le, bytes_eq, ℕ, ℤ, pos, negsuc, List, [], ◌∷◌, length, Option, Some, None, is_none, unwrap_or, codes, IsUtf8, if◌then◌else◌}
+use Rattle.std.specs.Prelude.{◌≡◌, ◌<◌, ◌⊎◌, ◌&&◌, ◌||◌, ◌==◌, Bool, false, not, nat_le, bytes_eq, ℕ, ℤ, pos, negsuc}
+use Rattle.std.specs.Prelude.{List, [], ◌∷◌, length, Option, Some, None, is_none, unwrap_or, codes, IsUtf8}
+use Rattle.std.specs.Prelude.{if◌then◌else◌}
 use Rattle.std.specs.List.{list_any}
 use Rattle.toml.specs.Data.{Members, get_member}
 use Rattle.toml.specs.Parse.{parse_document}
@@ -22,9 +24,12 @@ pub record IsDocument (bytes : List ℕ) (members : Members) : Type 0 where
 
 -- the keys of a file, by its format
 abbrev pub file_keys : Format → List (List ℕ)
-file_keys One = codes "format" ∷ codes "kernel" ∷ codes "global" ∷ codes "local" ∷ codes "lanes" ∷ codes "turns" ∷ codes "defines" ∷ codes "buffer" ∷ codes "arg" ∷ []
-file_keys Two = codes "format" ∷ codes "kernel" ∷ codes "global" ∷ codes "local" ∷ codes "offset" ∷ codes "lanes" ∷ codes "turns" ∷ codes "defines" ∷ codes "buffer" ∷ codes "arg" ∷ []
-file_keys Three = codes "format" ∷ codes "lanes" ∷ codes "turns" ∷ codes "defines" ∷ codes "buffer" ∷ codes "launch" ∷ []
+file_keys One = codes "format" ∷ codes "kernel" ∷ codes "global" ∷ codes "local" ∷ codes "lanes" ∷ codes "turns" ∷
+    codes "defines" ∷ codes "buffer" ∷ codes "arg" ∷ []
+file_keys Two = codes "format" ∷ codes "kernel" ∷ codes "global" ∷ codes "local" ∷ codes "offset" ∷ codes "lanes" ∷
+    codes "turns" ∷ codes "defines" ∷ codes "buffer" ∷ codes "arg" ∷ []
+file_keys Three =
+    codes "format" ∷ codes "lanes" ∷ codes "turns" ∷ codes "defines" ∷ codes "buffer" ∷ codes "launch" ∷ []
 
 -- of a buffer
 abbrev pub buffer_keys : List (List ℕ)
@@ -40,13 +45,15 @@ launch_keys = codes "kernel" ∷ codes "global" ∷ codes "local" ∷ codes "off
 
 -- the launch has these keys alone, and so have its arguments
 abbrev pub knows_launch : Members → Bool
-knows_launch members = has_only launch_keys members && tables_pass (has_only arg_keys) (get_member (codes "arg") members)
+knows_launch members =
+    has_only launch_keys members && tables_pass (has_only arg_keys) (get_member (codes "arg") members)
 
 -- each table of the file has the keys of its kind alone
 abbrev pub knows_keys : Format → Members → Bool
 knows_keys format members =
     (has_only (file_keys format) members && tables_pass (has_only buffer_keys) (get_member (codes "buffer") members))
-    && (tables_pass (has_only arg_keys) (get_member (codes "arg") members) && tables_pass knows_launch (get_member (codes "launch") members))
+    && (tables_pass (has_only arg_keys) (get_member (codes "arg") members) &&
+    tables_pass knows_launch (get_member (codes "launch") members))
 
 -- a table has a key that the file's format does not name; a file of no format is read as one of format 1
 abbrev pub has_unknown_key : Members → Bool
@@ -169,4 +176,5 @@ pub record Reads (bytes : List ℕ) (lanes turns : Option ℕ) (text : Text) : T
 -- the condition of this number is the first that stands
 pub data IsRefused (bytes : List ℕ) (lanes turns : Option ℕ) : ℕ → Type 0 where
   no_document : IsNoDocument bytes → IsRefused bytes lanes turns 1
-  in_document : (members : Members) (number : ℕ) → IsDocument bytes members → refusal_of members lanes turns ≡ Some number → IsRefused bytes lanes turns number
+  in_document : (members : Members) (number : ℕ) → IsDocument bytes members →
+      refusal_of members lanes turns ≡ Some number → IsRefused bytes lanes turns number

@@ -27,8 +27,21 @@ pub record Text : Type 0 where
 
 -- the plain values of a launch
 abbrev pub part_of : LaunchPart → Part
-part_of p = record { kernel = p.kernel; global = p.global.items; local = p.local.items; offset = p.offset.items; args = p.args.items }
+part_of p = record {
+  kernel = p.kernel;
+  global = p.global.items;
+  local = p.local.items;
+  offset = p.offset.items;
+  args = p.args.items;
+}
 
 -- the plain values of a launch file
 abbrev pub text_of : LaunchText → Text
-text_of t = record { defines = t.defines.list.items; lanes = lanes_of t.lanes; turns = t.turns; buffers = t.buffers.items; several = t.several; list = map part_of t.list.items }
+text_of t = record {
+  defines = t.defines.list.items;
+  lanes = lanes_of t.lanes;
+  turns = t.turns;
+  buffers = t.buffers.items;
+  several = t.several;
+  list = map part_of t.list.items;
+}

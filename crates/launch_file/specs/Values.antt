@@ -1,7 +1,10 @@
 -- The values of a launch file by its table of keys; none where a needed key is missing or a value is of another kind.
-use Rattle.std.specs.Prelude.{◌≡◌, ◌≤◌, ◌&&◌, ◌==◌, Bool, true, false, nat_le, ℕ, ℤ, pos, negsuc, List, [], ◌∷◌, length, replicate, Option, Some, None, option_and_then, option_map, codes, IfSome, IsUtf8, if◌then◌else◌}
+use Rattle.std.specs.Prelude.{◌≡◌, ◌≤◌, ◌&&◌, ◌==◌, Bool, true, false, nat_le, ℕ, ℤ, pos, negsuc, List, [], ◌∷◌}
+use Rattle.std.specs.Prelude.{length, replicate, Option, Some, None, option_and_then, option_map, codes, IfSome}
+use Rattle.std.specs.Prelude.{IsUtf8, if◌then◌else◌}
 use Rattle.std.specs.List.{list_all}
-use Rattle.toml.specs.Data.{Data, Items, Members, no_items, item, no_members, member, as_array, as_integer, as_str, as_table, get_member}
+use Rattle.toml.specs.Data.{Data, Items, Members, no_items, item, no_members, member, as_array, as_integer, as_str}
+use Rattle.toml.specs.Data.{as_table, get_member}
 use Rattle.cl_token.specs.Bytes.{is_name_start, is_name_byte}
 use Rattle.cl_prep.specs.declared.prep.Define.{Define}
 use Rattle.launch_file.specs.declared.text.BufferText.{BufferText}
@@ -48,7 +51,8 @@ one_of _ _ _ = None
 
 -- an argument: a buffer by its name, a value, or bytes of local memory
 abbrev pub arg_of : Members → Option ArgText
-arg_of members = one_of (get_member (codes "buffer") members) (get_member (codes "value") members) (get_member (codes "local") members)
+arg_of members = one_of (get_member (codes "buffer") members) (get_member (codes "value") members)
+    (get_member (codes "local") members)
 
 -- each argument of an array of tables
 abbrev pub args_of : Items → Option (List ArgText)
@@ -77,7 +81,8 @@ natural (negsuc n) = None
 
 -- a name that is given with the source, and its number
 unfoldable pub define_of : List ℕ → Data → Option Define
-define_of key d = given (option_and_then natural (as_integer d)) (λ n. if is_identifier key then Some (record { name = key; value = n }) else None)
+define_of key d = given (option_and_then natural (as_integer d))
+    (λ n. if is_identifier key then Some (record { name = key; value = n }) else None)
 
 -- the given names of a table
 abbrev pub defines_of : Members → Option (List Define)
@@ -107,7 +112,9 @@ offsets_of format sizes (Some d) = sizes_of format d
 
 -- one length from 1 to 3
 abbrev pub have_one_length : List ℤ → List ℤ → List ℤ → Bool
-have_one_length global local offset = (nat_le 1 (length global) && nat_le (length global) 3) && ((length local == length global) && (length offset == length global))
+have_one_length global local offset =
+    (nat_le 1 (length global) && nat_le (length global) 3) &&
+    ((length local == length global) && (length offset == length global))
 
 -- a launch
 abbrev pub part_in : Format → Members → Option Part
@@ -117,7 +124,13 @@ part_in format members =
     given (given (get_member (codes "local") members) (sizes_of format)) (λ local.
     given (offsets_of format global (get_member (codes "offset") members)) (λ offset.
     given (optional_args (get_member (codes "arg") members)) (λ args.
-    if have_one_length global local offset then Some (record { kernel = kernel; global = global; local = local; offset = offset; args = args }) else None)))))
+    if have_one_length global local offset then Some (record {
+      kernel = kernel;
+      global = global;
+      local = local;
+      offset = offset;
+      args = args;
+    }) else None)))))
 
 -- each launch of an array of tables
 abbrev pub parts_of : Items → Option (List Part)
@@ -166,4 +179,11 @@ values_in members =
     given (optional_defines (get_member (codes "defines") members)) (λ defines.
     given (optional_buffers (get_member (codes "buffer") members)) (λ buffers.
     given (launches_in format members) (λ list.
-    Some (record { lanes = lanes; turns = turns; defines = defines; buffers = buffers; several = has_several format; list = list })))))))
+    Some (record {
+      lanes = lanes;
+      turns = turns;
+      defines = defines;
+      buffers = buffers;
+      several = has_several format;
+      list = list;
+    })))))))

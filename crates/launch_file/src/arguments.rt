@@ -164,7 +164,8 @@ fn some_local_negative(args: &[ArgText]) -> bool
 
 // The bytes of local memory that are declared and given, where that is a number of 64 bits.
 fn local_total(declared: u64, args: &[ArgText]) -> u64
-    ensures { result ≡ min (declared + spec.total (λ a. spec.count_of (spec.local_bytes_of a)) args.now) (2 ^ 64 - 1) }
+    ensures { result ≡ min (declared + spec.total (λ a. spec.count_of (spec.local_bytes_of a)) args.now)
+        (2 ^ 64 - 1) }
 {
     let mut total = declared;
     for arg in args {
@@ -175,7 +176,8 @@ fn local_total(declared: u64, args: &[ArgText]) -> u64
 
 /// Whether local bytes are below 0, or there are more than 65,536 of them.
 pub(crate) fn local_wrong(declared: u64, args: &[ArgText]) -> bool
-    ensures { (needs : spec.Needs) (part : Part) → needs.local_bytes ≡ declared → part.args ≡ args.now → result ≡ spec.local_wrong needs part }
+    ensures { (needs : spec.Needs) (part : Part) → needs.local_bytes ≡ declared → part.args ≡ args.now →
+        result ≡ spec.local_wrong needs part }
 {
     some_local_negative(args) || local_total(declared, args) > 65_536
 }

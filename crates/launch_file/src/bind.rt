@@ -1,5 +1,19 @@
 //! The launches of a launch file for a kernel.
-ghost use Rattle.std.specs.Prelude.{◌≡◌, ◌<◌, ◌≤◌, ℕ, All, IfOk, Err, Some, None, IfNone, IfSome, length, slice_index_or};
+ghost use Rattle.std.specs.Prelude.{
+  ◌≡◌,
+  ◌<◌,
+  ◌≤◌,
+  ℕ,
+  All,
+  IfOk,
+  Err,
+  Some,
+  None,
+  IfNone,
+  IfSome,
+  length,
+  slice_index_or,
+};
 ghost use Rattle.launch_file.specs.Binding as spec;
 ghost use Rattle.launch_file.specs.Values.{HasOneLength};
 ghost use Rattle.launch_file.specs.NeedsView.{needs_of};
@@ -29,7 +43,8 @@ pub struct KernelNeeds {
 // The number of the first condition on the arguments that stands.
 fn arguments_refused(needs: &KernelNeeds, buffers: &[BufferText], part: &LaunchPart) -> Option<u16>
     ensures none { IfNone result (spec.arguments_refusal (needs_of needs.now) buffers.now (part_of part.now) ≡ None) }
-    ensures some { IfSome result (λ n. spec.arguments_refusal (needs_of needs.now) buffers.now (part_of part.now) ≡ Some n) }
+    ensures some { IfSome result (λ n. spec.arguments_refusal (needs_of needs.now) buffers.now (part_of part.now) ≡
+        Some n) }
 {
     let kinds = needs.kinds.as_slice();
     let args = part.args.as_slice();
@@ -54,7 +69,8 @@ fn arguments_refused(needs: &KernelNeeds, buffers: &[BufferText], part: &LaunchP
 // The number of the first condition on the launch that stands.
 fn launch_refused(needs: &KernelNeeds, buffers: &[BufferText], part: &LaunchPart) -> Option<u16>
     ensures none { IfNone result (spec.launch_refusal (needs_of needs.now) buffers.now (part_of part.now) ≡ None) }
-    ensures some { IfSome result (λ n. spec.launch_refusal (needs_of needs.now) buffers.now (part_of part.now) ≡ Some n) }
+    ensures some { IfSome result (λ n. spec.launch_refusal (needs_of needs.now) buffers.now (part_of part.now) ≡
+        Some n) }
 {
     if sizes_wrong(part) {
         return Some(4);
@@ -116,9 +132,12 @@ pub fn bind_kernel(
 ) -> Result<Launch, LaunchError>
     requires within { which < length text.now.list.items }
     requires lengths { All (λ p. HasOneLength (part_of p)) text.now.list.items }
-    ensures bound { IfOk result (spec.Binds (needs_of needs.now) (text_of text.now) (spec.part_at (text_of text.now) which)) }
+    ensures bound { IfOk result (spec.Binds (needs_of needs.now) (text_of text.now)
+        (spec.part_at (text_of text.now) which)) }
     ensures offsets { IfOk result (λ l. spec.AreOffsets l.offset) }
-    ensures refused { (number : ℕ) → result ≡ Err (Fault number) → spec.launch_refusal (needs_of needs.now) (text_of text.now).buffers (spec.part_at (text_of text.now) which) ≡ Some number }
+    ensures refused { (number : ℕ) → result ≡ Err (Fault number) →
+        spec.launch_refusal (needs_of needs.now) (text_of text.now).buffers
+        (spec.part_at (text_of text.now) which) ≡ Some number }
 {
     let part = &text.list[which];
     let buffers = text.buffers.as_slice();

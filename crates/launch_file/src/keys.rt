@@ -36,7 +36,8 @@ pub(crate) fn integer_at(table: &Table, key: &str) -> Option<i64>
 
 /// The string at a key that may be absent; `None` where another value is there.
 pub(crate) fn optional_string<'a>(table: &'a Table, key: &str) -> Option<Option<&'a str>>
-    ensures { option_map (λ o. option_map (λ s. s.now) o) result ≡ spec.optional_string key.now (table_view table.now) }
+    ensures { option_map (λ o. option_map (λ s. s.now) o) result ≡
+        spec.optional_string key.now (table_view table.now) }
 {
     match value_at(table, key) {
         Some(value) => match value.as_str() {
@@ -105,7 +106,8 @@ fn items_have_only(items: &[Value], names: &[&str]) -> bool
 
 /// Whether each table of the array at a key, or the table there, has only keys among the names.
 pub(crate) fn tables_have_only(table: &Table, key: &str, names: &[&str]) -> bool
-    ensures { result ≡ spec.tables_pass (spec.has_only (map (λ name. name.now) names.now)) (get_member key.now (table_view table.now)) }
+    ensures { result ≡ spec.tables_pass (spec.has_only (map (λ name. name.now) names.now))
+        (get_member key.now (table_view table.now)) }
 {
     match value_at(table, key) {
         Some(value) => match value.as_table() {

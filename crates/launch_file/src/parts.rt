@@ -1,5 +1,17 @@
 //! The launches of a launch file, and all of its values.
-ghost use Rattle.std.specs.Prelude.{◌≡◌, IfOk, IfSome, All, option_map, codes, replicate, pos, map, ◌∷◌, []};
+ghost use Rattle.std.specs.Prelude.{
+  ◌≡◌,
+  IfOk,
+  IfSome,
+  All,
+  option_map,
+  codes,
+  replicate,
+  pos,
+  map,
+  ◌∷◌,
+  [],
+};
 ghost use Rattle.toml.specs.View.{view, table_view, items_view};
 ghost use Rattle.toml.specs.Data.{as_table, get_member};
 ghost use Rattle.launch_file.specs.Keys.{given};
@@ -73,7 +85,8 @@ fn sizes_at(
     table: &Table,
     key: &str,
 ) -> Result<Option<Vec<i64>>, Memory>
-    ensures { IfOk result (λ o. option_map (λ v. v.items) o ≡ given (get_member key.now (table_view table.now)) (spec.sizes_of format)) }
+    ensures { IfOk result (λ o. option_map (λ v. v.items) o ≡ given (get_member key.now (table_view table.now))
+        (spec.sizes_of format)) }
 {
     match value_at(table, key) {
         Some(value) => sizes_of(alloc, format, value),
@@ -96,7 +109,8 @@ fn offsets_of(
     sizes: &[i64],
     table: &Table,
 ) -> Result<Option<Vec<i64>>, Memory>
-    ensures { IfOk result (λ o. option_map (λ v. v.items) o ≡ spec.offsets_of format sizes.now (get_member (codes "offset") (table_view table.now))) }
+    ensures { IfOk result (λ o. option_map (λ v. v.items) o ≡
+        spec.offsets_of format sizes.now (get_member (codes "offset") (table_view table.now))) }
 {
     match value_at(table, "offset") {
         Some(value) => sizes_of(alloc, format, value),
@@ -149,7 +163,8 @@ fn part_in(alloc: Global, format: Format, table: &Table) -> Result<Option<Launch
 }
 
 fn part_item(alloc: Global, value: &Value) -> Result<Option<LaunchPart>, Memory>
-    ensures same { IfOk result (λ o. option_map part_of o ≡ given (as_table (view value.now)) (spec.part_in Format.Three)) }
+    ensures same { IfOk result (λ o. option_map part_of o ≡ given (as_table (view value.now))
+        (spec.part_in Format.Three)) }
     ensures length { IfOk result (λ o. IfSome o (λ p. spec.HasOneLength (part_of p))) }
 {
     match value.as_table() {
@@ -159,7 +174,8 @@ fn part_item(alloc: Global, value: &Value) -> Result<Option<LaunchPart>, Memory>
 }
 
 fn parts_of(alloc: Global, items: &[Value]) -> Result<Option<Vec<LaunchPart>>, Memory>
-    ensures same { IfOk result (λ o. option_map (λ v. map part_of v.items) o ≡ spec.parts_of (items_view items.now)) }
+    ensures same { IfOk result (λ o. option_map (λ v. map part_of v.items) o ≡
+        spec.parts_of (items_view items.now)) }
     ensures lengths { IfOk result (λ o. IfSome o (λ v. All (λ p. spec.HasOneLength (part_of p)) v.items)) }
 {
     let mut list = Vec::new(alloc);
@@ -179,7 +195,8 @@ fn one_launch(
     format: Format,
     table: &Table,
 ) -> Result<Option<Vec<LaunchPart>>, Memory>
-    ensures same { IfOk result (λ o. option_map (λ v. map part_of v.items) o ≡ option_map (λ part. part ∷ []) (spec.part_in format (table_view table.now))) }
+    ensures same { IfOk result (λ o. option_map (λ v. map part_of v.items) o ≡
+        option_map (λ part. part ∷ []) (spec.part_in format (table_view table.now))) }
     ensures lengths { IfOk result (λ o. IfSome o (λ v. All (λ p. spec.HasOneLength (part_of p)) v.items)) }
 {
     let Some(part) = part_in(alloc, format, table)? else {
@@ -197,7 +214,8 @@ fn launches_in(
     format: Format,
     table: &Table,
 ) -> Result<Option<Vec<LaunchPart>>, Memory>
-    ensures same { IfOk result (λ o. option_map (λ v. map part_of v.items) o ≡ spec.launches_in format (table_view table.now)) }
+    ensures same { IfOk result (λ o. option_map (λ v. map part_of v.items) o ≡
+        spec.launches_in format (table_view table.now)) }
     ensures lengths { IfOk result (λ o. IfSome o (λ v. All (λ p. spec.HasOneLength (part_of p)) v.items)) }
 {
     if format != Format::Three {

@@ -122,7 +122,8 @@ fn read_table(
     ensures some { IfOk result (λ t. 1 ≤ length t.list.items) }
     ensures few { IfOk result (λ t. length t.list.items ≤ 16) }
     ensures apart { IfOk result (λ t. spec.saved_twice t.buffers.items ≡ false) }
-    ensures refused { (number : ℕ) → result ≡ Err (Fault number) → spec.refusal_of (table_view table.now) lanes turns ≡ Some number }
+    ensures refused { (number : ℕ) → result ≡ Err (Fault number) →
+        spec.refusal_of (table_view table.now) lanes turns ≡ Some number }
 {
     if has_unknown_key(table) {
         return Err(LaunchError::Fault { number: 2 });

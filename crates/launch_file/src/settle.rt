@@ -1,5 +1,18 @@
 //! The conditions on the values of a launch file, and its text.
-ghost use Rattle.std.specs.Prelude.{◌≡◌, ◌≤◌, All, length, IfOk, IfErr, None, Some, MatchOption, true, false, pos};
+ghost use Rattle.std.specs.Prelude.{
+  ◌≡◌,
+  ◌≤◌,
+  All,
+  length,
+  IfOk,
+  IfErr,
+  None,
+  Some,
+  MatchOption,
+  true,
+  false,
+  pos,
+};
 ghost use Rattle.std.specs.List.{list_any};
 ghost use Rattle.wg_num.specs.Operators.{lanes_of};
 ghost use Rattle.launch_file.specs.Refusals as spec;
@@ -93,7 +106,8 @@ fn chosen(option: Option<u64>, in_file: Option<i64>, other: u32) -> i128
 }
 
 fn width_of(lanes: i128) -> Option<Width>
-    ensures { MatchOption result (spec.is_lane_count lanes ≡ false) (λ w. (spec.is_lane_count lanes ≡ true) × (pos (lanes_of w) ≡ lanes)) }
+    ensures { MatchOption result (spec.is_lane_count lanes ≡ false) (λ w. (spec.is_lane_count lanes ≡ true) ×
+        (pos (lanes_of w) ≡ lanes)) }
 {
     match lanes {
         1 => Some(Width::W1),
@@ -105,7 +119,8 @@ fn width_of(lanes: i128) -> Option<Width>
 }
 
 fn turn_count(turns: i128) -> Option<u64>
-    ensures { MatchOption result (spec.is_turn_count turns ≡ false) (λ n. (spec.is_turn_count turns ≡ true) × (pos n ≡ turns)) }
+    ensures { MatchOption result (spec.is_turn_count turns ≡ false) (λ n. (spec.is_turn_count turns ≡ true) ×
+        (pos n ≡ turns)) }
 {
     if turns < 0 || turns > 1_000_000_000_000 {
         None
@@ -137,8 +152,10 @@ pub(crate) fn settle(
     ensures some { IfOk result (λ t. 1 ≤ length t.list.items) }
     ensures few { IfOk result (λ t. length t.list.items ≤ 16) }
     ensures apart { IfOk result (λ t. spec.saved_twice t.buffers.items ≡ false) }
-    ensures accepted { IfOk result (λ _. spec.first_of (spec.value_conditions lanes turns (values_of values)) ≡ None) }
-    ensures refused { IfErr result (λ n. spec.first_of (spec.value_conditions lanes turns (values_of values)) ≡ Some n) }
+    ensures accepted { IfOk result (λ _. spec.first_of (spec.value_conditions lanes turns (values_of values)) ≡
+        None) }
+    ensures refused { IfErr result (λ n. spec.first_of (spec.value_conditions lanes turns (values_of values)) ≡
+        Some n) }
 {
     if named_twice(values.buffers.as_slice()) {
         return Err(9);

@@ -1,5 +1,15 @@
 //! The values of a launch file: the parts that stand alone.
-ghost use Rattle.std.specs.Prelude.{◌≡◌, ◌≤◌, IfOk, IfSome, IsUtf8, All, option_map, option_and_then, codes};
+ghost use Rattle.std.specs.Prelude.{
+  ◌≡◌,
+  ◌≤◌,
+  IfOk,
+  IfSome,
+  IsUtf8,
+  All,
+  option_map,
+  option_and_then,
+  codes,
+};
 ghost use Rattle.std.specs.List.{list_all};
 ghost use Rattle.cl_token.specs.Bytes as class;
 ghost use Rattle.toml.specs.View.{view, table_view, items_view};
@@ -121,7 +131,8 @@ fn buffers_of(alloc: Global, items: &[Value]) -> Result<Option<Vec<BufferText>>,
 
 /// The buffers of a file; none where it has no such key.
 pub(crate) fn buffers_in(alloc: Global, table: &Table) -> Result<Option<Vec<BufferText>>, Memory>
-    ensures same { IfOk result (λ o. option_map (λ v. v.items) o ≡ spec.optional_buffers (get_member (codes "buffer") (table_view table.now))) }
+    ensures same { IfOk result (λ o. option_map (λ v. v.items) o ≡
+        spec.optional_buffers (get_member (codes "buffer") (table_view table.now))) }
     ensures texts { IfOk result (λ o. IfSome o (λ v. All spec.HasTexts v.items)) }
 {
     match value_at(table, "buffer") {
@@ -203,7 +214,8 @@ fn args_of(alloc: Global, items: &[Value]) -> Result<Option<Vec<ArgText>>, Memor
 
 /// The arguments of a launch; none where it has no such key.
 pub(crate) fn args_in(alloc: Global, table: &Table) -> Result<Option<Vec<ArgText>>, Memory>
-    ensures { IfOk result (λ o. option_map (λ v. v.items) o ≡ spec.optional_args (get_member (codes "arg") (table_view table.now))) }
+    ensures { IfOk result (λ o. option_map (λ v. v.items) o ≡
+        spec.optional_args (get_member (codes "arg") (table_view table.now))) }
 {
     match value_at(table, "arg") {
         Some(value) => match value.as_array() {
@@ -266,7 +278,8 @@ fn defines_of(alloc: Global, table: &Table) -> Result<Option<Vec<Define>>, Memor
 
 /// The given names of a file; none where it has no such key.
 pub(crate) fn defines_in(alloc: Global, table: &Table) -> Result<Option<Vec<Define>>, Memory>
-    ensures same { IfOk result (λ o. option_map (λ v. v.items) o ≡ spec.optional_defines (get_member (codes "defines") (table_view table.now))) }
+    ensures same { IfOk result (λ o. option_map (λ v. v.items) o ≡
+        spec.optional_defines (get_member (codes "defines") (table_view table.now))) }
     ensures numbers { IfOk result (λ o. IfSome o (λ v. All spec.HasNumber v.items)) }
 {
     match value_at(table, "defines") {

@@ -1,4 +1,5 @@
--- A cell that is live at a cut is named on both sides of a cut, whatever the cell is for: the way to what is live of variables.
+-- A cell that is live at a cut is named on both sides of a cut, whatever the cell is for: the way to what is live of
+-- variables.
 use Rattle.std.proofs.Common.{◌≡◌, ℕ, zero, suc, List, [], ◌∷◌, slice_get, refl, sym, ap, ◌∙◌, true}
 use Rattle.std.specs.Prelude.{◌&&◌}
 use Rattle.wg_num.specs.declared.types.IntType.TheVariants.{Int}
@@ -25,11 +26,15 @@ made_there zero = refl
 made_there (suc c) = made_there c
 
 -- the lines do not know what a cell is for, so each cell may be taken for a value
-pub live_across : (kernel : Kernel) → StartsAnew kernel → (at : Place) (c : ℕ) → is_cut kernel.body at ≡ true → live_at kernel.body at c ≡ true → across kernel.body c ≡ true
+pub live_across : (kernel : Kernel) → StartsAnew kernel → (at : Place) (c : ℕ) → is_cut kernel.body at ≡ true →
+    live_at kernel.body at c ≡ true → across kernel.body c ≡ true
 live_across kernel anew at c cut live =
     let other : Kernel = record kernel { cells = values_up_to c } in
     sym (ap (λ z. z && across kernel.body c) (made_there c)) ∙ live_are_kept other anew at c cut live (made_there c)
 
 -- so it is in a lowered kernel
-pub lowered_across : (program : Program) (names : List (List Named)) → IsValid program → (at : Place) (c : ℕ) → is_cut (lowered_of program names).body at ≡ true → live_at (lowered_of program names).body at c ≡ true → across (lowered_of program names).body c ≡ true
-lowered_across program names valid at c cut live = live_across (lowered_of program names) (starts_anew program names valid) at c cut live
+pub lowered_across : (program : Program) (names : List (List Named)) → IsValid program → (at : Place) (c : ℕ) →
+    is_cut (lowered_of program names).body at ≡ true → live_at (lowered_of program names).body at c ≡ true →
+    across (lowered_of program names).body c ≡ true
+lowered_across program names valid at c cut live =
+    live_across (lowered_of program names) (starts_anew program names valid) at c cut live

@@ -16,7 +16,9 @@ same_length : {A B : Type 0} (f : A → B) (xs : List A) → length (map f xs) �
 same_length f [] = refl
 same_length f (x ∷ xs) = ap suc (same_length f xs)
 
-named_at : (fs : List Function) (f : ℕ) → length (unwrap_or (slice_get (map (λ (g : Function). map name_of g.vars.items) fs) f) []) ≡ length (unwrap_or (slice_get (map function_of fs) f) no_function).variables
+named_at : (fs : List Function) (f : ℕ) →
+    length (unwrap_or (slice_get (map (λ (g : Function). map name_of g.vars.items) fs) f) []) ≡
+    length (unwrap_or (slice_get (map function_of fs) f) no_function).variables
 named_at [] f = refl
 named_at (g ∷ fs) zero = same_length name_of g.vars.items ∙ sym (same_length (λ (v : Var). v.kind) g.vars.items)
 named_at (g ∷ fs) (suc f) = named_at fs f

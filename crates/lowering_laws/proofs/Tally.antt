@@ -1,21 +1,30 @@
 -- How many loads, stores and barriers the code of a text has: as many as the text.
-use Rattle.std.proofs.Common.{◌≡◌, ℕ, suc, ◌+◌, ◌*◌, pos, List, [], ◌∷◌, ◌++◌, length, Option, Some, None, refl, sym, ap, ◌∙◌, arith, true, false}
+use Rattle.std.proofs.Common.{◌≡◌, ℕ, suc, ◌+◌, ◌*◌, pos, List, [], ◌∷◌, ◌++◌, length, Option, Some, None, refl, sym}
+use Rattle.std.proofs.Common.{ap, ◌∙◌, arith, true, false}
 use Rattle.std.proofs.Common.{Bool as Test}
 use Rattle.std.specs.Prelude.{◌&&◌}
 use Rattle.wg_num.specs.declared.types.IntType.{IntType}
 use Rattle.cl_model.specs.declared.program.Root.{Root}
 use Rattle.cl_model.specs.Tree as tree
-use Rattle.cl_model.specs.Tree.{Action, Expression, Apply, Update, Choose, Call, Expressions, none, more, Statement, Do, Declare, Fill, Block, If, Loop, Switch, Break, Continue, Return, Barrier, Statements, empty, also, Arms, no_arm, arm, Function}
-use Rattle.cl_model.specs.Calls.{CallSite, calls_in, calls_among, calls_in_optional, calls_of, calls_of_all, calls_of_arms}
+use Rattle.cl_model.specs.Tree.{Action, Expression, Apply, Update, Choose, Call, Expressions, none, more, Statement}
+use Rattle.cl_model.specs.Tree.{Do, Declare, Fill, Block, If, Loop, Switch, Break, Continue, Return, Barrier}
+use Rattle.cl_model.specs.Tree.{Statements, empty, also, Arms, no_arm, arm, Function}
+use Rattle.cl_model.specs.Calls.{CallSite, calls_in, calls_among, calls_in_optional, calls_of, calls_of_all}
+use Rattle.cl_model.specs.Calls.{calls_of_arms}
 use Rattle.cl_model.specs.Valid.{number_of_values}
 use Rattle.kir.specs.declared.line.Atom.{Atom}
-use Rattle.kir.specs.Tree.{Lines, NoLine, SetThen, LoadThen, StoreThen, ClearThen, IfThen, LoopThen, BarrierThen, joined_to, OfValue}
+use Rattle.kir.specs.Tree.{Lines, NoLine, SetThen, LoadThen, StoreThen, ClearThen, IfThen, LoopThen, BarrierThen}
+use Rattle.kir.specs.Tree.{joined_to, OfValue}
 use Rattle.kir.specs.Counts.{Counting, count_in, count_among, count_in_optional, count_of, count_of_all, count_of_arms}
 use Rattle.kir_lower.specs.declared.places.Value.{Value}
 use Rattle.kir_lower.specs.Made.{Made, next_cell, with_cell, Instance, int, element_at, root_in, argument_roots}
 use Rattle.kir_lower.specs.Ways.{way_out, way_out_of_all, way_out_of_arms, declares}
-use Rattle.kir_lower.specs.Actions.{loaded, stored, changed, choice_code, set_to, action_code, initial_lines, opened, guarded_before, settled, outward, round_code, label_code, labels_code, all_labels_code, selected, fallen_code}
-use Rattle.kir_lower.specs.Code.{Calls, expression_code, operands_code, optional_code, Guarded, is_guarded, before_rest, in_order, entry_code, around_arm, statement_code, list_code, arms_code, result_code, body_code, set_exit}
+use Rattle.kir_lower.specs.Actions.{loaded, stored, changed, choice_code, set_to, action_code, initial_lines, opened}
+use Rattle.kir_lower.specs.Actions.{guarded_before, settled, outward, round_code, label_code, labels_code}
+use Rattle.kir_lower.specs.Actions.{all_labels_code, selected, fallen_code}
+use Rattle.kir_lower.specs.Code.{Calls, expression_code, operands_code, optional_code, Guarded, is_guarded}
+use Rattle.kir_lower.specs.Code.{before_rest, in_order, entry_code, around_arm, statement_code, list_code, arms_code}
+use Rattle.kir_lower.specs.Code.{result_code, body_code, set_exit}
 
 -- what is counted of a load, a store and a barrier with a site
 pub record Weight : Type 0 where
@@ -73,14 +82,18 @@ abbrev pub calls_tally : (ℕ → ℕ) → List CallSite → ℕ
 calls_tally called [] = 0
 calls_tally called (c ∷ calls) = called c.function + calls_tally called calls
 
-pub calls_tally_append : (called : ℕ → ℕ) (xs ys : List CallSite) → calls_tally called (xs ++ ys) ≡ calls_tally called xs + calls_tally called ys
+pub calls_tally_append : (called : ℕ → ℕ) (xs ys : List CallSite) →
+    calls_tally called (xs ++ ys) ≡ calls_tally called xs + calls_tally called ys
 calls_tally_append called [] ys = omega arith
 calls_tally_append called (c ∷ xs) ys = let p = calls_tally_append called xs ys in omega arith
 
 module _ (w : Weight) (what : Counting) (counts : CountsAs w what) where
-  action_weighs : (here : Instance) (a : Action) (values : List Value) (m : Made) → tally w (action_code here a values m).lines ≡ what.action a
-  action_weighs here (tree.Load site element root) values m = let p = counts.action (tree.Load site element root) in omega arith
-  action_weighs here (tree.Store site element root) values m = let p = counts.action (tree.Store site element root) in omega arith
+  action_weighs : (here : Instance) (a : Action) (values : List Value) (m : Made) →
+      tally w (action_code here a values m).lines ≡ what.action a
+  action_weighs here (tree.Load site element root) values m = let p =
+      counts.action (tree.Load site element root) in omega arith
+  action_weighs here (tree.Store site element root) values m = let p =
+      counts.action (tree.Store site element root) in omega arith
   action_weighs here (tree.Literal value of) values m = sym (counts.action (tree.Literal value of))
   action_weighs here (tree.Variable x) values m = sym (counts.action (tree.Variable x))
   action_weighs here (tree.Unary op of) values m = sym (counts.action (tree.Unary op of))
@@ -94,7 +107,8 @@ module _ (w : Weight) (what : Counting) (counts : CountsAs w what) where
   action_weighs here (tree.Set x) values m = sym (counts.action (tree.Set x))
   action_weighs here (tree.Change x op of back old) values m = sym (counts.action (tree.Change x op of back old))
 
-  initial_weighs : (site : ℕ) (element : IntType) (array k : ℕ) (values : List Value) (n : ℕ) → n ≡ length values → tally w (initial_lines site element array k values) ≡ n * w.store site
+  initial_weighs : (site : ℕ) (element : IntType) (array k : ℕ) (values : List Value) (n : ℕ) → n ≡ length values →
+      tally w (initial_lines site element array k values) ≡ n * w.store site
   initial_weighs site element array k [] n e =
       let s = w.store site in
       let z : 0 ≡ 0 * s = omega arith in
@@ -114,7 +128,8 @@ module _ (w : Weight) (what : Counting) (counts : CountsAs w what) where
   outward_weighs None exit outer m = refl
   outward_weighs (Some site) exit outer m = refl
 
-  guarded_weighs : (site exit : ℕ) (inside rest : Lines) → tally w (guarded_before site exit inside rest) ≡ tally w inside + tally w rest
+  guarded_weighs : (site exit : ℕ) (inside rest : Lines) →
+      tally w (guarded_before site exit inside rest) ≡ tally w inside + tally w rest
   guarded_weighs site exit NoLine rest = omega arith
   guarded_weighs site exit (SetThen to work more_) rest = omega arith
   guarded_weighs site exit (LoadThen at to element root index more_) rest = omega arith
@@ -124,8 +139,10 @@ module _ (w : Weight) (what : Counting) (counts : CountsAs w what) where
   guarded_weighs site exit (LoopThen at test_first test answer body more_) rest = omega arith
   guarded_weighs site exit (BarrierThen at more_) rest = omega arith
 
-  round_weighs : (site : ℕ) (first : Test) (way : Option ℕ) (exit : ℕ) (test : Lines) (answer : Value) (step body : Lines) (m : Made)
-      → tally w (round_code site first way exit test answer step body m).lines ≡ tally w test + (tally w body + tally w step)
+  round_weighs : (site : ℕ) (first : Test) (way : Option ℕ) (exit : ℕ) (test : Lines) (answer : Value)
+      (step body : Lines) (m : Made)
+      → tally w (round_code site first way exit test answer step body m).lines ≡ tally w test +
+      (tally w body + tally w step)
   round_weighs site first None exit test answer step body m = let p = tally_joined w body step in omega arith
   round_weighs site first (Some way) exit test answer step body m =
       let guard = guarded_before way exit step NoLine in
@@ -135,11 +152,14 @@ module _ (w : Weight) (what : Counting) (counts : CountsAs w what) where
       let r = guarded_weighs way exit step NoLine in
       omega arith
 
-  labels_weigh : (site : ℕ) (v : Value) (chosen k : ℕ) (labels : List _) (m : Made) → tally w (labels_code site v chosen k labels m).lines ≡ 0
+  labels_weigh : (site : ℕ) (v : Value) (chosen k : ℕ) (labels : List _) (m : Made) →
+      tally w (labels_code site v chosen k labels m).lines ≡ 0
   labels_weigh site v chosen k [] m = refl
-  labels_weigh site v chosen k (label ∷ labels) m = let p = labels_weigh site v chosen k labels (label_code site v chosen k label m).made in omega arith
+  labels_weigh site v chosen k (label ∷ labels) m = let p =
+      labels_weigh site v chosen k labels (label_code site v chosen k label m).made in omega arith
 
-  all_labels_weigh : (site : ℕ) (v : Value) (chosen k : ℕ) (arms : Arms) (m : Made) → tally w (all_labels_code site v chosen k arms m).lines ≡ 0
+  all_labels_weigh : (site : ℕ) (v : Value) (chosen k : ℕ) (arms : Arms) (m : Made) →
+      tally w (all_labels_code site v chosen k arms m).lines ≡ 0
   all_labels_weigh site v chosen k no_arm m = refl
   all_labels_weigh site v chosen k (arm labels other body rest) m =
       let cl = labels_code site v chosen k labels m in
@@ -156,7 +176,8 @@ module _ (w : Weight) (what : Counting) (counts : CountsAs w what) where
   result_weighs None m = refl
   result_weighs (Some of) m = refl
 
-  fallen_weighs : (way : Option ℕ) (exit : ℕ) (entered : Value) (m : Made) → tally w (fallen_code way exit entered m).lines ≡ 0
+  fallen_weighs : (way : Option ℕ) (exit : ℕ) (entered : Value) (m : Made) →
+      tally w (fallen_code way exit entered m).lines ≡ 0
   fallen_weighs None exit entered m = refl
   fallen_weighs (Some site) exit entered m = refl
 
@@ -166,16 +187,20 @@ module _ (w : Weight) (what : Counting) (counts : CountsAs w what) where
       let all = joined_to lines (joined_to g.inside g.rest) in
       let p = tally_joined w all NoLine in let q = tally_joined w lines (joined_to g.inside g.rest) in omega arith
   before_rest_weighs exit false None lines g =
-      let p = tally_joined w (joined_to lines g.inside) g.rest in let q = tally_joined w lines g.inside in let r = tally_joined w g.inside g.rest in omega arith
+      let p = tally_joined w (joined_to lines g.inside) g.rest in let q = tally_joined w lines g.inside in let r =
+      tally_joined w g.inside g.rest in omega arith
   before_rest_weighs exit false (Some site) lines g =
-      let p = tally_joined w lines (guarded_before site exit g.inside g.rest) in let q = guarded_weighs site exit g.inside g.rest in let r = tally_joined w g.inside g.rest in omega arith
+      let p = tally_joined w lines (guarded_before site exit g.inside g.rest) in let q =
+      guarded_weighs site exit g.inside g.rest in let r = tally_joined w g.inside g.rest in omega arith
 
   module _ (calls : Calls) (called : ℕ → ℕ)
-      (call : (here : Instance) (site function : ℕ) (roots : List Root) (values : List Value) (m : Made) → tally w (calls here site function roots values m).lines ≡ called function) (here : Instance) where
+      (call : (here : Instance) (site function : ℕ) (roots : List Root) (values : List Value) (m : Made) →
+      tally w (calls here site function roots values m).lines ≡ called function) (here : Instance) where
     mutual
       unfolding expression_code
 
-      pub expression_weighs : (e : Expression) (m : Made) → tally w (expression_code calls here e m).lines ≡ count_in what e + calls_tally called (calls_in e)
+      pub expression_weighs : (e : Expression) (m : Made) →
+          tally w (expression_code calls here e m).lines ≡ count_in what e + calls_tally called (calls_in e)
       expression_weighs (Apply action operands) m =
           let co = operands_code calls here operands m in
           let p = operands_weigh operands m in
@@ -205,7 +230,8 @@ module _ (w : Weight) (what : Counting) (counts : CountsAs w what) where
           let r = expression_weighs other cy.made in
           let a = calls_tally_append called (calls_in test) (calls_in chosen ++ calls_in other) in
           let b = calls_tally_append called (calls_in chosen) (calls_in other) in
-          let j = tally_joined w ct.lines (choice_code site ct.value.atom cy.lines cy.value cn.lines cn.value cn.made).lines in
+          let j = tally_joined w ct.lines (choice_code site ct.value.atom cy.lines cy.value cn.lines cn.value
+          cn.made).lines in
           let k = tally_joined w cy.lines (set_to (next_cell cn.made) cy.value.atom) in
           let l = tally_joined w cn.lines (set_to (next_cell cn.made) cn.value.atom) in
           omega arith
@@ -213,11 +239,14 @@ module _ (w : Weight) (what : Counting) (counts : CountsAs w what) where
           let ca = operands_code calls here arguments m in
           let p = operands_weigh arguments m in
           let q = call here site function (argument_roots here roots) ca.values ca.made in
-          let j = tally_joined w ca.lines (calls here site function (argument_roots here roots) ca.values ca.made).lines in
-          let a = calls_tally_append called (calls_among arguments) (record { site = site; function = function } ∷ []) in
+          let j =
+          tally_joined w ca.lines (calls here site function (argument_roots here roots) ca.values ca.made).lines in
+          let a =
+          calls_tally_append called (calls_among arguments) (record { site = site; function = function } ∷ []) in
           omega arith
 
-      pub operands_weigh : (list : Expressions) (m : Made) → tally w (operands_code calls here list m).lines ≡ count_among what list + calls_tally called (calls_among list)
+      pub operands_weigh : (list : Expressions) (m : Made) → tally w (operands_code calls here list m).lines ≡
+          count_among what list + calls_tally called (calls_among list)
       operands_weigh none m = refl
       operands_weigh (more e rest) m =
           let ce = expression_code calls here e m in
@@ -228,11 +257,14 @@ module _ (w : Weight) (what : Counting) (counts : CountsAs w what) where
           let a = calls_tally_append called (calls_in e) (calls_among rest) in
           omega arith
 
-    optional_weighs : (e : Option Expression) (m : Made) → tally w (optional_code calls here e m).lines ≡ count_in_optional what e + calls_tally called (calls_in_optional e)
+    optional_weighs : (e : Option Expression) (m : Made) →
+        tally w (optional_code calls here e m).lines ≡ count_in_optional what e +
+        calls_tally called (calls_in_optional e)
     optional_weighs None m = refl
     optional_weighs (Some e) m = expression_weighs e m
 
-    value_count : (list : Expressions) (m : Made) → length (operands_code calls here list m).values ≡ number_of_values list
+    value_count : (list : Expressions) (m : Made) →
+        length (operands_code calls here list m).values ≡ number_of_values list
     unfolding expression_code
     value_count none m = refl
     value_count (more e rest) m = ap suc (value_count rest (expression_code calls here e m).made)
@@ -240,7 +272,8 @@ module _ (w : Weight) (what : Counting) (counts : CountsAs w what) where
     mutual
       unfolding statement_code
 
-      pub statement_weighs : (exit : ℕ) (s : Statement) (m : Made) → tally w (statement_code calls here exit s m).lines ≡ count_of what s + calls_tally called (calls_of s)
+      pub statement_weighs : (exit : ℕ) (s : Statement) (m : Made) →
+          tally w (statement_code calls here exit s m).lines ≡ count_of what s + calls_tally called (calls_of s)
       statement_weighs exit (Do e) m = expression_weighs e m
       statement_weighs exit (Declare x None) m = refl
       statement_weighs exit (Declare x (Some e)) m =
@@ -255,8 +288,10 @@ module _ (w : Weight) (what : Counting) (counts : CountsAs w what) where
           let p = operands_weigh values m in
           let q = initial_weighs site (element_at here array) number 0 cv.values n (sym (value_count values m)) in
           let u = counts.fill site n in
-          let j = tally_joined w cv.lines (ClearThen number (initial_lines site (element_at here array) number 0 cv.values)) in
-          j ∙ ap (λ z. tally w cv.lines + z) (q ∙ sym u) ∙ ap (λ z. z + what.fill site n) p ∙ turned (what.fill site n) (count_among what values) (calls_tally called (calls_among values))
+          let j = tally_joined w cv.lines
+          (ClearThen number (initial_lines site (element_at here array) number 0 cv.values)) in
+          j ∙ ap (λ z. tally w cv.lines + z) (q ∙ sym u) ∙ ap (λ z. z + what.fill site n) p ∙
+          turned (what.fill site n) (count_among what values) (calls_tally called (calls_among values))
         where
           turned : (a b c : ℕ) → (b + c) + a ≡ (a + b) + c
           turned a b c = omega arith
@@ -318,7 +353,9 @@ module _ (w : Weight) (what : Counting) (counts : CountsAs w what) where
           omega arith
       statement_weighs exit (Barrier site) m = let u = counts.barrier site in omega arith
 
-      pub list_weighs : (exit : ℕ) (guarded : Test) (list : Statements) (m : Made) → tally w (in_order (list_code calls here exit guarded list m)).lines ≡ count_of_all what list + calls_tally called (calls_of_all list)
+      pub list_weighs : (exit : ℕ) (guarded : Test) (list : Statements) (m : Made) →
+          tally w (in_order (list_code calls here exit guarded list m)).lines ≡ count_of_all what list +
+          calls_tally called (calls_of_all list)
       list_weighs exit guarded empty m = refl
       list_weighs exit guarded (also s rest) m =
           let declared = guarded && declares s in
@@ -329,13 +366,18 @@ module _ (w : Weight) (what : Counting) (counts : CountsAs w what) where
           let q = list_weighs exit (is_guarded declared way guarded) rest cs.made in
           let j = before_rest_weighs exit declared way cs.lines cr in
           let a = calls_tally_append called (calls_of s) (calls_of_all rest) in
-          j ∙ ap (λ z. z + tally w (in_order cr).lines) p ∙ ap (λ z. (count_of what s + calls_tally called (calls_of s)) + z) q
-          ∙ grouped (count_of what s) (calls_tally called (calls_of s)) (count_of_all what rest) (calls_tally called (calls_of_all rest)) ∙ ap (λ z. (count_of what s + count_of_all what rest) + z) (sym a)
+          j ∙ ap (λ z. z + tally w (in_order cr).lines) p ∙
+          ap (λ z. (count_of what s + calls_tally called (calls_of s)) + z) q
+          ∙ grouped (count_of what s) (calls_tally called (calls_of s)) (count_of_all what rest)
+          (calls_tally called (calls_of_all rest)) ∙
+          ap (λ z. (count_of what s + count_of_all what rest) + z) (sym a)
         where
           grouped : (a b c d : ℕ) → (a + b) + (c + d) ≡ (a + c) + (b + d)
           grouped a b c d = omega arith
 
-      pub arms_weigh : (exit site : ℕ) (chosen fallen : Atom) (k : ℕ) (arms : Arms) (m : Made) → tally w (arms_code calls here exit site chosen fallen k arms m).lines ≡ count_of_arms what arms + calls_tally called (calls_of_arms arms)
+      pub arms_weigh : (exit site : ℕ) (chosen fallen : Atom) (k : ℕ) (arms : Arms) (m : Made) →
+          tally w (arms_code calls here exit site chosen fallen k arms m).lines ≡ count_of_arms what arms +
+          calls_tally called (calls_of_arms arms)
       arms_weigh exit site chosen fallen k no_arm m = refl
       arms_weigh exit site chosen fallen k (arm labels other body rest) m =
           let ce = entry_code chosen fallen k m in
@@ -351,7 +393,8 @@ module _ (w : Weight) (what : Counting) (counts : CountsAs w what) where
           let a = calls_tally_append called (calls_of_all body) (calls_of_arms rest) in
           omega arith
 
-    pub body_weighs : (f : Function) (m : Made) → tally w (body_code calls here f m).lines ≡ count_of_all what f.body + calls_tally called (calls_of_all f.body)
+    pub body_weighs : (f : Function) (m : Made) →
+        tally w (body_code calls here f m).lines ≡ count_of_all what f.body + calls_tally called (calls_of_all f.body)
     body_weighs f m =
         let cr = result_code f.result m in
         let way = way_out_of_all true true f.body in

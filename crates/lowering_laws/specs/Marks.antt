@@ -1,4 +1,5 @@
--- Where the program's item stands at each line of a lowered kernel: marks, one for each line, in the shape of the lines.
+-- Where the program's item stands at each line of a lowered kernel: marks, one for each line, in the shape of the
+-- lines.
 use Rattle.std.specs.Prelude.{ℕ, List, [], ◌∷◌, ◌++◌}
 use Rattle.std.specs.Prelude.{Bool as Test}
 use Rattle.cl_model.specs.Task.{Leg, Turn, Point as ProgramPoint}
@@ -6,7 +7,8 @@ use Rattle.wg_num.specs.declared.types.IntType.{IntType}
 use Rattle.cl_model.specs.declared.program.Root.{Root}
 use Rattle.kir.specs.declared.line.Atom.{Atom}
 use Rattle.kir.specs.Tree.{Work, Lines, NoLine, SetThen, LoadThen, StoreThen, ClearThen, IfThen, LoopThen, BarrierThen}
-use Rattle.kir.specs.Places.{Behind, IntoChosen, IntoOther, IntoTest, ToAnswer, IntoBody, Place, Point, first_of, others_of}
+use Rattle.kir.specs.Places.{Behind, IntoChosen, IntoOther, IntoTest, ToAnswer, IntoBody, Place, Point, first_of}
+use Rattle.kir.specs.Places.{others_of}
 
 -- the way to a node of the program, where the iterations begun of the loops around it are given, the innermost first
 abbrev pub Way : Type 0
@@ -39,8 +41,10 @@ all_marked way (SetThen to work rest) = MarkThen way (all_marked way rest)
 all_marked way (LoadThen site to element root index rest) = MarkThen way (all_marked way rest)
 all_marked way (StoreThen site element root index from rest) = MarkThen way (all_marked way rest)
 all_marked way (ClearThen array rest) = MarkThen way (all_marked way rest)
-all_marked way (IfThen site test chosen other rest) = FormThen way (all_marked way chosen) (all_marked way other) (all_marked way rest)
-all_marked way (LoopThen site test_first test answer body rest) = FormThen way (all_marked way test) (all_marked way body) (all_marked way rest)
+all_marked way (IfThen site test chosen other rest) =
+    FormThen way (all_marked way chosen) (all_marked way other) (all_marked way rest)
+all_marked way (LoopThen site test_first test answer body rest) =
+    FormThen way (all_marked way test) (all_marked way body) (all_marked way rest)
 all_marked way (BarrierThen site rest) = MarkThen way (all_marked way rest)
 
 -- ---- the marks at a place
@@ -86,10 +90,19 @@ point_marked marks point = first_way (marks_at marks point.at) point.begun
 -- marks in the shape of lines
 pub data Shaped : Lines → Marks → Type 0 where
   no_line : Shaped NoLine NoMark
-  set_line : {to : ℕ} {work : Work} {rest : Lines} {way : Way} {marks : Marks} → Shaped rest marks → Shaped (SetThen to work rest) (MarkThen way marks)
-  load_line : {site to : ℕ} {element : IntType} {root : Root} {index : Atom} {rest : Lines} {way : Way} {marks : Marks} → Shaped rest marks → Shaped (LoadThen site to element root index rest) (MarkThen way marks)
-  store_line : {site : ℕ} {element : IntType} {root : Root} {index from : Atom} {rest : Lines} {way : Way} {marks : Marks} → Shaped rest marks → Shaped (StoreThen site element root index from rest) (MarkThen way marks)
-  clear_line : {array : ℕ} {rest : Lines} {way : Way} {marks : Marks} → Shaped rest marks → Shaped (ClearThen array rest) (MarkThen way marks)
-  if_line : {site : ℕ} {test : Atom} {chosen other rest : Lines} {way : Way} {one two marks : Marks} → Shaped chosen one → Shaped other two → Shaped rest marks → Shaped (IfThen site test chosen other rest) (FormThen way one two marks)
-  loop_line : {site : ℕ} {test_first : Test} {answer : Atom} {test body rest : Lines} {way : Way} {one two marks : Marks} → Shaped test one → Shaped body two → Shaped rest marks → Shaped (LoopThen site test_first test answer body rest) (FormThen way one two marks)
-  barrier_line : {site : ℕ} {rest : Lines} {way : Way} {marks : Marks} → Shaped rest marks → Shaped (BarrierThen site rest) (MarkThen way marks)
+  set_line : {to : ℕ} {work : Work} {rest : Lines} {way : Way} {marks : Marks} → Shaped rest marks →
+      Shaped (SetThen to work rest) (MarkThen way marks)
+  load_line : {site to : ℕ} {element : IntType} {root : Root} {index : Atom} {rest : Lines} {way : Way}
+      {marks : Marks} → Shaped rest marks → Shaped (LoadThen site to element root index rest) (MarkThen way marks)
+  store_line : {site : ℕ} {element : IntType} {root : Root} {index from : Atom} {rest : Lines} {way : Way}
+      {marks : Marks} → Shaped rest marks → Shaped (StoreThen site element root index from rest) (MarkThen way marks)
+  clear_line : {array : ℕ} {rest : Lines} {way : Way} {marks : Marks} → Shaped rest marks →
+      Shaped (ClearThen array rest) (MarkThen way marks)
+  if_line : {site : ℕ} {test : Atom} {chosen other rest : Lines} {way : Way} {one two marks : Marks} →
+      Shaped chosen one → Shaped other two → Shaped rest marks →
+      Shaped (IfThen site test chosen other rest) (FormThen way one two marks)
+  loop_line : {site : ℕ} {test_first : Test} {answer : Atom} {test body rest : Lines} {way : Way}
+      {one two marks : Marks} → Shaped test one → Shaped body two → Shaped rest marks →
+      Shaped (LoopThen site test_first test answer body rest) (FormThen way one two marks)
+  barrier_line : {site : ℕ} {rest : Lines} {way : Way} {marks : Marks} → Shaped rest marks →
+      Shaped (BarrierThen site rest) (MarkThen way marks)

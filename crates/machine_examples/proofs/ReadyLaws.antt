@@ -7,7 +7,8 @@ use Rattle.lane_machine.specs.Machinery.{Machinery}
 use Rattle.lane_machine.specs.Zeroed.{zeroed}
 use Rattle.machine_examples.specs.Examples.{IsReady}
 
-pub ready_again : (p : GroupProgram) (l : Launch) (m : Machinery) (before after : Held) → IsReady p l m before → zeroed after.kept ≡ zeroed before.kept → after.number ≡ 0 → IsReady p l m after
+pub ready_again : (p : GroupProgram) (l : Launch) (m : Machinery) (before after : Held) → IsReady p l m before →
+    zeroed after.kept ≡ zeroed before.kept → after.number ≡ 0 → IsReady p l m after
 ready_again p l m before after ready same number = record {
   launched = ready.launched;
   parameters = ready.parameters;

@@ -11,16 +11,20 @@ use Rattle.mask_lower.specs.Registers.{Frame, past}
 use Rattle.mask_lower.specs.Lowered.{argument, past_argument, builtin_code}
 
 -- the registers that are free behind three at most
-past_three : (next : Free) (args : List Atom) → length args ≤ 3 → past next args ≡ past_argument (past_argument (past_argument next (slice_get args 0)) (slice_get args 1)) (slice_get args 2)
+past_three : (next : Free) (args : List Atom) → length args ≤ 3 →
+    past next args ≡ past_argument (past_argument (past_argument next (slice_get args 0)) (slice_get args 1))
+    (slice_get args 2)
 past_three next [] few = refl
 past_three next (a ∷ []) few = refl
 past_three next (a ∷ b ∷ []) few = refl
 past_three next (a ∷ b ∷ c ∷ []) few = refl
 past_three next (a ∷ b ∷ c ∷ d ∷ rest) few = absurd (omega arith)
 
-pub builtin_read : (f : Frame) (next n1 n2 n3 : Free) (g : Fun) (of : IntType) (args : List Atom) (to mask a b c : Reg) (x y z : Option Atom) (old new : List Step)
+pub builtin_read : (f : Frame) (next n1 n2 n3 : Free) (g : Fun) (of : IntType) (args : List Atom)
+    (to mask a b c : Reg) (x y z : Option Atom) (old new : List Step)
     → length args ≤ 3 → x ≡ slice_get args 0 → y ≡ slice_get args 1 → z ≡ slice_get args 2
-    → (a ≡ argument f next to x) × (n1 ≡ past_argument next x) → (b ≡ argument f n1 to y) × (n2 ≡ past_argument n1 y) → (c ≡ argument f n2 to z) × (n3 ≡ past_argument n2 z)
+    → (a ≡ argument f next to x) × (n1 ≡ past_argument next x) → (b ≡ argument f n1 to y) ×
+    (n2 ≡ past_argument n1 y) → (c ≡ argument f n2 to z) × (n3 ≡ past_argument n2 z)
     → new ≡ old ++ Builtin g of to a b c mask ∷ []
     → (new ≡ old ++ builtin_code f next g of args to mask ∷ []) × (n3 ≡ past next args)
 builtin_read f next n1 n2 n3 g of args to mask a b c x y z old new few ex ey ez ea eb ec e =

@@ -15,13 +15,18 @@ pub reads_none : (e : Tasks) → ReadsVote None e
 reads_none e a is = absurd (none-some a is)
 
 -- before an if that holds a barrier, its test
-pub reads_test : (at : Place) (site : ℕ) (test : Atom) (chosen other rest : Lines) (k : Tasks) → ReadsVote (Some test) (LinesAt at (IfThen site test chosen other rest) k)
+pub reads_test : (at : Place) (site : ℕ) (test : Atom) (chosen other rest : Lines) (k : Tasks) →
+    ReadsVote (Some test) (LinesAt at (IfThen site test chosen other rest) k)
 reads_test at site test chosen other rest k a is c h =
-    or_left (reads c test) (live_in c chosen (live_in c rest (live_now c k)) || live_in c other (live_in c rest (live_now c k))) (ap (reads c) (same_Some test a is) ∙ h)
+    or_left (reads c test) (live_in c chosen (live_in c rest (live_now c k)) ||
+    live_in c other (live_in c rest (live_now c k))) (ap (reads c) (same_Some test a is) ∙ h)
 
 -- at a loop's answer, the answer
-pub reads_answer : (at : Place) (test : Lines) (answer : Atom) (body : Lines) (n : ℕ) (k : Tasks) → ReadsVote (Some answer) (AnswerAt at test answer body n k)
-reads_answer at test answer body n k a is c h = or_left (reads c answer) (live_now c k || live_in c body (live_in c test false)) (ap (reads c) (same_Some answer a is) ∙ h)
+pub reads_answer : (at : Place) (test : Lines) (answer : Atom) (body : Lines) (n : ℕ) (k : Tasks) →
+    ReadsVote (Some answer) (AnswerAt at test answer body n k)
+reads_answer at test answer body n k a is c h =
+    or_left (reads c answer) (live_now c k || live_in c body (live_in c test false))
+    (ap (reads c) (same_Some answer a is) ∙ h)
 
 -- so it is where a vote is before the items
 pub reads_at : (answer : Atom) (e : Tasks) → vote_before e ≡ Some answer → ReadsVote (Some answer) e

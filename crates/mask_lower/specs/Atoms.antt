@@ -6,13 +6,15 @@ use Rattle.wg_num.specs.Operators.{is_shift}
 use Rattle.wg_num.specs.Wrap.{wrap_of}
 use Rattle.kir.specs.declared.line.Atom.{Atom}
 use Rattle.kir.specs.declared.line.Atom.TheVariants.{Const, Cell}
-use Rattle.kir.specs.Tree.{Work, Unary, Binary, Builtin, Convert, Ask, Argument, Copy, Lines, NoLine, SetThen, LoadThen, StoreThen, ClearThen, IfThen, LoopThen, BarrierThen}
+use Rattle.kir.specs.Tree.{Work, Unary, Binary, Builtin, Convert, Ask, Argument, Copy, Lines, NoLine, SetThen}
+use Rattle.kir.specs.Tree.{LoadThen, StoreThen, ClearThen, IfThen, LoopThen, BarrierThen}
 use Rattle.regions.specs.Tree.{RegionOf}
 use Rattle.mask_lower.specs.Banks.{crosses, amount_type}
 
 -- what is read for the amount of a shift: a constant for the other bank is one of this bank
 abbrev pub amount_atom : IntType → Atom → Atom
-amount_atom of (Const value was) = if crosses of was then Const (wrap_of (amount_type of) value) (amount_type of) else Const value was
+amount_atom of (Const value was) =
+    if crosses of was then Const (wrap_of (amount_type of) value) (amount_type of) else Const value was
 amount_atom of (Cell c) = Cell c
 
 -- what is read for a right operand

@@ -1,5 +1,6 @@
 -- The masked code of a region.
-use Rattle.std.specs.Prelude.{ℕ, ◌+◌, List, [], ◌∷◌, ◌++◌, Option, Some, None, length, slice_get, slice_index_or, ◌&&◌, if◌then◌else◌}
+use Rattle.std.specs.Prelude.{ℕ, ◌+◌, List, [], ◌∷◌, ◌++◌, Option, Some, None, length, slice_get, slice_index_or}
+use Rattle.std.specs.Prelude.{◌&&◌, if◌then◌else◌}
 use Rattle.std.specs.Prelude.{Bool as Test, true, false}
 use Rattle.wg_num.specs.declared.types.IntType.{IntType}
 use Rattle.wg_num.specs.declared.types.Bin.{Bin}
@@ -8,7 +9,8 @@ use Rattle.wg_num.specs.Operators.{is_shift}
 use Rattle.cl_model.specs.Valid.{unary_type, binary_type}
 use Rattle.kir.specs.declared.line.Atom.{Atom}
 use Rattle.kir.specs.Tree as kir
-use Rattle.kir.specs.Tree.{Work, Lines, NoLine, SetThen, LoadThen, StoreThen, ClearThen, IfThen, LoopThen, BarrierThen, Kernel}
+use Rattle.kir.specs.Tree.{Work, Lines, NoLine, SetThen, LoadThen, StoreThen, ClearThen, IfThen, LoopThen}
+use Rattle.kir.specs.Tree.{BarrierThen, Kernel}
 use Rattle.regions.specs.Tree.{RegionOf}
 use Rattle.ctx_plan.specs.declared.plan.Home.{Home}
 use Rattle.lane_code.specs.declared.step.Reg.{Reg}
@@ -20,12 +22,14 @@ use Rattle.mask_lower.specs.declared.registers.Free.{Free}
 use Rattle.mask_lower.specs.declared.registers.Operand.{Operand}
 use Rattle.mask_lower.specs.Banks.{crosses, amount_type, mask_reg, register_at}
 use Rattle.mask_lower.specs.Atoms.{right_atom, atoms_of, atoms_in, region_atoms}
-use Rattle.mask_lower.specs.Registers.{Frame, frame_for, first_constants, root_at, cell_at, operand, past_atom, past, constants}
+use Rattle.mask_lower.specs.Registers.{Frame, frame_for, first_constants, root_at, cell_at, operand, past_atom, past}
+use Rattle.mask_lower.specs.Registers.{constants}
 use Rattle.mask_lower.specs.Homes.{entry_code, exit_code}
 
 -- ---- lines that compute
 
--- where what is computed in a type goes first, if it is of this kind: to the cell's register, or to that on the way to the other bank
+-- where what is computed in a type goes first, if it is of this kind: to the cell's register, or to that on the way
+-- to the other bank
 abbrev pub result_at : Frame → (of kind : IntType) → (to : Reg) → Reg
 result_at f of kind to = if crosses of kind then register_at f.scratch of else to
 
@@ -39,7 +43,8 @@ moves op of b = is_shift op && crosses of b.of
 
 -- by this step, if it is so
 abbrev pub amount_moved : Frame → Bin → IntType → Operand → (mask : Reg) → List Step
-amount_moved f op of b mask = if moves op of b then step.Convert (register_at f.scratch of) (amount_type of) b.at b.of mask ∷ [] else []
+amount_moved f op of b mask =
+    if moves op of b then step.Convert (register_at f.scratch of) (amount_type of) b.at b.of mask ∷ [] else []
 
 -- the register of the right operand
 abbrev pub right_at : Frame → Bin → IntType → Operand → Reg
@@ -49,7 +54,8 @@ right_at f op of b = if moves op of b then register_at f.scratch of else b.at
 abbrev pub binary_code : Frame → Bin → IntType → (a b : Operand) → (to mask : Reg) → List Step
 binary_code f op of a b to mask =
     amount_moved f op of b mask
-    ++ (step.Binary op of (result_at f of (binary_type op of) to) a.at (right_at f op of b) mask ∷ brought f of (binary_type op of) to mask)
+    ++ (step.Binary op of (result_at f of (binary_type op of) to) a.at (right_at f op of b) mask ∷
+    brought f of (binary_type op of) to mask)
 
 -- the register of an argument, where there is one, else any other of its bank
 abbrev pub argument : Frame → Free → (other : Reg) → Option Atom → Reg
@@ -73,11 +79,14 @@ builtin_code f next g of args to mask =
 
 -- the steps of a line that computes for this register
 abbrev pub work_code : Frame → Free → (to mask : Reg) → Work → List Step
-work_code f next to mask (kir.Unary op of a) = step.Unary op of (result_at f of (unary_type op of) to) (operand f.cells next a).at mask ∷ brought f of (unary_type op of) to mask
+work_code f next to mask (kir.Unary op of a) =
+    step.Unary op of (result_at f of (unary_type op of) to) (operand f.cells next a).at mask ∷
+    brought f of (unary_type op of) to mask
 work_code f next to mask (kir.Binary op of a b) =
     binary_code f op of (operand f.cells next a) (operand f.cells (past_atom next a) (right_atom op of b)) to mask
 work_code f next to mask (kir.Builtin g of args) = builtin_code f next g of args to mask ∷ []
-work_code f next to mask (kir.Convert kind a) = step.Convert to kind (operand f.cells next a).at (operand f.cells next a).of mask ∷ []
+work_code f next to mask (kir.Convert kind a) =
+    step.Convert to kind (operand f.cells next a).at (operand f.cells next a).of mask ∷ []
 work_code f next to mask (kir.Ask what dim) = step.Ask what to (operand f.cells next dim).at mask ∷ []
 work_code f next to mask (kir.Argument number) = step.Argument number to mask ∷ []
 work_code f next to mask (kir.Copy a) = step.Copy to (operand f.cells next a).at mask ∷ []
@@ -97,11 +106,14 @@ is_no_line (BarrierThen site rest) = false
 
 -- the code of a branch at a place, passed over where no lane takes it; nothing for a branch without lines
 abbrev pub skipped : (mask at : ℕ) → Lines → List Step → List Step
-skipped mask at lines code = if is_no_line lines then [] else step.SkipNone (mask_reg mask) (at + 1 + length code) ∷ code
+skipped mask at lines code =
+    if is_no_line lines then [] else step.SkipNone (mask_reg mask) (at + 1 + length code) ∷ code
 
 -- the same for the lanes of `outer` that are not in the mask
 abbrev pub otherwise : (outer mask at : ℕ) → Lines → List Step → List Step
-otherwise outer mask at lines code = if is_no_line lines then [] else step.MaskLess (mask_reg mask) (mask_reg outer) (mask_reg mask) ∷ skipped mask (at + 1) lines code
+otherwise outer mask at lines code =
+    if is_no_line lines then [] else step.MaskLess (mask_reg mask) (mask_reg outer) (mask_reg mask) ∷
+    skipped mask (at + 1) lines code
 
 -- the lanes of a mask whose value of an atom is not 0
 abbrev pub test_step : Frame → (next : Free) → Atom → (to mask : ℕ) → Step
@@ -111,18 +123,22 @@ test_step f next atom to mask = step.Test (mask_reg to) (operand f.cells next at
 abbrev pub turn_code : Frame → (mask : ℕ) → (next : Free) → (start : ℕ) → Atom → List Step
 turn_code f mask next start answer = test_step f next answer mask mask ∷ step.Turn (mask_reg mask) start ∷ []
 
--- the steps of lines at a place: the active lanes are in `mask`, the masks from `free` on are not in use, and the constants have the registers from `next` on
+-- the steps of lines at a place: the active lanes are in `mask`, the masks from `free` on are not in use, and the
+-- constants have the registers from `next` on
 abbrev pub lines_code : Frame → (mask free at : ℕ) → (next : Free) → Lines → List Step
 lines_code f mask free at next NoLine = []
 lines_code f mask free at next (SetThen to work rest) =
     let here = work_code f next (cell_at f.cells to).at (mask_reg mask) work in
     here ++ lines_code f mask free (at + length here) (past next (atoms_of work)) rest
 lines_code f mask free at next (LoadThen site to element root index rest) =
-    step.Load site element (root_at f.arrays root) (operand f.cells next index).at (cell_at f.cells to).at (mask_reg mask) ∷ lines_code f mask free (at + 1) (past_atom next index) rest
+    step.Load site element (root_at f.arrays root) (operand f.cells next index).at (cell_at f.cells to).at
+    (mask_reg mask) ∷ lines_code f mask free (at + 1) (past_atom next index) rest
 lines_code f mask free at next (StoreThen site element root index from rest) =
     let next1 = past_atom next index in
-    step.Store site element (root_at f.arrays root) (operand f.cells next index).at (operand f.cells next1 from).at (mask_reg mask) ∷ lines_code f mask free (at + 1) (past_atom next1 from) rest
-lines_code f mask free at next (ClearThen array rest) = step.Clear (slice_index_or f.arrays array 0) (mask_reg mask) ∷ lines_code f mask free (at + 1) next rest
+    step.Store site element (root_at f.arrays root) (operand f.cells next index).at (operand f.cells next1 from).at
+    (mask_reg mask) ∷ lines_code f mask free (at + 1) (past_atom next1 from) rest
+lines_code f mask free at next (ClearThen array rest) =
+    step.Clear (slice_index_or f.arrays array 0) (mask_reg mask) ∷ lines_code f mask free (at + 1) next rest
 lines_code f mask free at next (IfThen site test chosen other rest) =
     let next1 = past_atom next test in
     let yes_at = at + 1 in
@@ -130,7 +146,8 @@ lines_code f mask free at next (IfThen site test chosen other rest) =
     let next2 = past next1 (atoms_in chosen) in
     let no_at = yes_at + length yes_code in
     let no_code = otherwise mask free no_at other (lines_code f free (free + 1) (no_at + 1 + 1) next2 other) in
-    test_step f next test free mask ∷ (yes_code ++ (no_code ++ lines_code f mask free (no_at + length no_code) (past next2 (atoms_in other)) rest))
+    test_step f next test free mask ∷
+    (yes_code ++ (no_code ++ lines_code f mask free (no_at + length no_code) (past next2 (atoms_in other)) rest))
 lines_code f mask free at next (LoopThen site test_first test answer body rest) =
     let body_code = lines_code f free (free + 1) (at + 2) next body in
     let next1 = past next (atoms_in body) in
@@ -139,8 +156,10 @@ lines_code f mask free at next (LoopThen site test_first test answer body rest) 
     let next2 = past next1 (atoms_in test) in
     let turn_at = test_at + length test_code + 1 in
     step.MaskAnd (mask_reg free) (mask_reg mask) (mask_reg mask) ∷ step.Jump (if test_first then test_at else turn_at)
-    ∷ (body_code ++ (test_code ++ (turn_code f free next2 (at + 2) answer ++ lines_code f mask free (turn_at + 1) (past_atom next2 answer) rest)))
-lines_code f mask free at next (BarrierThen site rest) = step.Mark site (mask_reg mask) ∷ lines_code f mask free (at + 1) next rest
+    ∷ (body_code ++ (test_code ++ (turn_code f free next2 (at + 2) answer ++ lines_code f mask free (turn_at + 1)
+    (past_atom next2 answer) rest)))
+lines_code f mask free at next (BarrierThen site rest) =
+    step.Mark site (mask_reg mask) ∷ lines_code f mask free (at + 1) next rest
 
 -- ---- parts of lines
 
@@ -150,7 +169,8 @@ branch_code f mask free at next lines = skipped mask at lines (lines_code f mask
 
 -- the same for the lanes of `outer` that are not in the mask
 abbrev pub other_code : Frame → (outer mask free at : ℕ) → (next : Free) → Lines → List Step
-other_code f outer mask free at next lines = otherwise outer mask at lines (lines_code f mask free (at + 1 + 1) next lines)
+other_code f outer mask free at next lines =
+    otherwise outer mask at lines (lines_code f mask free (at + 1 + 1) next lines)
 
 -- ---- regions
 
@@ -161,7 +181,8 @@ rest_code f at next test answer body =
     let next1 = past next (atoms_in body) in
     let test_at = at + 3 + length body_code in
     let test_code = lines_code f 1 2 test_at next1 test in
-    step.VoteGet (mask_reg 1) ∷ step.MaskAnd (mask_reg 1) (mask_reg 0) (mask_reg 1) ∷ step.Jump (test_at + length test_code + 1)
+    step.VoteGet (mask_reg 1) ∷ step.MaskAnd (mask_reg 1) (mask_reg 0) (mask_reg 1) ∷
+    step.Jump (test_at + length test_code + 1)
     ∷ (body_code ++ (test_code ++ turn_code f 1 (past next1 (atoms_in test)) (at + 3) answer))
 
 -- the lines of a region under all existing lanes; one that begins with votes is the rest of its one line, a loop
@@ -185,8 +206,10 @@ steps_with f atoms homes region =
 
 -- the steps of a region of a kernel whose cells have these homes
 abbrev pub region_steps : Kernel → List Home → RegionOf → List Step
-region_steps kernel homes region = let atoms = region_atoms region in steps_with (frame_for kernel atoms) atoms homes region
+region_steps kernel homes region = let atoms =
+    region_atoms region in steps_with (frame_for kernel atoms) atoms homes region
 
 -- the code of a region
 abbrev pub region_code : Kernel → List Home → RegionOf → PlainCode
-region_code kernel homes region = let steps = region_steps kernel homes region in record { steps = steps; counts = counted steps }
+region_code kernel homes region = let steps =
+    region_steps kernel homes region in record { steps = steps; counts = counted steps }

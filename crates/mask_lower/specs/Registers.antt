@@ -1,6 +1,7 @@
--- The registers of a region: first those of the cells that it names, then one of each bank for what is on its way to another bank,
--- then one for each constant that it names.
-use Rattle.std.specs.Prelude.{ℕ, ◌+◌, List, [], ◌∷◌, Option, Some, None, length, replicate, unwrap_or, slice_index_or, slice_set, if◌then◌else◌}
+-- The registers of a region: first those of the cells that it names, then one of each bank for what is on its way to
+-- another bank, then one for each constant that it names.
+use Rattle.std.specs.Prelude.{ℕ, ◌+◌, List, [], ◌∷◌, Option, Some, None, length, replicate, unwrap_or, slice_index_or}
+use Rattle.std.specs.Prelude.{slice_set, if◌then◌else◌}
 use Rattle.std.specs.Prelude.{Bool as Test, true, false}
 use Rattle.wg_num.specs.declared.types.IntType.TheVariants.{Int}
 use Rattle.cl_model.specs.declared.program.Root.{Root}
@@ -24,19 +25,22 @@ marked marks [] = marks
 marked marks (Const value of ∷ atoms) = marked marks atoms
 marked marks (CellAtom c ∷ atoms) = marked (slice_set marks c true) atoms
 
--- the register of each marked cell, where the first cell has this number and these registers are free: dense in each bank, in the order of the cells
+-- the register of each marked cell, where the first cell has this number and these registers are free: dense in each
+-- bank, in the order of the cells
 abbrev pub cells_from : List Test → Free → (number : ℕ) → List Cell → List (Option Operand)
 cells_from marks next number [] = []
 cells_from marks next number (cell ∷ cells) =
     (if slice_index_or marks number false
-    then Some (record { of = cell.of; at = register_at next cell.of }) ∷ cells_from marks (advanced next cell.of) (number + 1) cells
+    then Some (record { of = cell.of; at = register_at next cell.of }) ∷ cells_from marks (advanced next cell.of)
+    (number + 1) cells
     else None ∷ cells_from marks next (number + 1) cells)
 
 -- the registers that are free behind those of the marked cells
 abbrev pub behind_cells : List Test → Free → (number : ℕ) → List Cell → Free
 behind_cells marks next number [] = next
 behind_cells marks next number (cell ∷ cells) =
-    (if slice_index_or marks number false then behind_cells marks (advanced next cell.of) (number + 1) cells else behind_cells marks next (number + 1) cells)
+    (if slice_index_or marks number false then behind_cells marks (advanced next cell.of) (number + 1) cells else
+    behind_cells marks next (number + 1) cells)
 
 -- one more where the test holds
 abbrev pub more_if : Test → ℕ → ℕ
@@ -46,10 +50,11 @@ more_if b n = if b then n + 1 else n
 abbrev pub places_from : (locals privates : ℕ) → List Array → List ℕ
 places_from locals privates [] = []
 places_from locals privates (array ∷ arrays) =
-    (if is_local array.space then locals else privates) ∷ places_from (more_if (is_local array.space) locals) (more_if (is_private array.space) privates) arrays
+    (if is_local array.space then locals else privates) ∷ places_from (more_if (is_local array.space) locals)
+    (more_if (is_private array.space) privates) arrays
 
--- what the code of a region is made with: the register and type of each cell that it names, the number of each array among those of its space, and
--- the registers for what is on its way to another bank
+-- what the code of a region is made with: the register and type of each cell that it names, the number of each array
+-- among those of its space, and the registers for what is on its way to another bank
 pub record Frame : Type 0 where
   pub cells : List (Option Operand)
   pub arrays : List ℕ
@@ -108,7 +113,8 @@ constants next [] = []
 constants next (Const value of ∷ atoms) = ConstStep (register_at next of) of value ∷ constants (advanced next of) atoms
 constants next (CellAtom c ∷ atoms) = constants next atoms
 
--- a root of a kernel by the numbers of its arrays: lane code numbers the local arrays and the private arrays each by themselves
+-- a root of a kernel by the numbers of its arrays: lane code numbers the local arrays and the private arrays each by
+-- themselves
 abbrev pub root_at : List ℕ → Root → Root
 root_at arrays (Param n) = Param n
 root_at arrays (Constant n) = Constant n

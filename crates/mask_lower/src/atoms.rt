@@ -90,7 +90,8 @@ fn list_lines(atoms: &mut Vec<Atom>, lines: &Vec<Line>) -> Result<(), Memory>
 /// What a line names, before what those behind it do.
 #[cycle(atoms)]
 fn list_line(atoms: &mut Vec<Atom>, line: &Line) -> Result<(), Memory>
-    ensures { OnOk result ((rest : Lines) → atoms.old.items ++ spec.atoms_in (line_before line.now rest) ≡ atoms.new.items ++ spec.atoms_in rest) }
+    ensures { OnOk result ((rest : Lines) → atoms.old.items ++ spec.atoms_in (line_before line.now rest) ≡
+        atoms.new.items ++ spec.atoms_in rest) }
 {
     match line {
         Line::Set { to, work } => {

@@ -125,7 +125,8 @@ pub(crate) fn lower_exit(
     live: &Vec<u32>,
     homes: &Vec<Home>,
 ) -> Result<(), Memory>
-    ensures { OnOk result (code.new.items ≡ code.old.items ++ spec.exit_code homes.now.items cells.now.items live.now.items) }
+    ensures { OnOk result (code.new.items ≡ code.old.items ++ spec.exit_code homes.now.items cells.now.items
+        live.now.items) }
 {
     for cell in live {
         let operand = cell_at(cells, *cell)?;

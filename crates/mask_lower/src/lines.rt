@@ -31,8 +31,12 @@ fn lower_plain(
     layout: &Layout,
     at: Scope,
 ) -> Result<Free, Memory>
-    ensures code { IfOk result (λ after. (rest : Lines) → code.old.items ++ spec.lines_code (frame_of layout.now) at.mask at.free (length code.old.items) at.next (line_before line.now rest) ≡ code.new.items ++ spec.lines_code (frame_of layout.now) at.mask at.free (length code.new.items) after rest) }
-    ensures next { IfOk result (λ after. (rest : Lines) → past at.next (atoms_in (line_before line.now rest)) ≡ past after (atoms_in rest)) }
+    ensures code { IfOk result (λ after. (rest : Lines) →
+        code.old.items ++ spec.lines_code (frame_of layout.now) at.mask at.free (length code.old.items) at.next
+        (line_before line.now rest) ≡ code.new.items ++ spec.lines_code (frame_of layout.now) at.mask at.free
+        (length code.new.items) after rest) }
+    ensures next { IfOk result (λ after. (rest : Lines) → past at.next (atoms_in (line_before line.now rest)) ≡
+        past after (atoms_in rest)) }
 {
     let mask = mask_reg(at.mask);
     match line {
@@ -115,7 +119,8 @@ pub(crate) fn lower_lines(
     layout: &Layout,
     at: Scope,
 ) -> Result<Free, Memory>
-    ensures code { OnOk result (code.new.items ≡ code.old.items ++ spec.lines_code (frame_of layout.now) at.mask at.free (length code.old.items) at.next (lines_of lines.now.items)) }
+    ensures code { OnOk result (code.new.items ≡ code.old.items ++ spec.lines_code (frame_of layout.now) at.mask
+        at.free (length code.old.items) at.next (lines_of lines.now.items)) }
     ensures next { IfOk result (λ after. after ≡ past at.next (atoms_in (lines_of lines.now.items))) }
 {
     let mut next = at.next;
@@ -133,8 +138,12 @@ pub(crate) fn lower_lines(
 /// A line; the registers that are free for constants behind it.
 #[cycle(lines)]
 fn lower_line(code: &mut Vec<Step>, line: &Line, layout: &Layout, at: Scope) -> Result<Free, Memory>
-    ensures code { IfOk result (λ after. (rest : Lines) → code.old.items ++ spec.lines_code (frame_of layout.now) at.mask at.free (length code.old.items) at.next (line_before line.now rest) ≡ code.new.items ++ spec.lines_code (frame_of layout.now) at.mask at.free (length code.new.items) after rest) }
-    ensures next { IfOk result (λ after. (rest : Lines) → past at.next (atoms_in (line_before line.now rest)) ≡ past after (atoms_in rest)) }
+    ensures code { IfOk result (λ after. (rest : Lines) →
+        code.old.items ++ spec.lines_code (frame_of layout.now) at.mask at.free (length code.old.items) at.next
+        (line_before line.now rest) ≡ code.new.items ++ spec.lines_code (frame_of layout.now) at.mask at.free
+        (length code.new.items) after rest) }
+    ensures next { IfOk result (λ after. (rest : Lines) → past at.next (atoms_in (line_before line.now rest)) ≡
+        past after (atoms_in rest)) }
 {
     match line {
         Line::If { .. } => lower_if(code, line, layout, at),
@@ -151,8 +160,12 @@ fn lower_line(code: &mut Vec<Step>, line: &Line, layout: &Layout, at: Scope) -> 
 /// rest.
 #[cycle(lines)]
 fn lower_if(code: &mut Vec<Step>, line: &Line, layout: &Layout, at: Scope) -> Result<Free, Memory>
-    ensures code { IfOk result (λ after. (rest : Lines) → code.old.items ++ spec.lines_code (frame_of layout.now) at.mask at.free (length code.old.items) at.next (line_before line.now rest) ≡ code.new.items ++ spec.lines_code (frame_of layout.now) at.mask at.free (length code.new.items) after rest) }
-    ensures next { IfOk result (λ after. (rest : Lines) → past at.next (atoms_in (line_before line.now rest)) ≡ past after (atoms_in rest)) }
+    ensures code { IfOk result (λ after. (rest : Lines) →
+        code.old.items ++ spec.lines_code (frame_of layout.now) at.mask at.free (length code.old.items) at.next
+        (line_before line.now rest) ≡ code.new.items ++ spec.lines_code (frame_of layout.now) at.mask at.free
+        (length code.new.items) after rest) }
+    ensures next { IfOk result (λ after. (rest : Lines) → past at.next (atoms_in (line_before line.now rest)) ≡
+        past after (atoms_in rest)) }
 {
     let Line::If { test, yes, no, .. } = line else {
         return Err(Memory);
@@ -182,7 +195,8 @@ fn lower_branch(
     layout: &Layout,
     at: Scope,
 ) -> Result<Free, Memory>
-    ensures code { OnOk result (code.new.items ≡ code.old.items ++ spec.branch_code (frame_of layout.now) at.mask at.free (length code.old.items) at.next (lines_of lines.now.items)) }
+    ensures code { OnOk result (code.new.items ≡ code.old.items ++ spec.branch_code (frame_of layout.now) at.mask
+        at.free (length code.old.items) at.next (lines_of lines.now.items)) }
     ensures next { IfOk result (λ after. after ≡ past at.next (atoms_in (lines_of lines.now.items))) }
 {
     if is_no_line(lines) {
@@ -204,7 +218,8 @@ fn lower_other(
     outer: u32,
     at: Scope,
 ) -> Result<Free, Memory>
-    ensures code { OnOk result (code.new.items ≡ code.old.items ++ spec.other_code (frame_of layout.now) outer at.mask at.free (length code.old.items) at.next (lines_of lines.now.items)) }
+    ensures code { OnOk result (code.new.items ≡ code.old.items ++ spec.other_code (frame_of layout.now) outer
+        at.mask at.free (length code.old.items) at.next (lines_of lines.now.items)) }
     ensures next { IfOk result (λ after. after ≡ past at.next (atoms_in (lines_of lines.now.items))) }
 {
     if is_no_line(lines) {
@@ -225,8 +240,12 @@ fn entry_of(test_first: bool, test_at: u32, turn_at: u32) -> u32
 /// A loop: its lanes have a mask of their own, from which those are taken that are done.
 #[cycle(lines)]
 fn lower_loop(code: &mut Vec<Step>, line: &Line, layout: &Layout, at: Scope) -> Result<Free, Memory>
-    ensures code { IfOk result (λ after. (rest : Lines) → code.old.items ++ spec.lines_code (frame_of layout.now) at.mask at.free (length code.old.items) at.next (line_before line.now rest) ≡ code.new.items ++ spec.lines_code (frame_of layout.now) at.mask at.free (length code.new.items) after rest) }
-    ensures next { IfOk result (λ after. (rest : Lines) → past at.next (atoms_in (line_before line.now rest)) ≡ past after (atoms_in rest)) }
+    ensures code { IfOk result (λ after. (rest : Lines) →
+        code.old.items ++ spec.lines_code (frame_of layout.now) at.mask at.free (length code.old.items) at.next
+        (line_before line.now rest) ≡ code.new.items ++ spec.lines_code (frame_of layout.now) at.mask at.free
+        (length code.new.items) after rest) }
+    ensures next { IfOk result (λ after. (rest : Lines) → past at.next (atoms_in (line_before line.now rest)) ≡
+        past after (atoms_in rest)) }
 {
     let Line::Loop {
         test_first,
@@ -266,7 +285,8 @@ pub(crate) fn lower_rest(
     layout: &Layout,
     next: Free,
 ) -> Result<Free, Memory>
-    ensures code { OnOk result (code.new.items ≡ code.old.items ++ spec.begun_code (frame_of layout.now) (length code.old.items) next true (line_before line.now NoLine)) }
+    ensures code { OnOk result (code.new.items ≡ code.old.items ++ spec.begun_code (frame_of layout.now)
+        (length code.old.items) next true (line_before line.now NoLine)) }
     ensures next { IfOk result (λ after. after ≡ past next (atoms_in (line_before line.now NoLine))) }
 {
     let Line::Loop {

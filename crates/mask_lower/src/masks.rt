@@ -1,6 +1,17 @@
 //! Steps on masks, and the jumps that look at them.
 
-ghost use Rattle.std.specs.Prelude.{◌≡◌, ◌+◌, ◌++◌, ◌∷◌, ◌<◌, [], length, slice_set, IfOk, OnOk};
+ghost use Rattle.std.specs.Prelude.{
+  ◌≡◌,
+  ◌+◌,
+  ◌++◌,
+  ◌∷◌,
+  ◌<◌,
+  [],
+  length,
+  slice_set,
+  IfOk,
+  OnOk,
+};
 ghost use Rattle.lane_code.specs.declared.step.Step.TheVariants as step;
 ghost use Rattle.mask_lower.specs.Banks.{mask_reg as mask_at};
 ghost use Rattle.mask_lower.specs.Registers.{frame_of, past_atom};
@@ -29,7 +40,8 @@ pub(crate) fn lower_test(
     to: u32,
     mask: u32,
 ) -> Result<Free, Memory>
-    ensures code { OnOk result (code.new.items ≡ code.old.items ++ spec.test_step (frame_of layout.now) next atom to mask ∷ []) }
+    ensures code { OnOk result (code.new.items ≡ code.old.items ++ spec.test_step (frame_of layout.now) next atom to
+        mask ∷ []) }
     ensures next { IfOk result (λ after. after ≡ past_atom next atom) }
 {
     let (from, after) = read(&layout.cells, next, atom)?;
@@ -46,7 +58,8 @@ pub(crate) fn lower_test(
 
 /// The mask `to` is the lanes of both.
 pub(crate) fn put_and(code: &mut Vec<Step>, to: u32, a: u32, b: u32) -> Result<(), Memory>
-    ensures { OnOk result (code.new.items ≡ code.old.items ++ step.MaskAnd (mask_at to) (mask_at a) (mask_at b) ∷ []) }
+    ensures { OnOk result (code.new.items ≡ code.old.items ++ step.MaskAnd (mask_at to) (mask_at a) (mask_at b) ∷
+        []) }
 {
     put(
         code,
@@ -61,7 +74,8 @@ pub(crate) fn put_and(code: &mut Vec<Step>, to: u32, a: u32, b: u32) -> Result<(
 
 /// The mask `to` is the lanes of `a` that are not in `b`.
 pub(crate) fn put_less(code: &mut Vec<Step>, to: u32, a: u32, b: u32) -> Result<(), Memory>
-    ensures { OnOk result (code.new.items ≡ code.old.items ++ step.MaskLess (mask_at to) (mask_at a) (mask_at b) ∷ []) }
+    ensures { OnOk result (code.new.items ≡ code.old.items ++ step.MaskLess (mask_at to) (mask_at a) (mask_at b) ∷
+        []) }
 {
     put(
         code,
@@ -91,7 +105,8 @@ pub(crate) fn put_skip(code: &mut Vec<Step>, mask: u32) -> Result<(), Memory>
 /// The step at `from` passes over all steps up to the end of the code.
 pub(crate) fn skip_to_end(code: &mut Vec<Step>, from: usize, mask: u32) -> Result<(), Memory>
     requires { from < length code.old.items }
-    ensures { OnOk result (code.new.items ≡ slice_set code.old.items from (step.SkipNone (mask_at mask) (length code.old.items))) }
+    ensures { OnOk result (code.new.items ≡
+        slice_set code.old.items from (step.SkipNone (mask_at mask) (length code.old.items))) }
 {
     let target = place(code)?;
     code[from] = Step::SkipNone {
@@ -111,7 +126,8 @@ pub(crate) fn lower_turn(
     mask: u32,
     start: u32,
 ) -> Result<(u32, Free), Memory>
-    ensures code { OnOk result (code.new.items ≡ code.old.items ++ spec.turn_code (frame_of layout.now) mask next start answer) }
+    ensures code { OnOk result (code.new.items ≡ code.old.items ++ spec.turn_code (frame_of layout.now) mask next
+        start answer) }
     ensures next { IfOk result (λ x. (x.0 ≡ length code.old.items + 1) × (x.1 ≡ past_atom next answer)) }
 {
     let after = lower_test(code, layout, next, answer, mask, mask)?;

@@ -1,6 +1,18 @@
 //! The registers of the cells and constants that a region names, and the numbers of its arrays.
 
-ghost use Rattle.std.specs.Prelude.{◌≡◌, ◌++◌, ◌∷◌, List, false, length, map, replicate, slice_index_or, IfOk, OnOk};
+ghost use Rattle.std.specs.Prelude.{
+  ◌≡◌,
+  ◌++◌,
+  ◌∷◌,
+  List,
+  false,
+  length,
+  map,
+  replicate,
+  slice_index_or,
+  IfOk,
+  OnOk,
+};
 ghost use Rattle.kir.specs.declared.line.Atom.{Atom};
 ghost use Rattle.kir.specs.Listed.{cell_of};
 ghost use Rattle.kir.specs.View.{kernel_of};
@@ -27,7 +39,8 @@ fn unmarked(alloc: Global, cells: &Vec<Cell>) -> Result<Vec<bool>, Memory>
 
 /// Marks the cell that the atom names.
 fn mark(marks: &mut Vec<bool>, atom: Atom) -> Result<(), Memory>
-    ensures { OnOk result ((atoms : List Atom) → spec.marked marks.old.items (atom ∷ atoms) ≡ spec.marked marks.new.items atoms) }
+    ensures { OnOk result ((atoms : List Atom) →
+        spec.marked marks.old.items (atom ∷ atoms) ≡ spec.marked marks.new.items atoms) }
 {
     match atom {
         Atom::Const { .. } => Ok(()),
@@ -65,7 +78,9 @@ fn place_cells(
     marks: &Vec<bool>,
     cells: &Vec<Cell>,
 ) -> Result<(Vec<Option<Operand>>, Free), Memory>
-    ensures { IfOk result (λ x. (x.0.items ≡ spec.cells_from marks.now.items spec.all_free 0 (map cell_of cells.now.items)) × (x.1 ≡ spec.behind_cells marks.now.items spec.all_free 0 (map cell_of cells.now.items))) }
+    ensures { IfOk result (λ x. (x.0.items ≡ spec.cells_from marks.now.items spec.all_free 0
+        (map cell_of cells.now.items)) ×
+        (x.1 ≡ spec.behind_cells marks.now.items spec.all_free 0 (map cell_of cells.now.items))) }
 {
     let mut placed = Vec::new(alloc);
     let mut next = Free { narrow: 0, wide: 0 };
@@ -151,7 +166,8 @@ pub(crate) fn read(
     next: Free,
     atom: Atom,
 ) -> Result<(Operand, Free), Memory>
-    ensures { IfOk result (λ x. (x.0 ≡ spec.operand cells.now.items next atom) × (x.1 ≡ spec.past_atom next atom)) }
+    ensures { IfOk result (λ x. (x.0 ≡ spec.operand cells.now.items next atom) ×
+        (x.1 ≡ spec.past_atom next atom)) }
 {
     match atom {
         Atom::Const { of, .. } => {
@@ -197,7 +213,8 @@ pub(crate) fn root_at(arrays: &Vec<u32>, root: Root) -> Result<Root, Memory>
 
 /// Puts the constant that an atom is, and answers the registers that are free behind it.
 fn lower_constant(code: &mut Vec<Step>, next: Free, atom: Atom) -> Result<Free, Memory>
-    ensures { IfOk result (λ after. (atoms : List Atom) → code.old.items ++ spec.constants next (atom ∷ atoms) ≡ code.new.items ++ spec.constants after atoms) }
+    ensures { IfOk result (λ after. (atoms : List Atom) →
+        code.old.items ++ spec.constants next (atom ∷ atoms) ≡ code.new.items ++ spec.constants after atoms) }
 {
     match atom {
         Atom::Const { value, of } => {

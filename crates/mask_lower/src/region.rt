@@ -31,7 +31,8 @@ pub fn lower_region(
     plan: &Plan,
     kernel: &Kernel,
 ) -> Result<Code, Memory>
-    ensures code { IfOk result (λ c. code_of c ≡ spec.region_code (kernel_of kernel.now) plan.now.homes.items (region_of region.now)) }
+    ensures code { IfOk result (λ c. code_of c ≡ spec.region_code (kernel_of kernel.now) plan.now.homes.items
+        (region_of region.now)) }
     ensures accesses { IfOk result (λ c. SameAccesses (lines_of region.now.lines.items) c.steps.items) }
 {
     let steps = region_steps(alloc, region, &plan.homes, kernel)?;
@@ -48,7 +49,8 @@ fn region_steps(
     homes: &Vec<Home>,
     kernel: &Kernel,
 ) -> Result<Vec<Step>, Memory>
-    ensures { IfOk result (λ steps. steps.items ≡ spec.region_steps (kernel_of kernel.now) homes.now.items (region_of region.now)) }
+    ensures { IfOk result (λ steps. steps.items ≡ spec.region_steps (kernel_of kernel.now) homes.now.items
+        (region_of region.now)) }
 {
     let atoms = region_atoms(alloc, region)?;
     let layout = layout(alloc, &atoms, kernel)?;
@@ -64,7 +66,8 @@ fn steps_with(
     layout: &Layout,
     atoms: &Vec<Atom>,
 ) -> Result<Vec<Step>, Memory>
-    ensures { IfOk result (λ steps. steps.items ≡ spec.steps_with (frame_of layout.now) atoms.now.items homes.now.items (region_of region.now)) }
+    ensures { IfOk result (λ steps. steps.items ≡ spec.steps_with (frame_of layout.now) atoms.now.items
+        homes.now.items (region_of region.now)) }
 {
     let first = first_constants(layout)?;
     let mut code = Vec::new(alloc);
@@ -84,7 +87,10 @@ fn lower_begun(
     layout: &Layout,
     next: Free,
 ) -> Result<Free, Memory>
-    ensures { IfOk result (λ after. (code.new.items ≡ code.old.items ++ spec.begun_code (frame_of layout.now) (length code.old.items) next region.now.from_vote (lines_of region.now.lines.items)) × (after ≡ past next (atoms_in (lines_of region.now.lines.items)))) }
+    ensures { IfOk result (λ after.
+        (code.new.items ≡ code.old.items ++ spec.begun_code (frame_of layout.now) (length code.old.items) next
+        region.now.from_vote (lines_of region.now.lines.items)) ×
+        (after ≡ past next (atoms_in (lines_of region.now.lines.items)))) }
 {
     if region.from_vote {
         match region.lines.as_slice() {

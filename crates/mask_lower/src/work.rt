@@ -112,7 +112,8 @@ fn lower_binary(
     to: Reg,
     mask: Reg,
 ) -> Result<(), Memory>
-    ensures { OnOk result (code.new.items ≡ code.old.items ++ spec.binary_code (frame_of layout.now) what.op what.of what.a what.b to mask) }
+    ensures { OnOk result (code.new.items ≡ code.old.items ++ spec.binary_code (frame_of layout.now) what.op what.of
+        what.a what.b to mask) }
 {
     let Operation { op, of, a, b } = what;
     let kind = binary_type(op, of);
@@ -147,7 +148,8 @@ fn argument(
     other: Reg,
     atom: Option<Atom>,
 ) -> Result<(Reg, Free), Memory>
-    ensures { IfOk result (λ x. (x.0 ≡ spec.argument (frame_of layout.now) next other atom) × (x.1 ≡ spec.past_argument next atom)) }
+    ensures { IfOk result (λ x. (x.0 ≡ spec.argument (frame_of layout.now) next other atom) ×
+        (x.1 ≡ spec.past_argument next atom)) }
 {
     match atom {
         None => Ok((other, next)),
@@ -175,7 +177,9 @@ fn lower_builtin(
     to: Reg,
     mask: Reg,
 ) -> Result<Free, Memory>
-    ensures { IfOk result (λ after. (code.new.items ≡ code.old.items ++ spec.builtin_code (frame_of layout.now) next what.f what.of args.now.items to mask ∷ []) × (after ≡ past next args.now.items)) }
+    ensures { IfOk result (λ after.
+        (code.new.items ≡ code.old.items ++ spec.builtin_code (frame_of layout.now) next what.f what.of
+        args.now.items to mask ∷ []) × (after ≡ past next args.now.items)) }
 {
     if args.len() > 3 {
         return Err(Memory);
@@ -208,7 +212,9 @@ pub(crate) fn lower_work(
     mask: Reg,
     work: &Work,
 ) -> Result<Free, Memory>
-    ensures { IfOk result (λ after. (code.new.items ≡ code.old.items ++ spec.work_code (frame_of layout.now) next to mask (work_of work.now)) × (after ≡ past next (atoms_of (work_of work.now)))) }
+    ensures { IfOk result (λ after.
+        (code.new.items ≡ code.old.items ++ spec.work_code (frame_of layout.now) next to mask (work_of work.now))
+        × (after ≡ past next (atoms_of (work_of work.now)))) }
 {
     match work {
         Work::Unary { op, of, a } => {

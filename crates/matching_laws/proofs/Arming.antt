@@ -1,5 +1,6 @@
 -- What is known of the arms of a switch, and the lines that say which of them is entered.
-use Rattle.std.proofs.Common.{◌≡◌, ℕ, suc, ◌+◌, ◌<◌, ◌≤◌, ℤ, pos, List, [], ◌∷◌, ◌++◌, Option, Some, None, refl, sym, ap, ap₂, ◌∙◌, subst, arith, append_assoc, true, false, if◌then◌else◌}
+use Rattle.std.proofs.Common.{◌≡◌, ℕ, suc, ◌+◌, ◌<◌, ◌≤◌, ℤ, pos, List, [], ◌∷◌, ◌++◌, Option, Some, None, refl, sym}
+use Rattle.std.proofs.Common.{ap, ap₂, ◌∙◌, subst, arith, append_assoc, true, false, if◌then◌else◌}
 use Rattle.std.proofs.Common.{Bool as Test}
 use Rattle.std.specs.Prelude.{◌||◌, ◌&&◌}
 use Rattle.std.specs.Ordering.{int_eq}
@@ -33,7 +34,9 @@ use Rattle.matching_laws.specs.Facts.{Rules}
 use Rattle.matching_laws.specs.Ready.{Adds}
 use Rattle.matching_laws.specs.Bodies.{ReadyList, ReadyArms}
 use Rattle.matching_laws.proofs.Lines.{NoVariable, updated_same, updated_other, value_line}
-use Rattle.matching_laws.proofs.Keeping.{Grows, grows_same, grows_before, grows_with, grows_count, next_with, within_less, value_made, made_no_variable, cell_plain, atom_plain, atom_below, value_fixed}
+use Rattle.matching_laws.proofs.Keeping.{Grows, grows_same, grows_before, grows_with, grows_count, next_with}
+use Rattle.matching_laws.proofs.Keeping.{within_less, value_made, made_no_variable, cell_plain, atom_plain}
+use Rattle.matching_laws.proofs.Keeping.{atom_below, value_fixed}
 use Rattle.matching_laws.proofs.Actions.{equal_value}
 use Rattle.matching_laws.proofs.Readying.{next_left, next_right, adds_same, adds_before}
 use Rattle.matching_laws.proofs.Containing.{exit_more, exit_first, exit_second, list_grows, list_adds, arms_grow}
@@ -80,8 +83,10 @@ equal_bit a b t e = equal_value Int a b ∙ by t e
     by false e = ap (λ z. if z then pos 1 else pos 0) e
 
 module _ (S : Setting) (C : Activation) (calls : Calls)
-    (grows : (site function : ℕ) (roots : List Root) (values : List Value) (m : Made) → Grows (call_of site function ∷ []) m (calls C.here site function roots values m).made)
-    (adds : (site function : ℕ) (roots : List Root) (values : List Value) (m : Made) → Adds S C (call_of site function ∷ []) m (calls C.here site function roots values m).made)
+    (grows : (site function : ℕ) (roots : List Root) (values : List Value) (m : Made) →
+    Grows (call_of site function ∷ []) m (calls C.here site function roots values m).made)
+    (adds : (site function : ℕ) (roots : List Root) (values : List Value) (m : Made) →
+    Adds S C (call_of site function ∷ []) m (calls C.here site function roots values m).made)
     (scope : Scope) (cell : Option ℕ) (exit : ℕ) (way : Way) (site : ℕ) (chosen fallen : Atom) where
   -- ---- the parts of arms
 
@@ -89,14 +94,17 @@ module _ (S : Setting) (C : Activation) (calls : Calls)
   entry_grows k m = entry_makes Grows grows_same grows_before (grows_with OfValue) (grows_with OfFlag) chosen fallen k m
 
   fallen_grows : (out : Option ℕ) (entered : Value) (m : Made) → Grows [] m (fallen_code out exit entered m).made
-  fallen_grows out entered m = fallen_makes Grows grows_same grows_before (grows_with OfValue) (grows_with OfFlag) out exit entered m
+  fallen_grows out entered m =
+      fallen_makes Grows grows_same grows_before (grows_with OfValue) (grows_with OfFlag) out exit entered m
 
   -- the cells that an arm makes
   pub record ArmGrows (k : ℕ) (body : Statements) (m : Made) : Type 0 where
     pub entry : next_cell m ≤ next_cell (entry_code chosen fallen k m).made
-    pub list : next_cell (entry_code chosen fallen k m).made ≤ next_cell (list_code calls C.here exit false body (entry_code chosen fallen k m).made).made
+    pub list : next_cell (entry_code chosen fallen k m).made ≤
+        next_cell (list_code calls C.here exit false body (entry_code chosen fallen k m).made).made
     pub all : next_cell (list_code calls C.here exit false body (entry_code chosen fallen k m).made).made
-        ≤ next_cell (around_arm site exit (way_out_of_all true true body) (entry_code chosen fallen k m) (code_in_order (list_code calls C.here exit false body (entry_code chosen fallen k m).made))).made
+        ≤ next_cell (around_arm site exit (way_out_of_all true true body) (entry_code chosen fallen k m)
+        (code_in_order (list_code calls C.here exit false body (entry_code chosen fallen k m).made))).made
 
   pub arm_grows : (k : ℕ) (body : Statements) (m : Made) → ArmGrows k body m
   arm_grows k body m =
@@ -104,11 +112,14 @@ module _ (S : Setting) (C : Activation) (calls : Calls)
       let cb = list_code calls C.here exit false body ce.made in
       record {
         entry = grows_count [] m ce.made (entry_grows k m);
-        list = grows_count (calls_of_all body) ce.made cb.made (list_grows S C calls grows adds exit false body ce.made);
-        all = grows_count [] cb.made (fallen_code (way_out_of_all true true body) exit ce.value cb.made).made (fallen_grows (way_out_of_all true true body) ce.value cb.made);
+        list =
+            grows_count (calls_of_all body) ce.made cb.made (list_grows S C calls grows adds exit false body ce.made);
+        all = grows_count [] cb.made (fallen_code (way_out_of_all true true body) exit ce.value cb.made).made
+            (fallen_grows (way_out_of_all true true body) ce.value cb.made);
       }
 
-  pub arm_body : (k : ℕ) (labels : List ℤ) (other : Test) (body : Statements) (rest : Arms) (m : Made) → ReadyArms S C calls scope cell exit way site chosen fallen k (arm labels other body rest) m
+  pub arm_body : (k : ℕ) (labels : List ℤ) (other : Test) (body : Statements) (rest : Arms) (m : Made) →
+      ReadyArms S C calls scope cell exit way site chosen fallen k (arm labels other body rest) m
       → ReadyList S C calls scope cell exit (further way (Arm k)) 0 false body (entry_code chosen fallen k m).made
   unfolding arms_code
   arm_body k labels other body rest m r =
@@ -119,11 +130,17 @@ module _ (S : Setting) (C : Activation) (calls : Calls)
       let l = r.low in
       record {
         sound = r.sound.0;
-        leads = λ begun n i e along v h. subst (λ z. IsScopedAt S.program z v) (sym (append_assoc (way begun) (Arm k ∷ []) (Nth n ∷ along)))
-            (subst (λ z. IsScopedAt S.program (way begun ++ Arm k ∷ Nth z ∷ along) v) (let same : i ≡ n = omega (arith, e) in same) (r.leads begun k 0 (omega arith) i along v h));
-        next = next_left S C ce.made (calls_of_all body) (calls_of_arms rest) (next_right S C m ce.made [] (calls_of_all body ++ calls_of_arms rest) r.next (entry_makes (Adds S C) (adds_same S C) (adds_before S C) (λ m of. adds_same S C m) (λ m of. adds_same S C m) chosen fallen k m));
+        leads = λ begun n i e along v h. subst (λ z. IsScopedAt S.program z v)
+            (sym (append_assoc (way begun) (Arm k ∷ []) (Nth n ∷ along)))
+            (subst (λ z. IsScopedAt S.program (way begun ++ Arm k ∷ Nth z ∷ along) v) (let same : i ≡
+            n = omega (arith, e) in same) (r.leads begun k 0 (omega arith) i along v h));
+        next = next_left S C ce.made (calls_of_all body) (calls_of_arms rest)
+            (next_right S C m ce.made [] (calls_of_all body ++ calls_of_arms rest) r.next
+            (entry_makes (Adds S C) (adds_same S C) (adds_before S C) (λ m of. adds_same S C m)
+            (λ m of. adds_same S C m) chosen fallen k m));
         within = within_less S [] cb.made ca.made (fallen_grows (way_out_of_all true true body) ce.value cb.made)
-            (within_less S (calls_of_arms rest) ca.made _ (arms_grow S C calls grows adds exit site chosen ca.value.atom (k + 1) rest ca.made) r.within);
+            (within_less S (calls_of_arms rest) ca.made _ (arms_grow S C calls grows adds exit site chosen
+            ca.value.atom (k + 1) rest ca.made) r.within);
         low = omega (arith, g, l);
         inner = r.inner;
         ended = λ x p. r.ended x (omega (arith, p));
@@ -131,19 +148,26 @@ module _ (S : Setting) (C : Activation) (calls : Calls)
         has_exit = exit_first cell exit (way_out_of_all true true body) (way_out_of_arms true true rest) r.has_exit;
       }
 
-  pub arm_within : (k : ℕ) (labels : List ℤ) (other : Test) (body : Statements) (rest : Arms) (m : Made) → ReadyArms S C calls scope cell exit way site chosen fallen k (arm labels other body rest) m
-      → Within S (around_arm site exit (way_out_of_all true true body) (entry_code chosen fallen k m) (code_in_order (list_code calls C.here exit false body (entry_code chosen fallen k m).made))).made
+  pub arm_within : (k : ℕ) (labels : List ℤ) (other : Test) (body : Statements) (rest : Arms) (m : Made) →
+      ReadyArms S C calls scope cell exit way site chosen fallen k (arm labels other body rest) m
+      → Within S (around_arm site exit (way_out_of_all true true body) (entry_code chosen fallen k m)
+      (code_in_order (list_code calls C.here exit false body (entry_code chosen fallen k m).made))).made
   unfolding arms_code
   arm_within k labels other body rest m r =
       let ce = entry_code chosen fallen k m in
       let cb = list_code calls C.here exit false body ce.made in
       let ca = around_arm site exit (way_out_of_all true true body) ce (code_in_order cb) in
-      within_less S (calls_of_arms rest) ca.made _ (arms_grow S C calls grows adds exit site chosen ca.value.atom (k + 1) rest ca.made) r.within
+      within_less S (calls_of_arms rest) ca.made _ (arms_grow S C calls grows adds exit site chosen ca.value.atom
+      (k + 1) rest ca.made) r.within
 
-  pub arm_rest : (k : ℕ) (labels : List ℤ) (other : Test) (body : Statements) (rest : Arms) (m : Made) → ReadyArms S C calls scope cell exit way site chosen fallen k (arm labels other body rest) m
+  pub arm_rest : (k : ℕ) (labels : List ℤ) (other : Test) (body : Statements) (rest : Arms) (m : Made) →
+      ReadyArms S C calls scope cell exit way site chosen fallen k (arm labels other body rest) m
       → ReadyArms S C calls scope cell exit way site chosen
-      (around_arm site exit (way_out_of_all true true body) (entry_code chosen fallen k m) (code_in_order (list_code calls C.here exit false body (entry_code chosen fallen k m).made))).value.atom (k + 1) rest
-      (around_arm site exit (way_out_of_all true true body) (entry_code chosen fallen k m) (code_in_order (list_code calls C.here exit false body (entry_code chosen fallen k m).made))).made
+      (around_arm site exit (way_out_of_all true true body) (entry_code chosen fallen k m)
+      (code_in_order (list_code calls C.here exit false body (entry_code chosen fallen k m).made))).value.atom
+      (k + 1) rest
+      (around_arm site exit (way_out_of_all true true body) (entry_code chosen fallen k m)
+      (code_in_order (list_code calls C.here exit false body (entry_code chosen fallen k m).made))).made
   unfolding arms_code
   arm_rest k labels other body rest m r =
       let ce = entry_code chosen fallen k m in
@@ -153,12 +177,17 @@ module _ (S : Setting) (C : Activation) (calls : Calls)
       let g2 = (arm_grows k body m).list in
       let g3 = (arm_grows k body m).all in
       let l = r.low in
-      let next_e = next_right S C m ce.made [] (calls_of_all body ++ calls_of_arms rest) r.next (entry_makes (Adds S C) (adds_same S C) (adds_before S C) (λ m of. adds_same S C m) (λ m of. adds_same S C m) chosen fallen k m) in
-      let next_b = next_right S C ce.made cb.made (calls_of_all body) (calls_of_arms rest) next_e (list_adds S C calls grows adds exit false body ce.made) in
+      let next_e = next_right S C m ce.made [] (calls_of_all body ++ calls_of_arms rest) r.next
+      (entry_makes (Adds S C) (adds_same S C) (adds_before S C) (λ m of. adds_same S C m)
+      (λ m of. adds_same S C m) chosen fallen k m) in
+      let next_b = next_right S C ce.made cb.made (calls_of_all body) (calls_of_arms rest) next_e
+      (list_adds S C calls grows adds exit false body ce.made) in
       record {
         sound = r.sound.1;
         leads = λ begun n i e l along v h. r.leads begun n (suc i) (omega (arith, e)) l along v h;
-        next = next_right S C cb.made ca.made [] (calls_of_arms rest) next_b (fallen_makes (Adds S C) (adds_same S C) (adds_before S C) (λ m of. adds_same S C m) (λ m of. adds_same S C m) (way_out_of_all true true body) exit ce.value cb.made);
+        next = next_right S C cb.made ca.made [] (calls_of_arms rest) next_b
+            (fallen_makes (Adds S C) (adds_same S C) (adds_before S C) (λ m of. adds_same S C m)
+            (λ m of. adds_same S C m) (way_out_of_all true true body) exit ce.value cb.made);
         within = r.within;
         low = omega (arith, g, g2, g3, l);
         inner = r.inner;
@@ -171,10 +200,15 @@ module _ (S : Setting) (C : Activation) (calls : Calls)
 
 module _ (S : Setting) (G : ℕ → Item → ProgramItem → Type 0) (R : Rules S G) (C : Activation) where
   -- whether an arm is entered
-  pub entry_follows : (chosen fallen : Atom) (k : ℕ) (m : Made) (n : ℕ) (T : Lines) (way : Way) (tm : Marks) (t : Tasks) (at : Place) (cells : Store) (j : ProgramItem) (a b : Test) → C.low ≤ next_cell m
-      → IsFixedAtom S C.low (next_cell m) chosen Int → IsFixedAtom S C.low (next_cell m) fallen Int → Within S (entry_code chosen fallen k m).made
-      → atom_value cells fallen ≡ bit a → int_eq (atom_value cells chosen) (pos k) ≡ b → marks_at S.marks at ≡ marks_then (all_marked way (entry_code chosen fallen k m).lines) tm
-      → ((at' : Place) (new : Store) → marks_at S.marks at' ≡ tm → ((c : ℕ) → c < next_cell m → new c ≡ cells c) → atom_value new (entry_code chosen fallen k m).value.atom ≡ bit (a || b) → G n (kernel_item S new (LinesAt at' T t)) j)
+  pub entry_follows : (chosen fallen : Atom) (k : ℕ) (m : Made) (n : ℕ) (T : Lines) (way : Way) (tm : Marks)
+      (t : Tasks) (at : Place) (cells : Store) (j : ProgramItem) (a b : Test) → C.low ≤ next_cell m
+      → IsFixedAtom S C.low (next_cell m) chosen Int → IsFixedAtom S C.low (next_cell m) fallen Int →
+      Within S (entry_code chosen fallen k m).made
+      → atom_value cells fallen ≡ bit a → int_eq (atom_value cells chosen) (pos k) ≡ b →
+      marks_at S.marks at ≡ marks_then (all_marked way (entry_code chosen fallen k m).lines) tm
+      → ((at' : Place) (new : Store) → marks_at S.marks at' ≡ tm → ((c : ℕ) → c < next_cell m → new c ≡ cells c) →
+      atom_value new (entry_code chosen fallen k m).value.atom ≡ bit (a || b) →
+      G n (kernel_item S new (LinesAt at' T t)) j)
       → G n (kernel_item S cells (LinesAt at (joined_to (entry_code chosen fallen k m).lines T) t)) j
   entry_follows chosen fallen k m n T way tm t at cells j a b low fc ff within holds is e go =
       let m1 = with_cell m OfValue Int in
@@ -188,19 +222,33 @@ module _ (S : Setting) (G : ℕ → Item → ProgramItem → Type 0) (R : Rules 
       let s1 = updated cells c x in
       let y = binary_of Or Int (atom_value s1 fallen) (s1 c) in
       let s2 = updated s1 d y in
-      value_line S G R C n cells at c (Binary Eq Int chosen (int (pos k))) _ t j nc (λ v u i. ap (λ z. z || false) (atom_plain S C.low (next_cell m) chosen Int fc v u i))
-      (value_line S G R C n s1 (Behind ∷ at) d (Binary Or Int fallen (CellAtom c)) T t j nd (λ v u i. ap₂ (λ y z. y || z) (atom_plain S C.low (next_cell m) fallen Int ff v u i) (cell_plain S c nc v u i))
+      value_line S G R C n cells at c (Binary Eq Int chosen (int (pos k))) _ t j nc
+      (λ v u i. ap (λ z. z || false) (atom_plain S C.low (next_cell m) chosen Int fc v u i))
+      (value_line S G R C n s1 (Behind ∷ at) d (Binary Or Int fallen (CellAtom c)) T t j nd
+      (λ v u i. ap₂ (λ y z. y || z) (atom_plain S C.low (next_cell m) fallen Int ff v u i)
+      (cell_plain S c nc v u i))
       (go (Behind ∷ Behind ∷ at) s2 (ap (λ z. marks_behind (marks_behind z)) e)
-      (λ u lt. updated_other s1 d y u (λ q. omega (arith, q, lt, n0)) ∙ updated_other cells c x u (λ q. omega (arith, q, lt)))
-      (updated_same s1 d y ∙ ap₂ (λ y z. binary_of Or Int y z) (atom_below S C.low (next_cell m) fallen Int cells c x ff (omega arith) ∙ holds) (updated_same cells c x ∙ equal_bit (atom_value cells chosen) (pos k) b is) ∙ or_value a b)))
+      (λ u lt. updated_other s1 d y u (λ q. omega (arith, q, lt, n0)) ∙
+      updated_other cells c x u (λ q. omega (arith, q, lt)))
+      (updated_same s1 d y ∙ ap₂ (λ y z. binary_of Or Int y z) (atom_below S C.low (next_cell m) fallen Int cells c x
+      ff (omega arith) ∙ holds) (updated_same cells c x ∙ equal_bit (atom_value cells chosen) (pos k) b is) ∙
+      or_value a b)))
 
   -- whether the next one is fallen into
-  pub fallen_follows : (out : Option ℕ) (exit : ℕ) (entered : Value) (m : Made) (n : ℕ) (T : Lines) (way : Way) (tm : Marks) (t : Tasks) (at : Place) (cells : Store) (j : ProgramItem) (a : Test) (o : Option Exit) → C.low ≤ next_cell m
-      → IsFixedAtom S C.low (next_cell m) entered.atom Int → ((s : ℕ) → out ≡ Some s → NoVariable S exit × (cells exit ≡ pending o)) → (out ≡ None → a ≡ true → o ≡ None) → Within S (fallen_code out exit entered m).made
-      → atom_value cells entered.atom ≡ bit a → marks_at S.marks at ≡ marks_then (all_marked way (fallen_code out exit entered m).lines) tm
-      → ((at' : Place) (new : Store) → marks_at S.marks at' ≡ tm → ((c : ℕ) → c < next_cell m → new c ≡ cells c) → atom_value new (fallen_code out exit entered m).value.atom ≡ bit (a && is_calm o) → G n (kernel_item S new (LinesAt at' T t)) j)
+  pub fallen_follows : (out : Option ℕ) (exit : ℕ) (entered : Value) (m : Made) (n : ℕ) (T : Lines) (way : Way)
+      (tm : Marks) (t : Tasks) (at : Place) (cells : Store) (j : ProgramItem) (a : Test) (o : Option Exit) →
+      C.low ≤ next_cell m
+      → IsFixedAtom S C.low (next_cell m) entered.atom Int →
+      ((s : ℕ) → out ≡ Some s → NoVariable S exit × (cells exit ≡ pending o)) →
+      (out ≡ None → a ≡ true → o ≡ None) → Within S (fallen_code out exit entered m).made
+      → atom_value cells entered.atom ≡ bit a →
+      marks_at S.marks at ≡ marks_then (all_marked way (fallen_code out exit entered m).lines) tm
+      → ((at' : Place) (new : Store) → marks_at S.marks at' ≡ tm → ((c : ℕ) → c < next_cell m → new c ≡ cells c) →
+      atom_value new (fallen_code out exit entered m).value.atom ≡ bit (a && is_calm o) →
+      G n (kernel_item S new (LinesAt at' T t)) j)
       → G n (kernel_item S cells (LinesAt at (joined_to (fallen_code out exit entered m).lines T) t)) j
-  fallen_follows None exit entered m n T way tm t at cells j a o low fe real calm within holds e go = go at cells e (λ c lt. refl) (holds ∙ same a (calm refl))
+  fallen_follows None exit entered m n T way tm t at cells j a o low fe real calm within holds e go =
+      go at cells e (λ c lt. refl) (holds ∙ same a (calm refl))
     where
       same : (a : Test) → (a ≡ true → o ≡ None) → bit a ≡ bit (a && is_calm o)
       same true f = sym (ap (λ z. bit (is_calm z)) (f refl))
@@ -219,16 +267,27 @@ module _ (S : Setting) (G : ℕ → Item → ProgramItem → Type 0) (R : Rules 
       let y = binary_of And Int (atom_value s1 entered.atom) (s1 c) in
       let s2 = updated s1 d y in
       value_line S G R C n cells at c (Unary Not Int (CellAtom exit)) _ t j nc (cell_plain S exit own.0)
-      (value_line S G R C n s1 (Behind ∷ at) d (Binary And Int entered.atom (CellAtom c)) T t j nd (λ v u i. ap₂ (λ y z. y || z) (atom_plain S C.low (next_cell m) entered.atom Int fe v u i) (cell_plain S c nc v u i))
+      (value_line S G R C n s1 (Behind ∷ at) d (Binary And Int entered.atom (CellAtom c)) T t j nd
+      (λ v u i. ap₂ (λ y z. y || z) (atom_plain S C.low (next_cell m) entered.atom Int fe v u i)
+      (cell_plain S c nc v u i))
       (go (Behind ∷ Behind ∷ at) s2 (ap (λ z. marks_behind (marks_behind z)) e)
-      (λ u lt. updated_other s1 d y u (λ q. omega (arith, q, lt, n0)) ∙ updated_other cells c x u (λ q. omega (arith, q, lt)))
-      (updated_same s1 d y ∙ ap₂ (λ y z. binary_of And Int y z) (atom_below S C.low (next_cell m) entered.atom Int cells c x fe (omega arith) ∙ holds) (updated_same cells c x ∙ ap (unary_of Not Int) own.1 ∙ not_value o) ∙ and_value a (is_calm o))))
+      (λ u lt. updated_other s1 d y u (λ q. omega (arith, q, lt, n0)) ∙
+      updated_other cells c x u (λ q. omega (arith, q, lt)))
+      (updated_same s1 d y ∙ ap₂ (λ y z. binary_of And Int y z) (atom_below S C.low (next_cell m) entered.atom Int
+      cells c x fe (omega arith) ∙ holds) (updated_same cells c x ∙ ap (unary_of Not Int) own.1 ∙
+      not_value o) ∙ and_value a (is_calm o))))
 
   -- the atom of the next entry is made
-  pub entry_fixed : (chosen fallen : Atom) (k : ℕ) (m : Made) → C.low ≤ next_cell m → Within S (entry_code chosen fallen k m).made → IsFixedAtom S C.low (next_cell (entry_code chosen fallen k m).made) (entry_code chosen fallen k m).value.atom Int
-  entry_fixed chosen fallen k m low within = let n0 = next_with m OfValue Int in value_fixed S C.low (with_cell m OfValue Int) Int (omega (arith, n0, low)) within
+  pub entry_fixed : (chosen fallen : Atom) (k : ℕ) (m : Made) → C.low ≤ next_cell m →
+      Within S (entry_code chosen fallen k m).made →
+      IsFixedAtom S C.low (next_cell (entry_code chosen fallen k m).made) (entry_code chosen fallen k m).value.atom Int
+  entry_fixed chosen fallen k m low within = let n0 =
+      next_with m OfValue Int in value_fixed S C.low (with_cell m OfValue Int) Int (omega (arith, n0, low)) within
 
-  pub fallen_fixed : (out : Option ℕ) (exit : ℕ) (entered : Value) (m : Made) → C.low ≤ next_cell m → IsFixedAtom S C.low (next_cell m) entered.atom Int → Within S (fallen_code out exit entered m).made
-      → IsFixedAtom S C.low (next_cell (fallen_code out exit entered m).made) (fallen_code out exit entered m).value.atom Int
+  pub fallen_fixed : (out : Option ℕ) (exit : ℕ) (entered : Value) (m : Made) → C.low ≤ next_cell m →
+      IsFixedAtom S C.low (next_cell m) entered.atom Int → Within S (fallen_code out exit entered m).made
+      → IsFixedAtom S C.low (next_cell (fallen_code out exit entered m).made)
+      (fallen_code out exit entered m).value.atom Int
   fallen_fixed None exit entered m low fe within = fe
-  fallen_fixed (Some s) exit entered m low fe within = let n0 = next_with m OfValue Int in value_fixed S C.low (with_cell m OfValue Int) Int (omega (arith, n0, low)) within
+  fallen_fixed (Some s) exit entered m low fe within = let n0 =
+      next_with m OfValue Int in value_fixed S C.low (with_cell m OfValue Int) Int (omega (arith, n0, low)) within

@@ -1,5 +1,6 @@
 -- What is known of statements and of the body of a function before their lines.
-use Rattle.std.specs.Prelude.{◌≡◌, ℕ, ◌+◌, ◌<◌, ◌≤◌, pos, List, [], ◌∷◌, Option, Some, None, slice_get, if◌then◌else◌, nat_eq}
+use Rattle.std.specs.Prelude.{◌≡◌, ℕ, ◌+◌, ◌<◌, ◌≤◌, pos, List, [], ◌∷◌, Option, Some, None, slice_get, if◌then◌else◌}
+use Rattle.std.specs.Prelude.{nat_eq}
 use Rattle.std.specs.Prelude.{Bool as Test, true}
 use Rattle.wg_num.specs.declared.types.IntType.{IntType}
 use Rattle.wg_num.specs.declared.types.IntType.TheVariants.{Int}
@@ -11,7 +12,9 @@ use Rattle.cl_model.specs.Objects.{kernel_objects}
 use Rattle.cl_model.specs.Steps.{passed_object}
 use Rattle.cl_model.specs.declared.program.Root.{Root}
 use Rattle.cl_model.specs.Task.{Point as ProgramPoint, Item as ProgramItem, first_point}
-use Rattle.cl_model.specs.Tree.{Array, Expression, Statement, Do, Declare, Fill, Block, If, Loop, Switch, Break, Continue, Return, Barrier, Statements, empty, also, Arms, no_arm, arm, Program, Function}
+use Rattle.cl_model.specs.Tree.{Array, Expression, Statement, Do, Declare, Fill, Block, If, Loop, Switch, Break}
+use Rattle.cl_model.specs.Tree.{Continue, Return, Barrier, Statements, empty, also, Arms, no_arm, arm, Program}
+use Rattle.cl_model.specs.Tree.{Function}
 use Rattle.cl_model.specs.Valid.{Scope, scope_after, labels_of, defaults_of}
 use Rattle.kir.specs.declared.line.Atom.{Atom}
 use Rattle.kir.specs.declared.line.Atom.TheVariants.{Const, Cell as CellAtom}
@@ -43,12 +46,17 @@ abbrev mutual
   pub IsSoundStatement : Program → Function → Scope → Statement → Type 0
   IsSoundStatement program f scope (Do e) = IsSound program f scope e
   IsSoundStatement program f scope (Declare x value) = HasOwn f x × IsSoundOptional program f scope value
-  IsSoundStatement program f scope (Fill site array values) = ((a : Array) × (slice_get f.arrays array ≡ Some a) × (a.space ≡ space.Private)) × AreSound program f scope values
+  IsSoundStatement program f scope (Fill site array values) =
+      ((a : Array) × (slice_get f.arrays array ≡ Some a) × (a.space ≡ space.Private)) × AreSound program f scope values
   IsSoundStatement program f scope (Block list) = IsSoundList program f scope list
-  IsSoundStatement program f scope (If site test chosen other) = IsSound program f scope test × IsSoundList program f scope chosen × IsSoundList program f scope other
+  IsSoundStatement program f scope (If site test chosen other) =
+      IsSound program f scope test × IsSoundList program f scope chosen × IsSoundList program f scope other
   -- the body of a loop declares no variable
-  IsSoundStatement program f scope (Loop site test_first test step body) = IsSoundOptional program f scope test × IsSoundOptional program f scope step × IsSoundStatement program f scope body × (scope_after scope body ≡ scope)
-  IsSoundStatement program f scope (Switch site value arms) = IsSound program f scope value × AllDiffer (labels_of arms) × (defaults_of arms ≤ 1) × AreSoundArms program f scope arms
+  IsSoundStatement program f scope (Loop site test_first test step body) = IsSoundOptional program f scope test ×
+      IsSoundOptional program f scope step × IsSoundStatement program f scope body × (scope_after scope body ≡ scope)
+  IsSoundStatement program f scope (Switch site value arms) =
+      IsSound program f scope value × AllDiffer (labels_of arms) × (defaults_of arms ≤ 1) ×
+      AreSoundArms program f scope arms
   IsSoundStatement program f scope (Break site) = Unit {0}
   IsSoundStatement program f scope (Continue site) = Unit {0}
   IsSoundStatement program f scope (Return site value) = IsSoundReturn program f scope value
@@ -56,11 +64,13 @@ abbrev mutual
 
   pub IsSoundList : Program → Function → Scope → Statements → Type 0
   IsSoundList program f scope empty = Unit {0}
-  IsSoundList program f scope (also s rest) = IsSoundStatement program f scope s × IsSoundList program f (scope_after scope s) rest
+  IsSoundList program f scope (also s rest) =
+      IsSoundStatement program f scope s × IsSoundList program f (scope_after scope s) rest
 
   pub AreSoundArms : Program → Function → Scope → Arms → Type 0
   AreSoundArms program f scope no_arm = Unit {0}
-  AreSoundArms program f scope (arm labels other body rest) = IsSoundList program f scope body × AreSoundArms program f scope rest
+  AreSoundArms program f scope (arm labels other body rest) =
+      IsSoundList program f scope body × AreSoundArms program f scope rest
 
 -- ---- declarations at the end of a list
 
@@ -109,13 +119,16 @@ abbrev mutual
 -- no item of which the tasks are in place stands in the scope of the variable
 abbrev pub IsNeverScoped : Setting → Activation → ℕ → Type 0
 IsNeverScoped S C x =
-    (j : ProgramItem) (point : ProgramPoint) → AreInPlace S.program j.tasks → first_point j.tasks ≡ Some point → IsScopedAt S.program point (record { function = C.function; variable = x }) → ⊥
+    (j : ProgramItem) (point : ProgramPoint) → AreInPlace S.program j.tasks → first_point j.tasks ≡ Some point →
+    IsScopedAt S.program point (record { function = C.function; variable = x }) → ⊥
 
 -- ---- the body of a function
 
 -- the cell of its result, where it has one, is the first behind its variables
 pub record IsBody (S : Setting) (C : Activation) : Type 0 where
-  pub some_result : (t : IntType) → (function_at S.program C.function).result ≡ Some t → (C.answer ≡ CellAtom C.here.answer) × IsMade S C.here.answer t × (behind_variables S C ≤ C.here.answer) × (C.here.answer < C.low)
+  pub some_result : (t : IntType) → (function_at S.program C.function).result ≡ Some t →
+      (C.answer ≡ CellAtom C.here.answer) × IsMade S C.here.answer t × (behind_variables S C ≤ C.here.answer) ×
+      (C.here.answer < C.low)
   pub no_result : (function_at S.program C.function).result ≡ None → C.answer ≡ Const (pos 0) Int
 
 -- the cell of a construct with a way out, if there is one
@@ -130,7 +143,8 @@ abbrev pub HasExit : Option ℕ → ℕ → Option ℕ → Type 0
 HasExit cell exit way = (site : ℕ) → way ≡ Some site → cell ≡ Some exit
 
 -- the function that a call in another enters, where the variables of that hold these values and this is made
-abbrev pub entered : Setting → List (List Named) → Activation → (site g : ℕ) → List (Option Root) → (depth : ℕ) → (vars : Store) → Made → Activation
+abbrev pub entered : Setting → List (List Named) → Activation → (site g : ℕ) → List (Option Root) → (depth : ℕ) →
+    (vars : Store) → Made → Activation
 entered S names C site g roots depth vars m =
     let f = function_at S.program g in
     let there = way_behind S.program C.here site g (argument_roots C.here roots) in
@@ -164,7 +178,8 @@ own_activation S names depth =
 -- ---- all of it
 
 -- a statement at a way, with the cell of the construct around it, whose lines are made here
-pub record ReadyStatement (S : Setting) (C : Activation) (calls : Calls) (scope : Scope) (cell : Option ℕ) (exit : ℕ) (way : Way) (s : Statement) (m : Made) : Type 0 where
+pub record ReadyStatement (S : Setting) (C : Activation) (calls : Calls) (scope : Scope) (cell : Option ℕ) (exit : ℕ)
+    (way : Way) (s : Statement) (m : Made) : Type 0 where
   pub sound : IsSoundStatement S.program (function_at S.program C.function) scope s
   pub leads : LeadsToStatement S C scope way s
   pub next : AreNext S C m (calls_of s)
@@ -176,7 +191,8 @@ pub record ReadyStatement (S : Setting) (C : Activation) (calls : Calls) (scope 
   pub has_exit : HasExit cell exit (way_out true true s)
 
 -- statements in order, the first with this number, under a guard or not
-pub record ReadyList (S : Setting) (C : Activation) (calls : Calls) (scope : Scope) (cell : Option ℕ) (exit : ℕ) (way : Way) (k : ℕ) (guarded : Test) (list : Statements) (m : Made) : Type 0 where
+pub record ReadyList (S : Setting) (C : Activation) (calls : Calls) (scope : Scope) (cell : Option ℕ) (exit : ℕ)
+    (way : Way) (k : ℕ) (guarded : Test) (list : Statements) (m : Made) : Type 0 where
   pub sound : IsSoundList S.program (function_at S.program C.function) scope list
   pub leads : LeadsToList S C scope way k list
   pub next : AreNext S C m (calls_of_all list)
@@ -188,7 +204,8 @@ pub record ReadyList (S : Setting) (C : Activation) (calls : Calls) (scope : Sco
   pub has_exit : HasExit cell exit (way_out_of_all true true list)
 
 -- the arms of a switch, the first with this number
-pub record ReadyArms (S : Setting) (C : Activation) (calls : Calls) (scope : Scope) (cell : Option ℕ) (exit : ℕ) (way : Way) (site : ℕ) (chosen fallen : Atom) (k : ℕ) (arms : Arms) (m : Made) : Type 0 where
+pub record ReadyArms (S : Setting) (C : Activation) (calls : Calls) (scope : Scope) (cell : Option ℕ) (exit : ℕ)
+    (way : Way) (site : ℕ) (chosen fallen : Atom) (k : ℕ) (arms : Arms) (m : Made) : Type 0 where
   pub sound : AreSoundArms S.program (function_at S.program C.function) scope arms
   pub leads : LeadsToArms S C scope way k arms
   pub next : AreNext S C m (calls_of_arms arms)

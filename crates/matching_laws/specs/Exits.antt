@@ -1,7 +1,8 @@
 -- Ways out of a statement: what the cell of a construct holds where one is pending, and where the program then goes on.
 use Rattle.std.specs.Prelude.{◌≡◌, ℤ, pos, ◌∷◌, Option, Some, None, ◌||◌}
 use Rattle.std.specs.Prelude.{Bool as Test, true, false}
-use Rattle.cl_model.specs.Tree.{Statement, Do, Declare, Fill, Block, If, Loop, Switch, Break, Continue, Return, Barrier, Statements, empty, also, Arms, no_arm, arm}
+use Rattle.cl_model.specs.Tree.{Statement, Do, Declare, Fill, Block, If, Loop, Switch, Break, Continue, Return}
+use Rattle.cl_model.specs.Tree.{Barrier, Statements, empty, also, Arms, no_arm, arm}
 use Rattle.cl_model.specs.Task.{Item as ProgramItem}
 use Rattle.cl_model.specs.Steps.{with_tasks, behind_break, behind_continue, behind_return}
 

@@ -1,5 +1,6 @@
 -- Which cells hold values on the way, which cells lines leave as they are, and what holds of the variables' cells.
-use Rattle.std.specs.Prelude.{◌≡◌, ℕ, ◌+◌, ◌<◌, ◌≤◌, ℤ, List, [], ◌∷◌, ◌++◌, Option, Some, None, map, slice_get, length, ◌⊎◌}
+use Rattle.std.specs.Prelude.{◌≡◌, ℕ, ◌+◌, ◌<◌, ◌≤◌, ℤ, List, [], ◌∷◌, ◌++◌, Option, Some, None, map, slice_get}
+use Rattle.std.specs.Prelude.{length, ◌⊎◌}
 use Rattle.wg_num.specs.declared.types.IntType.{IntType}
 use Rattle.cl_model.specs.Calls.{function_at}
 use Rattle.cl_model.specs.Valid.{Scope, Has}
@@ -72,7 +73,8 @@ abbrev pub IsWithin : Setting → Activation → Scope → Type 0
 IsWithin S C scope = (x : ℕ) → Has scope x → x < length (function_at S.program C.function).variables
 
 -- and this way out is pending, with this value of a return
-pub record At (S : Setting) (C : Activation) (exit : Option ℕ) (scope : Scope) (o : Option Exit) (v : ℤ) (cells vars : Store) : Type 0 where
+pub record At (S : Setting) (C : Activation) (exit : Option ℕ) (scope : Scope) (o : Option Exit) (v : ℤ)
+    (cells vars : Store) : Type 0 where
   pub same : Same S C scope cells vars
   pub exit_is : (c : ℕ) → exit ≡ Some c → cells c ≡ pending o
   pub answer_is : atom_value cells C.answer ≡ given_by o v

@@ -36,8 +36,9 @@ kernel_item S cells k = record { number = S.item; cells = cells; tasks = k }
 abbrev pub program_item : Setting → List Task → List ℤ → List Frame → ProgramItem
 program_item S ts vs fs = record { number = S.item; tasks = ts; values = vs; frames = fs }
 
--- a function under way: its number, where it stands in the kernel, the objects that its parameters name, the frames of the calls around it, how deep
--- calls may nest from here, the atom of its result, and the first cell behind those of its variables and its result
+-- a function under way: its number, where it stands in the kernel, the objects that its parameters name, the frames
+-- of the calls around it, how deep calls may nest from here, the atom of its result, and the first cell behind those
+-- of its variables and its result
 pub record Activation : Type 0 where
   pub function : ℕ
   pub here : Instance

@@ -2,8 +2,10 @@
 use Rattle.std.proofs.Common.{refl}
 use Rattle.wg_num.specs.Wrap.{wrap_of, bits_of, value_of, modulus, half}
 use Rattle.wg_num.specs.Operators.{unary_of, binary_of}
-use Rattle.model_examples.specs.Straight.{Increments, Wraps, Faults, FaultsBefore, Squares, Switches, Shares, SomeCleared, Calls, TableSum, Indices, ColumnWide, ColumnHigh}
-use Rattle.model_examples.specs.Barriers.{Reverses, IsFresh, IsPassed, Parts, IterationsPart, Lengths, Meets, Scans, FallsThrough, ScansBack, MeetsBack, RaceOneWay, RaceOtherWay}
+use Rattle.model_examples.specs.Straight.{Increments, Wraps, Faults, FaultsBefore, Squares, Switches, Shares}
+use Rattle.model_examples.specs.Straight.{SomeCleared, Calls, TableSum, Indices, ColumnWide, ColumnHigh}
+use Rattle.model_examples.specs.Barriers.{Reverses, IsFresh, IsPassed, Parts, IterationsPart, Lengths, Meets, Scans}
+use Rattle.model_examples.specs.Barriers.{FallsThrough, ScansBack, MeetsBack, RaceOneWay, RaceOtherWay}
 
 pub increments : Increments
 unfolding wrap_of bits_of value_of modulus half binary_of unary_of

@@ -1,10 +1,12 @@
 -- The outcomes of what is played.
-use Rattle.std.proofs.Common.{◌≡◌, ℕ, zero, suc, Bool, true, false, cond, List, [], ◌∷◌, length, take, Option, Some, None, slice_get, refl, sym, ap, ◌∙◌, subst, arith}
+use Rattle.std.proofs.Common.{◌≡◌, ℕ, zero, suc, Bool, true, false, cond, List, [], ◌∷◌, length, take, Option, Some}
+use Rattle.std.proofs.Common.{None, slice_get, refl, sym, ap, ◌∙◌, subst, arith}
 use Rattle.std.proofs.lemmas.Option.{none-some, same_Some}
 use Rattle.wg_num.specs.Wrap.{wrap_of, bits_of, value_of, modulus, half}
 use Rattle.wg_num.specs.Operators.{unary_of, binary_of}
 use Rattle.wg_num.specs.declared.types.Place.{Place}
-use Rattle.work_items.specs.Items.{Next, Ends, Waits, Goes, Begins, Loads, Stores, Machine, World, Fault, HasEnded, Move, Step, Release}
+use Rattle.work_items.specs.Items.{Next, Ends, Waits, Goes, Begins, Loads, Stores, Machine, World, Fault, HasEnded}
+use Rattle.work_items.specs.Items.{Move, Step, Release}
 use Rattle.work_items.specs.Runs.{world_after, IsRun, Races}
 use Rattle.work_items.specs.Coming.{MayLead, arrived, by_step, by_test}
 use Rattle.cl_model.specs.declared.launch.Bound.TheVariants as bound
@@ -14,9 +16,11 @@ use Rattle.cl_model.specs.Task.{Point, Task, Item, first_point}
 use Rattle.cl_model.specs.Steps.{first_next}
 use Rattle.cl_model.specs.Meaning.{machine_of, start_world, is_test, IsWithin, ItemCanCome, EndsDone, EndsRange}
 use Rattle.model_examples.specs.Terms.{line, buffer}
-use Rattle.model_examples.specs.Play.{first_ready, same_point, has_ended, Finished, Faulted, Stuck, ended_from, ended_of, play, play_from, moves_from}
+use Rattle.model_examples.specs.Play.{first_ready, same_point, has_ended, Finished, Faulted, Stuck, ended_from}
+use Rattle.model_examples.specs.Play.{ended_of, play, play_from, moves_from}
 use Rattle.model_examples.specs.Barriers.{race, iterations_part}
-use Rattle.model_examples.specs.Outcomes.{FinishedIsDone, FaultedIsRange, parting, IsParting, IsNeverReleased, on_four, BothWait, IterationsAreApart, NothingFollowsAFault, RaceIsNotClean}
+use Rattle.model_examples.specs.Outcomes.{FinishedIsDone, FaultedIsRange, parting, IsParting, IsNeverReleased}
+use Rattle.model_examples.specs.Outcomes.{on_four, BothWait, IterationsAreApart, NothingFollowsAFault, RaceIsNotClean}
 use Rattle.model_examples.proofs.Played.{first_is_ready, played}
 
 ended : (n : Next Item) → has_ended n ≡ true → HasEnded n
@@ -35,20 +39,25 @@ module _ (machine : Machine Item (Option Point)) (buffers left : List (List ℕ)
   all_over k [] e = ((λ n s at. absurd (none-some s at)), cc e)
   all_over k (i ∷ items) e = pick (has_ended (machine.next i)) refl e (λ f. all_over (suc k) items f)
     where
-      each : has_ended (machine.next i) ≡ true → Over items → (n : ℕ) (s : Item) → slice_get (i ∷ items) n ≡ Some s → HasEnded (machine.next s)
+      each : has_ended (machine.next i) ≡ true → Over items → (n : ℕ) (s : Item) → slice_get (i ∷ items) n ≡ Some s →
+          HasEnded (machine.next s)
       each t h zero s at = subst (λ x. HasEnded (machine.next x)) (same_Some i s at) (ended (machine.next i) t)
       each t h (suc n) s at = h.0 n s at
 
-      pick : (b : Bool) → has_ended (machine.next i) ≡ b → cond b (ended_from machine buffers (suc k) items) (Stuck k) ≡ Finished left → (ended_from machine buffers (suc k) items ≡ Finished left → Over items) → Over (i ∷ items)
+      pick : (b : Bool) → has_ended (machine.next i) ≡ b →
+          cond b (ended_from machine buffers (suc k) items) (Stuck k) ≡ Finished left →
+          (ended_from machine buffers (suc k) items ≡ Finished left → Over items) → Over (i ∷ items)
       pick true t f further = let h = further f in (each t h, h.1)
       pick false t f further = cc f
 
-never_faulted : (machine : Machine Item (Option Point)) (buffers : List (List ℕ)) (item site k : ℕ) (items : List Item) → ended_from machine buffers k items ≡ Faulted item site → ⊥
+never_faulted : (machine : Machine Item (Option Point)) (buffers : List (List ℕ)) (item site k : ℕ)
+    (items : List Item) → ended_from machine buffers k items ≡ Faulted item site → ⊥
 never_faulted machine buffers item site k [] e = cc e
 never_faulted machine buffers item site k (i ∷ items) e =
     pick (has_ended (machine.next i)) e (λ f. never_faulted machine buffers item site (suc k) items f)
   where
-    pick : (b : Bool) → cond b (ended_from machine buffers (suc k) items) (Stuck k) ≡ Faulted item site → (ended_from machine buffers (suc k) items ≡ Faulted item site → ⊥) → ⊥
+    pick : (b : Bool) → cond b (ended_from machine buffers (suc k) items) (Stuck k) ≡ Faulted item site →
+        (ended_from machine buffers (suc k) items ≡ Faulted item site → ⊥) → ⊥
     pick true f further = further f
     pick false f further = cc f
 
@@ -71,10 +80,12 @@ module _ (fuel : ℕ) (program : Program) (launch : Launch) (buffers : List (Lis
   at_last : world_after machine start moves ≡ last
   at_last = (played first_ready first_is_ready machine (group_count launch) fuel start).1
 
-  done : (left : List (List ℕ)) → play fuel program launch buffers ≡ Finished left → EndsDone program launch buffers left
+  done : (left : List (List ℕ)) → play fuel program launch buffers ≡ Finished left →
+      EndsDone program launch buffers left
   done left e = by_fault last.fault refl e
     where
-      by_fault : (o : Option Fault) → last.fault ≡ o → ended_of machine (length launch.lengths) last o ≡ Finished left → EndsDone program launch buffers left
+      by_fault : (o : Option Fault) → last.fault ≡ o → ended_of machine (length launch.lengths) last o ≡
+          Finished left → EndsDone program launch buffers left
       by_fault None calm f =
           let over = all_over machine (take (length launch.lengths) last.memory) left 0 last.items f in
           record {
@@ -90,11 +101,14 @@ module _ (fuel : ℕ) (program : Program) (launch : Launch) (buffers : List (Lis
           }
       by_fault (Some fault) calm f = cc f
 
-  range : (item site : ℕ) (place : Place) → play fuel program launch buffers ≡ Faulted item site → slice_get program.sites site ≡ Some place → EndsRange program launch buffers (group_of launch item) item place
+  range : (item site : ℕ) (place : Place) → play fuel program launch buffers ≡ Faulted item site →
+      slice_get program.sites site ≡ Some place → EndsRange program launch buffers (group_of launch item) item place
   range item site place e at = by_fault last.fault refl e
     where
-      by_fault : (o : Option Fault) → last.fault ≡ o → ended_of machine (length launch.lengths) last o ≡ Faulted item site → EndsRange program launch buffers (group_of launch item) item place
-      by_fault None calm f = absurd (never_faulted machine (take (length launch.lengths) last.memory) item site 0 last.items f)
+      by_fault : (o : Option Fault) → last.fault ≡ o → ended_of machine (length launch.lengths) last o ≡
+          Faulted item site → EndsRange program launch buffers (group_of launch item) item place
+      by_fault None calm f =
+          absurd (never_faulted machine (take (length launch.lengths) last.memory) item site 0 last.items f)
       by_fault (Some fault) calm f =
           let one : fault.item ≡ item = cc f in
           let two : fault.site ≡ site = cc f in
@@ -102,27 +116,36 @@ module _ (fuel : ℕ) (program : Program) (launch : Launch) (buffers : List (Lis
             site = site;
             at_place = at;
             in_group = refl;
-            is_range = record { moves = moves; run = run; faulted = ap (λ (w : World Item). w.fault) at_last ∙ calm ∙ (λ k. Some (record { item = one k; site = two k })) };
+            is_range = record {
+              moves = moves;
+              run = run;
+              faulted = ap (λ (w : World Item). w.fault) at_last ∙ calm ∙
+                  (λ k. Some (record { item = one k; site = two k }));
+            };
           }
 
 pub finished_is_done : FinishedIsDone
 finished_is_done fuel program launch buffers left e = done fuel program launch buffers left e
 
 pub faulted_is_range : FaultedIsRange
-faulted_is_range fuel program launch buffers item site place e at = range fuel program launch buffers item site place e at
+faulted_is_range fuel program launch buffers item site place e at =
+    range fuel program launch buffers item site place e at
 
 -- an item that has ended comes to no point
 module _ (program : Program) (launch : Launch) (buffers : List (List ℕ)) where
   no_point : (tasks : List Task) (p : Point) → tasks ≡ [] → first_point tasks ≡ Some p → ⊥
   no_point tasks p e f = none-some p (sym (ap first_point e) ∙ f)
 
-  no_step : (s after : Item) → s.tasks ≡ [] → MayLead (IsWithin program launch buffers) (first_next program launch s s.tasks) after → ⊥
-  no_step s after e m = subst (λ tasks. MayLead (IsWithin program launch buffers) (first_next program launch s tasks) after) e m
+  no_step : (s after : Item) → s.tasks ≡ [] →
+      MayLead (IsWithin program launch buffers) (first_next program launch s s.tasks) after → ⊥
+  no_step s after e m =
+      subst (λ tasks. MayLead (IsWithin program launch buffers) (first_next program launch s tasks) after) e m
 
   no_test : (tasks : List Task) → tasks ≡ [] → is_test tasks ≡ true → ⊥
   no_test tasks e t = let f : false ≡ true = sym (ap is_test e) ∙ t in cc f
 
-  ended_comes_nowhere : (s : Item) (q : Option Point) (p : Point) → ItemCanCome program launch buffers s q → s.tasks ≡ [] → q ≡ Some p → ⊥
+  ended_comes_nowhere : (s : Item) (q : Option Point) (p : Point) → ItemCanCome program launch buffers s q →
+      s.tasks ≡ [] → q ≡ Some p → ⊥
   ended_comes_nowhere s q p arrived e f = no_point s.tasks p e f
   ended_comes_nowhere s q p (by_step {after = after} may come) e f = no_step s after e may
   ended_comes_nowhere s q p (by_test may come) e f = no_test s.tasks e may.0
@@ -133,8 +156,10 @@ two_on_eight = line 2 2 (bound.Buffer 0 ∷ []) (8 ∷ [])
 abbrev zero_ints : List (List ℕ)
 zero_ints = buffer (0 ∷ 0 ∷ []) ∷ []
 
-parting_run : IsRun (machine_of parting two_on_eight) (start_world parting two_on_eight zero_ints) (moves_from first_ready (machine_of parting two_on_eight) 1 100 (start_world parting two_on_eight zero_ints))
-parting_run = (played first_ready first_is_ready (machine_of parting two_on_eight) 1 100 (start_world parting two_on_eight zero_ints)).0
+parting_run : IsRun (machine_of parting two_on_eight) (start_world parting two_on_eight zero_ints)
+    (moves_from first_ready (machine_of parting two_on_eight) 1 100 (start_world parting two_on_eight zero_ints))
+parting_run = (played first_ready first_is_ready (machine_of parting two_on_eight) 1 100
+    (start_world parting two_on_eight zero_ints)).0
 
 pub is_parting : IsParting
 unfolding wrap_of bits_of value_of modulus half binary_of unary_of
@@ -169,11 +194,13 @@ both_wait (suc zero) h = (_, refl, refl)
 both_wait (suc (suc item)) h = absurd (omega arith)
 
 two_points : (one other : Option Point) → one ≡ other → same_point one other ≡ false → same_point other other ≡ true → ⊥
-two_points one other e differ same = let f : false ≡ true = sym differ ∙ ap (λ point. same_point point other) e ∙ same in cc f
+two_points one other e differ same = let f : false ≡ true =
+    sym differ ∙ ap (λ point. same_point point other) e ∙ same in cc f
 
 pub iterations_are_apart : IterationsAreApart
 unfolding wrap_of bits_of value_of modulus half binary_of unary_of
-iterations_are_apart p = two_points _ _ ((p.1.1.all_wait 0 _ refl refl).1 ∙ sym (p.1.1.all_wait 1 _ refl refl).1) refl refl
+iterations_are_apart p =
+    two_points _ _ ((p.1.1.all_wait 0 _ refl refl).1 ∙ sym (p.1.1.all_wait 1 _ refl refl).1) refl refl
 
 pub nothing_follows_a_fault : NothingFollowsAFault
 unfolding wrap_of bits_of value_of modulus half binary_of unary_of
@@ -185,15 +212,83 @@ race_launch = line 2 2 (bound.Buffer 0 ∷ []) (4 ∷ [])
 
 -- both items go as far as their stores
 abbrev to_stores : List Move
-to_stores = Step 0 ∷ Step 0 ∷ Step 0 ∷ Step 0 ∷ Step 0 ∷ Step 0 ∷ Step 0 ∷ Step 0 ∷ Step 0 ∷ Step 0 ∷ Step 0 ∷ Step 1 ∷ Step 1 ∷ Step 1 ∷ Step 1 ∷ Step 1 ∷ Step 1 ∷ Step 1 ∷ Step 1 ∷ Step 1 ∷ Step 1 ∷ Step 1 ∷ []
+to_stores = Step 0 ∷ Step 0 ∷ Step 0 ∷ Step 0 ∷ Step 0 ∷ Step 0 ∷ Step 0 ∷ Step 0 ∷ Step 0 ∷ Step 0 ∷ Step 0 ∷
+    Step 1 ∷ Step 1 ∷ Step 1 ∷ Step 1 ∷ Step 1 ∷ Step 1 ∷ Step 1 ∷ Step 1 ∷ Step 1 ∷ Step 1 ∷ Step 1 ∷ []
 
 to_stores_run : IsRun (machine_of race race_launch) (start_world race race_launch (buffer (9 ∷ []) ∷ [])) to_stores
 unfolding wrap_of bits_of value_of modulus half binary_of unary_of
-to_stores_run = ((refl, (_, refl, tt)), ((refl, (_, refl, tt)), ((refl, (_, refl, tt)), ((refl, (_, refl, tt)), ((refl, (_, refl, tt)), ((refl, (_, refl, tt)), ((refl, (_, refl, tt)), ((refl, (_, refl, tt)), ((refl, (_, refl, tt)), ((refl, (_, refl, tt)), ((refl, (_, refl, tt)), ((refl, (_, refl, tt)), ((refl, (_, refl, tt)), ((refl, (_, refl, tt)), ((refl, (_, refl, tt)), ((refl, (_, refl, tt)), ((refl, (_, refl, tt)), ((refl, (_, refl, tt)), ((refl, (_, refl, tt)), ((refl, (_, refl, tt)), ((refl, (_, refl, tt)), ((refl, (_, refl, tt)), tt))))))))))))))))))))))
+to_stores_run = (
+  (refl, (_, refl, tt)),
+  (
+    (refl, (_, refl, tt)),
+    (
+      (refl, (_, refl, tt)),
+      (
+        (refl, (_, refl, tt)),
+        (
+          (refl, (_, refl, tt)),
+          (
+            (refl, (_, refl, tt)),
+            (
+              (refl, (_, refl, tt)),
+              (
+                (refl, (_, refl, tt)),
+                (
+                  (refl, (_, refl, tt)),
+                  (
+                    (refl, (_, refl, tt)),
+                    (
+                      (refl, (_, refl, tt)),
+                      (
+                        (refl, (_, refl, tt)),
+                        (
+                          (refl, (_, refl, tt)),
+                          (
+                            (refl, (_, refl, tt)),
+                            (
+                              (refl, (_, refl, tt)),
+                              (
+                                (refl, (_, refl, tt)),
+                                (
+                                  (refl, (_, refl, tt)),
+                                  (
+                                    (refl, (_, refl, tt)),
+                                    (
+                                      (refl, (_, refl, tt)),
+                                      ((refl, (_, refl, tt)), ((refl, (_, refl, tt)), ((refl, (_, refl, tt)), tt))),
+                                    ),
+                                  ),
+                                ),
+                              ),
+                            ),
+                          ),
+                        ),
+                      ),
+                    ),
+                  ),
+                ),
+              ),
+            ),
+          ),
+        ),
+      ),
+    ),
+  ),
+)
 
-they_race : Races (machine_of race race_launch) (world_after (machine_of race race_launch) (start_world race race_launch (buffer (9 ∷ []) ∷ [])) to_stores)
+they_race : Races (machine_of race race_launch)
+    (world_after (machine_of race race_launch) (start_world race race_launch (buffer (9 ∷ []) ∷ [])) to_stores)
 unfolding wrap_of bits_of value_of modulus half binary_of unary_of
-they_race = record { one = 0; other = 1; apart = omega arith; state = _; state' = _; at_one = refl; at_other = refl; conflict = (refl, (0, (omega arith, omega arith), (omega arith, omega arith))) }
+they_race = record {
+  one = 0;
+  other = 1;
+  apart = omega arith;
+  state = _;
+  state' = _;
+  at_one = refl;
+  at_other = refl;
+  conflict = (refl, (0, (omega arith, omega arith), (omega arith, omega arith)));
+}
 
 pub race_is_not_clean : RaceIsNotClean
 race_is_not_clean clean = clean.no_race to_stores to_stores_run they_race

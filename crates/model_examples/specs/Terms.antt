@@ -9,7 +9,8 @@ use Rattle.cl_model.specs.declared.program.VarKind.{VarKind}
 use Rattle.cl_model.specs.declared.program.VarKind.TheVariants as kind
 use Rattle.cl_model.specs.declared.program.Query.{Query}
 use Rattle.cl_model.specs.declared.launch.Bound.{Bound}
-use Rattle.cl_model.specs.Tree.{Literal, Variable, Binary, Convert, Ask, Set, Load, Store, Expression, Apply, none, single, pair, Statement, Do, Statements, empty, also, Array, Function, Program}
+use Rattle.cl_model.specs.Tree.{Literal, Variable, Binary, Convert, Ask, Set, Load, Store, Expression, Apply, none}
+use Rattle.cl_model.specs.Tree.{single, pair, Statement, Do, Statements, empty, also, Array, Function, Program}
 use Rattle.wg_num.specs.Bytes.{bytes_of}
 use Rattle.cl_model.specs.Sizes.{Launch}
 
@@ -70,7 +71,8 @@ private_ints n = record { space = space.Private; element = t.Int; count = n }
 
 -- a kernel with these parameters and variables
 abbrev pub kernel : ℕ → List VarKind → List Array → List Statement → Function
-kernel parameters variables arrays body = record { parameters = parameters; result = None; variables = variables; arrays = arrays; body = listed body }
+kernel parameters variables arrays body =
+    record { parameters = parameters; result = None; variables = variables; arrays = arrays; body = listed body }
 
 abbrev pub program : List Function → ℕ → Program
 program functions k = record { tables = []; functions = functions; kernel = k; sites = [] }

@@ -8,7 +8,8 @@ use Rattle.lowering_laws.specs.Marks.{Marks, point_marked}
 
 -- a barrier line is first, and its mark with the iterations begun says this point of the program
 abbrev pub StandsAtLine : Marks → ProgramPoint → Tasks → Type 0
-StandsAtLine marks point (LinesAt at (BarrierThen site rest) k) = point_marked marks (record { at = at; begun = begun_in k }) ≡ point
+StandsAtLine marks point (LinesAt at (BarrierThen site rest) k) =
+    point_marked marks (record { at = at; begun = begun_in k }) ≡ point
 StandsAtLine marks point _ = ⊥
 
 -- what the kernel's item has left to do may lead to a line of the point

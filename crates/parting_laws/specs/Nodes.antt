@@ -1,10 +1,14 @@
 -- The node of a program's text to which a way leads, and items of which each task stands at the way to its node.
 use Rattle.std.specs.Prelude.{◌≡◌, ℕ, zero, suc, List, [], ◌∷◌, ◌++◌, Option, Some, None}
-use Rattle.cl_model.specs.Tree.{Expression, Apply, Update, Choose, Call, Expressions, none, more, Statement, Do, Declare, Fill, Block, If, Loop, Switch, Return, Barrier, Statements, empty, also, Arms, no_arm, arm, Program}
+use Rattle.cl_model.specs.Tree.{Expression, Apply, Update, Choose, Call, Expressions, none, more, Statement, Do}
+use Rattle.cl_model.specs.Tree.{Declare, Fill, Block, If, Loop, Switch, Return, Barrier, Statements, empty, also}
+use Rattle.cl_model.specs.Tree.{Arms, no_arm, arm, Program}
 use Rattle.cl_model.specs.Calls.{function_at, kernel_of}
 use Rattle.kir.specs.Tree.{Lines, NoLine, SetThen, LoadThen, StoreThen, ClearThen, IfThen, LoopThen, BarrierThen}
 use Rattle.lowering_laws.specs.Marks.{Way, Marks, marks_behind, marks_one, marks_two, first_way}
-use Rattle.cl_model.specs.Task.{Leg, Operand, Own, Tested, Chosen, Other, Nth, Turn, Body, Step, Arm, Into, Point, Task, Run, Evaluate, Finish, Peek, Alter, Decide, Enter, InCall, Discard, Keep, Clear, Initialise, Branch, InLoop, Select, InSwitch, Leave}
+use Rattle.cl_model.specs.Task.{Leg, Operand, Own, Tested, Chosen, Other, Nth, Turn, Body, Step, Arm, Into, Point}
+use Rattle.cl_model.specs.Task.{Task, Run, Evaluate, Finish, Peek, Alter, Decide, Enter, InCall, Discard, Keep, Clear}
+use Rattle.cl_model.specs.Task.{Initialise, Branch, InLoop, Select, InSwitch, Leave}
 
 -- a part of a program's text
 pub data Node : Type 0 where
@@ -76,7 +80,8 @@ expression_child program (Choose site test chosen other) Tested = expression_nod
 expression_child program (Choose site test chosen other) Chosen = expression_node chosen
 expression_child program (Choose site test chosen other) Other = expression_node other
 expression_child program (Call site function roots arguments) (Operand k) = operand_node k arguments
-expression_child program (Call site function roots arguments) Into = statement_node (Block (function_at program function).body)
+expression_child program (Call site function roots arguments) Into =
+    statement_node (Block (function_at program function).body)
 expression_child program _ _ = no_node
 
 -- of any node
@@ -122,12 +127,17 @@ IsReal program way = IsRealFrom program (statement_node (Block (kernel_of progra
 abbrev pub IsInPlace : Program → Task → Type 0
 IsInPlace program (Run at s) = node_at program at ≡ statement_node s
 IsInPlace program (Evaluate at e) = node_at program at ≡ expression_node e
-IsInPlace program (Decide at chosen other) = (node_at program (at ++ Chosen ∷ []) ≡ expression_node chosen) × (node_at program (at ++ Other ∷ []) ≡ expression_node other)
-IsInPlace program (Enter at site function roots count) = node_at program (at ++ Into ∷ []) ≡ statement_node (Block (function_at program function).body)
+IsInPlace program (Decide at chosen other) = (node_at program (at ++ Chosen ∷ []) ≡ expression_node chosen) ×
+    (node_at program (at ++ Other ∷ []) ≡ expression_node other)
+IsInPlace program (Enter at site function roots count) =
+    node_at program (at ++ Into ∷ []) ≡ statement_node (Block (function_at program function).body)
 IsInPlace program (Discard at) = (node_at program at ≡ no_node) × IsReal program at
-IsInPlace program (Branch at chosen other) = (node_at program (at ++ Chosen ∷ []) ≡ list_node chosen) × (node_at program (at ++ Other ∷ []) ≡ list_node other)
-IsInPlace program (InLoop at site test step body begun) = (k : ℕ) → node_at program (at ++ Turn k ∷ []) ≡ round_node test step body
-IsInPlace program (Select at site arms) = IsNode (node_at program at) × ((k : ℕ) → node_at program (at ++ Arm k ∷ []) ≡ arm_node k arms)
+IsInPlace program (Branch at chosen other) =
+    (node_at program (at ++ Chosen ∷ []) ≡ list_node chosen) × (node_at program (at ++ Other ∷ []) ≡ list_node other)
+IsInPlace program (InLoop at site test step body begun) =
+    (k : ℕ) → node_at program (at ++ Turn k ∷ []) ≡ round_node test step body
+IsInPlace program (Select at site arms) =
+    IsNode (node_at program at) × ((k : ℕ) → node_at program (at ++ Arm k ∷ []) ≡ arm_node k arms)
 IsInPlace program (Finish at action count) = IsNode (node_at program at)
 IsInPlace program (Peek at site element root) = IsNode (node_at program at)
 IsInPlace program (Alter at site element root op of back old) = IsNode (node_at program at)
@@ -153,12 +163,19 @@ WayLeads program way node = (begun : List ℕ) → node_at program (way begun) �
 abbrev pub BarriersMarked : Program → Lines → Marks → Type 0
 BarriersMarked program NoLine marks = Unit {0}
 BarriersMarked program (SetThen to work rest) marks = BarriersMarked program rest (marks_behind marks)
-BarriersMarked program (LoadThen site to element root index rest) marks = BarriersMarked program rest (marks_behind marks)
-BarriersMarked program (StoreThen site element root index from rest) marks = BarriersMarked program rest (marks_behind marks)
+BarriersMarked program (LoadThen site to element root index rest) marks =
+    BarriersMarked program rest (marks_behind marks)
+BarriersMarked program (StoreThen site element root index from rest) marks =
+    BarriersMarked program rest (marks_behind marks)
 BarriersMarked program (ClearThen array rest) marks = BarriersMarked program rest (marks_behind marks)
-BarriersMarked program (IfThen site test chosen other rest) marks = BarriersMarked program chosen (marks_one marks) × BarriersMarked program other (marks_two marks) × BarriersMarked program rest (marks_behind marks)
-BarriersMarked program (LoopThen site test_first test answer body rest) marks = BarriersMarked program test (marks_one marks) × BarriersMarked program body (marks_two marks) × BarriersMarked program rest (marks_behind marks)
-BarriersMarked program (BarrierThen site rest) marks = ((begun : List ℕ) → IsBarrierNode (node_at program (first_way marks begun))) × BarriersMarked program rest (marks_behind marks)
+BarriersMarked program (IfThen site test chosen other rest) marks = BarriersMarked program chosen (marks_one marks) ×
+    BarriersMarked program other (marks_two marks) × BarriersMarked program rest (marks_behind marks)
+BarriersMarked program (LoopThen site test_first test answer body rest) marks =
+    BarriersMarked program test (marks_one marks) × BarriersMarked program body (marks_two marks) ×
+    BarriersMarked program rest (marks_behind marks)
+BarriersMarked program (BarrierThen site rest) marks =
+    ((begun : List ℕ) → IsBarrierNode (node_at program (first_way marks begun))) ×
+    BarriersMarked program rest (marks_behind marks)
 
 -- the marks say the ways to barriers
 pub record AreMarked (program : Program) (lines : Lines) (marks : Marks) : Type 0 where

@@ -1,4 +1,5 @@
--- The barriers to which an item of a program may come with fewer than so many begun iterations, whatever its loads give and its tests answer.
+-- The barriers to which an item of a program may come with fewer than so many begun iterations, whatever its loads
+-- give and its tests answer.
 use Rattle.std.specs.Prelude.{◌≡◌, ℕ, suc, ℤ, true, List, ◌∷◌, length}
 use Rattle.work_items.specs.Memory.{Access}
 use Rattle.work_items.specs.Items.{Next, Ends, Waits, Goes, Begins, Loads, Stores}
@@ -19,7 +20,8 @@ PassesTo goes_on (Waits site after) to = after ≡ to
 PassesTo goes_on (Goes after) to = after ≡ to
 PassesTo goes_on (Begins after) to = ⊥
 PassesTo goes_on (Loads site access after) to = goes_on access × ((bytes : List ℕ) × (after bytes ≡ to))
-PassesTo goes_on (Stores site object index bytes after) to = goes_on (record { object = object; size = length bytes; index = index }) × (after ≡ to)
+PassesTo goes_on (Stores site object index bytes after) to =
+    goes_on (record { object = object; size = length bytes; index = index }) × (after ≡ to)
 
 -- one that begins an iteration leads there
 abbrev pub TurnsTo : {S : Type 0} → Next S → S → Type 0
@@ -32,11 +34,16 @@ pub data Answers (j : ProgramItem) : ProgramItem → Type 0 where
   answered : is_test j.tasks ≡ true → (v : ℤ) → Answers j (record j { values = v ∷ before j.values })
 
 -- it may come to a barrier at the point, with fewer than so many iterations begun on the way
-pub data Reaches (program : Program) (launch : Launch) (buffers : List (List ℕ)) (point : ProgramPoint) : ℕ → ProgramItem → Type 0 where
+pub data Reaches (program : Program) (launch : Launch) (buffers : List (List ℕ)) (point : ProgramPoint) : ℕ →
+    ProgramItem → Type 0 where
   here : {n : ℕ} {j : ProgramItem} → StandsAtBarrier point j.tasks → Reaches program launch buffers point (suc n) j
-  goes : {n : ℕ} {j tried next : ProgramItem} → Answers j tried → PassesTo (IsWithin program launch buffers) (program_next program launch tried) next → Reaches program launch buffers point n next → Reaches program launch buffers point n j
-  turns : {n : ℕ} {j tried next : ProgramItem} → Answers j tried → TurnsTo (program_next program launch tried) next → Reaches program launch buffers point n next → Reaches program launch buffers point (suc n) j
+  goes : {n : ℕ} {j tried next : ProgramItem} → Answers j tried →
+      PassesTo (IsWithin program launch buffers) (program_next program launch tried) next →
+      Reaches program launch buffers point n next → Reaches program launch buffers point n j
+  turns : {n : ℕ} {j tried next : ProgramItem} → Answers j tried → TurnsTo (program_next program launch tried) next →
+      Reaches program launch buffers point n next → Reaches program launch buffers point (suc n) j
 
 -- to each such barrier's line the kernel's item may come
-pub record CoversFewer (program : Program) (marks : Marks) (launch : Launch) (buffers : List (List ℕ)) (n : ℕ) (j : ProgramItem) (k : Tasks) : Type 0 where
+pub record CoversFewer (program : Program) (marks : Marks) (launch : Launch) (buffers : List (List ℕ)) (n : ℕ)
+    (j : ProgramItem) (k : Tasks) : Type 0 where
   pub reach : (point : ProgramPoint) → Reaches program launch buffers point n j → ComesToLine marks point k

@@ -1,7 +1,8 @@
 -- The declarations and calls of a function, in the order of its text.
 use Rattle.std.specs.Prelude.{ℕ, zero, suc, List, [], ◌∷◌, ◌++◌, map}
 use Rattle.std.specs.Prelude.{true, false}
-use Rattle.cl_model.specs.Tree.{Statement, Do, Declare, Fill, Block, If, Loop, Switch, Break, Continue, Return, Barrier, Statements, empty, also, Arms, no_arm, arm, Function}
+use Rattle.cl_model.specs.Tree.{Statement, Do, Declare, Fill, Block, If, Loop, Switch, Break, Continue, Return}
+use Rattle.cl_model.specs.Tree.{Barrier, Statements, empty, also, Arms, no_arm, arm, Function}
 use Rattle.cl_model.specs.Calls.{CallSite, calls_in, calls_among, calls_in_optional}
 use Rattle.kir.specs.Tree as tree
 use Rattle.plan_lines.specs.declared.outline.Entry.{Entry}
@@ -23,9 +24,12 @@ abbrev mutual
   statement_entries (Declare x value) = call_entries (calls_in_optional value) ++ entry.Declares x ∷ []
   statement_entries (Fill site array values) = call_entries (calls_among values)
   statement_entries (Block list) = all_entries list
-  statement_entries (If site test chosen other) = call_entries (calls_in test) ++ (all_entries chosen ++ all_entries other)
-  statement_entries (Loop site true test step body) = call_entries (calls_in_optional test) ++ (call_entries (calls_in_optional step) ++ statement_entries body)
-  statement_entries (Loop site false test step body) = statement_entries body ++ (call_entries (calls_in_optional step) ++ call_entries (calls_in_optional test))
+  statement_entries (If site test chosen other) =
+      call_entries (calls_in test) ++ (all_entries chosen ++ all_entries other)
+  statement_entries (Loop site true test step body) =
+      call_entries (calls_in_optional test) ++ (call_entries (calls_in_optional step) ++ statement_entries body)
+  statement_entries (Loop site false test step body) =
+      statement_entries body ++ (call_entries (calls_in_optional step) ++ call_entries (calls_in_optional test))
   statement_entries (Switch site value arms) = call_entries (calls_in value) ++ arm_entries arms
   statement_entries (Break site) = []
   statement_entries (Continue site) = []

@@ -1,5 +1,7 @@
--- The text of a plan: a line for each variable that is kept between regions, in the order in which declarations stand in the inlined text.
-use Rattle.std.specs.Prelude.{ℕ, suc, List, [], ◌∷◌, ◌++◌, Option, Some, None, slice_get, codes, decimal, nat_eq, ◌&&◌, if◌then◌else◌}
+-- The text of a plan: a line for each variable that is kept between regions, in the order in which declarations stand
+-- in the inlined text.
+use Rattle.std.specs.Prelude.{ℕ, suc, List, [], ◌∷◌, ◌++◌, Option, Some, None, slice_get, codes, decimal, nat_eq}
+use Rattle.std.specs.Prelude.{◌&&◌, if◌then◌else◌}
 use Rattle.std.specs.Prelude.{Bool as Test, false}
 use Rattle.std.specs.List.{flat_map, join_by}
 use lib.Pointwise.{pointwise}
@@ -17,7 +19,8 @@ place_text place = decimal place.line ++ (codes ":" ++ decimal place.column)
 
 -- the line of a variable with this path and name, which is kept so
 abbrev pub line_text : (word : List ℕ) → (path : List Place) → (name : List ℕ) → List ℕ
-line_text word path name = word ++ (codes " " ++ (join_by place_text (codes "/") path ++ (codes " " ++ (name ++ codes "\n"))))
+line_text word path name =
+    word ++ (codes " " ++ (join_by place_text (codes "/") path ++ (codes " " ++ (name ++ codes "\n"))))
 
 -- the line of a cell with a home: one value for the group, or one for each item
 abbrev pub cell_line : Home → CellKind → List ℕ
@@ -43,7 +46,8 @@ is_kind_of v OfValue = false
 -- the line of the variable, whose cell is one of these, the first of which has this number
 abbrev pub line_among : List Home → Variable → ℕ → List Cell → List ℕ
 line_among homes v n [] = []
-line_among homes v n (c ∷ cells) = if is_kind_of v c.kind then line_at (slice_get homes n) c.kind else line_among homes v (suc n) cells
+line_among homes v n (c ∷ cells) =
+    if is_kind_of v c.kind then line_at (slice_get homes n) c.kind else line_among homes v (suc n) cells
 
 -- the lines of the variables
 abbrev pub plan_lines_of : Program → Kernel → Planned → List ℕ

@@ -25,4 +25,5 @@ pub record IsLineOf (program : Program) (names : List (List Named)) (v : Variabl
 -- the lines of these variables, one each and in their order
 abbrev pub AreLinesOf : Program → (names : List (List Named)) → List Variable → (text : List ℕ) → Type 0
 AreLinesOf program names [] text = text ≡ []
-AreLinesOf program names (v ∷ vs) text = (own : List ℕ) × (rest : List ℕ) × IsLineOf program names v own × AreLinesOf program names vs rest × (text ≡ own ++ rest)
+AreLinesOf program names (v ∷ vs) text = (own : List ℕ) × (rest : List ℕ) × IsLineOf program names v own ×
+    AreLinesOf program names vs rest × (text ≡ own ++ rest)

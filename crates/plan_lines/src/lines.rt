@@ -110,7 +110,8 @@ fn put_variable(
     cells: &[Cell],
     variable: &Variable,
 ) -> Result<(), Memory>
-    ensures { OnOk result (text.new.items ≡ text.old.items ++ line_among homes.now (variable_of variable.now) 0 (map cell_of cells.now)) }
+    ensures { OnOk result (text.new.items ≡ text.old.items ++ line_among homes.now (variable_of variable.now) 0
+        (map cell_of cells.now)) }
 {
     for n in 0..cells.len() {
         let kind = &cells[n].kind;
@@ -134,7 +135,8 @@ pub fn plan_text(
     kernel: &Kernel,
     plan: &Plan,
 ) -> Result<Vec<u8>, Memory>
-    ensures lines { IfOk result (λ t. t.items ≡ plan_lines_of (program_of program.now) (kernel_of kernel.now) (planned_of plan.now)) }
+    ensures lines { IfOk result (λ t. t.items ≡ plan_lines_of (program_of program.now) (kernel_of kernel.now)
+        (planned_of plan.now)) }
 {
     let variables = variables_of(alloc, program)?;
     let mut text = Vec::new(alloc);

@@ -2,7 +2,15 @@
 
 ghost use Rattle.std.specs.Prelude.{◌≡◌, ◌∷◌, [], ◌++◌, IfOk, OnOk};
 ghost use Rattle.cl_model.specs.Calls.{calls_in, calls_among, calls_in_optional};
-ghost use Rattle.cl_model.specs.View.{expression_of, argument_of, listed_expressions, optional_expression, statement_of, listed_statements, function_of};
+ghost use Rattle.cl_model.specs.View.{
+  expression_of,
+  argument_of,
+  listed_expressions,
+  optional_expression,
+  statement_of,
+  listed_statements,
+  function_of,
+};
 ghost use Rattle.ctx_plan.specs.Points.{listed_arguments, listed_arms};
 ghost use Rattle.plan_lines.specs.Entries.{call_entries, statement_entries, all_entries, arm_entries, function_entries};
 
@@ -27,14 +35,18 @@ fn put(entries: &mut Vec<Entry>, entry: Entry) -> Result<(), Memory>
 }
 
 fn put_call(entries: &mut Vec<Entry>, site: u32, function: u32) -> Result<(), Memory>
-    ensures { OnOk result (entries.new.items ≡ entries.old.items ++ call_entries (record { site = site; function = function } ∷ [])) }
+    ensures { OnOk result (entries.new.items ≡ entries.old.items ++ call_entries (record {
+      site = site;
+      function = function;
+    } ∷ [])) }
 {
     put(entries, Entry::Calls { site, function })
 }
 
 #[cycle(calls)]
 fn put_expressions(entries: &mut Vec<Entry>, list: &[Expr]) -> Result<(), Memory>
-    ensures { OnOk result (entries.new.items ≡ entries.old.items ++ call_entries (calls_among (listed_expressions list.now))) }
+    ensures { OnOk result (entries.new.items ≡ entries.old.items ++
+        call_entries (calls_among (listed_expressions list.now))) }
 {
     for e in list {
         put_expression(entries, e)?;
@@ -44,7 +56,8 @@ fn put_expressions(entries: &mut Vec<Entry>, list: &[Expr]) -> Result<(), Memory
 
 #[cycle(calls)]
 fn put_argument(entries: &mut Vec<Entry>, argument: &Arg) -> Result<(), Memory>
-    ensures { OnOk result (entries.new.items ≡ entries.old.items ++ call_entries (calls_in (argument_of argument.now))) }
+    ensures { OnOk result (entries.new.items ≡ entries.old.items ++
+        call_entries (calls_in (argument_of argument.now))) }
 {
     match argument {
         Arg::Value(e) => put_expression(entries, e),
@@ -54,7 +67,8 @@ fn put_argument(entries: &mut Vec<Entry>, argument: &Arg) -> Result<(), Memory>
 
 #[cycle(calls)]
 fn put_arguments(entries: &mut Vec<Entry>, list: &[Arg]) -> Result<(), Memory>
-    ensures { OnOk result (entries.new.items ≡ entries.old.items ++ call_entries (calls_among (listed_arguments list.now))) }
+    ensures { OnOk result (entries.new.items ≡ entries.old.items ++
+        call_entries (calls_among (listed_arguments list.now))) }
 {
     for argument in list {
         put_argument(entries, argument)?;
@@ -103,7 +117,8 @@ fn put_expression(entries: &mut Vec<Entry>, e: &Expr) -> Result<(), Memory>
 }
 
 fn put_optional(entries: &mut Vec<Entry>, e: &Option<Expr>) -> Result<(), Memory>
-    ensures { OnOk result (entries.new.items ≡ entries.old.items ++ call_entries (calls_in_optional (optional_expression e.now))) }
+    ensures { OnOk result (entries.new.items ≡ entries.old.items ++
+        call_entries (calls_in_optional (optional_expression e.now))) }
 {
     match e {
         None => Ok(()),

@@ -42,7 +42,8 @@ fn copy(alloc: Global, calls: &[u32]) -> Result<Vec<u32>, Memory>
 }
 
 fn put(list: &mut Vec<Variable>, variable: Variable) -> Result<(), Memory>
-    ensures { OnOk result (map variable_of list.new.items ≡ map variable_of list.old.items ++ variable_of variable ∷ []) }
+    ensures { OnOk result (map variable_of list.new.items ≡ map variable_of list.old.items ++
+        variable_of variable ∷ []) }
 {
     match list.push(variable) {
         Ok(()) => Ok(()),
@@ -69,7 +70,8 @@ fn put_function(
     function: u32,
     list: &mut Vec<Variable>,
 ) -> Result<(), Memory>
-    ensures { OnOk result (map variable_of list.new.items ≡ map variable_of list.old.items ++ variables_in (function_text (program_of program.now) depth calls.now function)) }
+    ensures { OnOk result (map variable_of list.new.items ≡ map variable_of list.old.items ++
+        variables_in (function_text (program_of program.now) depth calls.now function)) }
 {
     if depth == 0 {
         return Ok(());

@@ -21,7 +21,8 @@ pub fn unary(alloc: Global, op: Un, of: IntType, a: Expr) -> Result<Expr, Memory
 
 /// An operator on two operands, which computes in the type `of` (C99, sections 6.5.5 to 6.5.12).
 pub fn binary(alloc: Global, op: Bin, of: IntType, a: Expr, b: Expr) -> Result<Expr, Memory>
-    ensures { IfOk result (λ e. expression_of e ≡ Apply (tree.Binary op of) (pair (expression_of a) (expression_of b))) }
+    ensures { IfOk result (λ e. expression_of e ≡
+        Apply (tree.Binary op of) (pair (expression_of a) (expression_of b))) }
 {
     let (a, b) = boxed_beside(alloc, a, b)?;
     let (b, a) = boxed_beside(alloc, b, a)?;
@@ -30,7 +31,8 @@ pub fn binary(alloc: Global, op: Bin, of: IntType, a: Expr, b: Expr) -> Result<E
 
 /// `a && b` (C99, section 6.5.13).
 pub fn both(alloc: Global, site: u32, a: Expr, b: Expr) -> Result<Expr, Memory>
-    ensures { IfOk result (λ e. expression_of e ≡ Choose site (expression_of a) (truth_of (expression_of b)) (decided false)) }
+    ensures { IfOk result (λ e. expression_of e ≡ Choose site (expression_of a) (truth_of (expression_of b))
+        (decided false)) }
 {
     let (a, b) = boxed_beside(alloc, a, b)?;
     let (b, a) = boxed_beside(alloc, b, a)?;
@@ -39,7 +41,8 @@ pub fn both(alloc: Global, site: u32, a: Expr, b: Expr) -> Result<Expr, Memory>
 
 /// `a || b` (C99, section 6.5.14).
 pub fn either(alloc: Global, site: u32, a: Expr, b: Expr) -> Result<Expr, Memory>
-    ensures { IfOk result (λ e. expression_of e ≡ Choose site (expression_of a) (decided true) (truth_of (expression_of b))) }
+    ensures { IfOk result (λ e. expression_of e ≡ Choose site (expression_of a) (decided true)
+        (truth_of (expression_of b))) }
 {
     let (a, b) = boxed_beside(alloc, a, b)?;
     let (b, a) = boxed_beside(alloc, b, a)?;
@@ -48,7 +51,8 @@ pub fn either(alloc: Global, site: u32, a: Expr, b: Expr) -> Result<Expr, Memory
 
 /// `test ? yes : no` (C99, section 6.5.15).
 pub fn choose(alloc: Global, site: u32, test: Expr, yes: Expr, no: Expr) -> Result<Expr, Memory>
-    ensures { IfOk result (λ e. expression_of e ≡ Choose site (expression_of test) (expression_of yes) (expression_of no)) }
+    ensures { IfOk result (λ e. expression_of e ≡ Choose site (expression_of test) (expression_of yes)
+        (expression_of no)) }
 {
     let (test, arms) = boxed_beside(alloc, test, (yes, no))?;
     let (yes, rest) = boxed_beside(alloc, arms.0, (test, arms.1))?;
@@ -77,7 +81,8 @@ pub fn load(
     root: Root,
     index: Expr,
 ) -> Result<Expr, Memory>
-    ensures { IfOk result (λ e. expression_of e ≡ Apply (tree.Load site element root) (single (expression_of index))) }
+    ensures { IfOk result (λ e. expression_of e ≡ Apply (tree.Load site element root)
+        (single (expression_of index))) }
 {
     let index = boxed(alloc, index)?;
     Ok(Expr::Load {

@@ -25,7 +25,8 @@ pub fn branch(
     yes: Stmt,
     no: Option<Stmt>,
 ) -> Result<Stmt, Memory>
-    ensures { IfOk result (λ s. statement_of s ≡ tree.If site (expression_of test) (alone (statement_of yes)) (optional_statement no)) }
+    ensures { IfOk result (λ s. statement_of s ≡ tree.If site (expression_of test) (alone (statement_of yes))
+        (optional_statement no)) }
 {
     let (yes, rest) = boxed_beside(alloc, yes, (test, no))?;
     let (no, parts) = optional_beside(alloc, rest.1, (rest.0, yes))?;
@@ -47,7 +48,8 @@ pub fn repeat(
     step: Option<Expr>,
     body: Stmt,
 ) -> Result<Stmt, Memory>
-    ensures { IfOk result (λ s. statement_of s ≡ tree.Loop site test_first (optional_expression test) (optional_expression step) (statement_of body)) }
+    ensures { IfOk result (λ s. statement_of s ≡ tree.Loop site test_first (optional_expression test)
+        (optional_expression step) (statement_of body)) }
 {
     let (body, head) = boxed_beside(alloc, body, (test, step))?;
     let (test, step) = head;

@@ -1,5 +1,7 @@
 -- Wherever a run leads, each cell of an item holds a value of the cell's type.
-use Rattle.std.proofs.Common.{◌≡◌, ℕ, zero, suc, ◌+◌, ◌*◌, ◌/◌, ◌^◌, ◌<◌, ◌≤◌, ℤ, pos, negsuc, List, [], ◌∷◌, Option, Some, None, slice_get, refl, sym, ap, ◌∙◌, subst, ⊎_elim, arith, cond, take, mod-lt, div-add-mod', suc-mul, mul-le-mul_right, mod-eq_of_lt}
+use Rattle.std.proofs.Common.{◌≡◌, ℕ, zero, suc, ◌+◌, ◌*◌, ◌/◌, ◌^◌, ◌<◌, ◌≤◌, ℤ, pos, negsuc, List, [], ◌∷◌, Option}
+use Rattle.std.proofs.Common.{Some, None, slice_get, refl, sym, ap, ◌∙◌, subst, ⊎_elim, arith, cond, take, mod-lt}
+use Rattle.std.proofs.Common.{div-add-mod', suc-mul, mul-le-mul_right, mod-eq_of_lt}
 use Rattle.std.proofs.lemmas.Int.{ints}
 use native.Mathlib.Nat.{div-eq-sub-div, div-le_self}
 use Rattle.std.specs.Prelude.{nat_eq, nat_lt, option_map, int_le}
@@ -22,11 +24,13 @@ use Rattle.wg_num.proofs.BuiltinLaws.{IsValue-builtin}
 use Rattle.cl_model.specs.declared.launch.Bound.{Bound}
 use Rattle.cl_model.specs.declared.launch.Bound.TheVariants as bound
 use Rattle.cl_model.specs.declared.program.Query.{Query}
-use Rattle.cl_model.specs.declared.program.Query.TheVariants.{WorkDim, GlobalId, LocalId, GroupId, GlobalSize, LocalSize, NumGroups, GlobalOffset}
+use Rattle.cl_model.specs.declared.program.Query.TheVariants.{WorkDim, GlobalId, LocalId, GroupId, GlobalSize}
+use Rattle.cl_model.specs.declared.program.Query.TheVariants.{LocalSize, NumGroups, GlobalOffset}
 use Rattle.cl_model.specs.declared.program.VarKind.{VarKind}
 use Rattle.cl_model.specs.declared.program.VarKind.TheVariants.{Scalar, Pointer}
 use Rattle.cl_model.specs.declared.program.Space.TheVariants as space
-use Rattle.cl_model.specs.Sizes.{Launch, product, size_at, offset_at, groups_at, group_of, number_in_group, local_id, group_id, global_id, answer_within, answer_outside, answer_of}
+use Rattle.cl_model.specs.Sizes.{Launch, product, size_at, offset_at, groups_at, group_of, number_in_group, local_id}
+use Rattle.cl_model.specs.Sizes.{group_id, global_id, answer_within, answer_outside, answer_of}
 use Rattle.cl_model.specs.Tree.{Program}
 use Rattle.cl_model.specs.Valid.{unary_type, binary_type, query_type, kind_type}
 use Rattle.cl_model.specs.Fitting.{ArgumentFits, ArgumentsFit, FitsProgram}
@@ -34,11 +38,13 @@ use Rattle.cl_model.specs.Meaning.{argument_value}
 use Rattle.cl_model.specs.Values.{is_zero}
 use Rattle.kir.specs.declared.line.Atom.{Atom}
 use Rattle.kir.specs.declared.line.Atom.TheVariants.{Const, Cell as CellAtom}
-use Rattle.kir.specs.Tree.{Work, Unary, Binary, Builtin, Convert, Ask, Argument, Copy, NoLine, SetThen, LoadThen, StoreThen, ClearThen, IfThen, LoopThen, BarrierThen, Cell, Kernel}
+use Rattle.kir.specs.Tree.{Work, Unary, Binary, Builtin, Convert, Ask, Argument, Copy, NoLine, SetThen, LoadThen}
+use Rattle.kir.specs.Tree.{StoreThen, ClearThen, IfThen, LoopThen, BarrierThen, Cell, Kernel}
 use Rattle.kir.specs.Places.{Behind, Tasks, NoTask, LinesAt, AnswerAt, iteration}
 use Rattle.kir.specs.Steps.{shell_of, Item, with_tasks, with_cell, atom_value, work_value, tasks_next}
 use Rattle.kir.specs.Meaning.{machine_of, GoesOn}
-use Rattle.kir.specs.Fits.{same_type, has_type, is_value, atom_type, type_of_cell, work_fits, work_type, cell_takes, type_of_parameter, lines_fit}
+use Rattle.kir.specs.Fits.{same_type, has_type, is_value, atom_type, type_of_cell, work_fits, work_type, cell_takes}
+use Rattle.kir.specs.Fits.{type_of_parameter, lines_fit}
 use Rattle.group_moves.specs.Stages.{Stage}
 use Rattle.group_moves.proofs.Histories.{leads_keep}
 use Rattle.kir_moves.specs.Stand.{start_stage, ItemsLead}
@@ -76,7 +82,8 @@ type_of_is kernel c = go (slice_get kernel.cells c)
 
 -- a test is a fact
 pub is_value_is : (t : IntType) (z : ℤ) → is_value t z ≡ true → IsValue t z
-is_value_is t z e = let p = and_parts (int_le (lowest t) z) (int_le z (highest t)) e in record { low = omega (arith, ints, p.0); high = omega (arith, ints, p.1) }
+is_value_is t z e = let p = and_parts (int_le (lowest t) z) (int_le z (highest t)) e in
+    record { low = omega (arith, ints, p.0); high = omega (arith, ints, p.1) }
 
 -- a number of so many bits is a value
 ulong_value : (n : ℕ) → n < 2 ^ 64 → IsValue types.Ulong (pos n)
@@ -167,7 +174,8 @@ size_below (suc n ∷ ns) zero some = by (product ns) some
     by : (p : ℕ) → 0 < suc n * p → suc n ≤ suc n * p
     by zero h = absurd (omega arith)
     by (suc p) h = grind arith
-size_below (suc n ∷ ns) (suc d) some = let p = product ns in let less = size_below ns d (positive p some) in grind (arith, less)
+size_below (suc n ∷ ns) (suc d) some = let p = product ns in let less =
+    size_below ns d (positive p some) in grind (arith, less)
   where
     positive : (p : ℕ) → 0 < suc n * p → 0 < p
     positive zero h = absurd (omega arith)
@@ -202,25 +210,34 @@ module _ (program : Program) (launch : Launch) (fits : FitsProgram program launc
   groups_small : (d : ℕ) → d < 3 → groups_at launch d ≤ size_at launch.global d
   groups_small d lt = div-le_self (size_at launch.global d) (size_at launch.local d)
 
-  pub answer_small : (what : Query) (item d : ℕ) → d < 3 → IsValue (query_type what) (pos (answer_within launch item what d))
+  pub answer_small : (what : Query) (item d : ℕ) → d < 3 →
+      IsValue (query_type what) (pos (answer_within launch item what d))
   answer_small WorkDim item d lt = uint_value launch.dims (let f = fits.few_dims.1 in omega arith)
   answer_small GlobalId item d lt =
       let f = fits.dimensions d lt in
-      let gs = mod-lt (group_of launch item / product (take d (Rattle.cl_model.specs.Sizes.groups_of launch))) (groups_some d lt) in
+      let gs = mod-lt (group_of launch item / product (take d (Rattle.cl_model.specs.Sizes.groups_of launch)))
+      (groups_some d lt) in
       let ls = mod-lt (number_in_group launch item / product (take d launch.local)) f.some_local in
-      let inside = within_groups (size_at launch.global d) (size_at launch.local d) (group_id launch item d) (local_id launch item d) gs ls f.some_local in
+      let inside = within_groups (size_at launch.global d) (size_at launch.local d) (group_id launch item d)
+      (local_id launch item d) gs ls f.some_local in
       ulong_value (global_id launch item d) (let g = global_small d in let o = f.offset in omega (arith, inside, g, o))
   answer_small LocalId item d lt =
       let f = fits.dimensions d lt in
       let ls = mod-lt (number_in_group launch item / product (take d launch.local)) f.some_local in
-      ulong_value (local_id launch item d) (let g = global_small d in let l = local_small d lt in omega (arith, ls, g, l))
+      ulong_value (local_id launch item d) (let g = global_small d in let l = local_small d lt in
+      omega (arith, ls, g, l))
   answer_small GroupId item d lt =
-      let gs = mod-lt (group_of launch item / product (take d (Rattle.cl_model.specs.Sizes.groups_of launch))) (groups_some d lt) in
-      ulong_value (group_id launch item d) (let g = global_small d in let l = groups_small d lt in omega (arith, gs, g, l))
+      let gs = mod-lt (group_of launch item / product (take d (Rattle.cl_model.specs.Sizes.groups_of launch)))
+      (groups_some d lt) in
+      ulong_value (group_id launch item d) (let g = global_small d in let l = groups_small d lt in
+      omega (arith, gs, g, l))
   answer_small GlobalSize item d lt = ulong_value (size_at launch.global d) (let g = global_small d in omega arith)
-  answer_small LocalSize item d lt = ulong_value (size_at launch.local d) (let g = global_small d in let l = local_small d lt in omega arith)
-  answer_small NumGroups item d lt = ulong_value (groups_at launch d) (let g = global_small d in let l = groups_small d lt in omega arith)
-  answer_small GlobalOffset item d lt = ulong_value (offset_at launch.offset d) (let o = (fits.dimensions d lt).offset in omega arith)
+  answer_small LocalSize item d lt =
+      ulong_value (size_at launch.local d) (let g = global_small d in let l = local_small d lt in omega arith)
+  answer_small NumGroups item d lt =
+      ulong_value (groups_at launch d) (let g = global_small d in let l = groups_small d lt in omega arith)
+  answer_small GlobalOffset item d lt =
+      ulong_value (offset_at launch.offset d) (let o = (fits.dimensions d lt).offset in omega arith)
 
   outside_small : (what : Query) → IsValue (query_type what) (pos (answer_outside launch what))
   outside_small WorkDim = uint_value launch.dims (let f = fits.few_dims.1 in omega arith)
@@ -236,17 +253,21 @@ module _ (program : Program) (launch : Launch) (fits : FitsProgram program launc
   query_value what item (negsuc d) = outside_small what
   query_value what item (pos d) = go (nat_lt d 3) refl
     where
-      go : (b : Test) → nat_lt d 3 ≡ b → IsValue (query_type what) (pos (cond b (answer_within launch item what d) (answer_outside launch what)))
+      go : (b : Test) → nat_lt d 3 ≡ b →
+          IsValue (query_type what) (pos (cond b (answer_within launch item what d) (answer_outside launch what)))
       go true e = answer_small what item d (ltb-true d 3 e)
       go false e = outside_small what
 
 -- what is bound to a parameter is a value of its type
-argument_typed : (launch : Launch) (kinds : List VarKind) (args : List Bound) (n : ℕ) (t : IntType) → ArgumentsFit launch kinds args → type_of_parameter (slice_get kinds n) ≡ Some t → IsValue t (argument_value (slice_get args n))
+argument_typed : (launch : Launch) (kinds : List VarKind) (args : List Bound) (n : ℕ) (t : IntType) →
+    ArgumentsFit launch kinds args → type_of_parameter (slice_get kinds n) ≡ Some t →
+    IsValue t (argument_value (slice_get args n))
 argument_typed launch [] [] n t f e = absurd (none-some t e)
 argument_typed launch [] (b ∷ args) n t f e = absurd f
 argument_typed launch (kind ∷ kinds) [] n t f e = absurd f
 argument_typed launch (kind ∷ kinds) (b ∷ args) (suc n) t f e = argument_typed launch kinds args n t f.1 e
-argument_typed launch (kind ∷ kinds) (b ∷ args) zero t f e = subst (λ u. IsValue u (argument_value (Some b))) (same_Some _ _ e) (by kind b f.0)
+argument_typed launch (kind ∷ kinds) (b ∷ args) zero t f e =
+    subst (λ u. IsValue u (argument_value (Some b))) (same_Some _ _ e) (by kind b f.0)
   where
     by : (kind : VarKind) (b : Bound) → ArgumentFits launch kind b → IsValue (kind_type kind) (argument_value (Some b))
     by (Scalar u) (bound.Value v) h = h
@@ -254,7 +275,8 @@ argument_typed launch (kind ∷ kinds) (b ∷ args) zero t f e = subst (λ u. Is
     by (Scalar u) (bound.Local k) h = absurd h
     by (Pointer at element root) b h = pointer at element root b h
       where
-        pointer : (at : _) (element : IntType) (root : _) (b : Bound) → ArgumentFits launch (Pointer at element root) b → IsValue types.Long (argument_value (Some b))
+        pointer : (at : _) (element : IntType) (root : _) (b : Bound) →
+            ArgumentFits launch (Pointer at element root) b → IsValue types.Long (argument_value (Some b))
         pointer at element root (bound.Buffer k) h = zero_value types.Long
         pointer at element root (bound.Local k) h = zero_value types.Long
         pointer space.Global element root (bound.Value v) h = absurd h
@@ -264,7 +286,8 @@ argument_typed launch (kind ∷ kinds) (b ∷ args) zero t f e = subst (λ u. Is
 
 -- ---- atoms and lines
 
-pub atom_typed : (kernel : Kernel) (cells : ℕ → ℤ) (a : Atom) (t : IntType) → HoldTypes kernel cells → atom_type kernel a ≡ Some t → IsValue t (atom_value cells a)
+pub atom_typed : (kernel : Kernel) (cells : ℕ → ℤ) (a : Atom) (t : IntType) → HoldTypes kernel cells →
+    atom_type kernel a ≡ Some t → IsValue t (atom_value cells a)
 atom_typed kernel cells (CellAtom c) t holds e = holds c t (sym (type_of_is kernel c) ∙ e)
 atom_typed kernel cells (Const value of) t holds e = go (is_value of value) refl e
   where
@@ -273,7 +296,8 @@ atom_typed kernel cells (Const value of) t holds e = go (is_value of value) refl
     go false v h = absurd (none-some t h)
 
 -- a cell that is set to a value of its type
-set_typed : (kernel : Kernel) (i : Item) (tasks : Tasks) (to : ℕ) (t : IntType) (v : ℤ) → HoldTypes kernel i.cells → cell_takes kernel to (Some t) ≡ true → IsValue t v → HoldTypes kernel (with_cell i tasks to v).cells
+set_typed : (kernel : Kernel) (i : Item) (tasks : Tasks) (to : ℕ) (t : IntType) (v : ℤ) → HoldTypes kernel i.cells →
+    cell_takes kernel to (Some t) ≡ true → IsValue t v → HoldTypes kernel (with_cell i tasks to v).cells
 set_typed kernel i tasks to t v holds takes is c of e = go (nat_eq to c) refl
   where
     go : (b : Test) → nat_eq to c ≡ b → IsValue of (cond b v (i.cells c))
@@ -283,68 +307,99 @@ set_typed kernel i tasks to t v holds takes is c of e = go (nat_eq to c) refl
         subst (λ u. IsValue u v) is_of is
     go false ne = holds c of e
 
-module _ (kernel : Kernel) (launch : Launch) (fits : FitsProgram (shell_of kernel) launch) (sizes : HasSizes launch) where
-  pub work_typed : (i : Item) (work : Work) (t : IntType) → HoldTypes kernel i.cells → work_fits kernel work ≡ true → work_type kernel work ≡ Some t → IsValue t (work_value launch i work)
-  work_typed i (Unary op of a) t holds f e = subst (λ u. IsValue u (unary_of op of (atom_value i.cells a))) (same_Some _ _ e) (unary_value op of (atom_value i.cells a))
-  work_typed i (Binary op of a b) t holds f e = subst (λ u. IsValue u (binary_of op of (atom_value i.cells a) (atom_value i.cells b))) (same_Some _ _ e) (binary_value op of (atom_value i.cells a) (atom_value i.cells b))
-  work_typed i (Builtin g of args) t holds f e = subst (λ u. IsValue u (work_value launch i (Builtin g of args))) (same_Some _ _ e) (IsValue-builtin g of _ _ _)
-  work_typed i (Convert to a) t holds f e = subst (λ u. IsValue u (wrap_of to (atom_value i.cells a))) (same_Some _ _ e) (IsValue-wrap to (atom_value i.cells a))
-  work_typed i (Ask what dim) t holds f e = subst (λ u. IsValue u (answer_of launch i.number what (atom_value i.cells dim))) (same_Some _ _ e) (query_value (shell_of kernel) launch fits sizes what i.number (atom_value i.cells dim))
-  work_typed i (Argument number) t holds f e =
-      argument_typed launch kernel.params launch.args number t (subst (λ kinds. ArgumentsFit launch kinds launch.args) (take-length kernel.params) fits.arguments) e
-  work_typed i (Copy a) t holds f e = atom_typed kernel i.cells a t holds e
+module _ (kernel : Kernel) (launch : Launch) (fits : FitsProgram (shell_of kernel) launch) (sizes : HasSizes launch)
+  where
+    pub work_typed : (i : Item) (work : Work) (t : IntType) → HoldTypes kernel i.cells → work_fits kernel work ≡ true →
+        work_type kernel work ≡ Some t → IsValue t (work_value launch i work)
+    work_typed i (Unary op of a) t holds f e =
+        subst (λ u. IsValue u (unary_of op of (atom_value i.cells a))) (same_Some _ _ e)
+        (unary_value op of (atom_value i.cells a))
+    work_typed i (Binary op of a b) t holds f e =
+        subst (λ u. IsValue u (binary_of op of (atom_value i.cells a) (atom_value i.cells b))) (same_Some _ _ e)
+        (binary_value op of (atom_value i.cells a) (atom_value i.cells b))
+    work_typed i (Builtin g of args) t holds f e =
+        subst (λ u. IsValue u (work_value launch i (Builtin g of args))) (same_Some _ _ e) (IsValue-builtin g of _ _ _)
+    work_typed i (Convert to a) t holds f e =
+        subst (λ u. IsValue u (wrap_of to (atom_value i.cells a))) (same_Some _ _ e)
+        (IsValue-wrap to (atom_value i.cells a))
+    work_typed i (Ask what dim) t holds f e =
+        subst (λ u. IsValue u (answer_of launch i.number what (atom_value i.cells dim))) (same_Some _ _ e)
+        (query_value (shell_of kernel) launch fits sizes what i.number (atom_value i.cells dim))
+    work_typed i (Argument number) t holds f e =
+        argument_typed launch kernel.params launch.args number t (subst (λ kinds. ArgumentsFit launch kinds launch.args)
+        (take-length kernel.params) fits.arguments) e
+    work_typed i (Copy a) t holds f e = atom_typed kernel i.cells a t holds e
 
-  -- what runs keep of an item: what it has left to do are parts of the kernel, and each cell holds a value of its type
-  abbrev Keeps : Item → Type 0
-  Keeps i = TasksFit kernel i.tasks × HoldTypes kernel i.cells
+    -- what runs keep of an item: what it has left to do are parts of the kernel, and each cell holds a value of its type
+    abbrev Keeps : Item → Type 0
+    Keeps i = TasksFit kernel i.tasks × HoldTypes kernel i.cells
 
-  cell_type_there : (to : ℕ) (o : Option IntType) → cell_takes kernel to o ≡ true → (t : IntType) × (o ≡ Some t)
-  cell_type_there to None h = absurd (true≢false (sym h))
-  cell_type_there to (Some t) h = (t, refl)
+    cell_type_there : (to : ℕ) (o : Option IntType) → cell_takes kernel to o ≡ true → (t : IntType) × (o ≡ Some t)
+    cell_type_there to None h = absurd (true≢false (sym h))
+    cell_type_there to (Some t) h = (t, refl)
 
-  keep : (s : Item) (k : Tasks) (t : Item) → TasksFit kernel k → HoldTypes kernel s.cells → MayLead GoesOn (tasks_next kernel launch s k) t → Keeps t
-  keep s NoTask t f holds h = absurd h
-  keep s (LinesAt at NoLine k) t f holds h = subst Keeps h (f.1, holds)
-  keep s (LinesAt at (SetThen to work rest) k) t f holds h =
-      let a = and_parts _ _ f.0 in
-      let b = and_parts _ _ a.0 in
-      let ty = cell_type_there to (work_type kernel work) b.1 in
-      subst Keeps h ((a.1, f.1), set_typed kernel s (LinesAt (Behind ∷ at) rest k) to ty.0 (work_value launch s work) holds (subst (λ o. cell_takes kernel to o ≡ true) ty.1 b.1) (work_typed s work ty.0 holds b.0 ty.1))
-  keep s (LinesAt at (LoadThen site to element root index rest) k) t f holds h =
-      let a = and_parts _ _ f.0 in
-      let b = and_parts _ _ a.0 in
-      subst Keeps h.1.1 ((a.1, f.1), set_typed kernel s (LinesAt (Behind ∷ at) rest k) to element _ holds b.1 (IsValue-value element _))
-  keep s (LinesAt at (StoreThen site element root index from rest) k) t f holds h = subst Keeps h.1 (((and_parts _ _ f.0).1, f.1), holds)
-  keep s (LinesAt at (ClearThen array rest) k) t f holds h = subst Keeps h.1 (((and_parts _ _ f.0).1, f.1), holds)
-  keep s (LinesAt at (IfThen site test chosen other rest) k) t f holds h =
-      let a = and_parts _ _ f.0 in
-      let b = and_parts _ _ a.0 in
-      let c = and_parts _ _ b.0 in
-      subst Keeps h (go (is_zero (atom_value s.cells test)) c.1 b.1 a.1, holds)
-    where
-      go : (b : Test) → lines_fit kernel chosen ≡ true → lines_fit kernel other ≡ true → lines_fit kernel rest ≡ true → TasksFit kernel (cond b (LinesAt (Rattle.kir.specs.Places.IntoOther ∷ at) other (LinesAt (Behind ∷ at) rest k)) (LinesAt (Rattle.kir.specs.Places.IntoChosen ∷ at) chosen (LinesAt (Behind ∷ at) rest k)))
-      go true fc fo fr = (fo, (fr, f.1))
-      go false fc fo fr = (fc, (fr, f.1))
-  keep s (LinesAt at (LoopThen site true test answer body rest) k) t f holds h =
-      let a = and_parts _ _ f.0 in
-      let b = and_parts _ _ a.0 in
-      let c = and_parts _ _ b.0 in
-      let d = and_parts _ _ c.0 in
-      subst Keeps h ((d.1, (d.1, b.1, (a.1, f.1))), holds)
-  keep s (LinesAt at (LoopThen site false test answer body rest) k) t f holds h =
-      let a = and_parts _ _ f.0 in
-      let b = and_parts _ _ a.0 in
-      let c = and_parts _ _ b.0 in
-      let d = and_parts _ _ c.0 in
-      subst Keeps h ((b.1, (d.1, (d.1, b.1, (a.1, f.1)))), holds)
-  keep s (LinesAt at (BarrierThen site rest) k) t f holds h = subst Keeps h (((and_parts _ _ f.0).1, f.1), holds)
-  keep s (AnswerAt at test answer body n k) t f holds h = go (is_zero (atom_value s.cells answer)) h
-    where
-      go : (b : Test) → MayLead GoesOn (cond b (Goes (with_tasks s k)) (Begins (with_tasks s (iteration at test answer body (suc n) k)))) t → Keeps t
-      go true h = subst Keeps h (f.2, holds)
-      go false h = subst Keeps h ((f.1, (f.0, (f.0, f.1, f.2))), holds)
+    keep : (s : Item) (k : Tasks) (t : Item) → TasksFit kernel k → HoldTypes kernel s.cells →
+        MayLead GoesOn (tasks_next kernel launch s k) t → Keeps t
+    keep s NoTask t f holds h = absurd h
+    keep s (LinesAt at NoLine k) t f holds h = subst Keeps h (f.1, holds)
+    keep s (LinesAt at (SetThen to work rest) k) t f holds h =
+        let a = and_parts _ _ f.0 in
+        let b = and_parts _ _ a.0 in
+        let ty = cell_type_there to (work_type kernel work) b.1 in
+        subst Keeps h (
+          (a.1, f.1),
+          set_typed kernel s (LinesAt (Behind ∷ at) rest k) to ty.0 (work_value launch s work)
+              holds (subst (λ o. cell_takes kernel to o ≡ true) ty.1 b.1) (work_typed s work ty.0 holds b.0 ty.1),
+        )
+    keep s (LinesAt at (LoadThen site to element root index rest) k) t f holds h =
+        let a = and_parts _ _ f.0 in
+        let b = and_parts _ _ a.0 in
+        subst Keeps h.1.1 (
+          (a.1, f.1),
+          set_typed kernel s (LinesAt (Behind ∷ at) rest k) to element _ holds b.1 (IsValue-value element _),
+        )
+    keep s (LinesAt at (StoreThen site element root index from rest) k) t f holds h =
+        subst Keeps h.1 (((and_parts _ _ f.0).1, f.1), holds)
+    keep s (LinesAt at (ClearThen array rest) k) t f holds h = subst Keeps h.1 (((and_parts _ _ f.0).1, f.1), holds)
+    keep s (LinesAt at (IfThen site test chosen other rest) k) t f holds h =
+        let a = and_parts _ _ f.0 in
+        let b = and_parts _ _ a.0 in
+        let c = and_parts _ _ b.0 in
+        subst Keeps h (go (is_zero (atom_value s.cells test)) c.1 b.1 a.1, holds)
+      where
+        go : (b : Test) → lines_fit kernel chosen ≡ true → lines_fit kernel other ≡ true →
+            lines_fit kernel rest ≡ true →
+            TasksFit kernel (cond b (LinesAt (Rattle.kir.specs.Places.IntoOther ∷ at) other
+            (LinesAt (Behind ∷ at) rest k)) (LinesAt (Rattle.kir.specs.Places.IntoChosen ∷ at) chosen
+            (LinesAt (Behind ∷ at) rest k)))
+        go true fc fo fr = (fo, (fr, f.1))
+        go false fc fo fr = (fc, (fr, f.1))
+    keep s (LinesAt at (LoopThen site true test answer body rest) k) t f holds h =
+        let a = and_parts _ _ f.0 in
+        let b = and_parts _ _ a.0 in
+        let c = and_parts _ _ b.0 in
+        let d = and_parts _ _ c.0 in
+        subst Keeps h ((d.1, (d.1, b.1, (a.1, f.1))), holds)
+    keep s (LinesAt at (LoopThen site false test answer body rest) k) t f holds h =
+        let a = and_parts _ _ f.0 in
+        let b = and_parts _ _ a.0 in
+        let c = and_parts _ _ b.0 in
+        let d = and_parts _ _ c.0 in
+        subst Keeps h ((b.1, (d.1, (d.1, b.1, (a.1, f.1)))), holds)
+    keep s (LinesAt at (BarrierThen site rest) k) t f holds h = subst Keeps h (((and_parts _ _ f.0).1, f.1), holds)
+    keep s (AnswerAt at test answer body n k) t f holds h = go (is_zero (atom_value s.cells answer)) h
+      where
+        go : (b : Test) → MayLead GoesOn
+            (cond b (Goes (with_tasks s k)) (Begins (with_tasks s (iteration at test answer body (suc n) k)))) t → Keeps t
+        go true h = subst Keeps h (f.2, holds)
+        go false h = subst Keeps h ((f.1, (f.0, (f.0, f.1, f.2))), holds)
 
-  -- so each cell of an item that a run reaches holds a value of its type, and what the item has left to do are parts of the kernel
-  pub cells_hold : lines_fit kernel kernel.body ≡ true → (buffers : List (List ℕ)) (w : Stage Item) → ItemsLead kernel launch (start_stage kernel launch buffers) w → (i : ℕ) → TasksFit kernel (w.items i).tasks × HoldTypes kernel (w.items i).cells
-  cells_hold valid buffers w l i =
-      leads_keep (machine_of kernel launch) GoesOn Keeps (λ s t kept h. keep s s.tasks t kept.0 kept.1 h) (Rattle.cl_model.specs.Sizes.item_count launch) (start_stage kernel launch buffers) w l (any_goes_on kernel launch _) i ((valid, tt), λ c of e. zero_value of)
+    -- so each cell of an item that a run reaches holds a value of its type, and what the item has left to do are parts
+    -- of the kernel
+    pub cells_hold : lines_fit kernel kernel.body ≡ true → (buffers : List (List ℕ)) (w : Stage Item) →
+        ItemsLead kernel launch (start_stage kernel launch buffers) w → (i : ℕ) → TasksFit kernel (w.items i).tasks ×
+        HoldTypes kernel (w.items i).cells
+    cells_hold valid buffers w l i =
+        leads_keep (machine_of kernel launch) GoesOn Keeps (λ s t kept h. keep s s.tasks t kept.0 kept.1 h)
+        (Rattle.cl_model.specs.Sizes.item_count launch) (start_stage kernel launch buffers) w l
+        (any_goes_on kernel launch _) i ((valid, tt), λ c of e. zero_value of)

@@ -1,5 +1,6 @@
 -- The lane of a value, and that what an operator makes of lanes is the lane of what it makes of the values.
-use Rattle.std.proofs.Common.{◌≡◌, ℕ, zero, suc, ◌*◌, ◌%◌, ◌^◌, ◌<◌, ◌≤◌, ℤ, pos, negsuc, refl, sym, ap, ap₂, ◌∙◌, arith, cond}
+use Rattle.std.proofs.Common.{◌≡◌, ℕ, zero, suc, ◌*◌, ◌%◌, ◌^◌, ◌<◌, ◌≤◌, ℤ, pos, negsuc, refl, sym, ap, ap₂, ◌∙◌}
+use Rattle.std.proofs.Common.{arith, cond}
 use Rattle.std.specs.Prelude.{nat_eq, ◌*ℤ◌}
 use Rattle.std.specs.Prelude.{Bool as Test, true, false}
 use Rattle.std.proofs.lemmas.Bool.{true≢false, eqb-true}
@@ -10,7 +11,8 @@ use Rattle.wg_num.specs.declared.types.Bin.TheVariants as bin
 use Rattle.wg_num.specs.declared.types.Un.{Un}
 use Rattle.wg_num.specs.Wrap.{IsValue, IsCongruent, residue, width_bits, modulus, bits_of, value_of, wrap_of}
 use Rattle.wg_num.specs.Operators.{is_shift, amount_of, unary_of, binary_of}
-use Rattle.wg_num.proofs.WrapLaws.{residue-lt, residue_congruent, residue_unique, congruent_trans, congruent_divides, value-bits, wrap_congruent}
+use Rattle.wg_num.proofs.WrapLaws.{residue-lt, residue_congruent, residue_unique, congruent_trans, congruent_divides}
+use Rattle.wg_num.proofs.WrapLaws.{value-bits, wrap_congruent}
 use Rattle.wg_num.proofs.ByteLaws.{value-low_half}
 use Rattle.lane_values.specs.Lanes.{lane, right_value, unary_lane, binary_lane}
 use Rattle.cl_model.specs.Values.{is_zero}
@@ -57,7 +59,8 @@ narrow_bank types.Uint e = refl
 pub same_bank : (t u : IntType) → crosses t u ≡ false → bank_of t ≡ bank_of u
 same_bank t u e = go (is_wide t) (is_wide u) refl refl e
   where
-    go : (a b : Test) → is_wide t ≡ a → is_wide u ≡ b → cond a (Rattle.std.specs.Prelude.not b) b ≡ false → bank_of t ≡ bank_of u
+    go : (a b : Test) → is_wide t ≡ a → is_wide u ≡ b → cond a (Rattle.std.specs.Prelude.not b) b ≡ false →
+        bank_of t ≡ bank_of u
     go true true wt wu e = wide_bank t wt ∙ sym (wide_bank u wu)
     go true false wt wu e = absurd (true≢false e)
     go false true wt wu e = absurd (true≢false e)
@@ -84,8 +87,10 @@ lane_64 z = refl
 pub lane_32 : (z : ℤ) → lane 32 z ≡ bits_of z % 2 ^ 32
 unfolding lane bits_of
 lane_32 z =
-    residue_unique (residue z (2 ^ 64) % 2 ^ 32) z (2 ^ 32) (residue-lt (pos (residue z (2 ^ 64))) (2 ^ 32) (omega arith))
-    (congruent_trans (residue_congruent (pos (residue z (2 ^ 64))) (2 ^ 32) (omega arith)) (congruent_divides (2 ^ 32) (2 ^ 32) refl (residue_congruent z (2 ^ 64) (omega arith))))
+    residue_unique (residue z (2 ^ 64) % 2 ^ 32) z (2 ^ 32) (residue-lt (pos (residue z (2 ^ 64))) (2 ^ 32)
+    (omega arith))
+    (congruent_trans (residue_congruent (pos (residue z (2 ^ 64))) (2 ^ 32) (omega arith))
+    (congruent_divides (2 ^ 32) (2 ^ 32) refl (residue_congruent z (2 ^ 64) (omega arith))))
 
 -- a value is read back from its lane
 narrow_back : (t : IntType) (z : ℤ) → width_bits t ≤ 32 → IsValue t z → value_of t (lane 32 z) ≡ z
@@ -137,7 +142,8 @@ zero_lane t z v = go (nat_eq (lane_in t z) 0) refl (is_zero z) refl
 
 -- ---- operators
 
-pub unary_is : (op : Un) (t : IntType) (a : ℤ) → IsValue t a → unary_lane (bits_for t) op t (lane_in t a) ≡ lane_in t (unary_of op t a)
+pub unary_is : (op : Un) (t : IntType) (a : ℤ) → IsValue t a →
+    unary_lane (bits_for t) op t (lane_in t a) ≡ lane_in t (unary_of op t a)
 unary_is op t a v = ap (λ x. lane (bits_for t) (unary_of op t x)) (value_lane t a v)
 
 pub right_plain : (op : Bin) (t : IntType) (q : ℕ) → is_shift op ≡ false → right_value op t q ≡ value_of t q
@@ -148,12 +154,15 @@ pub right_raw : (op : Bin) (t : IntType) (q : ℕ) → is_shift op ≡ true → 
 unfolding right_value
 right_raw op t q e = ap (λ b. cond b (pos q) (value_of t q)) e
 
-pub binary_is : (op : Bin) (t : IntType) (a b : ℤ) → is_shift op ≡ false → IsValue t a → IsValue t b → binary_lane (bits_for t) op t (lane_in t a) (lane_in t b) ≡ lane_in t (binary_of op t a b)
+pub binary_is : (op : Bin) (t : IntType) (a b : ℤ) → is_shift op ≡ false → IsValue t a → IsValue t b →
+    binary_lane (bits_for t) op t (lane_in t a) (lane_in t b) ≡ lane_in t (binary_of op t a b)
 binary_is op t a b e va vb =
-    ap₂ (λ x y. lane (bits_for t) (binary_of op t x y)) (value_lane t a va) (right_plain op t (lane_in t b) e ∙ value_lane t b vb)
+    ap₂ (λ x y. lane (bits_for t) (binary_of op t x y)) (value_lane t a va) (right_plain op t (lane_in t b) e ∙
+    value_lane t b vb)
 
 -- only the low bits of an amount are read
-pub binary_amount : (op : Bin) (t : IntType) (a b b' : ℤ) → is_shift op ≡ true → amount_of t b ≡ amount_of t b' → binary_of op t a b ≡ binary_of op t a b'
+pub binary_amount : (op : Bin) (t : IntType) (a b b' : ℤ) → is_shift op ≡ true → amount_of t b ≡ amount_of t b' →
+    binary_of op t a b ≡ binary_of op t a b'
 unfolding binary_of
 binary_amount bin.Shl t a b b' e same = ap (λ n. wrap_of t (a *ℤ pos (2 ^ n))) same
 binary_amount bin.Shr t a b b' e same = ap (λ n. wrap_of t (Rattle.std.specs.Int.int_shr a n)) same
@@ -175,10 +184,12 @@ binary_amount bin.Ge t a b b' e same = absurd (true≢false (sym e))
 -- congruent numbers have one remainder by a divisor
 residue_same : (w m q : ℕ) (a b : ℤ) → 0 < w → m ≡ q * w → IsCongruent m a b → residue b w ≡ residue a w
 residue_same w m q a b some e c =
-    residue_unique (residue a w) b w (residue-lt a w some) (congruent_trans (residue_congruent a w some) (congruent_divides w q e c))
+    residue_unique (residue a w) b w (residue-lt a w some)
+    (congruent_trans (residue_congruent a w some) (congruent_divides w q e c))
 
 -- the width of a type divides each two to the bits of a bank
-width_in : (t : IntType) → (0 < width_bits t) × ((q : ℕ) × (2 ^ 32 ≡ q * width_bits t)) × ((q : ℕ) × (2 ^ 64 ≡ q * width_bits t))
+width_in : (t : IntType) → (0 < width_bits t) × ((q : ℕ) × (2 ^ 32 ≡ q * width_bits t)) ×
+    ((q : ℕ) × (2 ^ 64 ≡ q * width_bits t))
 width_in types.Bool = (omega arith, (2 ^ 29, refl), (2 ^ 61, refl))
 width_in types.Char = (omega arith, (2 ^ 29, refl), (2 ^ 61, refl))
 width_in types.Uchar = (omega arith, (2 ^ 29, refl), (2 ^ 61, refl))
@@ -194,9 +205,12 @@ unfolding lane
 lane_congruent w b some = residue_congruent b (2 ^ w) some
 
 -- an amount's lane in either bank shifts as far
-pub amount_lane : (t : IntType) (bank : Bank) (b : ℤ) → Rattle.region_laws.specs.View.is_lane bank ≡ true → amount_of t (pos (lane (bits_in bank) b)) ≡ amount_of t b
-amount_lane t Narrow b e = let w = width_in t in sym (residue_same (width_bits t) (2 ^ 32) w.1.0 (pos (lane 32 b)) b w.0 w.1.1 (lane_congruent 32 b (omega arith)))
-amount_lane t Wide b e = let w = width_in t in sym (residue_same (width_bits t) (2 ^ 64) w.2.0 (pos (lane 64 b)) b w.0 w.2.1 (lane_congruent 64 b (omega arith)))
+pub amount_lane : (t : IntType) (bank : Bank) (b : ℤ) → Rattle.region_laws.specs.View.is_lane bank ≡ true →
+    amount_of t (pos (lane (bits_in bank) b)) ≡ amount_of t b
+amount_lane t Narrow b e = let w = width_in t in
+    sym (residue_same (width_bits t) (2 ^ 32) w.1.0 (pos (lane 32 b)) b w.0 w.1.1 (lane_congruent 32 b (omega arith)))
+amount_lane t Wide b e = let w = width_in t in
+    sym (residue_same (width_bits t) (2 ^ 64) w.2.0 (pos (lane 64 b)) b w.0 w.2.1 (lane_congruent 64 b (omega arith)))
 amount_lane t Rattle.lane_code.specs.declared.step.Bank.TheVariants.Mask b e = absurd (true≢false (sym e))
 amount_lane t Rattle.lane_code.specs.declared.step.Bank.TheVariants.Scalar b e = absurd (true≢false (sym e))
 
@@ -219,5 +233,7 @@ amount_wrap of v = go (is_wide of) refl
     uint = uint_congruent v
 
     go : (w : Test) → is_wide of ≡ w → amount_of of (wrap_of (cond w types.Long types.Uint) v) ≡ amount_of of v
-    go true e = let w = width_in of in sym (residue_same (width_bits of) (2 ^ 64) w.2.0 (wrap_of types.Long v) v w.0 w.2.1 long)
-    go false e = let w = width_in of in sym (residue_same (width_bits of) (2 ^ 32) w.1.0 (wrap_of types.Uint v) v w.0 w.1.1 uint)
+    go true e = let w =
+        width_in of in sym (residue_same (width_bits of) (2 ^ 64) w.2.0 (wrap_of types.Long v) v w.0 w.2.1 long)
+    go false e = let w =
+        width_in of in sym (residue_same (width_bits of) (2 ^ 32) w.1.0 (wrap_of types.Uint v) v w.0 w.1.1 uint)

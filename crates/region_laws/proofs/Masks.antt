@@ -13,7 +13,8 @@ use Rattle.group_moves.specs.Lanes.{some_below}
 -- some lane below n is set where one is
 pub some_there : (n : ℕ) (m : ℕ → Test) (l : ℕ) → l < n → m l ≡ true → some_below n m ≡ true
 some_there zero m l lt e = absurd (omega arith)
-some_there (suc n) m l lt e = ⊎_elim (λ same. or_right (some_below n m) (m n) (ap m (sym same) ∙ e)) (λ ne. or_left (some_below n m) (m n) (some_there n m l (omega arith) e)) (cases_eq l n)
+some_there (suc n) m l lt e = ⊎_elim (λ same. or_right (some_below n m) (m n) (ap m (sym same) ∙ e))
+    (λ ne. or_left (some_below n m) (m n) (some_there n m l (omega arith) e)) (cases_eq l n)
 
 pub none_there : (n : ℕ) (m : ℕ → Test) → ((l : ℕ) → l < n → m l ≡ false) → some_below n m ≡ false
 none_there zero m none = refl
@@ -23,11 +24,14 @@ pub none_below : (n : ℕ) (m : ℕ → Test) → some_below n m ≡ false → (
 none_below n m e l lt = ⊎_elim (λ t. absurd (true≢false (sym (some_there n m l lt t) ∙ e))) (λ f. f) (cases_Bool (m l))
 
 -- what a step asks of a mask is asked of its lanes
-pub some_is : (n : ℕ) (mask : List Test) (m : ℕ → Test) → length mask ≡ n → ((l : ℕ) → l < n → slice_index_or mask l false ≡ m l) → is_some_set mask ≡ some_below n m
+pub some_is : (n : ℕ) (mask : List Test) (m : ℕ → Test) → length mask ≡ n →
+    ((l : ℕ) → l < n → slice_index_or mask l false ≡ m l) → is_some_set mask ≡ some_below n m
 some_is n mask m len same = go (is_some_set mask) refl
   where
     go : (b : Test) → is_some_set mask ≡ b → is_some_set mask ≡ some_below n m
-    go true e = let one = some_set_is mask e in e ∙ sym (some_there n m one.0 (let w = one.1 in omega arith) (sym (same one.0 (let w = one.1 in omega arith)) ∙ one.2))
+    go true e = let one = some_set_is mask e in
+        e ∙ sym (some_there n m one.0 (let w = one.1 in
+        omega arith) (sym (same one.0 (let w = one.1 in omega arith)) ∙ one.2))
     go false e = e ∙ sym (none_there n m (λ l lt. sym (same l lt) ∙ none_set_is mask e l))
 
 -- a lane of `no` has answered 0, and is none of `yes`
@@ -46,7 +50,8 @@ branch_done true true x z e = refl
 branch_done true false x z e = refl
 branch_done false y x z e = absurd (true≢false (sym e))
 
-pub branch_idle : (a y : Test) (x z u : Tasks) → a ≡ false → cond (a && not (a && y)) x (cond (a && y) x (cond a z u)) ≡ u
+pub branch_idle : (a y : Test) (x z u : Tasks) → a ≡ false →
+    cond (a && not (a && y)) x (cond (a && y) x (cond a z u)) ≡ u
 branch_idle true y x z u e = absurd (true≢false e)
 branch_idle false y x z u e = refl
 

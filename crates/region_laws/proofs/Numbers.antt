@@ -29,15 +29,18 @@ module _ (kernel : Kernel) (launch : Launch) where
   PS = length (private_sizes (shell_of kernel))
 
   -- a local object of a group is no private object
-  pub local_private : (group n item k : ℕ) → group < group_count launch → n < LS → first_local (shell_of kernel) launch group + n ≢ first_private (shell_of kernel) launch item + k
+  pub local_private : (group n item k : ℕ) → group < group_count launch → n < LS →
+      first_local (shell_of kernel) launch group + n ≢ first_private (shell_of kernel) launch item + k
   local_private group n item k lt in_row e =
       let before = row_before group (group_count launch) LS n lt in_row in
       omega (arith, before, e)
 
   -- local objects of different groups
-  pub locals_differ : (group other n k : ℕ) → group ≢ other → n < LS → k < LS → first_local (shell_of kernel) launch group + n ≢ first_local (shell_of kernel) launch other + k
+  pub locals_differ : (group other n k : ℕ) → group ≢ other → n < LS → k < LS →
+      first_local (shell_of kernel) launch group + n ≢ first_local (shell_of kernel) launch other + k
   locals_differ group other n k ne p q e = rows_apart group other LS n k ne p q (omega (arith, e))
 
   -- private objects of different items
-  pub privates_differ : (item other n k : ℕ) → item ≢ other → n < PS → k < PS → first_private (shell_of kernel) launch item + n ≢ first_private (shell_of kernel) launch other + k
+  pub privates_differ : (item other n k : ℕ) → item ≢ other → n < PS → k < PS →
+      first_private (shell_of kernel) launch item + n ≢ first_private (shell_of kernel) launch other + k
   privates_differ item other n k ne p q e = rows_apart item other PS n k ne p q (omega (arith, e))

@@ -210,7 +210,10 @@ module _ (kernel : Kernel) (launch : Launch) (width : ℕ) (chunk : ChunkOf kern
           by None h = absurd (true≢false (sym h))
           by (Some ty) h = cell_entry kernel width f atoms counts r0 framed to ty (Rattle.region_laws.proofs.CellValues.has_type_is ty _ h) known
 
-      set_cell : (m : ℕ) (at : Place) (k : Tasks) (behind : Lines) (to : ℕ) (work : Work) (st st1 : State) → Worked kernel launch width chunk.group chunk.first f atoms counts r0 framed code valid Good (Gives kernel launch width chunk.group chunk.first f atoms counts r0 framed code valid Good st.registers work) m (cell_at f.cells to) st st1
+      set_cell : (m : ℕ) (at : Place) (k : Tasks) (behind : Lines) (to : ℕ) (work : Work) (st st1 : State) →
+          Worked kernel launch width chunk.group chunk.first f atoms counts r0 framed code valid Good
+          (Gives kernel launch width chunk.group chunk.first f atoms counts r0 framed code valid Good st.registers
+          work) m (cell_at f.cells to) st st1
           → slice_index_or f.cells to None ≡ Some (cell_at f.cells to) → (l : ℕ) → l < width → mask_at st.registers m l ≡ true → (s : Item) → IsGood kernel (chunk.lanes.first + l) s → Agrees f st.registers l (LinesAt at (SetThen to work behind) k) s.cells
           → (c : ℕ) (op : Operand) → slice_index_or f.cells c None ≡ Some op → live_now c (LinesAt (Behind ∷ at) behind k) ≡ true → value_at st1.registers op.at l ≡ lane_in op.of (cond (nat_eq to c) (work_value launch s work) (s.cells c))
       set_cell m at k behind to work st st1 done entry l lt on s good ag c op e live = by (nat_eq to c) refl
@@ -296,7 +299,9 @@ module _ (kernel : Kernel) (launch : Launch) (width : ℕ) (chunk : ChunkOf kern
       }))
 
   -- the answer of a lane is its item's
-  pub yes_is : (next : Free) (atom : Atom) (ty : IntType) (st : State) (l : ℕ) (s : Item) (task : Tasks) → IsOperand kernel width f atoms counts r0 framed next atom ty st.registers → atom_type kernel atom ≡ Some ty → l < width → IsGood kernel (chunk.lanes.first + l) s → Agrees f st.registers l task s.cells
+  pub yes_is : (next : Free) (atom : Atom) (ty : IntType) (st : State) (l : ℕ) (s : Item) (task : Tasks) →
+      IsOperand kernel width f atoms counts r0 framed next atom ty st.registers → atom_type kernel atom ≡ Some ty →
+      l < width → IsGood kernel (chunk.lanes.first + l) s → Agrees f st.registers l task s.cells
       → ((c : ℕ) → reads c atom ≡ true → live_now c task ≡ true) → yes_at st (operand f.cells next atom).at l ≡ not (is_zero (atom_value s.cells atom))
   yes_is next atom ty st l s task one typed lt good ag live =
       ap (λ n. not (nat_eq n 0)) (one.holds l s.cells lt (λ c op e rd. ag c op e (live c rd)))
@@ -406,10 +411,29 @@ module _ (kernel : Kernel) (launch : Launch) (width : ℕ) (chunk : ChunkOf kern
         let f3 = and_parts (Rattle.kir.specs.Fits.is_site kernel site && has_some_type (atom_type kernel test)) (lines_fit kernel chosen) f2.0 in
         let ty = type_there (atom_type kernel test) (and_parts (Rattle.kir.specs.Fits.is_site kernel site) (has_some_type (atom_type kernel test)) f3.0).1 in
         let names1 = λ (c : ℕ) (e : some_reads c (atoms_in chosen ++ (atoms_in other ++ atoms_in rest)) ≡ true). fit.names c (or_right (reads c test) (some_reads c (atoms_in chosen ++ (atoms_in other ++ atoms_in rest))) e) in
-        let fit_y : Fit chosen next1 = record { fits = f3.1; names = λ c e. names1 c (some_left c (atoms_in chosen) (atoms_in other ++ atoms_in rest) e); held = held_left f width r0 next1 (atoms_in chosen) (atoms_in other ++ atoms_in rest) fit.held.1; sites = λ s h. fit.sites s (omega arith) } in
+        let fit_y : Fit chosen next1 =
+        record {
+          fits = f3.1;
+          names = λ c e.
+              names1 c (some_left c (atoms_in chosen) (atoms_in other ++ atoms_in rest) e);
+          held = held_left f width r0 next1 (atoms_in chosen) (atoms_in other ++ atoms_in rest) fit.held.1;
+          sites = λ s h. fit.sites s (omega arith);
+        } in
         let held2 = held_right f width r0 next1 (atoms_in chosen) (atoms_in other ++ atoms_in rest) fit.held.1 in
-        let fit_n : Fit other next2 = record { fits = f2.1; names = λ c e. names1 c (some_right c (atoms_in chosen) (atoms_in other ++ atoms_in rest) (some_left c (atoms_in other) (atoms_in rest) e)); held = held_left f width r0 next2 (atoms_in other) (atoms_in rest) held2; sites = λ s h. fit.sites s (omega arith) } in
-        let fit_r : Fit rest next3 = record { fits = f1.1; names = λ c e. names1 c (some_right c (atoms_in chosen) (atoms_in other ++ atoms_in rest) (some_right c (atoms_in other) (atoms_in rest) e)); held = held_right f width r0 next2 (atoms_in other) (atoms_in rest) held2; sites = λ s h. fit.sites s (omega arith) } in
+        let fit_n : Fit other next2 = record {
+          fits = f2.1;
+          names = λ c e. names1 c (some_right c (atoms_in chosen) (atoms_in other ++ atoms_in rest)
+              (some_left c (atoms_in other) (atoms_in rest) e));
+          held = held_left f width r0 next2 (atoms_in other) (atoms_in rest) held2;
+          sites = λ s h. fit.sites s (omega arith);
+        } in
+        let fit_r : Fit rest next3 = record {
+          fits = f1.1;
+          names = λ c e. names1 c (some_right c (atoms_in chosen) (atoms_in other ++ atoms_in rest)
+              (some_right c (atoms_in other) (atoms_in rest) e));
+          held = held_right f width r0 next2 (atoms_in other) (atoms_in rest) held2;
+          sites = λ s h. fit.sites s (omega arith);
+        } in
         let K = LinesAt (Behind ∷ at) (joined_to rest tail) k in
         let on : ComesTo Goal K = come_trans Goal (LinesAt (past_lines rest (Behind ∷ at)) tail k) K (through rest tail (Behind ∷ at) k) ahead in
         let one = operand_is kernel width f atoms counts r0 framed next test ty.0 st.registers ty.1 (λ c e. fit.names c (or_left (reads c test) _ e)) fit.held.0 lanes.sim.above in
@@ -430,7 +454,10 @@ module _ (kernel : Kernel) (launch : Launch) (width : ℕ) (chunk : ChunkOf kern
         (λ l lane set s good ag. (
           s.cells,
           ap (λ x. Goes (with_tasks s x)) (branched_is (is_zero (atom_value s.cells test)) at chosen other (joined_to rest tail) k (v l)
-              (yes_is next test ty.0 st l s (LinesAt at (IfThen site test chosen other (joined_to rest tail)) k) one ty.1 (in_width l lane) good (λ c op e live. sym (k1.numbers op.at l) ∙ ag c op e live) (λ c rd. reads_live c (LinesAt at (IfThen site test chosen other (joined_to rest tail)) k) rd))),
+              (yes_is next test ty.0 st l s (LinesAt at (IfThen site test chosen other (joined_to rest tail)) k) one
+              ty.1 (in_width l lane) good (λ c op e live. sym (k1.numbers op.at l) ∙
+              ag c op e live) (λ c rd. reads_live c
+              (LinesAt at (IfThen site test chosen other (joined_to rest tail)) k) rd))),
           λ c op e live. ag c op e (branch_live c (v l) site test at chosen other (joined_to rest tail) k live),
         ))
         (λ l lane unset c op e. refl) lanes.stand sim1 in
@@ -489,7 +516,12 @@ module _ (kernel : Kernel) (launch : Launch) (width : ℕ) (chunk : ChunkOf kern
           let next_is = ap (tasks_next kernel launch s) tasks in
           halt_step (kernel_chunk kernel launch width chunk.group chunk.first) code Good t p (step.Mark site (mask_reg m)) st st (end.AtBarrier lane site) has.0 (ap (marks st site) e)
           (closed.waits w lanes.sim.reached lane site here (subst (WaitsAt site) (sym next_is) refl) (fit.sites site (once_here site (barrier_lines site rest)))
-          (subst (StillComes Goal) (sym tasks) (record { next = LinesAt (Behind ∷ at) (joined_to rest tail) k; leads = past_barrier; comes = come_trans Goal (LinesAt (past_lines rest (Behind ∷ at)) tail k) (LinesAt (Behind ∷ at) (joined_to rest tail) k) (through rest tail (Behind ∷ at) k) ahead })) t st)
+          (subst (StillComes Goal) (sym tasks) (record {
+            next = LinesAt (Behind ∷ at) (joined_to rest tail) k;
+            leads = past_barrier;
+            comes = come_trans Goal (LinesAt (past_lines rest (Behind ∷ at)) tail k)
+                (LinesAt (Behind ∷ at) (joined_to rest tail) k) (through rest tail (Behind ∷ at) k) ahead;
+          })) t st)
         where
           and_from_one : (b : Test) → b ≡ true → (b && true) ≡ true
           and_from_one b e = ap (λ x. x && true) e
@@ -655,7 +687,10 @@ module _ (kernel : Kernel) (launch : Launch) (width : ℕ) (chunk : ChunkOf kern
         (λ l lane set s good ag. (
           s.cells,
           ap (λ x. Goes (with_tasks s (LinesAt (IntoTest ∷ at) test (AnswerAt at test answer body 0 x)))) (sym e),
-          λ c op h live. ag c op h (live_leads c (LinesAt at (LoopThen site true test answer body rest) K) (LinesAt (IntoTest ∷ at) test (AnswerAt at test answer body 0 (LinesAt (Behind ∷ at) rest K))) into_test refl (subst (λ x. live_now c (LinesAt (IntoTest ∷ at) test (AnswerAt at test answer body 0 x)) ≡ true) e live)),
+          λ c op h live. ag c op h (live_leads c (LinesAt at (LoopThen site true test answer body rest) K)
+              (LinesAt (IntoTest ∷ at) test (AnswerAt at test answer body 0 (LinesAt (Behind ∷ at) rest K)))
+              into_test refl (subst (λ x. live_now c
+              (LinesAt (IntoTest ∷ at) test (AnswerAt at test answer body 0 x)) ≡ true) e live)),
         ))
         (λ l lane unset c op h. refl) ready.stand ready.sim in
         (loop_from sound_t sound_b has (t + 1) t (omega arith)).by 0 a (λ l. cond (a l) (Testing 0) (T l)) st r.0
@@ -677,8 +712,14 @@ module _ (kernel : Kernel) (launch : Launch) (width : ℕ) (chunk : ChunkOf kern
         enters false l s task w st h ag where_is = stays (h, ag)
         enters true l s task w st h ag where_is =
             let there = where_is refl in
-            begins (with_tasks s (Beginning 1)) (ap (tasks_next kernel launch s) (h ∙ there) ∙ ap (λ x. Begins (with_tasks s (LinesAt (IntoBody ∷ at) body (LinesAt (IntoTest ∷ at) test (AnswerAt at test answer body 1 x))))) (sym e))
-            (refl, λ c op i live. ag c op i (ap (live_now c) there ∙ live_leads c (LinesAt at (LoopThen site false test answer body rest) K) (iteration at test answer body 1 (LinesAt (Behind ∷ at) rest K)) into_body refl (subst (λ x. live_now c (LinesAt (IntoBody ∷ at) body (LinesAt (IntoTest ∷ at) test (AnswerAt at test answer body 1 x))) ≡ true) e live)))
+            begins (with_tasks s (Beginning 1)) (ap (tasks_next kernel launch s) (h ∙ there) ∙ ap (λ x. Begins (with_tasks s (LinesAt (IntoBody ∷ at) body (LinesAt (IntoTest ∷ at) test (AnswerAt at test answer body 1 x))))) (sym e)) (
+              refl,
+              λ c op i live. ag c op i (ap (live_now c) there ∙
+                  live_leads c (LinesAt at (LoopThen site false test answer body rest) K)
+                  (iteration at test answer body 1 (LinesAt (Behind ∷ at) rest K)) into_body refl
+                  (subst (λ x. live_now c (LinesAt (IntoBody ∷ at) body
+                  (LinesAt (IntoTest ∷ at) test (AnswerAt at test answer body 1 x))) ≡ true) e live)),
+            )
 
   pub loop_sound : (site : ℕ) (first : Test) (test : Lines) (answer : Atom) (body rest : Lines) → Whole test → Whole body → Sound rest → Sound (LoopThen site first test answer body rest)
   loop_sound site first test answer body rest sound_t sound_b sound = record {

@@ -32,13 +32,16 @@ pub record IsEntry (kernel : Kernel) (f : Frame) (c : ℕ) (op : Operand) : Type
 -- each cell that one of the atoms names has a register of its own
 pub record IsFramed (kernel : Kernel) (f : Frame) (atoms : List Atom) : Type 0 where
   pub entries : (c : ℕ) (op : Operand) → slice_index_or f.cells c None ≡ Some op → IsEntry kernel f c op
-  pub apart : (c d : ℕ) (op op' : Operand) → (c ≡ d → ⊥) → slice_index_or f.cells c None ≡ Some op → slice_index_or f.cells d None ≡ Some op' → Differ op.at op'.at
-  pub named : (c : ℕ) → some_reads c atoms ≡ true → c < length kernel.cells → (op : Operand) × (slice_index_or f.cells c None ≡ Some op)
+  pub apart : (c d : ℕ) (op op' : Operand) → (c ≡ d → ⊥) → slice_index_or f.cells c None ≡ Some op →
+      slice_index_or f.cells d None ≡ Some op' → Differ op.at op'.at
+  pub named : (c : ℕ) → some_reads c atoms ≡ true → c < length kernel.cells → (op : Operand) ×
+      (slice_index_or f.cells c None ≡ Some op)
 
 -- each constant that atoms name is in its register, above those for what is on its way, in all lanes
 abbrev pub HeldAt : Frame → (width : ℕ) → Registers → Free → Atom → Type 0
 HeldAt f width r next (Const value of) =
-    (number_in f.scratch (bank_of of) < (register_at next of).number) × ((l : ℕ) → l < width → value_at r (register_at next of) l ≡ lane (bits_in (bank_of of)) value)
+    (number_in f.scratch (bank_of of) < (register_at next of).number) ×
+    ((l : ℕ) → l < width → value_at r (register_at next of) l ≡ lane (bits_in (bank_of of)) value)
 HeldAt f width r next (CellAtom c) = Unit {0}
 
 abbrev pub Held : Frame → (width : ℕ) → Registers → Free → List Atom → Type 0

@@ -48,12 +48,14 @@ pub record IsGood (kernel : Kernel) (number : ℕ) (i : Item) : Type 0 where
 -- a lane's registers hold the values of the cells that are live there
 abbrev pub Agrees : Frame → Registers → (l : ℕ) → Tasks → (ℕ → ℤ) → Type 0
 Agrees f r l k cells =
-    (c : ℕ) (op : Operand) → slice_index_or f.cells c None ≡ Some op → live_now c k ≡ true → value_at r op.at l ≡ lane (bits_in (bank_of op.of)) (cells c)
+    (c : ℕ) (op : Operand) → slice_index_or f.cells c None ≡ Some op → live_now c k ≡ true →
+    value_at r op.at l ≡ lane (bits_in (bank_of op.of)) (cells c)
 
 -- the registers above those for what is on its way are as they were
 abbrev pub Above : Frame → (width : ℕ) → (before after : Registers) → Type 0
 Above f width before after =
-    (x : Reg) (l : ℕ) → l < width → is_lane x.bank ≡ true → number_in f.scratch x.bank < x.number → value_at after x l ≡ value_at before x l
+    (x : Reg) (l : ℕ) → l < width → is_lane x.bank ≡ true → number_in f.scratch x.bank < x.number →
+    value_at after x l ≡ value_at before x l
 
 -- columns, slots and votes are as they were
 pub record SameGroup (before after : Group) : Type 0 where
@@ -62,8 +64,11 @@ pub record SameGroup (before after : Group) : Type 0 where
   pub exits : after.exits ≡ before.exits
   pub votes : after.votes ≡ before.votes
 
--- the chunk's items have come from one stage to where the code is: what each of them has left to do is this, with so many turns left to the code
-pub record Sim (kernel : Kernel) (launch : Launch) (width : ℕ) (chunk : ChunkOf kernel launch width) (turns : ℕ) (w0 : Stage Item) (g0 : Group) (f : Frame) (counts : Counts) (r0 : Registers) (t : ℕ) (T : ℕ → Tasks) (st : State) (w : Stage Item) : Type 0 where
+-- the chunk's items have come from one stage to where the code is: what each of them has left to do is this, with so
+-- many turns left to the code
+pub record Sim (kernel : Kernel) (launch : Launch) (width : ℕ) (chunk : ChunkOf kernel launch width) (turns : ℕ)
+    (w0 : Stage Item) (g0 : Group) (f : Frame) (counts : Counts) (r0 : Registers) (t : ℕ) (T : ℕ →
+    Tasks) (st : State) (w : Stage Item) : Type 0 where
   pub reached : Reached (machine_of kernel launch) chunk.lanes w0 w
   pub mirrors : Mirrors kernel launch chunk.group w.memory st.group st.buffers
   pub others : OtherGroupsStay kernel launch chunk.group w0.memory w.memory
@@ -71,13 +76,21 @@ pub record Sim (kernel : Kernel) (launch : Launch) (width : ℕ) (chunk : ChunkO
   pub rows : (n : ℕ) → n < length st.group.privates → length (slice_index_or st.group.privates n []) ≡ group_size launch
   pub shape : Shaped counts width st.registers
   pub above : Above f width r0 st.registers
-  pub stand : (l : ℕ) → IsLane chunk.lanes l → ((w.items (chunk.lanes.first + l)).tasks ≡ T l) × Agrees f st.registers l (T l) (w.items (chunk.lanes.first + l)).cells
+  pub stand : (l : ℕ) → IsLane chunk.lanes l → ((w.items (chunk.lanes.first + l)).tasks ≡ T l) ×
+      Agrees f st.registers l (T l) (w.items (chunk.lanes.first + l)).cells
   pub budget : w0.begun + turns ≤ w.begun + t
 
 -- what is said of ends is said of each end that comes before the lines are through
-pub record Closed (kernel : Kernel) (launch : Launch) (width : ℕ) (chunk : ChunkOf kernel launch width) (turns : ℕ) (w0 : Stage Item) (sites : ℕ → Type 0) (goal : Tasks) (G : Ended → Type 0) : Type 0 where
-  pub faults : (after : Stage Item) → Reached (machine_of kernel launch) chunk.lanes w0 after → (l site : ℕ) → IsLane chunk.lanes l
-      → fault_of after.memory (item_next kernel launch (after.items (chunk.lanes.first + l))) ≡ Some site → (t : ℕ) (st : State) → G (record { end = end.Range l site; turns = t; state = st })
-  pub waits : (after : Stage Item) → Reached (machine_of kernel launch) chunk.lanes w0 after → (l site : ℕ) → IsLane chunk.lanes l
-      → WaitsAt site (item_next kernel launch (after.items (chunk.lanes.first + l))) → sites site → StillComes goal (after.items (chunk.lanes.first + l)).tasks → (t : ℕ) (st : State) → G (record { end = end.AtBarrier l site; turns = t; state = st })
-  pub tires : (after : Stage Item) → Reached (machine_of kernel launch) chunk.lanes w0 after → w0.begun + turns < after.begun → (t : ℕ) (st : State) → G (record { end = end.Turns; turns = t; state = st })
+pub record Closed (kernel : Kernel) (launch : Launch) (width : ℕ) (chunk : ChunkOf kernel launch width) (turns : ℕ)
+    (w0 : Stage Item) (sites : ℕ → Type 0) (goal : Tasks) (G : Ended → Type 0) : Type 0 where
+  pub faults : (after : Stage Item) → Reached (machine_of kernel launch) chunk.lanes w0 after → (l site : ℕ) →
+      IsLane chunk.lanes l
+      → fault_of after.memory (item_next kernel launch (after.items (chunk.lanes.first + l))) ≡ Some site →
+      (t : ℕ) (st : State) → G (record { end = end.Range l site; turns = t; state = st })
+  pub waits : (after : Stage Item) → Reached (machine_of kernel launch) chunk.lanes w0 after → (l site : ℕ) →
+      IsLane chunk.lanes l
+      → WaitsAt site (item_next kernel launch (after.items (chunk.lanes.first + l))) → sites site →
+      StillComes goal (after.items (chunk.lanes.first + l)).tasks → (t : ℕ) (st : State) →
+      G (record { end = end.AtBarrier l site; turns = t; state = st })
+  pub tires : (after : Stage Item) → Reached (machine_of kernel launch) chunk.lanes w0 after →
+      w0.begun + turns < after.begun → (t : ℕ) (st : State) → G (record { end = end.Turns; turns = t; state = st })

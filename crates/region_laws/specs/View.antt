@@ -28,15 +28,18 @@ abbrev pub Shaped : Counts → (width : ℕ) → Registers → Type 0
 Shaped c width r = HasLanes c.narrow c.wide c.masks c.scalars width r
 
 -- the active lanes of one register of numbers have got these values, and nothing else is changed
-pub record Wrote (c : Counts) (width : ℕ) (r : Registers) (to : Reg) (active : ℕ → Test) (value : ℕ → ℕ) (after : Registers) : Type 0 where
+pub record Wrote (c : Counts) (width : ℕ) (r : Registers) (to : Reg) (active : ℕ → Test) (value : ℕ →
+    ℕ) (after : Registers) : Type 0 where
   pub here : (l : ℕ) → l < width → active l ≡ true → value_at after to l ≡ value l
-  pub idle : (x : Reg) (l : ℕ) → l < width → is_lane x.bank ≡ true → active l ≡ false → value_at after x l ≡ value_at r x l
+  pub idle : (x : Reg) (l : ℕ) → l < width → is_lane x.bank ≡ true → active l ≡ false →
+      value_at after x l ≡ value_at r x l
   pub there : (x : Reg) (l : ℕ) → l < width → is_lane x.bank ≡ true → Differ x to → value_at after x l ≡ value_at r x l
   pub masks : after.masks ≡ r.masks
   pub shape : Shaped c width after
 
 -- one mask has got these answers, and nothing else is changed
-pub record Masked (c : Counts) (width : ℕ) (r : Registers) (to : ℕ) (value : ℕ → Test) (after : Registers) : Type 0 where
+pub record Masked (c : Counts) (width : ℕ) (r : Registers) (to : ℕ) (value : ℕ →
+    Test) (after : Registers) : Type 0 where
   pub here : (l : ℕ) → l < width → mask_at after to l ≡ value l
   pub there : (k l : ℕ) → l < width → (k ≡ to → ⊥) → mask_at after k l ≡ mask_at r k l
   pub numbers : (x : Reg) (l : ℕ) → value_at after x l ≡ value_at r x l

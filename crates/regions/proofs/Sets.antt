@@ -1,5 +1,6 @@
 -- Lists that say of each cell whether it is live.
-use Rattle.std.proofs.Common.{◌≡◌, ◌≢◌, ℕ, suc, ◌+◌, ◌<◌, ◌≤◌, List, [], ◌∷◌, ◌++◌, append_assoc, length, get_or, drop, refl, ap, sym, ◌∙◌, arith, cond, below_more}
+use Rattle.std.proofs.Common.{◌≡◌, ◌≢◌, ℕ, suc, ◌+◌, ◌<◌, ◌≤◌, List, [], ◌∷◌, ◌++◌, append_assoc, length, get_or}
+use Rattle.std.proofs.Common.{drop, refl, ap, sym, ◌∙◌, arith, cond, below_more}
 use Rattle.std.specs.Prelude.{◌||◌, slice_set}
 use Rattle.std.specs.Prelude.{Bool as Test, true, false}
 use Rattle.std.proofs.lemmas.List.{get_or-set_same, get_or-set_other, length-set, drop_all}
@@ -18,7 +19,8 @@ pub halfway_start : (old : List Test) (entry : ℕ → Test → Test) → Halfwa
 halfway_start old entry = record { count = refl; below = λ c lt _. absurd (omega arith); above = λ c _. refl }
 
 -- one more, written
-pub halfway_set : (old mid : List Test) (entry : ℕ → Test → Test) (i : ℕ) (v : Test) → Halfway old mid entry i → i < length mid → v ≡ entry i (get_or mid i false) → Halfway old (slice_set mid i v) entry (i + 1)
+pub halfway_set : (old mid : List Test) (entry : ℕ → Test → Test) (i : ℕ) (v : Test) → Halfway old mid entry i →
+    i < length mid → v ≡ entry i (get_or mid i false) → Halfway old (slice_set mid i v) entry (i + 1)
 halfway_set old mid entry i v h lt e = record {
   count = length-set mid i v ∙ h.count;
   below =
@@ -29,7 +31,8 @@ halfway_set old mid entry i v h lt e = record {
 }
 
 -- one more, which stays as it was
-pub halfway_keep : (old mid : List Test) (entry : ℕ → Test → Test) (i : ℕ) → Halfway old mid entry i → get_or mid i false ≡ entry i (get_or mid i false) → Halfway old mid entry (i + 1)
+pub halfway_keep : (old mid : List Test) (entry : ℕ → Test → Test) (i : ℕ) → Halfway old mid entry i →
+    get_or mid i false ≡ entry i (get_or mid i false) → Halfway old mid entry (i + 1)
 halfway_keep old mid entry i h e = record {
   count = h.count;
   below =
@@ -40,24 +43,41 @@ halfway_keep old mid entry i h e = record {
 }
 
 -- all
-pub halfway_end : (old new : List Test) (entry : ℕ → Test → Test) (i : ℕ) → Halfway old new entry i → length new ≤ i → Becomes old new entry
-halfway_end old new entry i h all = record { count = h.count; each = λ c small. h.below c (let e = h.count in omega (arith, e)) small }
+pub halfway_end : (old new : List Test) (entry : ℕ → Test → Test) (i : ℕ) → Halfway old new entry i → length new ≤ i →
+    Becomes old new entry
+halfway_end old new entry i h all =
+    record { count = h.count; each = λ c small. h.below c (let e = h.count in omega (arith, e)) small }
 
 -- ---- what becomes of sets
 
 -- one step behind another
-pub becomes_then : (old mid new : List Test) (f g : ℕ → Test → Test) → Becomes old mid f → Becomes mid new g → Becomes old new (λ c live. g c (f c live))
-becomes_then old mid new f g a b = record { count = b.count ∙ a.count; each = λ c small. b.each c (let e = a.count in omega (arith, e)) ∙ ap (g c) (a.each c small) }
+pub becomes_then : (old mid new : List Test) (f g : ℕ → Test → Test) → Becomes old mid f → Becomes mid new g →
+    Becomes old new (λ c live. g c (f c live))
+becomes_then old mid new f g a b =
+    record {
+      count = b.count ∙ a.count;
+      each = λ c small. b.each c (let e = a.count in omega (arith, e)) ∙
+          ap (g c) (a.each c small);
+    }
 
 -- the same said otherwise
-pub becomes_as : (old new : List Test) (f g : ℕ → Test → Test) → ((c : ℕ) (live : Test) → f c live ≡ g c live) → Becomes old new f → Becomes old new g
-becomes_as old new f g same a = record { count = a.count; each = λ c small. a.each c small ∙ same c (get_or old c false) }
+pub becomes_as : (old new : List Test) (f g : ℕ → Test → Test) → ((c : ℕ) (live : Test) → f c live ≡ g c live) →
+    Becomes old new f → Becomes old new g
+becomes_as old new f g same a =
+    record { count = a.count; each = λ c small. a.each c small ∙ same c (get_or old c false) }
 
 -- cells of a test, and what they become
-pub set_becomes : (cells : ℕ) (old new : List Test) (test : ℕ → Test) (entry : ℕ → Test → Test) → IsSet cells old test → Becomes old new entry → IsSet cells new (λ c. entry c (test c))
-set_becomes cells old new test entry is b = record { count = b.count ∙ is.count; each = λ c small. b.each c (let e = is.count in omega (arith, e)) ∙ ap (entry c) (is.each c small) }
+pub set_becomes : (cells : ℕ) (old new : List Test) (test : ℕ → Test) (entry : ℕ → Test → Test) →
+    IsSet cells old test → Becomes old new entry → IsSet cells new (λ c. entry c (test c))
+set_becomes cells old new test entry is b =
+    record {
+      count = b.count ∙ is.count;
+      each = λ c small. b.each c (let e = is.count in omega (arith, e)) ∙
+          ap (entry c) (is.each c small);
+    }
 
-pub set_as : (cells : ℕ) (set : List Test) (f g : ℕ → Test) → ((c : ℕ) → c < cells → f c ≡ g c) → IsSet cells set f → IsSet cells set g
+pub set_as : (cells : ℕ) (set : List Test) (f g : ℕ → Test) → ((c : ℕ) → c < cells → f c ≡ g c) → IsSet cells set f →
+    IsSet cells set g
 set_as cells set f g same is = record { count = is.count; each = λ c small. is.each c small ∙ same c small }
 
 -- ---- atoms in a row
@@ -71,9 +91,12 @@ or_swap false false x = refl
 -- atoms of which some are still to be marked
 pub record Marks (old new : List Test) (left all : List Atom) : Type 0 where
   pub count : length new ≡ length old
-  pub each : (c : ℕ) → c < length old → (some_reads c left || get_or new c false) ≡ (some_reads c all || get_or old c false)
+  pub each : (c : ℕ) → c < length old →
+      (some_reads c left || get_or new c false) ≡ (some_reads c all || get_or old c false)
 
-pub marks_step : (old mid new : List Test) (all : List Atom) (i : ℕ) (a : Atom) → i < length all → a ≡ get_or all i a → Marks old mid (drop i all) all → Becomes mid new (λ c live. reads c a || live) → Marks old new (drop (i + 1) all) all
+pub marks_step : (old mid new : List Test) (all : List Atom) (i : ℕ) (a : Atom) → i < length all →
+    a ≡ get_or all i a → Marks old mid (drop i all) all → Becomes mid new (λ c live. reads c a || live) →
+    Marks old new (drop (i + 1) all) all
 marks_step old mid new all i a lt is m b = record {
   count = b.count ∙ m.count;
   each =
@@ -83,8 +106,14 @@ marks_step old mid new all i a lt is m b = record {
       ∙ (ap (λ xs. some_reads c xs || get_or mid c false) (sym (first_left all i a lt is)) ∙ m.each c small));
 }
 
-pub marks_end : (old new : List Test) (all : List Atom) (i : ℕ) → length all ≤ i → Marks old new (drop i all) all → Becomes old new (λ c live. some_reads c all || live)
-marks_end old new all i done m = record { count = m.count; each = λ c small. ap (λ xs. some_reads c xs || get_or new c false) (sym (drop_all i all done)) ∙ m.each c small }
+pub marks_end : (old new : List Test) (all : List Atom) (i : ℕ) → length all ≤ i → Marks old new (drop i all) all →
+    Becomes old new (λ c live. some_reads c all || live)
+marks_end old new all i done m =
+    record {
+      count = m.count;
+      each = λ c small. ap (λ xs. some_reads c xs || get_or new c false)
+          (sym (drop_all i all done)) ∙ m.each c small;
+    }
 
 -- ---- the numbers of those that are live
 
@@ -92,15 +121,21 @@ those_next : (n : ℕ) (b : Test) (set : List Test) → those n (b ∷ set) ≡ 
 those_next n true set = refl
 those_next n false set = refl
 
-pub those_found : (set : List Test) (list : List ℕ) (i n : ℕ) (b : Test) → i < length set → b ≡ get_or set i b → b ≡ true → n ≡ i → list ++ those n (drop i set) ≡ those 0 set → (list ++ n ∷ []) ++ those (n + 1) (drop (i + 1) set) ≡ those 0 set
+pub those_found : (set : List Test) (list : List ℕ) (i n : ℕ) (b : Test) → i < length set → b ≡ get_or set i b →
+    b ≡ true → n ≡ i → list ++ those n (drop i set) ≡ those 0 set →
+    (list ++ n ∷ []) ++ those (n + 1) (drop (i + 1) set) ≡ those 0 set
 those_found set list i n b lt is live at same =
     let one : suc n ≡ n + 1 = omega arith in
     append_assoc list (n ∷ []) (those (n + 1) (drop (i + 1) set))
     ∙ (ap (λ x. list ++ n ∷ those x (drop (i + 1) set)) (sym one)
-    ∙ (ap (λ x. list ++ those n (x ∷ drop (i + 1) set)) (sym live) ∙ (ap (λ x. list ++ those n x) (sym (first_left set i b lt is)) ∙ same)))
+    ∙ (ap (λ x. list ++ those n (x ∷ drop (i + 1) set)) (sym live) ∙
+    (ap (λ x. list ++ those n x) (sym (first_left set i b lt is)) ∙ same)))
 
-pub those_passed : (set : List Test) (list : List ℕ) (i n : ℕ) (b : Test) → i < length set → b ≡ get_or set i b → b ≡ false → n ≡ i → list ++ those n (drop i set) ≡ those 0 set → list ++ those (n + 1) (drop (i + 1) set) ≡ those 0 set
+pub those_passed : (set : List Test) (list : List ℕ) (i n : ℕ) (b : Test) → i < length set → b ≡ get_or set i b →
+    b ≡ false → n ≡ i → list ++ those n (drop i set) ≡ those 0 set →
+    list ++ those (n + 1) (drop (i + 1) set) ≡ those 0 set
 those_passed set list i n b lt is dead at same =
     let one : suc n ≡ n + 1 = omega arith in
     ap (λ x. list ++ those x (drop (i + 1) set)) (sym one)
-    ∙ (ap (λ x. list ++ those n (x ∷ drop (i + 1) set)) (sym dead) ∙ (ap (λ x. list ++ those n x) (sym (first_left set i b lt is)) ∙ same))
+    ∙ (ap (λ x. list ++ those n (x ∷ drop (i + 1) set)) (sym dead) ∙
+    (ap (λ x. list ++ those n x) (sym (first_left set i b lt is)) ∙ same))

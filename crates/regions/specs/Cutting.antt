@@ -26,7 +26,9 @@ stacked (t ∷ trees) rest = stacked trees (tree_before t rest)
 -- a region of these lines that ends so, and what stands behind it
 abbrev pub ended_by : Option Choice → Lines → Option Atom → List ℕ → Tree → Tree
 ended_by None first answer live rest = RegionThen (region_with first answer live) rest
-ended_by (Some choice) first answer live rest = VoteThen (region_with first answer live) (tree_before choice.yes.value NoRegion) (tree_before choice.no.value NoRegion) (region_of choice.mixed) rest
+ended_by (Some choice) first answer live rest =
+    VoteThen (region_with first answer live) (tree_before choice.yes.value NoRegion)
+    (tree_before choice.no.value NoRegion) (region_of choice.mixed) rest
 
 -- the same, of an ending
 abbrev pub ended : Lines → Ending → Tree
@@ -36,9 +38,11 @@ ended first e = ended_by e.choice first e.answer e.live.items (stacked e.behind.
 abbrev pub cut_by : Cut → Lines → List ℕ → Tree → Tree
 cut_by cut.Barrier first live rest = RegionThen (region_with first None live) rest
 cut_by (cut.Choice test choice) first live rest =
-    VoteThen (region_with first (Some test) live) (tree_before choice.yes.value NoRegion) (tree_before choice.no.value NoRegion) (region_of choice.mixed) rest
+    VoteThen (region_with first (Some test) live) (tree_before choice.yes.value NoRegion)
+    (tree_before choice.no.value NoRegion) (region_of choice.mixed) rest
 cut_by (cut.Loop round) first live rest =
-    RegionThen (region_with first None live) (LoopThen round.test_first (tree_before round.test.value NoRegion) (tree_before round.body.value NoRegion) (region_of round.rest) rest)
+    RegionThen (region_with first None live) (LoopThen round.test_first (tree_before round.test.value NoRegion)
+    (tree_before round.body.value NoRegion) (region_of round.rest) rest)
 
 -- the sets have what is live where an item has this left to do, and at that place
 pub record AreLiveAt (cells : ℕ) (now behind : List Test) (k : Tasks) : Type 0 where

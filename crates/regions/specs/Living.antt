@@ -32,16 +32,22 @@ through dead live c after = cond after (slice_index_or live c false) (slice_inde
 
 -- before an if
 abbrev pub before_if : Atom → (chosen_dead chosen_live other_dead other_live : List Test) → ℕ → Test → Test
-before_if test chosen_dead chosen_live other_dead other_live c after = reads c test || (through chosen_dead chosen_live c after || through other_dead other_live c after)
+before_if test chosen_dead chosen_live other_dead other_live c after =
+    reads c test || (through chosen_dead chosen_live c after || through other_dead other_live c after)
 
 -- at the answer of a loop
 abbrev pub before_answer : (test_dead : List Test) → Atom → (body_dead body_live : List Test) → ℕ → Test → Test
-before_answer test_dead answer body_dead body_live c after = reads c answer || (after || through body_dead body_live c (slice_index_or test_dead c false))
+before_answer test_dead answer body_dead body_live c after =
+    reads c answer || (after || through body_dead body_live c (slice_index_or test_dead c false))
 
 -- before a loop
-abbrev pub before_loop : (test_first : Test) → (test_dead test_live : List Test) → Atom → (body_dead body_live : List Test) → ℕ → Test → Test
-before_loop true test_dead test_live answer body_dead body_live c after = through test_dead test_live c (before_answer test_dead answer body_dead body_live c after)
-before_loop false test_dead test_live answer body_dead body_live c after = through body_dead body_live c (through test_dead test_live c (before_answer test_dead answer body_dead body_live c after))
+abbrev pub before_loop : (test_first : Test) → (test_dead test_live : List Test) → Atom →
+    (body_dead body_live : List Test) → ℕ → Test → Test
+before_loop true test_dead test_live answer body_dead body_live c after =
+    through test_dead test_live c (before_answer test_dead answer body_dead body_live c after)
+before_loop false test_dead test_live answer body_dead body_live c after =
+    through body_dead body_live c (through test_dead test_live c (before_answer test_dead answer body_dead body_live c
+    after))
 
 -- a cell at the answer of a loop, where it is said of each cell whether it is live behind the loop
 abbrev pub answer_live : (test : Lines) → Atom → (body : Lines) → (ℕ → Test) → ℕ → Test

@@ -71,7 +71,9 @@ fn add_if(
     yes: Vec<Line>,
     no: Vec<Line>,
 ) -> Result<(), Memory>
-    ensures { OnOk result ((rest : Lines) → joined_to (lines_of copied.new.items) rest ≡ joined_to (lines_of copied.old.items) (IfThen site test (lines_of yes.items) (lines_of no.items) rest)) }
+    ensures { OnOk result ((rest : Lines) →
+        joined_to (lines_of copied.new.items) rest ≡ joined_to (lines_of copied.old.items)
+        (IfThen site test (lines_of yes.items) (lines_of no.items) rest)) }
 {
     let line = Line::If {
         site,
@@ -93,7 +95,9 @@ fn add_loop(
     answer: Atom,
     body: Vec<Line>,
 ) -> Result<(), Memory>
-    ensures { OnOk result ((rest : Lines) → joined_to (lines_of copied.new.items) rest ≡ joined_to (lines_of copied.old.items) (LoopThen site test_first (lines_of test.items) answer (lines_of body.items) rest)) }
+    ensures { OnOk result ((rest : Lines) →
+        joined_to (lines_of copied.new.items) rest ≡ joined_to (lines_of copied.old.items)
+        (LoopThen site test_first (lines_of test.items) answer (lines_of body.items) rest)) }
 {
     let line = Line::Loop {
         site,
@@ -150,7 +154,9 @@ fn copy_plain(alloc: Global, line: &Line) -> Result<Line, Memory>
 /// The list with the same line more, of a line without lines.
 #[inline(never)]
 fn add_plain(alloc: Global, copied: &mut Vec<Line>, line: &Line) -> Result<(), Memory>
-    ensures { OnOk result ((rest : Lines) → joined_to (lines_of copied.new.items) rest ≡ joined_to (lines_of copied.old.items) (line_before line.now rest)) }
+    ensures { OnOk result ((rest : Lines) →
+        joined_to (lines_of copied.new.items) rest ≡ joined_to (lines_of copied.old.items)
+        (line_before line.now rest)) }
 {
     let line = copy_plain(alloc, line)?;
     add_line(copied, line)?;
@@ -174,7 +180,9 @@ pub(crate) fn copy_lines(alloc: Global, lines: &[Line]) -> Result<Vec<Line>, Mem
 #[cycle(copy)]
 #[inline(never)]
 fn copy_onto(alloc: Global, line: &Line, copied: &mut Vec<Line>) -> Result<(), Memory>
-    ensures { OnOk result ((rest : Lines) → joined_to (lines_of copied.new.items) rest ≡ joined_to (lines_of copied.old.items) (line_before line.now rest)) }
+    ensures { OnOk result ((rest : Lines) →
+        joined_to (lines_of copied.new.items) rest ≡ joined_to (lines_of copied.old.items)
+        (line_before line.now rest)) }
 {
     match line {
         Line::If {

@@ -1,6 +1,22 @@
 //! Which cells are live before lines, for all cells at once.
 
-ghost use Rattle.std.specs.Prelude.{◌≡◌, ◌∷◌, [], ◌++◌, ◌||◌, ◌&&◌, not, nat_eq, true, false, IfOk, OnOk, replicate, length, slice_index_or};
+ghost use Rattle.std.specs.Prelude.{
+  ◌≡◌,
+  ◌∷◌,
+  [],
+  ◌++◌,
+  ◌||◌,
+  ◌&&◌,
+  not,
+  nat_eq,
+  true,
+  false,
+  IfOk,
+  OnOk,
+  replicate,
+  length,
+  slice_index_or,
+};
 ghost use Rattle.kir.specs.Tree.{Lines, NoLine};
 ghost use Rattle.kir.specs.Listed.{line_before, lines_of, work_of};
 ghost use Rattle.kir.specs.Live.{reads, some_reads, work_reads};
@@ -180,7 +196,8 @@ pub(crate) fn live_in_either(
     set: &[bool],
     other: &[bool],
 ) -> Result<Vec<bool>, Memory>
-    ensures { IfOk result (λ either. Becomes set.now either.items (λ c live. live || slice_index_or other.now c false)) }
+    ensures { IfOk result (λ either. Becomes set.now either.items (λ c live. live ||
+        slice_index_or other.now c false)) }
 {
     let mut either = copy_cells(alloc, set)?;
     unite(&mut either, other);
@@ -195,7 +212,8 @@ fn live_before_if(
     yes: &Passing,
     no: &Passing,
 ) -> Result<Vec<bool>, Memory>
-    ensures { IfOk result (λ set. Becomes after.now set.items (before_if test yes.now.dead.items yes.now.live.items no.now.dead.items no.now.live.items)) }
+    ensures { IfOk result (λ set. Becomes after.now set.items (before_if test yes.now.dead.items yes.now.live.items
+        no.now.dead.items no.now.live.items)) }
 {
     let chosen = live_before(alloc, after, yes)?;
     let other = live_before(alloc, after, no)?;
@@ -213,7 +231,9 @@ pub(crate) fn live_at_answer(
     answer: Atom,
     body: &Passing,
 ) -> Result<Vec<bool>, Memory>
-    ensures { IfOk result (λ set. length test.now.dead.items ≡ length after.now → Becomes after.now set.items (before_answer test.now.dead.items answer body.now.dead.items body.now.live.items)) }
+    ensures { IfOk result (λ set. length test.now.dead.items ≡ length after.now →
+        Becomes after.now set.items (before_answer test.now.dead.items answer body.now.dead.items
+        body.now.live.items)) }
 {
     let round = live_before(alloc, &test.dead, body)?;
     let mut either = live_in_either(alloc, after, &round)?;
@@ -230,7 +250,9 @@ fn live_before_loop(
     answer: Atom,
     body: &Passing,
 ) -> Result<Vec<bool>, Memory>
-    ensures { IfOk result (λ set. length test.now.dead.items ≡ length after.now → Becomes after.now set.items (before_loop test_first test.now.dead.items test.now.live.items answer body.now.dead.items body.now.live.items)) }
+    ensures { IfOk result (λ set. length test.now.dead.items ≡ length after.now →
+        Becomes after.now set.items (before_loop test_first test.now.dead.items test.now.live.items answer
+        body.now.dead.items body.now.live.items)) }
 {
     let at_answer = live_at_answer(alloc, after, test, answer, body)?;
     let before_test = live_before(alloc, &at_answer, test)?;
@@ -271,7 +293,8 @@ pub(crate) fn pass_line(
     line: &Line,
     behind: &mut Passing,
 ) -> Result<(), Memory>
-    ensures { OnOk result ((rest : Lines) → IsPassing cells rest behind.old.dead.items behind.old.live.items → IsPassing cells (line_before line.now rest) behind.new.dead.items behind.new.live.items) }
+    ensures { OnOk result ((rest : Lines) → IsPassing cells rest behind.old.dead.items behind.old.live.items →
+        IsPassing cells (line_before line.now rest) behind.new.dead.items behind.new.live.items) }
 {
     match line {
         Line::Set { to, work } => {

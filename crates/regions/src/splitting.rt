@@ -1,6 +1,27 @@
 //! The cutting of a kernel into its regions.
 
-ghost use Rattle.std.specs.Prelude.{◌≡◌, ℕ, ◌+◌, ◌-◌, ◌≤◌, ◌<◌, ◌∷◌, [], ◌++◌, ◌||◌, true, false, List, Option, None, IfOk, OnOk, length, take, drop};
+ghost use Rattle.std.specs.Prelude.{
+  ◌≡◌,
+  ℕ,
+  ◌+◌,
+  ◌-◌,
+  ◌≤◌,
+  ◌<◌,
+  ◌∷◌,
+  [],
+  ◌++◌,
+  ◌||◌,
+  true,
+  false,
+  List,
+  Option,
+  None,
+  IfOk,
+  OnOk,
+  length,
+  take,
+  drop,
+};
 ghost use Rattle.std.specs.Prelude.{Bool as Test};
 ghost use Rattle.kir.specs.Tree.{Lines, NoLine};
 ghost use Rattle.kir.specs.Places.{Behind, Place, Tasks, LinesAt};
@@ -102,7 +123,8 @@ fn cut_lines(
     now: &Vec<bool>,
     behind: &Vec<bool>,
 ) -> Result<RegionTree, Memory>
-    ensures cut { IfOk result (λ t. (at : Place) (k : Tasks) → AreLiveAt cells now.now.items behind.now.items k → tree_before t NoRegion ≡ cut_into cells ends (until_cut (lines_of lines.now)) at (lines_of lines.now) k) }
+    ensures cut { IfOk result (λ t. (at : Place) (k : Tasks) → AreLiveAt cells now.now.items behind.now.items k →
+        tree_before t NoRegion ≡ cut_into cells ends (until_cut (lines_of lines.now)) at (lines_of lines.now) k) }
     ensures one { IfOk result (λ t. holds_barrier (lines_of lines.now) ≡ false → IsOneRegion t) }
 {
     let live = listed_cells(alloc, behind)?;
@@ -140,8 +162,11 @@ fn cut_lines(
 #[cycle(cut)]
 fn cut_line(alloc: Global, cells: usize, line: &Line, now: &Vec<bool>) -> Result<Cut, Memory>
     requires { holds_barrier (line_before line.now NoLine) ≡ true }
-    ensures { IfOk result (λ cut. (ends : Option Atom) (first : Lines) (at : Place) (rest : Lines) (k : Tasks) → IsSet cells now.now.items (λ c. live_in c rest (live_now c k))
-        → cut_into cells ends first at (line_before line.now rest) k ≡ cut_by cut first (live_from 0 cells (LinesAt at (line_before line.now rest) k)) (cut_into cells ends (until_cut rest) (Behind ∷ at) rest k)) }
+    ensures { IfOk result (λ cut. (ends : Option Atom) (first : Lines) (at : Place) (rest : Lines) (k : Tasks) →
+        IsSet cells now.now.items (λ c. live_in c rest (live_now c k))
+        → cut_into cells ends first at (line_before line.now rest) k ≡
+        cut_by cut first (live_from 0 cells (LinesAt at (line_before line.now rest) k))
+        (cut_into cells ends (until_cut rest) (Behind ∷ at) rest k)) }
 {
     match line {
         Line::If { test, yes, no, .. } => {
@@ -205,9 +230,15 @@ fn around_answer(
     body: &[Line],
     now: &[bool],
 ) -> Result<Around, Memory>
-    ensures at { IfOk result (λ a. (f : ℕ → Test) → IsSet cells now.now f → IsSet cells a.at_answer.items (answer_live (lines_of test.now) answer (lines_of body.now) f)) }
-    ensures before { IfOk result (λ a. (f : ℕ → Test) → IsSet cells now.now f → IsSet cells a.before_test.items (λ c. live_in c (lines_of test.now) (answer_live (lines_of test.now) answer (lines_of body.now) f c))) }
-    ensures behind { IfOk result (λ a. (f : ℕ → Test) → IsSet cells now.now f → IsSet cells a.behind_answer.items (λ c. f c || live_in c (lines_of body.now) (live_in c (lines_of test.now) (answer_live (lines_of test.now) answer (lines_of body.now) f c)))) }
+    ensures at { IfOk result (λ a. (f : ℕ → Test) → IsSet cells now.now f →
+        IsSet cells a.at_answer.items (answer_live (lines_of test.now) answer (lines_of body.now) f)) }
+    ensures before { IfOk result (λ a. (f : ℕ → Test) → IsSet cells now.now f →
+        IsSet cells a.before_test.items
+        (λ c. live_in c (lines_of test.now) (answer_live (lines_of test.now) answer (lines_of body.now) f c))) }
+    ensures behind { IfOk result (λ a. (f : ℕ → Test) → IsSet cells now.now f →
+        IsSet cells a.behind_answer.items
+        (λ c. f c || live_in c (lines_of body.now)
+        (live_in c (lines_of test.now) (answer_live (lines_of test.now) answer (lines_of body.now) f c)))) }
 {
     let test = pass_lines(alloc, cells, test)?;
     let body = pass_lines(alloc, cells, body)?;
@@ -232,7 +263,9 @@ fn cut_part(
     now: &Vec<bool>,
     behind: &Vec<bool>,
 ) -> Result<Box<RegionTree>, Memory>
-    ensures { IfOk result (λ t. (at : Place) (k : Tasks) → AreLiveAt cells now.now.items behind.now.items k → tree_before t.value NoRegion ≡ cut_into cells ends (until_cut (lines_of lines.now)) at (lines_of lines.now) k) }
+    ensures { IfOk result (λ t. (at : Place) (k : Tasks) → AreLiveAt cells now.now.items behind.now.items k →
+        tree_before t.value NoRegion ≡ cut_into cells ends (until_cut (lines_of lines.now)) at
+        (lines_of lines.now) k) }
 {
     let tree = cut_lines(alloc, cells, lines, ends, now, behind)?;
     boxed(alloc, tree)
@@ -249,7 +282,12 @@ fn boxed(alloc: Global, tree: RegionTree) -> Result<Box<RegionTree>, Memory>
 
 /// The plain twin of a line behind which the cells `now` are live: the line alone.
 fn twin(alloc: Global, line: &Line, now: &[bool], from_vote: bool) -> Result<Region, Memory>
-    ensures { IfOk result (λ r. region_of r ≡ record { lines = line_before line.now NoLine; answer = None; from_vote = from_vote; live = those 0 now.now }) }
+    ensures { IfOk result (λ r. region_of r ≡ record {
+      lines = line_before line.now NoLine;
+      answer = None;
+      from_vote = from_vote;
+      live = those 0 now.now;
+    }) }
 {
     let live = listed_cells(alloc, now)?;
     let line = copy_line(alloc, line)?;
@@ -294,7 +332,9 @@ fn end_before(
     requires before { number < ending.end }
     requires within { ending.end ≤ length lines.now }
     ensures end { IfOk result (λ e. e.end ≡ number) }
-    ensures ended { IfOk result (λ e. (first : Lines) → ended first e ≡ cut_by cut first (those 0 here.now) (ended (lines_of (take (ending.end - (number + 1)) (drop (number + 1) lines.now))) ending)) }
+    ensures ended { IfOk result (λ e. (first : Lines) →
+        ended first e ≡ cut_by cut first (those 0 here.now)
+        (ended (lines_of (take (ending.end - (number + 1)) (drop (number + 1) lines.now))) ending)) }
 {
     let (behind, cut) = beside(close(alloc, lines, number + 1, ending), cut)?;
     let (live, (behind, cut)) = beside(listed_cells(alloc, here), (behind, cut))?;
@@ -339,7 +379,9 @@ fn beside<T: Drop, U: Drop>(step: Result<T, Memory>, kept: U) -> Result<(T, U), 
 
 /// Trees, the last first, with a loop before them.
 fn loop_before(round: Round, mut trees: Vec<RegionTree>) -> Result<Vec<RegionTree>, Memory>
-    ensures { IfOk result (λ v. stacked v.items NoRegion ≡ LoopThen round.test_first (tree_before round.test.value NoRegion) (tree_before round.body.value NoRegion) (region_of round.rest) (stacked trees.items NoRegion)) }
+    ensures { IfOk result (λ v. stacked v.items NoRegion ≡
+        LoopThen round.test_first (tree_before round.test.value NoRegion) (tree_before round.body.value NoRegion)
+        (region_of round.rest) (stacked trees.items NoRegion)) }
 {
     let Round {
         test_first,
@@ -375,7 +417,8 @@ fn close(
 ) -> Result<Vec<RegionTree>, Memory>
     requires before { number ≤ ending.end }
     requires within { ending.end ≤ length lines.now }
-    ensures { IfOk result (λ v. stacked v.items NoRegion ≡ ended (lines_of (take (ending.end - number) (drop number lines.now))) ending) }
+    ensures { IfOk result (λ v. stacked v.items NoRegion ≡
+        ended (lines_of (take (ending.end - number) (drop number lines.now))) ending) }
 {
     let Ending {
         end,
@@ -394,7 +437,9 @@ fn close(
 
 /// A region, with the branch that its items choose by their votes if they do.
 fn with_choice(region: Region, choice: Option<Choice>) -> RegionTree
-    ensures { (first : Lines) (answer : Option Atom) (live : List ℕ) (rest : Tree) → region_of region ≡ region_with first answer live → tree_before result rest ≡ ended_by choice first answer live rest }
+    ensures { (first : Lines) (answer : Option Atom) (live : List ℕ) (rest : Tree) →
+        region_of region ≡ region_with first answer live →
+        tree_before result rest ≡ ended_by choice first answer live rest }
 {
     match choice {
         None => RegionTree::Items(region),

@@ -1,5 +1,7 @@
--- A function as it stands in a lowered kernel: which of its cells are those of variables that do not vary, and what the calls in it give.
-use Rattle.std.proofs.Common.{◌≡◌, ◌≢◌, ℕ, ◌+◌, ◌<◌, ◌≤◌, List, [], ◌∷◌, length, Option, Some, slice_get, refl, sym, ◌∙◌, subst, arith, ◌⊎◌, inl, inr}
+-- A function as it stands in a lowered kernel: which of its cells are those of variables that do not vary, and what
+-- the calls in it give.
+use Rattle.std.proofs.Common.{◌≡◌, ◌≢◌, ℕ, ◌+◌, ◌<◌, ◌≤◌, List, [], ◌∷◌, length, Option, Some, slice_get, refl, sym}
+use Rattle.std.proofs.Common.{◌∙◌, subst, arith, ◌⊎◌, inl, inr}
 use Rattle.std.proofs.Common.{Bool as Test, true, false}
 use Rattle.std.specs.Prelude.{nat_eq}
 use Rattle.wg_num.specs.declared.types.IntType.{IntType}
@@ -32,17 +34,27 @@ use Rattle.steady_laws.proofs.Fresh.{AllIn, CallsFresh}
 module _ (program : Program) (kernel : Kernel) (one other : Who) where
   -- an argument is equal for both where its parameter does not vary
   abbrev pub ArgumentsEqual : ℕ → List Value → Cells → Cells → Type 0
-  ArgumentsEqual g values p q = (n : ℕ) (v : Value) → slice_get values n ≡ Some v → (Varies program (AVariable g n) → ⊥) → atom_value p v.atom ≡ atom_value q v.atom
+  ArgumentsEqual g values p q = (n : ℕ) (v : Value) → slice_get values n ≡ Some v →
+      (Varies program (AVariable g n) → ⊥) → atom_value p v.atom ≡ atom_value q v.atom
 
   -- both go together through a call, and what it gives is equal where the function's result does not vary
   abbrev pub CallsTogether : ℕ → Calls → Instance → Type 0
   CallsTogether fn calls here =
-      (site g : ℕ) (roots : List (Option Root)) (arguments : Expressions) (ts : List IntType) (values : List Value) (a : ℕ) (m : Made) (out : ℕ → Test) (p q : Cells)
-      → IsOneOf (expressions_of_list (function_at program fn).body) (Call site g roots arguments) → g < length program.functions → ArgumentsFit program (function_at program fn) (parameter_kinds (function_at program g)) roots ts
-      → length values ≡ length (parameter_kinds (function_at program g)) → AllIn program kernel a (next_cell m) values → Grown program kernel (calls here site g (argument_roots here roots) values m).made
-      → ((c : ℕ) → Even program kernel c → out c ≡ true → c < next_cell m) → Equal (Even program kernel) (λ c. live_in c (calls here site g (argument_roots here roots) values m).lines (out c)) p q → ArgumentsEqual g values p q
+      (site g : ℕ) (roots : List (Option Root)) (arguments : Expressions) (ts : List IntType) (values : List Value)
+      (a : ℕ) (m : Made) (out : ℕ → Test) (p q : Cells)
+      → IsOneOf (expressions_of_list (function_at program fn).body) (Call site g roots arguments) →
+      g < length program.functions →
+      ArgumentsFit program (function_at program fn) (parameter_kinds (function_at program g)) roots ts
+      → length values ≡ length (parameter_kinds (function_at program g)) →
+      AllIn program kernel a (next_cell m) values →
+      Grown program kernel (calls here site g (argument_roots here roots) values m).made
+      → ((c : ℕ) → Even program kernel c → out c ≡ true → c < next_cell m) →
+      Equal (Even program kernel) (λ c. live_in c (calls here site g (argument_roots here roots) values m).lines
+      (out c)) p q → ArgumentsEqual g values p q
       → Together (Even program kernel) one other out (calls here site g (argument_roots here roots) values m).lines
-      (λ a b. (Varies program (AResult g) → ⊥) → atom_value a (calls here site g (argument_roots here roots) values m).value.atom ≡ atom_value b (calls here site g (argument_roots here roots) values m).value.atom) p q
+      (λ a b. (Varies program (AResult g) → ⊥) →
+      atom_value a (calls here site g (argument_roots here roots) values m).value.atom ≡
+      atom_value b (calls here site g (argument_roots here roots) values m).value.atom) p q
 
   -- the function with this number as it stands there
   pub record Setting (fn : ℕ) (calls : Calls) (here : Instance) : Type 0 where
@@ -52,11 +64,16 @@ module _ (program : Program) (kernel : Kernel) (one other : Who) where
     pub back : CallsBack program kernel calls
     pub quiet : (c : ℕ) → CallsQuiet program c calls
     pub fresh : CallsFresh program kernel calls here
-    pub marked : (x : ℕ) → x < length (function_at program fn).variables → Even program kernel (here.base + x) → Varies program (AVariable fn x) → ⊥
-    pub even : (x : ℕ) → x < length (function_at program fn).variables → (Varies program (AVariable fn x) → ⊥) → Even program kernel (here.base + x)
-    pub constants : (element : IntType) (root : Root) → CanLoad program (function_at program fn) root element → varying.is_constant_root (function_at program fn) root ≡ true → is_constant_root kernel (root_in here root) ≡ true
+    pub marked : (x : ℕ) → x < length (function_at program fn).variables → Even program kernel (here.base + x) →
+        Varies program (AVariable fn x) → ⊥
+    pub even : (x : ℕ) → x < length (function_at program fn).variables → (Varies program (AVariable fn x) → ⊥) →
+        Even program kernel (here.base + x)
+    pub constants : (element : IntType) (root : Root) → CanLoad program (function_at program fn) root element →
+        varying.is_constant_root (function_at program fn) root ≡ true →
+        is_constant_root kernel (root_in here root) ≡ true
     pub answer_is : here.answer ≡ here.base + length (function_at program fn).variables
-    pub not_kernel : (site g : ℕ) (roots : List (Option Root)) (arguments : Expressions) → IsOneOf (expressions_of_list (function_at program fn).body) (Call site g roots arguments) → g ≢ program.kernel
+    pub not_kernel : (site g : ℕ) (roots : List (Option Root)) (arguments : Expressions) →
+        IsOneOf (expressions_of_list (function_at program fn).body) (Call site g roots arguments) → g ≢ program.kernel
     pub call : CallsTogether fn calls here
 
 module _ (program : Program) (kernel : Kernel) (here : Instance) where
@@ -79,7 +96,9 @@ module _ (program : Program) (kernel : Kernel) (here : Instance) where
       ]
 
   -- what is live before lines, where no other cell is live before them
-  pub bound_before : (lines : Lines) (scope : Scope) (out : ℕ → Test) → ((c : ℕ) → Even program kernel c → IsApart c here scope → Quiet c lines false) → Bound scope out → Bound scope (λ c. live_in c lines (out c))
+  pub bound_before : (lines : Lines) (scope : Scope) (out : ℕ → Test) →
+      ((c : ℕ) → Even program kernel c → IsApart c here scope → Quiet c lines false) → Bound scope out →
+      Bound scope (λ c. live_in c lines (out c))
   bound_before lines scope out quiet bound c e l =
       elim (in_scope_or_apart c scope) [
         | inl k ↦ inl k
@@ -93,6 +112,7 @@ module _ (program : Program) (kernel : Kernel) (here : Instance) where
   abbrev pub ScopeWithin : ℕ → Scope → Type 0
   ScopeWithin size scope = (x : ℕ) → Has scope x → x < size
 
-  pub known_below : (size : ℕ) (scope : Scope) (n c : ℕ) → ScopeWithin size scope → here.base + size ≤ n → Known scope c → c < n
+  pub known_below : (size : ℕ) (scope : Scope) (n c : ℕ) → ScopeWithin size scope → here.base + size ≤ n →
+      Known scope c → c < n
   known_below size scope n c within le (inl k) = let w = within k.0 k.1 in let e = k.2 in omega (arith, w, e, le)
   known_below size scope n c within le (inr k) = omega (arith, k, le)

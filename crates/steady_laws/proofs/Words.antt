@@ -36,7 +36,8 @@ and_zero n = let l = and_le_r n 0 in omega (arith, l)
 
 pub and_none : (z : ℤ) → binary_of And Int z (pos 0) ≡ pos 0
 unfolding binary_of
-and_none z = ap (λ n. wrap_of Int (pos (bit_and (bits_of z) n))) bits_zero ∙ (ap (λ n. wrap_of Int (pos n)) (and_zero (bits_of z)) ∙ wrap_zero)
+and_none z = ap (λ n. wrap_of Int (pos (bit_and (bits_of z) n))) bits_zero ∙
+    (ap (λ n. wrap_of Int (pos n)) (and_zero (bits_of z)) ∙ wrap_zero)
 
 pub none_and : (z : ℤ) → binary_of And Int (pos 0) z ≡ pos 0
 unfolding binary_of
@@ -46,12 +47,15 @@ pub eq_is : (a b : ℤ) → is_zero (binary_of Eq Int a b) ≡ false → a ≡ b
 unfolding binary_of
 eq_is a b h = elim (true_or_false (int_eq a b)) [
   | inl e ↦ (Decides-int_eq a b).0 e
-  | inr e ↦ absurd (let z : is_zero (wrap_of Int (number_of (int_eq a b))) ≡ true = ap (λ t. is_zero (wrap_of Int (number_of t))) e ∙ ap is_zero wrap_zero in let q : true ≡ false = sym z ∙ h in cc)
+  | inr e ↦ absurd (let z : is_zero (wrap_of Int (number_of (int_eq a b))) ≡
+      true = ap (λ t. is_zero (wrap_of Int (number_of t))) e ∙ ap is_zero wrap_zero in
+      let q : true ≡ false = sym z ∙ h in cc)
 ]
 
 pub not_some : (z : ℤ) → is_zero z ≡ false → unary_of Not Int z ≡ pos 0
 unfolding unary_of
 not_some z h = elim (true_or_false (int_eq z (pos 0))) [
-  | inl e ↦ absurd (let s = (Decides-int_eq z (pos 0)).0 e in let t : is_zero z ≡ true = ap is_zero s in let q : true ≡ false = sym t ∙ h in cc)
+  | inl e ↦ absurd (let s = (Decides-int_eq z (pos 0)).0 e in let t : is_zero z ≡ true = ap is_zero s in
+      let q : true ≡ false = sym t ∙ h in cc)
   | inr e ↦ ap (λ t. wrap_of Int (number_of t)) e ∙ wrap_zero
 ]

@@ -2,11 +2,18 @@
 use Rattle.std.proofs.Common.{◌≡◌, ℕ, ℤ, Bool, true, false, ◌||◌, cond, List, [], ◌∷◌, ◌++◌, Option, Some, None, ◌⊎◌, inl, inr, refl, sym, ap, ◌∙◌, subst}
 use Rattle.std.proofs.lemmas.Bool.{eqb-true}
 use Rattle.std.proofs.lemmas.Option.{none-some}
-use Rattle.cl_model.specs.Tree.{Set, Expression, Apply, Expressions, single, Statement, Do, Declare, Fill, Block, If, Loop, Switch, Break, Continue, Return, Barrier, Statements, empty, also, Arms, no_arm, arm, Function, Program}
+use Rattle.cl_model.specs.Tree.{Set, Expression, Apply, Expressions, single, Statement, Do, Declare, Fill, Block, If}
+use Rattle.cl_model.specs.Tree.{Loop, Switch, Break, Continue, Return, Barrier, Statements, empty, also, Arms, no_arm}
+use Rattle.cl_model.specs.Tree.{arm, Function, Program}
 use Rattle.cl_model.specs.Lists.{IsOneOf}
 use Rattle.cl_model.specs.Calls.{function_at}
-use Rattle.cl_model.specs.Valid.{Scope, Has, IsScopedList, scope_after, sites_in, sites_among, sites_in_optional, sites_of, sites_of_all, sites_of_arms, all_declarations, arms_declarations, IsValid}
-use Rattle.cl_model.specs.Varying.{Condition, sets, assigns, some_assigns, arms_assign, exits, some_exits, arms_exit, conditions_in, conditions_among, conditions_in_optional, loop_condition, conditions_of, conditions_of_list, conditions_of_arms, parts_of, parts_among, parts_of_optional, expressions_of, expressions_of_list, expressions_of_arms, returned, returned_list, returned_arms}
+use Rattle.cl_model.specs.Valid.{Scope, Has, IsScopedList, scope_after, sites_in, sites_among, sites_in_optional}
+use Rattle.cl_model.specs.Valid.{sites_of, sites_of_all, sites_of_arms, all_declarations, arms_declarations, IsValid}
+use Rattle.cl_model.specs.Varying.{Condition, sets, assigns, some_assigns, arms_assign, exits, some_exits, arms_exit}
+use Rattle.cl_model.specs.Varying.{conditions_in, conditions_among, conditions_in_optional, loop_condition}
+use Rattle.cl_model.specs.Varying.{conditions_of, conditions_of_list, conditions_of_arms, parts_of, parts_among}
+use Rattle.cl_model.specs.Varying.{parts_of_optional, expressions_of, expressions_of_list, expressions_of_arms}
+use Rattle.cl_model.specs.Varying.{returned, returned_list, returned_arms}
 use Rattle.diverge.specs.declared.known.Entry.{Entry}
 use Rattle.diverge.specs.declared.known.Spot.{Spot}
 use Rattle.diverge.specs.declared.known.Ways.{Ways}
@@ -14,14 +21,23 @@ use Rattle.diverge.specs.Known as known
 use Rattle.diverge.specs.Known.{State, absent, variable_at, result_at, with_variable, same_guard, behind, joined}
 use Rattle.diverge.specs.Rounds.{Seen, seen_in, seen_among, seen_optional, unseen, closed, gone_over, gone_over_all, gone_over_arms}
 use Rattle.cl_agreement.proofs.Keeps.{or_left, or_right, Key, Answer, Cell, HasKey, gives_in, gives_among, gives_optional, gives, some_give, arms_give, has_after}
-use Rattle.cl_agreement.proofs.Parts.{in_left, in_right, conditions_also, GoodOptional, GoodRun, GoodList, GoodArms, good_do, good_declare, good_fill, good_block, good_if, good_loop, good_switch, good_return, good_also, good_arm, if_condition, turn_condition, switch_condition}
+use Rattle.cl_agreement.proofs.Parts.{in_left, in_right, conditions_also, GoodOptional, GoodRun, GoodList, GoodArms}
+use Rattle.cl_agreement.proofs.Parts.{good_do, good_declare, good_fill, good_block, good_if, good_loop, good_switch}
+use Rattle.cl_agreement.proofs.Parts.{good_return, good_also, good_arm, if_condition, turn_condition}
+use Rattle.cl_agreement.proofs.Parts.{switch_condition}
 use Rattle.cl_agreement.proofs.Values.{InBody, UnderBody, BackBody, cond_gives}
 use Rattle.cl_agreement.proofs.Nesting.{in_either}
 use Rattle.varying_laws.proofs.Slots.{entry, with_key}
 use Rattle.varying_laws.proofs.Sound.{either}
-use Rattle.varying_laws.proofs.Steps.{Onto, onto_same, onto_then, onto_change, onto_declare, landed_here, Final, final_before, marked_new, Flag, flag_new, left_marked, Apart, apart_left, apart_right, apart_rest, apart_on, apart_under}
-use Rattle.varying_laws.proofs.Full.{by_marks, Facts, facts_none, facts_both, facts_less, facts_on, facts_node, facts_condition, facts_inner, sp, fun, assign_onto, assign_marked, seen_full, among_full}
-use Rattle.varying_laws.proofs.Scopes.{no_exit, no_exit_optional, no_exit_among, Cover, inner_declarations, cover_first, cover_rest, cover_declared, cover_chosen, cover_other, cover_body, cover_arms, cover_arm, cover_arms_rest}
+use Rattle.varying_laws.proofs.Steps.{Onto, onto_same, onto_then, onto_change, onto_declare, landed_here, Final}
+use Rattle.varying_laws.proofs.Steps.{final_before, marked_new, Flag, flag_new, left_marked, Apart, apart_left}
+use Rattle.varying_laws.proofs.Steps.{apart_right, apart_rest, apart_on, apart_under}
+use Rattle.varying_laws.proofs.Full.{by_marks, Facts, facts_none, facts_both, facts_less, facts_on, facts_node}
+use Rattle.varying_laws.proofs.Full.{facts_condition, facts_inner, sp, fun, assign_onto, assign_marked, seen_full}
+use Rattle.varying_laws.proofs.Full.{among_full}
+use Rattle.varying_laws.proofs.Scopes.{no_exit, no_exit_optional, no_exit_among, Cover, inner_declarations}
+use Rattle.varying_laws.proofs.Scopes.{cover_first, cover_rest, cover_declared, cover_chosen, cover_other, cover_body}
+use Rattle.varying_laws.proofs.Scopes.{cover_arms, cover_arm, cover_arms_rest}
 
 module _ (program : Program) (M : ℕ → Key → Bool) (f : ℕ) where
   abbrev BM : Expression → Bool
@@ -36,7 +52,8 @@ module _ (program : Program) (M : ℕ → Key → Bool) (f : ℕ) where
   -- of code with these conditions and returns, and ways out under conditions that vary or not
   pub record Outs (sc : Scope) (conds : List Condition) (rets : List Expression) (escapes : Bool) : Type 0 where
     pub out : (c : Condition) → IsOneOf conds c → by_marks program M f c.test ≡ true → c.exits ≡ true → escapes ≡ true
-    pub beside : (c : Condition) → IsOneOf conds c → by_marks program M f c.test ≡ true → c.exits ≡ true → (k : Key) → HasKey c.scope k → some_give (function_at program f).body k ≡ true → HasKey sc k ⊎ (M f k ≡ true)
+    pub beside : (c : Condition) → IsOneOf conds c → by_marks program M f c.test ≡ true → c.exits ≡ true → (k : Key) →
+        HasKey c.scope k → some_give (function_at program f).body k ≡ true → HasKey sc k ⊎ (M f k ≡ true)
     pub back : (e : Expression) → IsOneOf rets e → by_marks program M f e ≡ true → M f Answer ≡ true
 
   outs_quiet : (sc : Scope) (conds : List Condition) (escapes : Bool) → ((c : Condition) → IsOneOf conds c → c.exits ≡ false) → Outs sc conds [] escapes
@@ -46,7 +63,10 @@ module _ (program : Program) (M : ℕ → Key → Bool) (f : ℕ) where
     back = λ e m. absurd m;
   }
 
-  outs_both : (sc sc' : Scope) (cs ds : List Condition) (rs qs : List Expression) (one two both : Bool) → (one ≡ true → both ≡ true) → (two ≡ true → both ≡ true) → ((k : Key) → HasKey sc' k → two ≡ true → some_give (function_at program f).body k ≡ true → HasKey sc k ⊎ (M f k ≡ true))
+  outs_both : (sc sc' : Scope) (cs ds : List Condition) (rs qs : List Expression) (one two both : Bool) →
+      (one ≡ true → both ≡ true) → (two ≡ true → both ≡ true) →
+      ((k : Key) → HasKey sc' k → two ≡ true → some_give (function_at program f).body k ≡ true →
+      HasKey sc k ⊎ (M f k ≡ true))
       → Outs sc cs rs one → Outs sc' ds qs two → Outs sc (cs ++ ds) (rs ++ qs) both
   outs_both sc sc' cs ds rs qs one two both first second close F G = record {
     out = λ c i v x. elim (in_either cs ds c i) [ inl j ↦ first (F.out c j v x) | inr j ↦ second (G.out c j v x) ];
@@ -57,7 +77,9 @@ module _ (program : Program) (M : ℕ → Key → Bool) (f : ℕ) where
     back = λ e i. elim (in_either rs qs e i) [ inl j ↦ F.back e j | inr j ↦ G.back e j ];
   }
 
-  outs_less : (sc : Scope) (cs ds : List Condition) (rs qs : List Expression) (escapes : Bool) → ((c : Condition) → IsOneOf ds c → IsOneOf cs c) → ((e : Expression) → IsOneOf qs e → IsOneOf rs e) → Outs sc cs rs escapes → Outs sc ds qs escapes
+  outs_less : (sc : Scope) (cs ds : List Condition) (rs qs : List Expression) (escapes : Bool) →
+      ((c : Condition) → IsOneOf ds c → IsOneOf cs c) → ((e : Expression) → IsOneOf qs e → IsOneOf rs e) →
+      Outs sc cs rs escapes → Outs sc ds qs escapes
   outs_less sc cs ds rs qs escapes cd rq F = record { out = λ c m. F.out c (cd c m); beside = λ c m. F.beside c (cd c m); back = λ e m. F.back e (rq e m) }
 
   behind_on : (varies : Bool) (ways : Ways) → (ways.escapes ≡ true → ways.exits ≡ true) → ways.escapes ≡ true → (behind varies ways).escapes ≡ true
@@ -75,7 +97,9 @@ module _ (program : Program) (M : ℕ → Key → Bool) (f : ℕ) where
   joined_held : (a b : Ways) → (a.escapes ≡ true → a.exits ≡ true) → (b.escapes ≡ true → b.exits ≡ true) → (joined a b).escapes ≡ true → (joined a b).exits ≡ true
   joined_held a b ha hb h = elim (either a.escapes b.escapes h) [ inl q ↦ or_left a.exits b.exits (ha q) | inr q ↦ or_right a.exits b.exits (hb q) ]
 
-  outs_condition : (sc : Scope) (c : Condition) (cs : List Condition) (rs : List Expression) (varies : Bool) (ways : Ways) → (by_marks program M f c.test ≡ true → varies ≡ true) → (c.exits ≡ true → ways.exits ≡ true) → (ways.escapes ≡ true → ways.exits ≡ true) → ((k : Key) → HasKey c.scope k → HasKey sc k)
+  outs_condition : (sc : Scope) (c : Condition) (cs : List Condition) (rs : List Expression) (varies : Bool)
+      (ways : Ways) → (by_marks program M f c.test ≡ true → varies ≡ true) → (c.exits ≡ true → ways.exits ≡ true) →
+      (ways.escapes ≡ true → ways.exits ≡ true) → ((k : Key) → HasKey c.scope k → HasKey sc k)
       → Outs sc cs rs ways.escapes → Outs sc (c ∷ cs) rs (behind varies ways).escapes
   outs_condition sc c cs rs varies ways value out held inside F = record {
     out = λ d i v x. elim i [
@@ -86,7 +110,9 @@ module _ (program : Program) (M : ℕ → Key → Bool) (f : ℕ) where
     back = F.back;
   }
 
-  outs_behind : (sc : Scope) (cs : List Condition) (rs : List Expression) (varies : Bool) (ways : Ways) → (ways.escapes ≡ true → ways.exits ≡ true) → Outs sc cs rs ways.escapes → Outs sc cs rs (behind varies ways).escapes
+  outs_behind : (sc : Scope) (cs : List Condition) (rs : List Expression) (varies : Bool) (ways : Ways) →
+      (ways.escapes ≡ true → ways.exits ≡ true) → Outs sc cs rs ways.escapes →
+      Outs sc cs rs (behind varies ways).escapes
   outs_behind sc cs rs varies ways held F = record { out = λ d i v x. behind_on varies ways held (F.out d i v x); beside = F.beside; back = F.back }
 
   -- what gives a value
@@ -127,7 +153,8 @@ module _ (program : Program) (M : ℕ → Key → Bool) (f : ℕ) where
   block_gives list Answer h = h
   block_gives list (Cell x) h = h
 
-  if_splits : (sc : Scope) (site : ℕ) (t : Expression) (a b : Statements) (k : Key) → gives (If site t a b) k ≡ true → (gives_in t k ≡ true) ⊎ (cond_gives program f (if_condition sc t a b) k ≡ true)
+  if_splits : (sc : Scope) (site : ℕ) (t : Expression) (a b : Statements) (k : Key) → gives (If site t a b) k ≡ true →
+      (gives_in t k ≡ true) ⊎ (cond_gives program f (if_condition sc t a b) k ≡ true)
   if_splits sc site t a b Answer h = inr h
   if_splits sc site t a b (Cell x) h = either _ _ h
 
@@ -135,7 +162,9 @@ module _ (program : Program) (M : ℕ → Key → Bool) (f : ℕ) where
   branch_splits sc t a b Answer h = either _ _ h
   branch_splits sc t a b (Cell x) h = either _ _ h
 
-  switch_splits : (sc : Scope) (site : ℕ) (v : Expression) (arms : Arms) (k : Key) → gives (Switch site v arms) k ≡ true → (gives_in v k ≡ true) ⊎ (cond_gives program f (switch_condition sc v arms) k ≡ true)
+  switch_splits : (sc : Scope) (site : ℕ) (v : Expression) (arms : Arms) (k : Key) →
+      gives (Switch site v arms) k ≡ true → (gives_in v k ≡ true) ⊎
+      (cond_gives program f (switch_condition sc v arms) k ≡ true)
   switch_splits sc site v arms Answer h = inr h
   switch_splits sc site v arms (Cell x) h = either _ _ h
 
@@ -147,7 +176,8 @@ module _ (program : Program) (M : ℕ → Key → Bool) (f : ℕ) where
   also_splits s rest Answer h = either _ _ h
   also_splits s rest (Cell x) h = either _ _ h
 
-  arm_splits : (labels : List ℤ) (other : Bool) (body : Statements) (rest : Arms) (k : Key) → arms_give (arm labels other body rest) k ≡ true → (some_give body k ≡ true) ⊎ (arms_give rest k ≡ true)
+  arm_splits : (labels : List ℤ) (other : Bool) (body : Statements) (rest : Arms) (k : Key) →
+      arms_give (arm labels other body rest) k ≡ true → (some_give body k ≡ true) ⊎ (arms_give rest k ≡ true)
   arm_splits labels other body rest Answer h = either _ _ h
   arm_splits labels other body rest (Cell x) h = either _ _ h
 
@@ -159,7 +189,9 @@ module _ (program : Program) (M : ℕ → Key → Bool) (f : ℕ) where
   loop_splits site first t st b Answer h = inr h
   loop_splits site first t st b (Cell x) h = either _ _ h
 
-  turn_given : (sc : Scope) (site : ℕ) (first : Bool) (t : Expression) (st : Option Expression) (b : Statement) (k : Key) → cond_gives program f (turn_condition sc t st b) k ≡ true → gives (Loop site first (Some t) st b) k ≡ true
+  turn_given : (sc : Scope) (site : ℕ) (first : Bool) (t : Expression) (st : Option Expression) (b : Statement)
+      (k : Key) → cond_gives program f (turn_condition sc t st b) k ≡ true →
+      gives (Loop site first (Some t) st b) k ≡ true
   turn_given sc site first t st b Answer h = h
   turn_given sc site first t st b (Cell x) h = h
 
@@ -198,7 +230,9 @@ module _ (program : Program) (M : ℕ → Key → Bool) (f : ℕ) where
     F' = fun program M f valid
 
     optional_full : (e : Option Expression) (sc : Scope) (guard : Option ℕ) (s : State) → GO sc e → Apart f guard s sc (sites_in_optional e)
-        → let r = seen_optional F' (S guard) e s in Onto f sc s r.state × (Final M r.state → ((x : Expression) → e ≡ Some x → BM x ≡ true → r.varies ≡ true) × FA sc guard s r.state (parts_of_optional e) (conditions_in_optional sc e) (gives_optional e))
+        → let r = seen_optional F' (S guard) e s in
+        Onto f sc s r.state × (Final M r.state → ((x : Expression) → e ≡ Some x → BM x ≡ true → r.varies ≡ true) ×
+        FA sc guard s r.state (parts_of_optional e) (conditions_in_optional sc e) (gives_optional e))
     optional_full None sc guard s ok apart = (onto_same f sc s, λ fin. ((λ x q. cc q), facts_none program M f sc guard s s (gives_optional None) lone))
       where
         lone : (k : Key) → gives_optional None k ≡ true → ⊥
@@ -226,7 +260,9 @@ module _ (program : Program) (M : ℕ → Key → Bool) (f : ℕ) where
     declare_onto sc guard y varies s ne = onto_declare f sc y (known.declared guard varies (variable_at s f y)) s (λ h. or_left _ varies h) (λ h. h) ne
 
     -- conditions are apart behind a statement too
-    apart_behind : (x : Statement) (sc : Scope) (guard : Option ℕ) (s : State) (sites : List ℕ) → let t = (gone_over F' (S guard) x s).state in Onto f sc s t → Apart f guard s sc sites → Apart f guard t (scope_after sc x) sites
+    apart_behind : (x : Statement) (sc : Scope) (guard : Option ℕ) (s : State) (sites : List ℕ) → let t =
+        (gone_over F' (S guard) x s).state in Onto f sc s t → Apart f guard s sc sites →
+        Apart f guard t (scope_after sc x) sites
     apart_behind (Declare y value) sc guard s sites onto a = record {
       differ = a.differ;
       around = a.around;
@@ -264,7 +300,9 @@ module _ (program : Program) (M : ℕ → Key → Bool) (f : ℕ) where
 
     -- the end of the scope of a declaration
     closed_full : (sc : Scope) (x : Statement) (escapes : Bool) (guard : Option ℕ) (s : State) → let t = closed (S guard) x escapes s in
-        Onto f sc s t × (Final M t → (k : Key) → HasKey (scope_after sc x) k → escapes ≡ true → ((y : ℕ) (value : Option Expression) → x ≡ Declare y value → k ≡ Cell y → Flag M f s (Cell y)) → HasKey sc k ⊎ (M f k ≡ true))
+        Onto f sc s t × (Final M t → (k : Key) → HasKey (scope_after sc x) k → escapes ≡ true →
+        ((y : ℕ) (value : Option Expression) → x ≡ Declare y value → k ≡ Cell y → Flag M f s (Cell y)) →
+        HasKey sc k ⊎ (M f k ≡ true))
     closed_full sc (Declare y value) true guard s = (leave_onto sc (Cell y) s, λ fin k has e flag. by_key fin k has (flag y value refl))
       where
         by_key : Final M (with_key f (Cell y) (known.left (entry s f (Cell y))) s) → (k : Key) → HasKey (y ∷ sc) k → (k ≡ Cell y → Flag M f s (Cell y)) → HasKey sc k ⊎ (M f k ≡ true)
@@ -293,22 +331,31 @@ module _ (program : Program) (M : ℕ → Key → Bool) (f : ℕ) where
     GoneAll sc guard s list =
         let r = gone_over_all F' (S guard) list s in
         Onto f sc s r.state × (some_exits list ≡ true → r.ways.exits ≡ true) × (r.ways.escapes ≡ true → r.ways.exits ≡ true)
-        × (Final M r.state → FA sc guard s r.state (expressions_of_list list) (conditions_of_list sc list) (some_give list) × Outs sc (conditions_of_list sc list) (returned_list list) r.ways.escapes)
+        × (Final M r.state → FA sc guard s r.state (expressions_of_list list) (conditions_of_list sc list)
+        (some_give list) × Outs sc (conditions_of_list sc list) (returned_list list) r.ways.escapes)
 
     abbrev GoneArms : Scope → Option ℕ → State → Arms → Type 0
     GoneArms sc guard s arms =
         let r = gone_over_arms F' (S guard) arms s in
         Onto f sc s r.state × (arms_exit arms ≡ true → r.ways.exits ≡ true) × (r.ways.escapes ≡ true → r.ways.exits ≡ true)
-        × (Final M r.state → FA sc guard s r.state (expressions_of_arms arms) (conditions_of_arms sc arms) (arms_give arms) × Outs sc (conditions_of_arms sc arms) (returned_arms arms) r.ways.escapes)
+        × (Final M r.state → FA sc guard s r.state (expressions_of_arms arms) (conditions_of_arms sc arms)
+        (arms_give arms) × Outs sc (conditions_of_arms sc arms) (returned_arms arms) r.ways.escapes)
 
     -- a loop: what stands under its test, with the test
-    loop_facts : (sc : Scope) (guard : Option ℕ) (site : ℕ) (ys : List ℕ) (first : Bool) (t st : Option Expression) (b : Statement) (varies : Bool) (s u : State) (xs : List Expression) (cs : List Condition) → Apart f guard s sc (site ∷ ys)
-        → ((x : Expression) → t ≡ Some x → BM x ≡ true → varies ≡ true) → FA sc (cond varies (Some site) guard) s u xs cs (gives (Loop site first t st b)) → FA sc guard s u xs (loop_condition sc t st b ++ cs) (gives (Loop site first t st b))
+    loop_facts : (sc : Scope) (guard : Option ℕ) (site : ℕ) (ys : List ℕ) (first : Bool) (t st : Option Expression)
+        (b : Statement) (varies : Bool) (s u : State) (xs : List Expression) (cs : List Condition) →
+        Apart f guard s sc (site ∷ ys)
+        → ((x : Expression) → t ≡ Some x → BM x ≡ true → varies ≡ true) →
+        FA sc (cond varies (Some site) guard) s u xs cs (gives (Loop site first t st b)) →
+        FA sc guard s u xs (loop_condition sc t st b ++ cs) (gives (Loop site first t st b))
     loop_facts sc guard site ys first None st b varies s u xs cs apart value F = facts_inner program M f sc guard site ys varies s u xs cs (gives (Loop site first None st b)) apart F
     loop_facts sc guard site ys first (Some t) st b varies s u xs cs apart value F =
-        facts_condition program M f sc guard site ys varies s u xs (turn_condition sc t st b) cs (gives (Loop site first (Some t) st b)) apart (value t refl) (λ k h. h) (turn_given sc site first t st b) F
+        facts_condition program M f sc guard site ys varies s u xs (turn_condition sc t st b) cs
+        (gives (Loop site first (Some t) st b)) apart (value t refl) (λ k h. h) (turn_given sc site first t st b) F
 
-    loop_outs : (sc : Scope) (t st : Option Expression) (b : Statement) (varies : Bool) (ways : Ways) (cs : List Condition) (rs : List Expression) → ((x : Expression) → t ≡ Some x → BM x ≡ true → varies ≡ true) → (exits b ≡ true → ways.exits ≡ true) → (ways.escapes ≡ true → ways.exits ≡ true)
+    loop_outs : (sc : Scope) (t st : Option Expression) (b : Statement) (varies : Bool) (ways : Ways)
+        (cs : List Condition) (rs : List Expression) → ((x : Expression) → t ≡ Some x → BM x ≡ true → varies ≡ true) →
+        (exits b ≡ true → ways.exits ≡ true) → (ways.escapes ≡ true → ways.exits ≡ true)
         → Outs sc cs rs ways.escapes → Outs sc (loop_condition sc t st b ++ cs) rs (behind varies ways).escapes
     loop_outs sc None st b varies ways cs rs value out held F = outs_behind sc cs rs varies ways held F
     loop_outs sc (Some t) st b varies ways cs rs value out held F = outs_condition sc (turn_condition sc t st b) cs rs varies ways (value t refl) out held (λ k h. h) F
@@ -364,7 +411,11 @@ module _ (program : Program) (M : ℕ → Key → Bool) (f : ℕ) where
         declare_onto sc guard y false s ok.names.0,
         (λ h. cc h),
         (λ h. cc h),
-        λ fin. (facts_none program M f sc guard s (known.declare (S guard) y false s) (gives (Declare y None)) (λ k h. no_gives (Declare y None) k (lone_declare y k) h), outs_quiet sc [] false (λ c m. absurd m)),
+        λ fin. (
+          facts_none program M f sc guard s (known.declare (S guard) y false s) (gives (Declare y None))
+              (λ k h. no_gives (Declare y None) k (lone_declare y k) h),
+          outs_quiet sc [] false (λ c m. absurd m),
+        ),
       )
       gone_full (Declare y (Some e)) sc guard s ok cover apart =
           let o = good_declare (InBody program f) (UnderBody program f) (BackBody program f) sc y e ok in
@@ -382,21 +433,29 @@ module _ (program : Program) (M : ℕ → Key → Bool) (f : ℕ) where
                       let same : Set y ≡ action = cc q in
                       let at : y ≡ x = eqb-true y x (subst (λ a. sets a x ≡ true) (sym same) h) in
                       let value : BM e ≡ true = value_of_single e (subst (λ z. BM z ≡ true) (sym q) m) in
-                      subst (λ z. M f (Cell z) ≡ true) at (marked_new M f (Cell y) (known.declared guard v.varies (variable_at v.state f y)) v.state fin (or_right (variable_at v.state f y).varies v.varies (F.0 value))))
+                      subst (λ z. M f (Cell z) ≡ true) at
+                      (marked_new M f (Cell y) (known.declared guard v.varies (variable_at v.state f y)) v.state
+                      fin (or_right (variable_at v.state f y).varies v.varies (F.0 value))))
                       (λ i g roots es q. absurd (cc q))
                       (facts_on program M f sc guard s v.state t (parts_of e) (conditions_in sc e) (gives (Declare y (Some e))) d
-                      (facts_less program M f sc guard s v.state (parts_of e) (parts_of e) (conditions_in sc e) (conditions_in sc e) (gives_in e) (gives (Declare y (Some e))) (λ z m. m) (λ z m. m) (declare_gives y e) F.1)),
+                      (facts_less program M f sc guard s v.state (parts_of e) (parts_of e) (conditions_in sc e)
+                      (conditions_in sc e) (gives_in e) (gives (Declare y (Some e))) (λ z m. m) (λ z m. m)
+                      (declare_gives y e) F.1)),
                   outs_quiet sc (conditions_in sc e) false (no_exit sc e),
                 ),
           )
       gone_full (Fill site array es) sc guard s ok cover apart =
-          let r = among_full program M f valid es sc guard false (unseen s) (good_fill (InBody program f) (UnderBody program f) (BackBody program f) sc site array es ok) (apart_rest f guard s sc site (sites_among es) apart) in
+          let r = among_full program M f valid es sc guard false (unseen s)
+          (good_fill (InBody program f) (UnderBody program f) (BackBody program f) sc site array es ok)
+          (apart_rest f guard s sc site (sites_among es) apart) in
           let t = (seen_among F' (S guard) false es (unseen s)).state in (
             r.0,
             (λ h. cc h),
             (λ h. cc h),
             λ fin. (
-              facts_less program M f sc guard s t (parts_among es) (parts_among es) (conditions_among sc es) (conditions_among sc es) (gives_among es) (gives (Fill site array es)) (λ d m. m) (λ d m. m) (fill_gives site array es) (r.1 fin).1,
+              facts_less program M f sc guard s t (parts_among es) (parts_among es) (conditions_among sc es)
+                  (conditions_among sc es) (gives_among es) (gives (Fill site array es)) (λ d m. m) (λ d m. m)
+                  (fill_gives site array es) (r.1 fin).1,
               outs_quiet sc (conditions_among sc es) false (no_exit_among sc es),
             ),
           )
@@ -407,7 +466,9 @@ module _ (program : Program) (M : ℕ → Key → Bool) (f : ℕ) where
             r.1,
             r.2,
             λ fin. let F = r.3 fin in (
-              facts_less program M f sc guard s t (expressions_of_list list) (expressions_of_list list) (conditions_of_list sc list) (conditions_of_list sc list) (some_give list) (gives (Block list)) (λ d m. m) (λ d m. m) (block_gives list) F.0,
+              facts_less program M f sc guard s t (expressions_of_list list) (expressions_of_list list)
+                  (conditions_of_list sc list) (conditions_of_list sc list) (some_give list) (gives (Block list))
+                  (λ d m. m) (λ d m. m) (block_gives list) F.0,
               F.1,
             ),
           )
@@ -426,9 +487,16 @@ module _ (program : Program) (M : ℕ → Key → Bool) (f : ℕ) where
           let apart1 : Apart f guard x.state sc (site ∷ ys) = apart_on f guard s x.state sc (site ∷ ys) rt.0 apart in
           let apart2 : Apart f inner x.state sc ab = apart_right f inner x.state sc (sites_in t) ab (apart_under f guard x.state sc site ys x.varies apart1) in
           let ra = all_full a sc inner x.state o.2 (cover_chosen sc given site t a b ok.names cover) (apart_left f inner x.state sc (sites_of_all a) (sites_of_all b) apart2) in
-          let rb = all_full b sc inner y.state o.3 (cover_other sc given site t a b ok.names cover) (apart_on f inner x.state y.state sc (sites_of_all b) ra.0 (apart_right f inner x.state sc (sites_of_all a) (sites_of_all b) apart2)) in
+          let rb = all_full b sc inner y.state o.3 (cover_other sc given site t a b ok.names cover)
+          (apart_on f inner x.state y.state sc (sites_of_all b) ra.0
+          (apart_right f inner x.state sc (sites_of_all a) (sites_of_all b) apart2)) in
           let both = onto_then f sc x.state y.state z.state ra.0 rb.0 in
-          let out : some_exits a || some_exits b ≡ true → ways.exits ≡ true = λ h. elim (either (some_exits a) (some_exits b) h) [ inl q ↦ or_left y.ways.exits z.ways.exits (ra.1 q) | inr q ↦ or_right y.ways.exits z.ways.exits (rb.1 q) ] in
+          let out : some_exits a || some_exits b ≡ true → ways.exits ≡ true =
+          λ h. elim (either (some_exits a) (some_exits b) h) [
+            | inl q ↦
+                or_left y.ways.exits z.ways.exits (ra.1 q)
+            | inr q ↦ or_right y.ways.exits z.ways.exits (rb.1 q)
+          ] in
           let held : ways.escapes ≡ true → ways.exits ≡ true = joined_held y.ways z.ways ra.2 rb.2 in (
             onto_then f sc s x.state z.state rt.0 both,
             out,
@@ -438,12 +506,28 @@ module _ (program : Program) (M : ℕ → Key → Bool) (f : ℕ) where
                 let Ft = rt.1 (final_before M f sc x.state z.state both fin) in
                 let Fa = ra.3 fy in
                 let Fb = rb.3 fin in
-                let F2 = facts_both program M f sc sc inner x.state y.state z.state (expressions_of_list a) (expressions_of_list b) (conditions_of_list sc a) (conditions_of_list sc b) (some_give a) (some_give b) there (λ k h. h) ra.0 rb.0 (branch_splits sc t a b) Fa.0 Fb.0 in
-                let F3 = facts_condition program M f sc guard site ys x.varies x.state z.state (expressions_of_list a ++ expressions_of_list b) c (conditions_of_list sc a ++ conditions_of_list sc b) there apart1 Ft.0 (λ k h. h) (λ k h. h) F2 in
-                let F4 = facts_both program M f sc sc guard s x.state z.state (parts_of t) (expressions_of_list a ++ expressions_of_list b) (conditions_in sc t) (c ∷ (conditions_of_list sc a ++ conditions_of_list sc b)) (gives_in t) there (gives (If site t a b)) (λ k h. h) rt.0 both (if_splits sc site t a b) Ft.1 F3 in
-                let O2 = outs_both sc sc (conditions_of_list sc a) (conditions_of_list sc b) (returned_list a) (returned_list b) y.ways.escapes z.ways.escapes ways.escapes (or_left y.ways.escapes z.ways.escapes) (or_right y.ways.escapes z.ways.escapes) (λ k has e on. inl has) Fa.1 Fb.1 in
-                let O3 = outs_both sc sc (conditions_in sc t) (conditions_of_list sc a ++ conditions_of_list sc b) [] (returned_list a ++ returned_list b) false ways.escapes ways.escapes (λ h. cc h) (λ h. h) (λ k has e on. inl has) (outs_quiet sc (conditions_in sc t) false (no_exit sc t)) O2 in (
-                  facts_less program M f sc guard s z.state (parts_of t ++ (expressions_of_list a ++ expressions_of_list b)) (parts_of t ++ (expressions_of_list a ++ expressions_of_list b)) (conditions_in sc t ++ (c ∷ (conditions_of_list sc a ++ conditions_of_list sc b))) (conditions_of sc (If site t a b)) (gives (If site t a b)) (gives (If site t a b))
+                let F2 = facts_both program M f sc sc inner x.state y.state z.state (expressions_of_list a)
+                (expressions_of_list b) (conditions_of_list sc a) (conditions_of_list sc b) (some_give a)
+                (some_give b) there (λ k h. h) ra.0 rb.0 (branch_splits sc t a b) Fa.0 Fb.0 in
+                let F3 = facts_condition program M f sc guard site ys x.varies x.state z.state
+                (expressions_of_list a ++ expressions_of_list b) c (conditions_of_list sc a ++
+                conditions_of_list sc b) there apart1 Ft.0 (λ k h. h) (λ k h. h) F2 in
+                let F4 = facts_both program M f sc sc guard s x.state z.state (parts_of t) (expressions_of_list a ++
+                expressions_of_list b) (conditions_in sc t)
+                (c ∷ (conditions_of_list sc a ++ conditions_of_list sc b)) (gives_in t) there
+                (gives (If site t a b)) (λ k h. h) rt.0 both (if_splits sc site t a b) Ft.1 F3 in
+                let O2 = outs_both sc sc (conditions_of_list sc a) (conditions_of_list sc b) (returned_list a)
+                (returned_list b) y.ways.escapes z.ways.escapes ways.escapes
+                (or_left y.ways.escapes z.ways.escapes) (or_right y.ways.escapes z.ways.escapes) (λ k has e on.
+                inl has) Fa.1 Fb.1 in
+                let O3 = outs_both sc sc (conditions_in sc t) (conditions_of_list sc a ++ conditions_of_list sc b) []
+                (returned_list a ++ returned_list b) false ways.escapes ways.escapes (λ h. cc h) (λ h. h)
+                (λ k has e on. inl has) (outs_quiet sc (conditions_in sc t) false (no_exit sc t)) O2 in (
+                  facts_less program M f sc guard s z.state (parts_of t ++
+                      (expressions_of_list a ++ expressions_of_list b)) (parts_of t ++
+                      (expressions_of_list a ++ expressions_of_list b)) (conditions_in sc t ++
+                      (c ∷ (conditions_of_list sc a ++ conditions_of_list sc b))) (conditions_of sc (If site t a b))
+                      (gives (If site t a b)) (gives (If site t a b))
                       (λ d m. m) (λ d m. swap c d (conditions_in sc t) (conditions_of_list sc a ++ conditions_of_list sc b) m) (λ k h. h) F4,
                   outs_condition sc c (conditions_in sc t ++ (conditions_of_list sc a ++ conditions_of_list sc b)) (returned_list a ++ returned_list b) x.varies ways Ft.0 out held (λ k h. h) O3,
                 ),
@@ -464,7 +548,9 @@ module _ (program : Program) (M : ℕ → Key → Bool) (f : ℕ) where
           let r2 = optional_full t sc inner x.state o.1 (apart_left f inner x.state sc (sites_in_optional t) sb apart2) in
           let apart3 : Apart f inner x2.state sc sb = apart_on f inner x.state x2.state sc sb r2.0 (apart_right f inner x.state sc (sites_in_optional t) sb apart2) in
           let r3 = optional_full st sc inner x2.state o.2 (apart_left f inner x2.state sc (sites_in_optional st) (sites_of b) apart3) in
-          let r4 = gone_full b sc inner x3.state o.3 (cover_body sc given site first t st b ok.names cover) (apart_on f inner x2.state x3.state sc (sites_of b) r3.0 (apart_right f inner x2.state sc (sites_in_optional st) (sites_of b) apart3)) in
+          let r4 = gone_full b sc inner x3.state o.3 (cover_body sc given site first t st b ok.names cover)
+          (apart_on f inner x2.state x3.state sc (sites_of b) r3.0
+          (apart_right f inner x2.state sc (sites_in_optional st) (sites_of b) apart3)) in
           let onto3 = onto_then f sc x2.state x3.state y.state r3.0 r4.0 in
           let onto2 = onto_then f sc x.state x2.state y.state r2.0 onto3 in (
             onto_then f sc s x.state y.state r1.0 onto2,
@@ -480,14 +566,31 @@ module _ (program : Program) (M : ℕ → Key → Bool) (f : ℕ) where
                 let F4 = r4.3 fin in
                 let ps : List Expression = parts_of_optional st ++ expressions_of b in
                 let cs : List Condition = conditions_in_optional sc st ++ conditions_of sc b in
-                let G3 = facts_both program M f sc sc inner x2.state x3.state y.state (parts_of_optional st) (expressions_of b) (conditions_in_optional sc st) (conditions_of sc b) (gives_optional st) (gives b) (turn_gives st b) (λ k h. h) r3.0 r4.0 (λ k h. either (gives_optional st k) (gives b k) h) F3.1 F4.0 in
-                let G2 = facts_both program M f sc sc inner x.state x2.state y.state (parts_of_optional t) ps (conditions_in_optional sc t) cs (gives_optional t) (turn_gives st b) all (λ k h. h) r2.0 onto3 (loop_splits site first t st b) F2.1 G3 in
+                let G3 = facts_both program M f sc sc inner x2.state x3.state y.state (parts_of_optional st)
+                (expressions_of b) (conditions_in_optional sc st) (conditions_of sc b) (gives_optional st)
+                (gives b) (turn_gives st b) (λ k h. h) r3.0 r4.0 (λ k h. either (gives_optional st k) (gives b k)
+                h) F3.1 F4.0 in
+                let G2 = facts_both program M f sc sc inner x.state x2.state y.state (parts_of_optional t) ps
+                (conditions_in_optional sc t) cs (gives_optional t) (turn_gives st b) all (λ k h. h) r2.0 onto3
+                (loop_splits site first t st b) F2.1 G3 in
                 let G1 = loop_facts sc guard site ys first t st b x.varies x.state y.state (parts_of_optional t ++ ps) (conditions_in_optional sc t ++ cs) apart1 F1.0 G2 in
-                let G0 = facts_both program M f sc sc guard s x.state y.state (parts_of_optional t) (parts_of_optional t ++ ps) (conditions_in_optional sc t) (loop_condition sc t st b ++ (conditions_in_optional sc t ++ cs)) (gives_optional t) all all (λ k h. h) r1.0 onto2 (λ k h. inr h) F1.1 G1 in
-                let O3 = outs_both sc sc (conditions_in_optional sc st) (conditions_of sc b) [] (returned b) false y.ways.escapes y.ways.escapes (λ h. cc h) (λ h. h) (λ k has e on. inl has) (outs_quiet sc (conditions_in_optional sc st) false (no_exit_optional sc st)) F4.1 in
-                let O2 = outs_both sc sc (conditions_in_optional sc t) cs [] (returned b) false y.ways.escapes y.ways.escapes (λ h. cc h) (λ h. h) (λ k has e on. inl has) (outs_quiet sc (conditions_in_optional sc t) false (no_exit_optional sc t)) O3 in (
-                  facts_less program M f sc guard s y.state (parts_of_optional t ++ (parts_of_optional t ++ ps)) (parts_of_optional t ++ ps) (conditions_in_optional sc t ++ (loop_condition sc t st b ++ (conditions_in_optional sc t ++ cs))) (loop_condition sc t st b ++ (conditions_in_optional sc t ++ cs)) all all
-                      (λ d m. in_right (parts_of_optional t) (parts_of_optional t ++ ps) d m) (λ d m. in_right (conditions_in_optional sc t) (loop_condition sc t st b ++ (conditions_in_optional sc t ++ cs)) d m) (λ k h. h) G0,
+                let G0 = facts_both program M f sc sc guard s x.state y.state (parts_of_optional t)
+                (parts_of_optional t ++ ps) (conditions_in_optional sc t) (loop_condition sc t st b ++
+                (conditions_in_optional sc t ++ cs)) (gives_optional t) all all (λ k h. h) r1.0 onto2
+                (λ k h. inr h) F1.1 G1 in
+                let O3 = outs_both sc sc (conditions_in_optional sc st) (conditions_of sc b) [] (returned b) false
+                y.ways.escapes y.ways.escapes (λ h. cc h) (λ h. h) (λ k has e on. inl has)
+                (outs_quiet sc (conditions_in_optional sc st) false (no_exit_optional sc st)) F4.1 in
+                let O2 = outs_both sc sc (conditions_in_optional sc t) cs [] (returned b) false y.ways.escapes
+                y.ways.escapes (λ h. cc h) (λ h. h) (λ k has e on. inl has)
+                (outs_quiet sc (conditions_in_optional sc t) false (no_exit_optional sc t)) O3 in (
+                  facts_less program M f sc guard s y.state (parts_of_optional t ++ (parts_of_optional t ++ ps))
+                      (parts_of_optional t ++ ps) (conditions_in_optional sc t ++
+                      (loop_condition sc t st b ++ (conditions_in_optional sc t ++ cs)))
+                      (loop_condition sc t st b ++ (conditions_in_optional sc t ++ cs)) all all
+                      (λ d m. in_right (parts_of_optional t) (parts_of_optional t ++ ps) d m)
+                      (λ d m. in_right (conditions_in_optional sc t) (loop_condition sc t st b ++
+                      (conditions_in_optional sc t ++ cs)) d m) (λ k h. h) G0,
                   loop_outs sc t st b x.varies y.ways (conditions_in_optional sc t ++ cs) (returned b) F1.0 r4.1 r4.2 O2,
                 ),
           )
@@ -501,26 +604,54 @@ module _ (program : Program) (M : ℕ → Key → Bool) (f : ℕ) where
           let y = gone_over_arms F' (S inner) arms x.state in
           let rt = seen_full program M f valid v sc guard s o.1 (apart_left f guard s sc (sites_in v) (sites_of_arms arms) (apart_rest f guard s sc site ys apart)) in
           let apart1 : Apart f guard x.state sc (site ∷ ys) = apart_on f guard s x.state sc (site ∷ ys) rt.0 apart in
-          let ra = arms_full arms sc inner x.state o.2 (cover_arms sc given site v arms ok.names cover) (apart_right f inner x.state sc (sites_in v) (sites_of_arms arms) (apart_under f guard x.state sc site ys x.varies apart1)) in (
+          let ra = arms_full arms sc inner x.state o.2 (cover_arms sc given site v arms ok.names cover)
+          (apart_right f inner x.state sc (sites_in v) (sites_of_arms arms)
+          (apart_under f guard x.state sc site ys x.varies apart1)) in (
             onto_then f sc s x.state y.state rt.0 ra.0,
             ra.1,
             behind_held x.varies y.ways ra.2,
             λ fin.
                 let Ft = rt.1 (final_before M f sc x.state y.state ra.0 fin) in
                 let Fa = ra.3 fin in
-                let F2 = facts_less program M f sc inner x.state y.state (expressions_of_arms arms) (expressions_of_arms arms) (conditions_of_arms sc arms) (conditions_of_arms sc arms) (arms_give arms) there (λ d m. m) (λ d m. m) (arms_given sc v arms) Fa.0 in
-                let F3 = facts_condition program M f sc guard site ys x.varies x.state y.state (expressions_of_arms arms) c (conditions_of_arms sc arms) there apart1 Ft.0 (λ k h. h) (λ k h. h) F2 in
-                let F4 = facts_both program M f sc sc guard s x.state y.state (parts_of v) (expressions_of_arms arms) (conditions_in sc v) (c ∷ conditions_of_arms sc arms) (gives_in v) there (gives (Switch site v arms)) (λ k h. h) rt.0 ra.0 (switch_splits sc site v arms) Ft.1 F3 in
-                let O3 = outs_both sc sc (conditions_in sc v) (conditions_of_arms sc arms) [] (returned_arms arms) false y.ways.escapes y.ways.escapes (λ h. cc h) (λ h. h) (λ k has e on. inl has) (outs_quiet sc (conditions_in sc v) false (no_exit sc v)) Fa.1 in (
-                  facts_less program M f sc guard s y.state (parts_of v ++ expressions_of_arms arms) (parts_of v ++ expressions_of_arms arms) (conditions_in sc v ++ (c ∷ conditions_of_arms sc arms)) (conditions_of sc (Switch site v arms)) (gives (Switch site v arms)) (gives (Switch site v arms))
+                let F2 = facts_less program M f sc inner x.state y.state (expressions_of_arms arms)
+                (expressions_of_arms arms) (conditions_of_arms sc arms) (conditions_of_arms sc arms)
+                (arms_give arms) there (λ d m. m) (λ d m. m) (arms_given sc v arms) Fa.0 in
+                let F3 = facts_condition program M f sc guard site ys x.varies x.state y.state
+                (expressions_of_arms arms) c (conditions_of_arms sc arms) there apart1 Ft.0 (λ k h. h) (λ k h. h)
+                F2 in
+                let F4 = facts_both program M f sc sc guard s x.state y.state (parts_of v) (expressions_of_arms arms)
+                (conditions_in sc v) (c ∷ conditions_of_arms sc arms) (gives_in v) there
+                (gives (Switch site v arms)) (λ k h. h) rt.0 ra.0 (switch_splits sc site v arms) Ft.1 F3 in
+                let O3 = outs_both sc sc (conditions_in sc v) (conditions_of_arms sc arms) [] (returned_arms arms)
+                false y.ways.escapes y.ways.escapes (λ h. cc h) (λ h. h) (λ k has e on. inl has)
+                (outs_quiet sc (conditions_in sc v) false (no_exit sc v)) Fa.1 in (
+                  facts_less program M f sc guard s y.state (parts_of v ++ expressions_of_arms arms) (parts_of v ++
+                      expressions_of_arms arms) (conditions_in sc v ++ (c ∷ conditions_of_arms sc arms))
+                      (conditions_of sc (Switch site v arms)) (gives (Switch site v arms)) (gives (Switch site v arms))
                       (λ d m. m) (λ d m. swap c d (conditions_in sc v) (conditions_of_arms sc arms) m) (λ k h. h) F4,
                   outs_condition sc c (conditions_in sc v ++ conditions_of_arms sc arms) (returned_arms arms) x.varies y.ways Ft.0 ra.1 ra.2 (λ k h. h) O3,
                 ),
           )
-      gone_full (Break site) sc guard s ok cover apart =
-          (onto_same f sc s, (λ h. refl), (λ h. refl), λ fin. (facts_none program M f sc guard s s (gives (Break site)) (λ k h. no_gives (Break site) k (lone_break site k) h), outs_quiet sc [] false (λ c m. absurd m)))
-      gone_full (Continue site) sc guard s ok cover apart =
-          (onto_same f sc s, (λ h. refl), (λ h. refl), λ fin. (facts_none program M f sc guard s s (gives (Continue site)) (λ k h. no_gives (Continue site) k (lone_continue site k) h), outs_quiet sc [] false (λ c m. absurd m)))
+      gone_full (Break site) sc guard s ok cover apart = (
+        onto_same f sc s,
+        (λ h. refl),
+        (λ h. refl),
+        λ fin. (
+          facts_none program M f sc guard s s (gives (Break site))
+              (λ k h. no_gives (Break site) k (lone_break site k) h),
+          outs_quiet sc [] false (λ c m. absurd m),
+        ),
+      )
+      gone_full (Continue site) sc guard s ok cover apart = (
+        onto_same f sc s,
+        (λ h. refl),
+        (λ h. refl),
+        λ fin. (
+          facts_none program M f sc guard s s (gives (Continue site))
+              (λ k h. no_gives (Continue site) k (lone_continue site k) h),
+          outs_quiet sc [] false (λ c m. absurd m),
+        ),
+      )
       gone_full (Return site None) sc guard s ok cover apart =
           let t = known.give (S guard) false s in (
             assign_onto program M f valid sc guard Answer false s,
@@ -543,8 +674,12 @@ module _ (program : Program) (M : ℕ → Key → Bool) (f : ℕ) where
             λ fin.
                 let F = r.1 (final_before M f sc v.state t d fin) in
                 let A = answer_facts sc guard v.varies v.state fin in
-                let B = facts_both program M f sc sc guard s v.state t (parts_of e) [] (conditions_in sc e) [] (gives_in e) is_answer (gives (Return site (Some e))) (λ k h. h) r.0 d (return_splits site e) F.1 A in (
-                  facts_less program M f sc guard s t (parts_of e ++ []) (parts_of e) (conditions_in sc e ++ []) (conditions_in sc e) (gives (Return site (Some e))) (gives (Return site (Some e))) (λ z m. in_left (parts_of e) [] z m) (λ z m. in_left (conditions_in sc e) [] z m) (λ k h. h) B,
+                let B = facts_both program M f sc sc guard s v.state t (parts_of e) [] (conditions_in sc e) []
+                (gives_in e) is_answer (gives (Return site (Some e))) (λ k h. h) r.0 d (return_splits site e) F.1
+                A in (
+                  facts_less program M f sc guard s t (parts_of e ++ []) (parts_of e) (conditions_in sc e ++ [])
+                      (conditions_in sc e) (gives (Return site (Some e))) (gives (Return site (Some e)))
+                      (λ z m. in_left (parts_of e) [] z m) (λ z m. in_left (conditions_in sc e) [] z m) (λ k h. h) B,
                   record {
                     out = λ c m x y. absurd (let q : true ≡ false = sym y ∙ no_exit sc e c m in cc q);
                     beside = λ c m x y. absurd (let q : true ≡ false = sym y ∙ no_exit sc e c m in cc q);
@@ -552,11 +687,29 @@ module _ (program : Program) (M : ℕ → Key → Bool) (f : ℕ) where
                   },
                 ),
           )
-      gone_full (Barrier site) sc guard s ok cover apart =
-          (onto_same f sc s, (λ h. cc h), (λ h. cc h), λ fin. (facts_none program M f sc guard s s (gives (Barrier site)) (λ k h. no_gives (Barrier site) k (lone_barrier site k) h), outs_quiet sc [] false (λ c m. absurd m)))
+      gone_full (Barrier site) sc guard s ok cover apart = (
+        onto_same f sc s,
+        (λ h. cc h),
+        (λ h. cc h),
+        λ fin. (
+          facts_none program M f sc guard s s (gives (Barrier site))
+              (λ k h. no_gives (Barrier site) k (lone_barrier site k) h),
+          outs_quiet sc [] false (λ c m. absurd m),
+        ),
+      )
 
-      pub all_full : (list : Statements) (sc : Scope) (guard : Option ℕ) (s : State) → GL sc list → Cover given (some_assigns list) (all_declarations list) → Apart f guard s sc (sites_of_all list) → GoneAll sc guard s list
-      all_full empty sc guard s ok cover apart = (onto_same f sc s, (λ h. cc h), (λ h. cc h), λ fin. (facts_none program M f sc guard s s (some_give empty) none_given, outs_quiet sc [] false (λ c m. absurd m)))
+      pub all_full : (list : Statements) (sc : Scope) (guard : Option ℕ) (s : State) → GL sc list →
+          Cover given (some_assigns list) (all_declarations list) → Apart f guard s sc (sites_of_all list) →
+          GoneAll sc guard s list
+      all_full empty sc guard s ok cover apart = (
+        onto_same f sc s,
+        (λ h. cc h),
+        (λ h. cc h),
+        λ fin. (
+          facts_none program M f sc guard s s (some_give empty) none_given,
+          outs_quiet sc [] false (λ c m. absurd m),
+        ),
+      )
       all_full (also x rest) sc guard s ok cover apart =
           let o = good_also (InBody program f) (UnderBody program f) (BackBody program f) sc x rest ok in
           let sc' : Scope = scope_after sc x in
@@ -564,7 +717,9 @@ module _ (program : Program) (M : ℕ → Key → Bool) (f : ℕ) where
           let b = gone_over_all F' (S guard) rest a.state in
           let t = closed (S guard) x b.ways.escapes b.state in
           let ra = gone_full x sc guard s o.0 (cover_first sc given x rest ok.names cover) (apart_left f guard s sc (sites_of x) (sites_of_all rest) apart) in
-          let rb = all_full rest sc' guard a.state o.1 (cover_rest sc given x rest ok.names cover) (apart_behind x sc guard s (sites_of_all rest) ra.0 (apart_right f guard s sc (sites_of x) (sites_of_all rest) apart)) in
+          let rb = all_full rest sc' guard a.state o.1 (cover_rest sc given x rest ok.names cover)
+          (apart_behind x sc guard s (sites_of_all rest) ra.0
+          (apart_right f guard s sc (sites_of x) (sites_of_all rest) apart)) in
           let rb' : Onto f sc a.state b.state = narrow sc x a.state b.state rb.0 in
           let rc = closed_full sc x b.ways.escapes guard b.state in
           let onto2 = onto_then f sc a.state b.state t rb' rc.0 in (
@@ -575,31 +730,59 @@ module _ (program : Program) (M : ℕ → Key → Bool) (f : ℕ) where
                 let fb = final_before M f sc b.state t rc.0 fin in
                 let Fa = ra.3 (final_before M f sc a.state t onto2 fin) in
                 let Fb = rb.3 fb in
-                let F2 = facts_both program M f sc sc' guard s a.state b.state (expressions_of x) (expressions_of_list rest) (conditions_of sc x) (conditions_of_list sc' rest) (gives x) (some_give rest) (some_give (also x rest)) (has_after sc x) ra.0 rb' (also_splits x rest) Fa.0 Fb.0 in
-                let F3 = facts_on program M f sc guard s b.state t (expressions_of x ++ expressions_of_list rest) (conditions_of sc x ++ conditions_of_list sc' rest) (some_give (also x rest)) rc.0 F2 in
-                let O2 = outs_both sc sc' (conditions_of sc x) (conditions_of_list sc' rest) (returned x) (returned_list rest) a.ways.escapes b.ways.escapes (b.ways.escapes || a.ways.escapes) (or_right b.ways.escapes a.ways.escapes) (or_left b.ways.escapes a.ways.escapes)
+                let F2 = facts_both program M f sc sc' guard s a.state b.state (expressions_of x)
+                (expressions_of_list rest) (conditions_of sc x) (conditions_of_list sc' rest) (gives x)
+                (some_give rest) (some_give (also x rest)) (has_after sc x) ra.0 rb' (also_splits x rest) Fa.0
+                Fb.0 in
+                let F3 = facts_on program M f sc guard s b.state t (expressions_of x ++ expressions_of_list rest)
+                (conditions_of sc x ++ conditions_of_list sc' rest) (some_give (also x rest)) rc.0 F2 in
+                let O2 = outs_both sc sc' (conditions_of sc x) (conditions_of_list sc' rest) (returned x)
+                (returned_list rest) a.ways.escapes b.ways.escapes (b.ways.escapes || a.ways.escapes)
+                (or_right b.ways.escapes a.ways.escapes) (or_left b.ways.escapes a.ways.escapes)
                 (λ k has e on. rc.1 fin k has e (λ y value q kq.
-                Fb.0.flags (Cell y) (cover_declared sc given y value rest (subst (λ z. IsScopedList sc (also z rest)) q ok.names) (subst (λ z. Cover given (some_assigns (also z rest)) (all_declarations (also z rest))) q cover) (subst (λ z. some_give (function_at program f).body z ≡ true) kq on)) (subst (HasKey sc') kq has))) Fa.1 Fb.1 in (
+                Fb.0.flags (Cell y) (cover_declared sc given y value rest
+                (subst (λ z. IsScopedList sc (also z rest)) q ok.names)
+                (subst (λ z. Cover given (some_assigns (also z rest)) (all_declarations (also z rest))) q cover)
+                (subst (λ z. some_give (function_at program f).body z ≡ true) kq on))
+                (subst (HasKey sc') kq has))) Fa.1 Fb.1 in (
                   subst (λ cs. FA sc guard s t (expressions_of x ++ expressions_of_list rest) cs (some_give (also x rest))) (sym (conditions_also sc x rest)) F3,
                   subst (λ cs. Outs sc cs (returned x ++ returned_list rest) (b.ways.escapes || a.ways.escapes)) (sym (conditions_also sc x rest)) O2,
                 ),
           )
 
-      arms_full : (arms : Arms) (sc : Scope) (guard : Option ℕ) (s : State) → GM sc arms → Cover given (arms_assign arms) (arms_declarations arms) → Apart f guard s sc (sites_of_arms arms) → GoneArms sc guard s arms
-      arms_full no_arm sc guard s ok cover apart = (onto_same f sc s, (λ h. cc h), (λ h. cc h), λ fin. (facts_none program M f sc guard s s (arms_give no_arm) no_arm_given, outs_quiet sc [] false (λ c m. absurd m)))
+      arms_full : (arms : Arms) (sc : Scope) (guard : Option ℕ) (s : State) → GM sc arms →
+          Cover given (arms_assign arms) (arms_declarations arms) → Apart f guard s sc (sites_of_arms arms) →
+          GoneArms sc guard s arms
+      arms_full no_arm sc guard s ok cover apart = (
+        onto_same f sc s,
+        (λ h. cc h),
+        (λ h. cc h),
+        λ fin. (
+          facts_none program M f sc guard s s (arms_give no_arm) no_arm_given,
+          outs_quiet sc [] false (λ c m. absurd m),
+        ),
+      )
       arms_full (arm labels other body rest) sc guard s ok cover apart =
           let o = good_arm (InBody program f) (UnderBody program f) (BackBody program f) sc labels other body rest ok in
           let a = gone_over_all F' (S guard) body s in
           let b = gone_over_arms F' (S guard) rest a.state in
           let ra = all_full body sc guard s o.0 (cover_arm sc given labels other body rest ok.names cover) (apart_left f guard s sc (sites_of_all body) (sites_of_arms rest) apart) in
-          let rb = arms_full rest sc guard a.state o.1 (cover_arms_rest sc given labels other body rest ok.names cover) (apart_on f guard s a.state sc (sites_of_arms rest) ra.0 (apart_right f guard s sc (sites_of_all body) (sites_of_arms rest) apart)) in (
+          let rb = arms_full rest sc guard a.state o.1 (cover_arms_rest sc given labels other body rest ok.names
+          cover) (apart_on f guard s a.state sc (sites_of_arms rest) ra.0
+          (apart_right f guard s sc (sites_of_all body) (sites_of_arms rest) apart)) in (
             onto_then f sc s a.state b.state ra.0 rb.0,
             (λ h. elim (either (some_exits body) (arms_exit rest) h) [ inl q ↦ or_right b.ways.exits a.ways.exits (ra.1 q) | inr q ↦ or_left b.ways.exits a.ways.exits (rb.1 q) ]),
             joined_held b.ways a.ways rb.2 ra.2,
             λ fin.
                 let Fa = ra.3 (final_before M f sc a.state b.state rb.0 fin) in
                 let Fb = rb.3 fin in (
-                  facts_both program M f sc sc guard s a.state b.state (expressions_of_list body) (expressions_of_arms rest) (conditions_of_list sc body) (conditions_of_arms sc rest) (some_give body) (arms_give rest) (arms_give (arm labels other body rest)) (λ k h. h) ra.0 rb.0 (arm_splits labels other body rest) Fa.0 Fb.0,
-                  outs_both sc sc (conditions_of_list sc body) (conditions_of_arms sc rest) (returned_list body) (returned_arms rest) a.ways.escapes b.ways.escapes (b.ways.escapes || a.ways.escapes) (or_right b.ways.escapes a.ways.escapes) (or_left b.ways.escapes a.ways.escapes) (λ k has e on. inl has) Fa.1 Fb.1,
+                  facts_both program M f sc sc guard s a.state b.state (expressions_of_list body)
+                      (expressions_of_arms rest) (conditions_of_list sc body) (conditions_of_arms sc rest)
+                      (some_give body) (arms_give rest) (arms_give (arm labels other body rest)) (λ k h. h) ra.0 rb.0
+                      (arm_splits labels other body rest) Fa.0 Fb.0,
+                  outs_both sc sc (conditions_of_list sc body) (conditions_of_arms sc rest) (returned_list body)
+                      (returned_arms rest) a.ways.escapes b.ways.escapes (b.ways.escapes || a.ways.escapes)
+                      (or_right b.ways.escapes a.ways.escapes) (or_left b.ways.escapes a.ways.escapes) (λ k has e on.
+                      inl has) Fa.1 Fb.1,
                 ),
           )

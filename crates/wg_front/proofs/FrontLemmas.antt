@@ -1,5 +1,6 @@
 -- From a source to its unit: what is refused, and that nothing is both.
-use Rattle.std.proofs.Common.{◌≡◌, ℕ, ◌+◌, ◌<◌, ◌≤◌, Bool, List, [], ◌∷◌, ◌++◌, length, take, drop, Option, Some, None, inl, inr, refl, sym, ◌∙◌, subst, arith, length-append}
+use Rattle.std.proofs.Common.{◌≡◌, ℕ, ◌+◌, ◌<◌, ◌≤◌, Bool, List, [], ◌∷◌, ◌++◌, length, take, drop, Option, Some}
+use Rattle.std.proofs.Common.{None, inl, inr, refl, sym, ◌∙◌, subst, arith, length-append}
 use Rattle.std.specs.Prelude.{◌⊎◌, IfErr, Result, Ok, Err}
 use Rattle.std.proofs.lemmas.Bool.{cases_lt}
 use Rattle.std.proofs.lemmas.List.{take-append-drop}
@@ -24,38 +25,59 @@ use Rattle.cl_prep.proofs.Unique.{one_out, ends_or_fails}
 use Rattle.cl_tree.specs.Syntax.{Syntax, nesting}
 use Rattle.cl_tree.specs.Grammar.{SpellsUnit}
 use Rattle.cl_tree.specs.Places.{Continues, NoUnit, NoUnitWithin, SomeUnit, DeeperUnit}
-use Rattle.wg_front.specs.Front.{Reads, IsUnitOf, HasUnit, place_of_token, number_of_lexical, offset_of_lexical, number_of_expansion, token_of_expansion, StandsAt, uncut, unexpanded, no_unit, too_deep}
+use Rattle.wg_front.specs.Front.{Reads, IsUnitOf, HasUnit, place_of_token, number_of_lexical, offset_of_lexical}
+use Rattle.wg_front.specs.Front.{number_of_expansion, token_of_expansion, StandsAt, uncut, unexpanded, no_unit}
+use Rattle.wg_front.specs.Front.{too_deep}
 
 -- ---- how many tokens a source has, and where an error of them stands
 
-cut_size : (source : List ℕ) (at : ℕ) (first : Bool) (rest : List ℕ) (ts : List Token) → CutsTo source at first rest ts → at + length rest ≡ length source
+cut_size : (source : List ℕ) (at : ℕ) (first : Bool) (rest : List ℕ) (ts : List Token) →
+    CutsTo source at first rest ts → at + length rest ≡ length source
 cut_size source at first rest ts start = omega arith
-cut_size source at first rest ts (skip {at = b} {first = f} {ts = us} piece after h k) = omega (arith, cut_size source b f (piece ++ after) us h, length-append piece after)
-cut_size source at first rest ts (line_end {at = b} {first = f} {ts = us} after h) = omega (arith, cut_size source b f (10 ∷ after) us h)
-cut_size source at first rest ts (token {at = b} {first = f} {ts = us} kind word after h k v) = omega (arith, cut_size source b f (word ++ after) us h, length-append word after)
+cut_size source at first rest ts (skip {at = b} {first = f} {ts = us} piece after h k) =
+    omega (arith, cut_size source b f (piece ++ after) us h, length-append piece after)
+cut_size source at first rest ts (line_end {at = b} {first = f} {ts = us} after h) =
+    omega (arith, cut_size source b f (10 ∷ after) us h)
+cut_size source at first rest ts (token {at = b} {first = f} {ts = us} kind word after h k v) =
+    omega (arith, cut_size source b f (word ++ after) us h, length-append word after)
 
-cut_count : (source : List ℕ) (at : ℕ) (first : Bool) (rest : List ℕ) (ts : List Token) → CutsTo source at first rest ts → length ts ≤ at
+cut_count : (source : List ℕ) (at : ℕ) (first : Bool) (rest : List ℕ) (ts : List Token) →
+    CutsTo source at first rest ts → length ts ≤ at
 cut_count source at first rest ts start = omega arith
-cut_count source at first rest ts (skip {at = b} {first = f} {ts = us} piece after h k) = omega (arith, cut_count source b f (piece ++ after) us h)
-cut_count source at first rest ts (line_end {at = b} {first = f} {ts = us} after h) = omega (arith, cut_count source b f (10 ∷ after) us h)
+cut_count source at first rest ts (skip {at = b} {first = f} {ts = us} piece after h k) =
+    omega (arith, cut_count source b f (piece ++ after) us h)
+cut_count source at first rest ts (line_end {at = b} {first = f} {ts = us} after h) =
+    omega (arith, cut_count source b f (10 ∷ after) us h)
 cut_count source at first rest ts (token {at = b} {first = f} {ts = us} kind word after h k v) =
     let made : Token = record { kind = kind; word = word; start = b; end = b + length word; first = f } in
-    omega (arith, cut_count source b f (word ++ after) us h, length-append us (made ∷ []), (within kind word after k.spelled).some)
+    omega (
+      arith,
+      cut_count source b f (word ++ after) us h,
+      length-append us (made ∷ []),
+      (within kind word after k.spelled).some,
+    )
 
 pub few_tokens : (source : List ℕ) (ts : List Token) → Cuts source ts → length ts ≤ length source
-few_tokens source ts h = omega (arith, cut_count source h.at h.first [] ts h.whole, cut_size source h.at h.first [] ts h.whole)
+few_tokens source ts h =
+    omega (arith, cut_count source h.at h.first [] ts h.whole, cut_size source h.at h.first [] ts h.whole)
 
-pub uncut_within : (source : List ℕ) (e : LexError) (at : ℕ) → at ≡ offset_of_lexical e → IsUncutOrMemory source e → at ≤ length source
-uncut_within source (lexical.NoToken n) at same h = omega (arith, same, cut_size source n h.1.first h.1.rest h.1.before h.1.cut)
-uncut_within source (lexical.OpenComment n) at same h = omega (arith, same, cut_size source n h.1.first h.1.rest h.1.before h.1.cut)
-uncut_within source (lexical.BadNumber n) at same h = omega (arith, same, cut_size source n h.1.first h.1.rest h.1.before h.1.cut)
-uncut_within source (lexical.LargeNumber n) at same h = omega (arith, same, cut_size source n h.1.first h.1.rest h.1.before h.1.cut)
+pub uncut_within : (source : List ℕ) (e : LexError) (at : ℕ) → at ≡ offset_of_lexical e → IsUncutOrMemory source e →
+    at ≤ length source
+uncut_within source (lexical.NoToken n) at same h =
+    omega (arith, same, cut_size source n h.1.first h.1.rest h.1.before h.1.cut)
+uncut_within source (lexical.OpenComment n) at same h =
+    omega (arith, same, cut_size source n h.1.first h.1.rest h.1.before h.1.cut)
+uncut_within source (lexical.BadNumber n) at same h =
+    omega (arith, same, cut_size source n h.1.first h.1.rest h.1.before h.1.cut)
+uncut_within source (lexical.LargeNumber n) at same h =
+    omega (arith, same, cut_size source n h.1.first h.1.rest h.1.before h.1.cut)
 uncut_within source lexical.TooLong at same h = omega (arith, same)
 uncut_within source lexical.Memory at same h = omega (arith, same)
 
 -- ---- refusals
 
-uncut_refused : (source : List ℕ) (e : LexError) → IsUncutOrMemory source e → (0 ≡ number_of_lexical e → ⊥) → IsUncut source e
+uncut_refused : (source : List ℕ) (e : LexError) → IsUncutOrMemory source e → (0 ≡ number_of_lexical e → ⊥) →
+    IsUncut source e
 uncut_refused source (lexical.NoToken n) h some = h
 uncut_refused source (lexical.OpenComment n) h some = h
 uncut_refused source (lexical.BadNumber n) h some = h
@@ -63,11 +85,15 @@ uncut_refused source (lexical.LargeNumber n) h some = h
 uncut_refused source lexical.TooLong h some = h
 uncut_refused source lexical.Memory h some = absurd (some refl)
 
-pub uncut_stands : (source : List ℕ) (e : LexError) (number at : ℕ) (place : Place) → IsUncutOrMemory source e → number ≡ number_of_lexical e → (number ≡ 0 → ⊥) → at ≡ offset_of_lexical e → place ≡ place_at source at
+pub uncut_stands : (source : List ℕ) (e : LexError) (number at : ℕ) (place : Place) → IsUncutOrMemory source e →
+    number ≡ number_of_lexical e → (number ≡ 0 → ⊥) → at ≡ offset_of_lexical e → place ≡ place_at source at
     → (defines : List Define) → StandsAt source defines number place
-uncut_stands source e number at place h is some here placed = λ defines. uncut e (uncut_refused source e h (λ z. some (is ∙ sym z))) is (subst (λ (o : ℕ). place ≡ place_at source o) here placed)
+uncut_stands source e number at place h is some here placed =
+    λ defines. uncut e (uncut_refused source e h (λ z. some (is ∙ sym z))) is
+    (subst (λ (o : ℕ). place ≡ place_at source o) here placed)
 
-unexpanded_refused : (tokens : List Token) (defines : List Define) (e : PrepError) → IsUnexpandedOrMemory tokens defines e → (0 ≡ number_of_expansion e → ⊥) → IsUnexpanded tokens defines e
+unexpanded_refused : (tokens : List Token) (defines : List Define) (e : PrepError) →
+    IsUnexpandedOrMemory tokens defines e → (0 ≡ number_of_expansion e → ⊥) → IsUnexpanded tokens defines e
 unexpanded_refused tokens defines (prep.BadDirective n) h some = h
 unexpanded_refused tokens defines (prep.NoName n) h some = h
 unexpanded_refused tokens defines (prep.Redefined n) h some = h
@@ -76,58 +102,89 @@ unexpanded_refused tokens defines (prep.NotClosed n) h some = h
 unexpanded_refused tokens defines (prep.TooMany n) h some = h
 unexpanded_refused tokens defines prep.Memory h some = absurd (some refl)
 
-pub unexpanded_stands : (source : List ℕ) (defines : List Define) (tokens : List Token) (e : PrepError) (number at : ℕ) (place : Place) → length source ≤ limit → Cuts source tokens → IsUnexpandedOrMemory tokens defines e
-    → number ≡ number_of_expansion e → (number ≡ 0 → ⊥) → at ≡ token_of_expansion e → place ≡ place_of_token source tokens at → StandsAt source defines number place
+pub unexpanded_stands : (source : List ℕ) (defines : List Define) (tokens : List Token) (e : PrepError)
+    (number at : ℕ) (place : Place) → length source ≤ limit → Cuts source tokens → IsUnexpandedOrMemory tokens defines e
+    → number ≡ number_of_expansion e → (number ≡ 0 → ⊥) → at ≡ token_of_expansion e →
+    place ≡ place_of_token source tokens at → StandsAt source defines number place
 unexpanded_stands source defines tokens e number at place short cuts h is some here placed =
-    unexpanded tokens e short cuts (unexpanded_refused tokens defines e h (λ z. some (is ∙ sym z))) is (subst (λ (o : ℕ). place ≡ place_of_token source tokens o) here placed)
+    unexpanded tokens e short cuts (unexpanded_refused tokens defines e h (λ z. some (is ∙ sym z))) is
+    (subst (λ (o : ℕ). place ≡ place_of_token source tokens o) here placed)
 
-pub no_unit_stands : (source : List ℕ) (expanded : List Token) (at : ℕ) (place : Place) → NoUnit expanded at → ((before : ℕ) → before < at → SomeUnit expanded before) → place ≡ place_of_token source expanded at
-    → (defines : List Define) (tokens : List Token) → Reads source defines tokens expanded → StandsAt source defines 301 place
-no_unit_stands source expanded at place none least placed = λ defines tokens reads. no_unit tokens expanded at reads none least refl placed
+pub no_unit_stands : (source : List ℕ) (expanded : List Token) (at : ℕ) (place : Place) → NoUnit expanded at →
+    ((before : ℕ) → before < at → SomeUnit expanded before) → place ≡ place_of_token source expanded at
+    → (defines : List Define) (tokens : List Token) → Reads source defines tokens expanded →
+    StandsAt source defines 301 place
+no_unit_stands source expanded at place none least placed =
+    λ defines tokens reads. no_unit tokens expanded at reads none least refl placed
 
-pub too_deep_stands : (source : List ℕ) (expanded : List Token) (at : ℕ) (place : Place) → NoUnitWithin 256 expanded at → DeeperUnit 256 expanded at → place ≡ place_of_token source expanded at
-    → (defines : List Define) (tokens : List Token) → Reads source defines tokens expanded → StandsAt source defines 302 place
-too_deep_stands source expanded at place none deeper placed = λ defines tokens reads. too_deep tokens expanded at reads none deeper refl placed
+pub too_deep_stands : (source : List ℕ) (expanded : List Token) (at : ℕ) (place : Place) →
+    NoUnitWithin 256 expanded at → DeeperUnit 256 expanded at → place ≡ place_of_token source expanded at
+    → (defines : List Define) (tokens : List Token) → Reads source defines tokens expanded →
+    StandsAt source defines 302 place
+too_deep_stands source expanded at place none deeper placed =
+    λ defines tokens reads. too_deep tokens expanded at reads none deeper refl placed
 
-pub unit_read : (source : List ℕ) (defines : List Define) (tokens expanded : List Token) (unit : Syntax) → Reads source defines tokens expanded → SpellsUnit unit expanded → nesting unit ≤ 256 → IsUnitOf source defines unit
-unit_read source defines tokens expanded unit reads spelled nests = record { tokens = tokens; expanded = expanded; reads = reads; spelled = spelled; nests = nests }
+pub unit_read : (source : List ℕ) (defines : List Define) (tokens expanded : List Token) (unit : Syntax) →
+    Reads source defines tokens expanded → SpellsUnit unit expanded → nesting unit ≤ 256 → IsUnitOf source defines unit
+unit_read source defines tokens expanded unit reads spelled nests =
+    record { tokens = tokens; expanded = expanded; reads = reads; spelled = spelled; nests = nests }
 
 -- ---- nothing is both
 
-uncut_or_cut : (source : List ℕ) (e : LexError) (ts : List Token) → length source ≤ limit → Cuts source ts → IsUncut source e → ⊥
+uncut_or_cut : (source : List ℕ) (e : LexError) (ts : List Token) → length source ≤ limit → Cuts source ts →
+    IsUncut source e → ⊥
 uncut_or_cut source (lexical.NoToken n) ts short cuts h = all_tokens source (Err (lexical.NoToken n)) short h ts cuts
-uncut_or_cut source (lexical.OpenComment n) ts short cuts h = all_tokens source (Err (lexical.OpenComment n)) short h ts cuts
-uncut_or_cut source (lexical.BadNumber n) ts short cuts h = all_tokens source (Err (lexical.BadNumber n)) short h ts cuts
-uncut_or_cut source (lexical.LargeNumber n) ts short cuts h = all_tokens source (Err (lexical.LargeNumber n)) short h ts cuts
+uncut_or_cut source (lexical.OpenComment n) ts short cuts h =
+    all_tokens source (Err (lexical.OpenComment n)) short h ts cuts
+uncut_or_cut source (lexical.BadNumber n) ts short cuts h =
+    all_tokens source (Err (lexical.BadNumber n)) short h ts cuts
+uncut_or_cut source (lexical.LargeNumber n) ts short cuts h =
+    all_tokens source (Err (lexical.LargeNumber n)) short h ts cuts
 uncut_or_cut source lexical.TooLong ts short cuts h = omega (arith, short, h)
 uncut_or_cut source lexical.Memory ts short cuts h = h
 
 names_are : (o : Option Names) (n m : Names) → o ≡ Some n → o ≡ Some m → n ≡ m
 names_are o n m a b = let e : Some n ≡ Some m = sym a ∙ b in cc
 
-unexpanded_or_expanded : (tokens : List Token) (defines : List Define) (e : PrepError) (out : List Token) → Expands tokens defines out → IsUnexpanded tokens defines e → ⊥
-unexpanded_or_expanded tokens defines e out h (defined_twice none) = let never : Some h.names ≡ None = sym h.begun ∙ none in cc
+unexpanded_or_expanded : (tokens : List Token) (defines : List Define) (e : PrepError) (out : List Token) →
+    Expands tokens defines out → IsUnexpanded tokens defines e → ⊥
+unexpanded_or_expanded tokens defines e out h (defined_twice none) = let never : Some h.names ≡ None =
+    sym h.begun ∙ none in cc
 unexpanded_or_expanded tokens defines e out h (fails names error begun wrong) =
-    ends_or_fails (start_state tokens names) out error (subst (λ (n : Names). Ends (start_state tokens n) out) (names_are _ h.names names h.begun begun) h.ends) wrong
+    ends_or_fails (start_state tokens names) out error (subst (λ (n : Names). Ends (start_state tokens n) out)
+    (names_are _ h.names names h.begun begun) h.ends) wrong
 
-one_expansion : (tokens : List Token) (defines : List Define) (a b : List Token) → Expands tokens defines a → Expands tokens defines b → a ≡ b
+one_expansion : (tokens : List Token) (defines : List Define) (a b : List Token) → Expands tokens defines a →
+    Expands tokens defines b → a ≡ b
 one_expansion tokens defines a b h k =
-    one_out (start_state tokens h.names) a b h.ends (subst (λ (n : Names). Ends (start_state tokens n) b) (names_are _ k.names h.names k.begun h.begun) k.ends)
+    one_out (start_state tokens h.names) a b h.ends (subst (λ (n : Names). Ends (start_state tokens n) b)
+    (names_are _ k.names h.names k.begun h.begun) k.ends)
 
-pub one_reading : (source : List ℕ) (defines : List Define) (tokens others a b : List Token) → Reads source defines tokens a → Reads source defines others b → a ≡ b
+pub one_reading : (source : List ℕ) (defines : List Define) (tokens others a b : List Token) →
+    Reads source defines tokens a → Reads source defines others b → a ≡ b
 one_reading source defines tokens others a b h k =
-    one_expansion tokens defines a b h.expands (subst (λ (ts : List Token). Expands ts defines b) (one_cut source others tokens k.cuts h.cuts) k.expands)
+    one_expansion tokens defines a b h.expands (subst (λ (ts : List Token). Expands ts defines b)
+    (one_cut source others tokens k.cuts h.cuts) k.expands)
 
 -- a list of tokens continues each of its places
 continues_itself : (tokens : List Token) (at : ℕ) → Continues tokens at tokens
-continues_itself tokens at = elim (cases_lt at (length tokens)) [ inl lt ↦ inl (drop (at + 1) tokens, lt, sym (take-append-drop (at + 1) tokens)) | inr ge ↦ inr (ge, refl) ]
+continues_itself tokens at = elim (cases_lt at (length tokens)) [
+  | inl lt ↦
+      inl (drop (at + 1) tokens, lt, sym (take-append-drop (at + 1) tokens))
+  | inr ge ↦ inr (ge, refl)
+]
 
 -- a source that is refused has no unit
-pub refused_or_unit : (source : List ℕ) (defines : List Define) (number : ℕ) (place : Place) → StandsAt source defines number place → HasUnit source defines → ⊥
-refused_or_unit source defines number place (uncut e h is placed) u = uncut_or_cut source e u.1.tokens u.1.reads.short u.1.reads.cuts h
+pub refused_or_unit : (source : List ℕ) (defines : List Define) (number : ℕ) (place : Place) →
+    StandsAt source defines number place → HasUnit source defines → ⊥
+refused_or_unit source defines number place (uncut e h is placed) u =
+    uncut_or_cut source e u.1.tokens u.1.reads.short u.1.reads.cuts h
 refused_or_unit source defines number place (unexpanded tokens e short cuts h is placed) u =
-    unexpanded_or_expanded tokens defines e u.1.expanded (subst (λ (ts : List Token). Expands ts defines u.1.expanded) (one_cut source u.1.tokens tokens u.1.reads.cuts cuts) u.1.reads.expands) h
+    unexpanded_or_expanded tokens defines e u.1.expanded (subst (λ (ts : List Token). Expands ts defines u.1.expanded)
+    (one_cut source u.1.tokens tokens u.1.reads.cuts cuts) u.1.reads.expands) h
 refused_or_unit source defines number place (no_unit tokens expanded at reads none least is placed) u =
-    none expanded u.0 (continues_itself expanded at) (subst (λ (ts : List Token). SpellsUnit u.0 ts) (one_reading source defines u.1.tokens tokens u.1.expanded expanded u.1.reads reads) u.1.spelled)
+    none expanded u.0 (continues_itself expanded at) (subst (λ (ts : List Token). SpellsUnit u.0 ts)
+    (one_reading source defines u.1.tokens tokens u.1.expanded expanded u.1.reads reads) u.1.spelled)
 refused_or_unit source defines number place (too_deep tokens expanded at reads none deeper is placed) u =
-    none expanded u.0 (continues_itself expanded at) (subst (λ (ts : List Token). SpellsUnit u.0 ts) (one_reading source defines u.1.tokens tokens u.1.expanded expanded u.1.reads reads) u.1.spelled) u.1.nests
+    none expanded u.0 (continues_itself expanded at) (subst (λ (ts : List Token). SpellsUnit u.0 ts)
+    (one_reading source defines u.1.tokens tokens u.1.expanded expanded u.1.reads reads) u.1.spelled) u.1.nests

@@ -1,5 +1,6 @@
 -- The typed program of a source is a valid program.
-use Rattle.std.proofs.Common.{◌≡◌, ℕ, Bool, true, false, List, [], ◌∷◌, map, Option, None, Some, refl, sym, subst, if◌then◌else◌}
+use Rattle.std.proofs.Common.{◌≡◌, ℕ, Bool, true, false, List, [], ◌∷◌, map, Option, None, Some, refl, sym, subst}
+use Rattle.std.proofs.Common.{if◌then◌else◌}
 use Rattle.cl_model.specs.declared.program.Program as rust_program
 use Rattle.cl_model.specs.declared.program.Var as rust_var
 use Rattle.cl_model.specs.declared.program.Array as rust_array
@@ -28,7 +29,8 @@ use Rattle.wg_front.specs.Law.{ProgramsValid}
 
 -- ---- no limit is found where each of the four is kept
 
-none_stands : (a b c d : Bool) (j k l m : Fault) → (if a then Some j else (if b then Some k else (if c then Some l else (if d then Some m else None)))) ≡ None
+none_stands : (a b c d : Bool) (j k l m : Fault) →
+    (if a then Some j else (if b then Some k else (if c then Some l else (if d then Some m else None)))) ≡ None
     → (a ≡ false) × ((b ≡ false) × ((c ≡ false) × (d ≡ false)))
 none_stands true b c d j k l m h = let never : ⊥ = cc in absurd never
 none_stands false true c d j k l m h = let never : ⊥ = cc in absurd never
@@ -37,8 +39,11 @@ none_stands false false false true j k l m h = let never : ⊥ = cc in absurd ne
 none_stands false false false false j k l m h = (refl, (refl, (refl, refl)))
 
 kept : (u : Sized) → limit_of u ≡ None
-    → (at_limit u faults.KernelTooLarge ≡ false) × ((at_limit u faults.PrivateMemory ≡ false) × ((at_limit u faults.BarriersTooDeep ≡ false) × (at_limit u faults.LocalMemory ≡ false)))
-kept u h = none_stands (at_limit u faults.KernelTooLarge) (at_limit u faults.PrivateMemory) (at_limit u faults.BarriersTooDeep) (at_limit u faults.LocalMemory)
+    → (at_limit u faults.KernelTooLarge ≡ false) ×
+    ((at_limit u faults.PrivateMemory ≡ false) × ((at_limit u faults.BarriersTooDeep ≡ false) ×
+    (at_limit u faults.LocalMemory ≡ false)))
+kept u h = none_stands (at_limit u faults.KernelTooLarge) (at_limit u faults.PrivateMemory)
+    (at_limit u faults.BarriersTooDeep) (at_limit u faults.LocalMemory)
     faults.KernelTooLarge faults.PrivateMemory faults.BarriersTooDeep faults.LocalMemory h
 
 each_kept : (u : Sized) → limit_of u ≡ None → (k : Fault) → at_limit u k ≡ false
@@ -94,7 +99,8 @@ same_kinds (x ∷ xs) = rw (same_kinds xs) refl
 same_function : (g : rust_function.Function) → erased.function_of (piece.function_of g) ≡ view.function_of g
 same_function g = rw (same_kinds g.vars.items, same_arrays g.arrays.items) refl
 
-same_functions : (xs : List rust_function.Function) → map erased.function_of (map piece.function_of xs) ≡ map view.function_of xs
+same_functions : (xs : List rust_function.Function) → map erased.function_of (map piece.function_of xs) ≡
+    map view.function_of xs
 same_functions [] = refl
 same_functions (x ∷ xs) = rw (same_function x, same_functions xs) refl
 
@@ -103,13 +109,18 @@ same_program p = rw (same_tables p.tables.items, same_functions p.functions.item
 
 -- ---- the law
 
-accepted_valid : (source : List ℕ) (defines : List Define) (kernel : List ℕ) (typed : Unit') → DefinesFit defines → IsCompiled source defines kernel typed → IsValid (erased.program_of typed)
+accepted_valid : (source : List ℕ) (defines : List Define) (kernel : List ℕ) (typed : Unit') → DefinesFit defines →
+    IsCompiled source defines kernel typed → IsValid (erased.program_of typed)
 accepted_valid source defines kernel typed fit c =
     let places = places_of source c.expanded in
     let read = c.is_source.read.1 in
-    let shaped = spelled_shape c.unit c.expanded c.is_source.spelled (expanded_read source c.is_source.read.0 c.expanded defines read.cuts fit read.expands) in
-    let accepted : Accepted places kernel c.unit = record { sound = c.accepted.sound; within = each_kept _ c.accepted.within } in
-    subst (λ (t : Unit'). IsValid (erased.program_of t)) (sym c.means) (units_valid places kernel c.unit shaped accepted)
+    let shaped = spelled_shape c.unit c.expanded c.is_source.spelled
+    (expanded_read source c.is_source.read.0 c.expanded defines read.cuts fit read.expands) in
+    let accepted : Accepted places kernel c.unit =
+    record { sound = c.accepted.sound; within = each_kept _ c.accepted.within } in
+    subst (λ (t : Unit'). IsValid (erased.program_of t)) (sym c.means)
+    (units_valid places kernel c.unit shaped accepted)
 
 pub compiled_valid : ProgramsValid
-compiled_valid source defines kernel p fit c = subst IsValid (same_program p) (accepted_valid source defines kernel (piece.unit_of p) fit c)
+compiled_valid source defines kernel p fit c =
+    subst IsValid (same_program p) (accepted_valid source defines kernel (piece.unit_of p) fit c)

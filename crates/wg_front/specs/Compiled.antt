@@ -34,19 +34,21 @@ pub record IsCompiled (source : List ℕ) (defines : List Define) (kernel : List
   pub means : typed ≡ unit_meant (places_of source expanded) kernel unit
 
 -- the first fault of the unit has that number, and is reported at that place
-pub record IsFaulty (source : List ℕ) (defines : List Define) (kernel : List ℕ) (number : ℕ) (place : Place) : Type 0 where
-  pub expanded : List Token
-  pub unit : Syntax
-  pub is_source : IsSource source defines expanded unit
-  pub fault : Fault
-  pub token : ℕ
-  pub refused : IsRefused (places_of source expanded) kernel unit fault token
-  pub number_is : number ≡ number_of fault
-  pub place_is : place ≡ place_of_token source expanded token
+pub record IsFaulty (source : List ℕ) (defines : List Define) (kernel : List ℕ) (number : ℕ) (place : Place) : Type 0
+  where
+    pub expanded : List Token
+    pub unit : Syntax
+    pub is_source : IsSource source defines expanded unit
+    pub fault : Fault
+    pub token : ℕ
+    pub refused : IsRefused (places_of source expanded) kernel unit fault token
+    pub number_is : number ≡ number_of fault
+    pub place_is : place ≡ place_of_token source expanded token
 
 -- the condition of that number stands at that place: of the bytes, the macros, the grammar, or the unit
 abbrev pub IsNotCompiled : List ℕ → List Define → (kernel : List ℕ) → ℕ → Place → Type 0
-IsNotCompiled source defines kernel number place = StandsAt source defines number place ⊎ IsFaulty source defines kernel number place
+IsNotCompiled source defines kernel number place =
+    StandsAt source defines number place ⊎ IsFaulty source defines kernel number place
 
 -- the source is refused with this error, or memory ran out
 abbrev pub IsKernelRefusal : List ℕ → List Define → (kernel : List ℕ) → SourceError → Type 0

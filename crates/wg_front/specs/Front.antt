@@ -85,12 +85,17 @@ token_of_expansion prep.Memory = 0
 
 -- The condition of that number stands at that place, and none before it.
 pub data StandsAt (source : List ℕ) (defines : List Define) (number : ℕ) (place : Place) : Type 0 where
-  uncut : (e : LexError) → IsUncut source e → number ≡ number_of_lexical e → place ≡ place_at source (offset_of_lexical e) → StandsAt source defines number place
-  unexpanded : (tokens : List Token) (e : PrepError) → length source ≤ limit → Cuts source tokens → IsUnexpanded tokens defines e
-      → number ≡ number_of_expansion e → place ≡ place_of_token source tokens (token_of_expansion e) → StandsAt source defines number place
-  no_unit : (tokens expanded : List Token) (at : ℕ) → Reads source defines tokens expanded → NoUnit expanded at → ((before : ℕ) → before < at → SomeUnit expanded before)
+  uncut : (e : LexError) → IsUncut source e → number ≡ number_of_lexical e →
+      place ≡ place_at source (offset_of_lexical e) → StandsAt source defines number place
+  unexpanded : (tokens : List Token) (e : PrepError) → length source ≤ limit → Cuts source tokens →
+      IsUnexpanded tokens defines e
+      → number ≡ number_of_expansion e → place ≡ place_of_token source tokens (token_of_expansion e) →
+      StandsAt source defines number place
+  no_unit : (tokens expanded : List Token) (at : ℕ) → Reads source defines tokens expanded → NoUnit expanded at →
+      ((before : ℕ) → before < at → SomeUnit expanded before)
       → number ≡ 301 → place ≡ place_of_token source expanded at → StandsAt source defines number place
-  too_deep : (tokens expanded : List Token) (at : ℕ) → Reads source defines tokens expanded → NoUnitWithin 256 expanded at → DeeperUnit 256 expanded at
+  too_deep : (tokens expanded : List Token) (at : ℕ) → Reads source defines tokens expanded →
+      NoUnitWithin 256 expanded at → DeeperUnit 256 expanded at
       → number ≡ 302 → place ≡ place_of_token source expanded at → StandsAt source defines number place
 
 -- The source is refused with this error, or memory ran out.

@@ -10,4 +10,5 @@ use Rattle.wg_front.specs.Compiled.{IsCompiled}
 
 -- The typed program of a source is valid, where each number that is given for a name fits a `long`.
 abbrev pub ProgramsValid : Type 0
-ProgramsValid = (source : List ℕ) (defines : List Define) (kernel : List ℕ) (p : rust_program.Program) → DefinesFit defines → IsCompiled source defines kernel (unit_of p) → IsValid (program_of p)
+ProgramsValid = (source : List ℕ) (defines : List Define) (kernel : List ℕ) (p : rust_program.Program) →
+    DefinesFit defines → IsCompiled source defines kernel (unit_of p) → IsValid (program_of p)

@@ -8,7 +8,16 @@ ghost use Rattle.cl_prep.specs.Expands.{token_limit};
 ghost use Rattle.cl_prep.specs.Progress.{IsRefusedOrMemory as IsUnexpandedOrMemory};
 ghost use Rattle.cl_tree.specs.Syntax.{view, nesting};
 ghost use Rattle.cl_tree.specs.Grammar.{SpellsUnit};
-ghost use Rattle.wg_front.specs.Front.{Reads, AreExpanded, IsRefusal, place_of_token, number_of_lexical, offset_of_lexical, number_of_expansion, token_of_expansion};
+ghost use Rattle.wg_front.specs.Front.{
+  Reads,
+  AreExpanded,
+  IsRefusal,
+  place_of_token,
+  number_of_lexical,
+  offset_of_lexical,
+  number_of_expansion,
+  token_of_expansion,
+};
 
 use cl_parse::{ParseError, parse};
 use cl_prep::{Defines, PrepError, expand};
@@ -192,7 +201,8 @@ pub fn read_unit(alloc: Global, source: &[u8], expanded: &[Token]) -> Result<Tre
     requires inside { All (λ t. t.start ≤ length source.now) expanded.now }
     requires few { length expanded.now ≤ token_limit }
     ensures ok { IfOk result (λ t. SpellsUnit (view t) expanded.now × (nesting (view t) ≤ 256)) }
-    ensures err { IfErr result (λ e. (defines : List Define) (tokens : List AnyToken) → Reads source.now defines tokens expanded.now → IsRefusal source.now defines e) }
+    ensures err { IfErr result (λ e. (defines : List Define) (tokens : List AnyToken) →
+        Reads source.now defines tokens expanded.now → IsRefusal source.now defines e) }
 {
     match parse(alloc, expanded) {
         Ok(unit) => Ok(unit),

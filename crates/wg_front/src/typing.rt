@@ -75,7 +75,9 @@ pub fn read_source(alloc: Global, source: &[u8], defines: &Defines) -> Result<So
 
 // The place of the token with that number, or of the end.
 fn token_place(source: &Source, token: u32) -> Place
-    ensures { (bytes : List ℕ) → source.now.places.items ≡ places_of bytes source.now.tokens.items → source.now.end ≡ place_at bytes (length bytes) → result ≡ place_of_token bytes source.now.tokens.items token }
+    ensures { (bytes : List ℕ) → source.now.places.items ≡ places_of bytes source.now.tokens.items →
+        source.now.end ≡ place_at bytes (length bytes) →
+        result ≡ place_of_token bytes source.now.tokens.items token }
 {
     match source.places.get(token as usize) {
         Some(place) => *place,
@@ -87,8 +89,14 @@ fn token_place(source: &Source, token: u32) -> Place
 /// E424, at the first token of the node at fault, or at the end of the source where no kernel has
 /// the name. Limits (E419 to E421, E423) are looked at where no node is at fault.
 pub fn compile_kernel(alloc: Global, source: &Source, kernel: &[u8]) -> Result<Program, SourceError>
-    ensures ok { IfOk result (λ p. (bytes : List ℕ) (defines : List Define) → IsSource bytes defines source.now.tokens.items (view source.now.unit) → source.now.places.items ≡ places_of bytes source.now.tokens.items → IsCompiled bytes defines kernel.now (unit_of p)) }
-    ensures err { IfErr result (λ e. (bytes : List ℕ) (defines : List Define) → IsSource bytes defines source.now.tokens.items (view source.now.unit) → source.now.places.items ≡ places_of bytes source.now.tokens.items → source.now.end ≡ place_at bytes (length bytes) → IsUnitRefusal bytes defines kernel.now e) }
+    ensures ok { IfOk result (λ p. (bytes : List ℕ) (defines : List Define) →
+        IsSource bytes defines source.now.tokens.items (view source.now.unit) →
+        source.now.places.items ≡ places_of bytes source.now.tokens.items →
+        IsCompiled bytes defines kernel.now (unit_of p)) }
+    ensures err { IfErr result (λ e. (bytes : List ℕ) (defines : List Define) →
+        IsSource bytes defines source.now.tokens.items (view source.now.unit) →
+        source.now.places.items ≡ places_of bytes source.now.tokens.items →
+        source.now.end ≡ place_at bytes (length bytes) → IsUnitRefusal bytes defines kernel.now e) }
 {
     match check(alloc, &source.unit, &source.places, kernel) {
         Ok(program) => Ok(program),

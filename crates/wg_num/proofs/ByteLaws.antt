@@ -1,15 +1,18 @@
 -- Laws of the bytes of a value, and of the low half of its pattern.
-use Rattle.std.proofs.Common.{◌≡◌, ℕ, zero, suc, ◌+◌, ◌*◌, ◌/◌, ◌%◌, ◌^◌, ◌<◌, ◌≤◌, refl, sym, ap, ◌∙◌, arith, true, false, mod-eq_of_lt, div-add-mod', length, ⊎_elim}
+use Rattle.std.proofs.Common.{◌≡◌, ℕ, zero, suc, ◌+◌, ◌*◌, ◌/◌, ◌%◌, ◌^◌, ◌<◌, ◌≤◌, refl, sym, ap, ◌∙◌, arith, true}
+use Rattle.std.proofs.Common.{false, mod-eq_of_lt, div-add-mod', length, ⊎_elim}
 use Rattle.std.proofs.Common.{ℤ, pos}
 use Rattle.std.proofs.Math.Nat.{mod-one, pow-succ'}
 use Rattle.std.proofs.Math.Arith.{mod-mul}
 use Rattle.std.proofs.lemmas.Int.{ints}
 use Rattle.std.specs.Simd.Lanes.{digits_l, number_l}
 use Rattle.wg_num.specs.declared.types.IntType.{IntType}
-use Rattle.wg_num.specs.declared.types.IntType.TheVariants.{Bool as BoolType, Char, Uchar, Short, Ushort, Int, Uint, Long, Ulong}
+use Rattle.wg_num.specs.declared.types.IntType.TheVariants.{Bool as BoolType, Char, Uchar, Short, Ushort, Int, Uint}
+use Rattle.wg_num.specs.declared.types.IntType.TheVariants.{Long, Ulong}
 use Rattle.wg_num.specs.Wrap.{IsCongruent, IsValue, wrap_of, modulus, is_bool, width_bits, bits_of, value_of}
 use Rattle.wg_num.specs.Bytes.{size_of, bytes_of, value_of_bytes}
-use Rattle.wg_num.proofs.WrapLaws.{congruent_trans, congruent_divides, bits_congruent, bits_small, wrap_same, wrap_value, value_bool, either_type, modulus_divides}
+use Rattle.wg_num.proofs.WrapLaws.{congruent_trans, congruent_divides, bits_congruent, bits_small, wrap_same}
+use Rattle.wg_num.proofs.WrapLaws.{wrap_value, value_bool, either_type, modulus_divides}
 
 some_power : (n : ℕ) → 0 < 256 ^ n
 some_power zero = omega arith
@@ -69,7 +72,8 @@ narrow_divides Long h = absurd (omega arith)
 narrow_divides Ulong h = absurd (omega arith)
 
 -- a value comes back from each number that is congruent to its pattern
-from_low : (t : IntType) (b q : ℕ) (z : ℤ) → IsValue t z → bits_of z ≡ b + q * modulus t → (is_bool t ≡ true → pos b ≡ z) → value_of t b ≡ z
+from_low : (t : IntType) (b q : ℕ) (z : ℤ) → IsValue t z → bits_of z ≡ b + q * modulus t →
+    (is_bool t ≡ true → pos b ≡ z) → value_of t b ≡ z
 unfolding value_of
 from_low t b q z v e bool = ⊎_elim
     (λ is. ap (wrap_of t) (bool is) ∙ wrap_value t z v)
@@ -82,7 +86,8 @@ from_low t b q z v e bool = ⊎_elim
         (let d = modulus_divides t in congruent_divides (modulus t) d.0 d.1 (bits_congruent z))
 
 -- the low part of its pattern decides a value, where the width of the type goes into that part
-pub value-low : (t : IntType) (m k : ℕ) (z : ℤ) → m ≡ k * modulus t → 2 ≤ m → IsValue t z → value_of t (bits_of z % m) ≡ z
+pub value-low : (t : IntType) (m k : ℕ) (z : ℤ) → m ≡ k * modulus t → 2 ≤ m → IsValue t z →
+    value_of t (bits_of z % m) ≡ z
 value-low t m k z e big v =
     let split : bits_of z / m * m + bits_of z % m ≡ bits_of z = div-add-mod' (bits_of z) m in
     let lined : bits_of z ≡ bits_of z % m + (bits_of z / m * k) * modulus t =

@@ -23,7 +23,8 @@ WrapKeepsValues = (t : IntType) (z : ℤ) → IsValue t z → wrap_of t z ≡ z
 
 -- sums, differences and products may be wrapped late: what is wrapped before does not show
 pub record WrapsLate (op : ℤ → ℤ → ℤ) : Type 0 where
-  pub late : (t : IntType) (a b : ℤ) → is_bool t ≡ false → wrap_of t (op (wrap_of t a) (wrap_of t b)) ≡ wrap_of t (op a b)
+  pub late : (t : IntType) (a b : ℤ) → is_bool t ≡ false →
+      wrap_of t (op (wrap_of t a) (wrap_of t b)) ≡ wrap_of t (op a b)
 
 -- the result of an operator is a value of its type
 abbrev pub UnaryGivesValues : Type 0

@@ -1,7 +1,22 @@
 //! The outside: stores of files and sinks of bytes.
 #![tactic(auto)]
 
-ghost use Rattle.std.specs.Prelude.{◌≡◌, ℕ, ◌≤◌, ◌<◌, ◌+◌, length, List, Option, IfOk, OnOk, OnErr, Err, is_some, vec_len};
+ghost use Rattle.std.specs.Prelude.{
+  ◌≡◌,
+  ℕ,
+  ◌≤◌,
+  ◌<◌,
+  ◌+◌,
+  length,
+  List,
+  Option,
+  IfOk,
+  OnOk,
+  OnErr,
+  Err,
+  is_some,
+  vec_len,
+};
 ghost use Rattle.std.specs.Io.KnownBytes.{Appends};
 ghost use Rattle.wg_outside.specs.Counts.{Rose};
 ghost use Rattle.wg_outside.specs.Files.{FileMap, HasFileStart, LacksFile, HasSaved, KeepsOthers};
@@ -66,7 +81,8 @@ pub trait Store {
         ensures files_stay { files self.new ≡ files self.old }
         ensures faults_stand { faults self.old ≤ faults self.new }
         ensures misses_stand { misses self.old ≤ misses self.new }
-        ensures certain { (saves room : ℕ) → certain self.old saves room → certain self.new saves room × (faults self.new ≡ faults self.old) };
+        ensures certain { (saves room : ℕ) → certain self.old saves room → certain self.new saves room ×
+            (faults self.new ≡ faults self.old) };
 
     /// Sets a name to these bytes. It takes no memory that could be refused. Where it fails, only
     /// that name may differ afterwards.
@@ -77,7 +93,9 @@ pub trait Store {
         ensures tells { is_some (files self.new) ≡ is_some (files self.old) }
         ensures faults_stand { faults self.old ≤ faults self.new }
         ensures misses_stand { misses self.old ≤ misses self.new }
-        ensures certain { (saves room : ℕ) → certain self.old (saves + 1) (room + length name.now + length bytes.now) → certain self.new saves room × (faults self.new ≡ faults self.old) };
+        ensures certain { (saves room : ℕ) →
+            certain self.old (saves + 1) (room + length name.now + length bytes.now) →
+            certain self.new saves room × (faults self.new ≡ faults self.old) };
 }
 
 /// A place for bytes. `written` is what the sink holds, where it tells that: a sink over a writer

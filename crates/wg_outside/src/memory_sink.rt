@@ -1,5 +1,21 @@
 // A sink in memory.
-ghost use Rattle.std.specs.Prelude.{◌≡◌, ◌↔◌, ◌≤◌, ◌+◌, ◌++◌, Some, IfOk, OnOk, OnErr, true, false, vec_capacity, vec_len, length, Contains};
+ghost use Rattle.std.specs.Prelude.{
+  ◌≡◌,
+  ◌↔◌,
+  ◌≤◌,
+  ◌+◌,
+  ◌++◌,
+  Some,
+  IfOk,
+  OnOk,
+  OnErr,
+  true,
+  false,
+  vec_capacity,
+  vec_len,
+  length,
+  Contains,
+};
 ghost use Rattle.std.specs.Io.KnownBytes.{Appends};
 ghost use Rattle.wg_outside.specs.Bytes.{AppendsPrefix};
 ghost use Rattle.wg_outside.specs.Counts.{Rose, next_count};
@@ -45,7 +61,13 @@ impl Model for MemorySink {
 
     ghost Value = { SinkView };
 
-    ghost view = { λ s. record { bytes = s.held.bytes.items; fail = s.calls.fail.items; calls = s.calls.count; room = s.held.room; faults = s.faults } };
+    ghost view = { λ s. record {
+      bytes = s.held.bytes.items;
+      fail = s.calls.fail.items;
+      calls = s.calls.count;
+      room = s.held.room;
+      faults = s.faults;
+    } };
 }
 
 impl MemorySink {
@@ -87,7 +109,8 @@ impl Sink for MemorySink {
         ensures faults_stand { self.old.faults ≤ self.new.faults }
         ensures listed { Contains self.old.fail self.old.calls → OnOk result ⊥ }
         ensures beyond { OnOk result (length bytes.now ≤ self.old.room) }
-        ensures only_these { OnErr result ((Contains self.old.fail self.old.calls → ⊥) → length bytes.now ≤ self.old.room → ⊥) }
+        ensures only_these { OnErr result ((Contains self.old.fail self.old.calls → ⊥) →
+            length bytes.now ≤ self.old.room → ⊥) }
         ensures failed_keeps { OnErr result (self.new.bytes ≡ self.old.bytes) }
         ensures fault_only_there { OnOk result (self.new.faults ≡ self.old.faults) }
         ensures numbered { self.new.calls ≡ next_count self.old.calls }

@@ -1,5 +1,29 @@
 // A store in memory.
-ghost use Rattle.std.specs.Prelude.{◌≡◌, ◌↔◌, ◌≤◌, ◌<◌, ◌+◌, ◌++◌, ◌∷◌, [], Some, None, Err, IfOk, OnErr, OnOk, length, option_map, take, Contains, true, false, ℕ, vec_len, is_some};
+ghost use Rattle.std.specs.Prelude.{
+  ◌≡◌,
+  ◌↔◌,
+  ◌≤◌,
+  ◌<◌,
+  ◌+◌,
+  ◌++◌,
+  ◌∷◌,
+  [],
+  Some,
+  None,
+  Err,
+  IfOk,
+  OnErr,
+  OnOk,
+  length,
+  option_map,
+  take,
+  Contains,
+  true,
+  false,
+  ℕ,
+  vec_len,
+  is_some,
+};
 ghost use Rattle.wg_outside.specs.Counts.{Rose, next_count};
 ghost use Rattle.wg_outside.specs.Files.{file_in, HasFileStart, LacksFile, HasSaved, KeepsOthers};
 ghost use Rattle.wg_outside.specs.MemoryStore.{HasRoomFor, new_store};
@@ -28,7 +52,15 @@ impl Model for MemoryStore {
 
     ghost Value = { StoreView };
 
-    ghost view = { λ s. record { files = files_at s.pool.bytes.items s.pool.spans.items; fail = s.calls.fail.items; calls = s.calls.count; saves = s.pool.saves; room = s.pool.room; faults = s.faults; misses = s.misses } };
+    ghost view = { λ s. record {
+      files = files_at s.pool.bytes.items s.pool.spans.items;
+      fail = s.calls.fail.items;
+      calls = s.calls.count;
+      saves = s.pool.saves;
+      room = s.pool.room;
+      faults = s.faults;
+      misses = s.misses;
+    } };
 }
 
 impl MemoryStore {
@@ -58,7 +90,12 @@ impl MemoryStore {
     /// Puts a file there beside the room for saves. It is no numbered call.
     pub fn add(&mut self, alloc: Global, name: &str, bytes: &[u8]) -> Result<(), Memory>
         requires { file_in self.old.files name.now ≡ None }
-        ensures added { OnOk result (self.new ≡ record self.old { files = self.old.files ++ (name.now, bytes.now) ∷ [] }) }
+        ensures added { OnOk result (self.new ≡ record self.old {
+          files = self.old.files ++ (
+            name.now,
+            bytes.now,
+          ) ∷ [];
+        }) }
         ensures err { OnErr result (self.new ≡ self.old) }
     {
         self.pool.add(name, bytes)
@@ -68,12 +105,14 @@ impl MemoryStore {
     fn try_save(&mut self, name: &str, bytes: &[u8]) -> bool
         ensures listed { Contains self.old.fail self.old.calls → result ≡ true → ⊥ }
         ensures within { result ≡ true → HasRoomFor self.old name.now bytes.now }
-        ensures succeeds { (Contains self.old.fail self.old.calls → ⊥) → HasRoomFor self.old name.now bytes.now → result ≡ true }
+        ensures succeeds { (Contains self.old.fail self.old.calls → ⊥) →
+            HasRoomFor self.old name.now bytes.now → result ≡ true }
         ensures saved { result ≡ true → self.new.files ≡ self.old.files ++ (name.now, bytes.now) ∷ [] }
         ensures saves { result ≡ true → self.new.saves + 1 ≡ self.old.saves }
         ensures room { result ≡ true → self.new.room + length name.now + length bytes.now ≡ self.old.room }
         ensures refused { result ≡ false → self.new ≡ record self.old { calls = next_count self.old.calls } }
-        ensures counts { (self.new.calls ≡ next_count self.old.calls) × (self.new.fail ≡ self.old.fail) × (self.new.faults ≡ self.old.faults) × (self.new.misses ≡ self.old.misses) }
+        ensures counts { (self.new.calls ≡ next_count self.old.calls) × (self.new.fail ≡ self.old.fail) ×
+            (self.new.faults ≡ self.old.faults) × (self.new.misses ≡ self.old.misses) }
     {
         if self.calls.next_fails() {
             return false;
@@ -114,11 +153,14 @@ impl Store for MemoryStore {
         ensures files_stay { Some self.new.files ≡ Some self.old.files }
         ensures faults_stand { self.old.faults ≤ self.new.faults }
         ensures misses_stand { self.old.misses ≤ self.new.misses }
-        ensures certain { (saves room : ℕ) → (self.old.fail ≡ []) × (saves ≤ self.old.saves) × (room ≤ self.old.room) → ((self.new.fail ≡ []) × (saves ≤ self.new.saves) × (room ≤ self.new.room)) × (self.new.faults ≡ self.old.faults) }
+        ensures certain { (saves room : ℕ) → (self.old.fail ≡ []) × (saves ≤ self.old.saves) ×
+            (room ≤ self.old.room) → ((self.new.fail ≡ []) × (saves ≤ self.new.saves) ×
+            (room ≤ self.new.room)) × (self.new.faults ≡ self.old.faults) }
         ensures listed { Contains self.old.fail self.old.calls → result ≡ Err LoadError.Failed }
         ensures only_listed { result ≡ Err LoadError.Failed → Contains self.old.fail self.old.calls }
         ensures numbered { self.new.calls ≡ next_count self.old.calls }
-        ensures stays { (self.new.fail ≡ self.old.fail) × (self.new.saves ≡ self.old.saves) × (self.new.room ≡ self.old.room) }
+        ensures stays { (self.new.fail ≡ self.old.fail) × (self.new.saves ≡ self.old.saves) ×
+            (self.new.room ≡ self.old.room) }
     {
         if self.calls.next_fails() {
             raise(&mut self.faults);
@@ -143,10 +185,14 @@ impl Store for MemoryStore {
         ensures tells { is_some (Some self.new.files) ≡ is_some (Some self.old.files) }
         ensures faults_stand { self.old.faults ≤ self.new.faults }
         ensures misses_stand { self.old.misses ≤ self.new.misses }
-        ensures certain { (saves room : ℕ) → (self.old.fail ≡ []) × (saves + 1 ≤ self.old.saves) × (room + length name.now + length bytes.now ≤ self.old.room) → ((self.new.fail ≡ []) × (saves ≤ self.new.saves) × (room ≤ self.new.room)) × (self.new.faults ≡ self.old.faults) }
+        ensures certain { (saves room : ℕ) → (self.old.fail ≡ []) × (saves + 1 ≤ self.old.saves) ×
+            (room + length name.now + length bytes.now ≤ self.old.room) →
+            ((self.new.fail ≡ []) × (saves ≤ self.new.saves) × (room ≤ self.new.room)) ×
+            (self.new.faults ≡ self.old.faults) }
         ensures listed { Contains self.old.fail self.old.calls → OnOk result ⊥ }
         ensures beyond { OnOk result (HasRoomFor self.old name.now bytes.now) }
-        ensures only_these { OnErr result ((Contains self.old.fail self.old.calls → ⊥) → HasRoomFor self.old name.now bytes.now → ⊥) }
+        ensures only_these { OnErr result ((Contains self.old.fail self.old.calls → ⊥) →
+            HasRoomFor self.old name.now bytes.now → ⊥) }
         ensures failed_keeps { OnErr result (self.new.files ≡ self.old.files) }
         ensures numbered { self.new.calls ≡ next_count self.old.calls }
     {

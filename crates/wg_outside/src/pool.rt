@@ -1,5 +1,23 @@
 // Files in one pool of bytes.
-ghost use Rattle.std.specs.Prelude.{◌≡◌, ◌≤◌, ◌<◌, ◌+◌, ◌++◌, ◌∷◌, [], IfOk, IfSome, vec_capacity, vec_len, length, option_map, true, false, OnOk, OnErr};
+ghost use Rattle.std.specs.Prelude.{
+  ◌≡◌,
+  ◌≤◌,
+  ◌<◌,
+  ◌+◌,
+  ◌++◌,
+  ◌∷◌,
+  [],
+  IfOk,
+  IfSome,
+  vec_capacity,
+  vec_len,
+  length,
+  option_map,
+  true,
+  false,
+  OnOk,
+  OnErr,
+};
 ghost use Rattle.wg_outside.specs.Files.{file_in};
 ghost use Rattle.wg_outside.specs.Spans.{span_end, file_at, files_at, IsInPool};
 
@@ -64,7 +82,8 @@ impl Pool {
 
     // The last file of that name.
     fn find(&self, name: &str) -> Option<Span>
-        ensures found { option_map (λ s. (file_at self.now.bytes.items s).1) result ≡ file_in (files_at self.now.bytes.items self.now.spans.items) name.now }
+        ensures found { option_map (λ s. (file_at self.now.bytes.items s).1) result ≡
+            file_in (files_at self.now.bytes.items self.now.spans.items) name.now }
         ensures within { IfSome result (λ s. span_end s ≤ length self.now.bytes.items) }
     {
         let mut found: Option<Span> = None;
@@ -77,7 +96,8 @@ impl Pool {
     }
 
     pub(crate) fn file(&self, name: &str) -> Option<&[u8]>
-        ensures { option_map (λ b. b.now) result ≡ file_in (files_at self.now.bytes.items self.now.spans.items) name.now }
+        ensures { option_map (λ b. b.now) result ≡ file_in (files_at self.now.bytes.items self.now.spans.items)
+            name.now }
     {
         match self.find(name) {
             Some(span) => Some(self.bytes_of(&span)),
@@ -87,9 +107,11 @@ impl Pool {
 
     // Puts a file into the pool, where there is room for it beside what is reserved.
     fn keep(&mut self, name: &str, bytes: &[u8])
-        requires bytes_room { vec_len self.old.bytes + length name.now + length bytes.now + self.old.room ≤ vec_capacity self.old.bytes }
+        requires bytes_room { vec_len self.old.bytes + length name.now + length bytes.now + self.old.room ≤
+            vec_capacity self.old.bytes }
         requires span_room { vec_len self.old.spans + 1 + self.old.saves ≤ vec_capacity self.old.spans }
-        ensures files { files_at self.new.bytes.items self.new.spans.items ≡ files_at self.old.bytes.items self.old.spans.items ++ (name.now, bytes.now) ∷ [] }
+        ensures files { files_at self.new.bytes.items self.new.spans.items ≡
+            files_at self.old.bytes.items self.old.spans.items ++ (name.now, bytes.now) ∷ [] }
         ensures reserved { (self.new.saves ≡ self.old.saves) × (self.new.room ≡ self.old.room) }
     {
         let span = Span {
@@ -106,7 +128,8 @@ impl Pool {
     pub(crate) fn save(&mut self, name: &str, bytes: &[u8])
         requires saves { 0 < self.old.saves }
         requires room { length name.now + length bytes.now ≤ self.old.room }
-        ensures files { files_at self.new.bytes.items self.new.spans.items ≡ files_at self.old.bytes.items self.old.spans.items ++ (name.now, bytes.now) ∷ [] }
+        ensures files { files_at self.new.bytes.items self.new.spans.items ≡
+            files_at self.old.bytes.items self.old.spans.items ++ (name.now, bytes.now) ∷ [] }
         ensures saves { self.new.saves + 1 ≡ self.old.saves }
         ensures room { self.new.room + length name.now + length bytes.now ≡ self.old.room }
     {
@@ -117,8 +140,10 @@ impl Pool {
 
     // Puts a file into the pool, beside what is reserved.
     pub(crate) fn add(&mut self, name: &str, bytes: &[u8]) -> Result<(), Memory>
-        ensures files { OnOk result (files_at self.new.bytes.items self.new.spans.items ≡ files_at self.old.bytes.items self.old.spans.items ++ (name.now, bytes.now) ∷ []) }
-        ensures err { OnErr result (files_at self.new.bytes.items self.new.spans.items ≡ files_at self.old.bytes.items self.old.spans.items) }
+        ensures files { OnOk result (files_at self.new.bytes.items self.new.spans.items ≡
+            files_at self.old.bytes.items self.old.spans.items ++ (name.now, bytes.now) ∷ []) }
+        ensures err { OnErr result (files_at self.new.bytes.items self.new.spans.items ≡
+            files_at self.old.bytes.items self.old.spans.items) }
         ensures reserved { (self.new.saves ≡ self.old.saves) × (self.new.room ≡ self.old.room) }
     {
         let Some(more) = (self.room as usize)

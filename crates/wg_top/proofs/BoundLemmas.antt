@@ -1,5 +1,6 @@
 -- Launches that are accepted are ready, and fit their kernels.
-use Rattle.std.proofs.Common.{◌≡◌, ℕ, zero, suc, ◌+◌, ◌<◌, List, [], ◌∷◌, ◌++◌, length, map, take, drop, get_or, Some, None, sym, ◌∙◌, ap, ap₂, subst, arith}
+use Rattle.std.proofs.Common.{◌≡◌, ℕ, zero, suc, ◌+◌, ◌<◌, List, [], ◌∷◌, ◌++◌, length, map, take, drop, get_or, Some}
+use Rattle.std.proofs.Common.{None, sym, ◌∙◌, ap, ap₂, subst, arith}
 use Rattle.std.proofs.Math.Seq.{take-suc, drop-cons}
 use Rattle.std.specs.Prelude.{All}
 use Rattle.std.proofs.lemmas.List.{map-append, get_or-map}
@@ -29,14 +30,17 @@ small launch offsets (suc (suc zero)) lt = offsets.2
 small launch offsets (suc (suc (suc d))) lt = absurd (omega arith)
 
 -- a launch that was bound fits its kernel
-pub is_fit : (needs : spec.Needs) (text : Text) (part : Part) (launch : Bindings) → HasOneLength part → spec.Binds needs text part launch → spec.AreOffsets launch.offset → LaunchFits needs.kinds 0 (launch_of launch)
+pub is_fit : (needs : spec.Needs) (text : Text) (part : Part) (launch : Bindings) → HasOneLength part →
+    spec.Binds needs text part launch → spec.AreOffsets launch.offset → LaunchFits needs.kinds 0 (launch_of launch)
 is_fit needs text part launch one binds offsets =
     let same = binds.is_its.is_its in
     subst (λ (l : Launch). LaunchFits needs.kinds 0 l) (sym same)
-    (fits_kernel needs text.turns text.buffers part (accepts needs text.buffers part binds.accepted) one (subst (λ (l : Launch). AreSmall l) same (small launch offsets)))
+    (fits_kernel needs text.turns text.buffers part (accepts needs text.buffers part binds.accepted) one
+    (subst (λ (l : Launch). AreSmall l) same (small launch offsets)))
 
 -- and is ready
-pub is_ready : (needs : spec.Needs) (text : Text) (part : Part) (launch : Bindings) → HasOneLength part → spec.Binds needs text part launch → spec.AreOffsets launch.offset → IsReady text.buffers launch
+pub is_ready : (needs : spec.Needs) (text : Text) (part : Part) (launch : Bindings) → HasOneLength part →
+    spec.Binds needs text part launch → spec.AreOffsets launch.offset → IsReady text.buffers launch
 is_ready needs text part launch one binds offsets =
     let fit = is_fit needs text part launch one binds offsets in
     record {
@@ -47,55 +51,81 @@ is_ready needs text part launch one binds offsets =
     }
 
 -- one more launch that fits
-fit-snoc : (cs : List Compiled) (ls : List Bindings) (c : Compiled) (l : Bindings) → AllFit cs ls → LaunchFits (plain_of c.group).params 0 (launch_of l) → AllFit (cs ++ c ∷ []) (ls ++ l ∷ [])
+fit-snoc : (cs : List Compiled) (ls : List Bindings) (c : Compiled) (l : Bindings) → AllFit cs ls →
+    LaunchFits (plain_of c.group).params 0 (launch_of l) → AllFit (cs ++ c ∷ []) (ls ++ l ∷ [])
 fit-snoc [] [] c l all one = (one, tt)
 fit-snoc (d ∷ cs) (m ∷ ls) c l all one = (all.0, fit-snoc cs ls c l all.1 one)
 fit-snoc [] (m ∷ ls) c l all one = absurd all
 fit-snoc (d ∷ cs) [] c l all one = absurd all
 
-pub more_fit : (kernels : List Compiled) (k : ℕ) (c : Compiled) (list new : List Bindings) (l : Bindings) → k < length kernels → c ≡ get_or kernels k c → new ≡ list ++ l ∷ [] → AllFit (take k kernels) list → LaunchFits (plain_of c.group).params 0 (launch_of l) → AllFit (take (k + 1) kernels) new
+pub more_fit : (kernels : List Compiled) (k : ℕ) (c : Compiled) (list new : List Bindings) (l : Bindings) →
+    k < length kernels → c ≡ get_or kernels k c → new ≡ list ++ l ∷ [] → AllFit (take k kernels) list →
+    LaunchFits (plain_of c.group).params 0 (launch_of l) → AllFit (take (k + 1) kernels) new
 more_fit kernels k c list new l lt is pushed all one =
     let next : k + 1 ≡ suc k = omega arith in
-    let taken : take (k + 1) kernels ≡ take k kernels ++ c ∷ [] = ap (λ n. take n kernels) next ∙ (take-suc kernels k c lt ∙ ap (λ d. take k kernels ++ d ∷ []) (sym is)) in
-    subst (λ (ls : List Bindings). AllFit (take (k + 1) kernels) ls) (sym pushed) (subst (λ (cs : List Compiled). AllFit cs (list ++ l ∷ [])) (sym taken) (fit-snoc (take k kernels) list c l all one))
+    let taken : take (k + 1) kernels ≡ take k kernels ++ c ∷ [] =
+    ap (λ n. take n kernels) next ∙ (take-suc kernels k c lt ∙ ap (λ d. take k kernels ++ d ∷ []) (sym is)) in
+    subst (λ (ls : List Bindings). AllFit (take (k + 1) kernels) ls) (sym pushed)
+    (subst (λ (cs : List Compiled). AllFit cs (list ++ l ∷ [])) (sym taken)
+    (fit-snoc (take k kernels) list c l all one))
 
 -- the launches from a place on
-from_place : (buffers : List BufferText) (parts : List Part) (units : List Unit') (k : ℕ) (part : Part) (u : Unit') → k < length parts → k < length units → part ≡ get_or parts k part → u ≡ get_or units k u
-    → first_refusal buffers (drop k parts) (drop k units) ≡ or_later (spec.launch_refusal (needs_in u) buffers part) (first_refusal buffers (drop (k + 1) parts) (drop (k + 1) units))
+from_place : (buffers : List BufferText) (parts : List Part) (units : List Unit') (k : ℕ) (part : Part) (u : Unit') →
+    k < length parts → k < length units → part ≡ get_or parts k part → u ≡ get_or units k u
+    → first_refusal buffers (drop k parts) (drop k units) ≡ or_later (spec.launch_refusal (needs_in u) buffers part)
+    (first_refusal buffers (drop (k + 1) parts) (drop (k + 1) units))
 from_place buffers parts units k part u in_parts in_units part_is u_is =
     let next : suc k ≡ k + 1 = omega arith in
-    ap₂ (first_refusal buffers) (drop-cons parts k part in_parts ∙ ap₂ (λ p n. p ∷ drop n parts) (sym part_is) next) (drop-cons units k u in_units ∙ ap₂ (λ v n. v ∷ drop n units) (sym u_is) next)
+    ap₂ (first_refusal buffers) (drop-cons parts k part in_parts ∙ ap₂ (λ p n. p ∷ drop n parts) (sym part_is) next)
+    (drop-cons units k u in_units ∙ ap₂ (λ v n. v ∷ drop n units) (sym u_is) next)
 
 -- the launch at a place is accepted, so a later one decides
-pub refused_later : (buffers : List BufferText) (parts : List Part) (units : List Unit') (k : ℕ) (part : Part) (u : Unit') → k < length parts → k < length units → part ≡ get_or parts k part → u ≡ get_or units k u
-    → spec.launch_refusal (needs_in u) buffers part ≡ None → first_refusal buffers (drop k parts) (drop k units) ≡ first_refusal buffers (drop (k + 1) parts) (drop (k + 1) units)
+pub refused_later : (buffers : List BufferText) (parts : List Part) (units : List Unit') (k : ℕ) (part : Part)
+    (u : Unit') → k < length parts → k < length units → part ≡ get_or parts k part → u ≡ get_or units k u
+    → spec.launch_refusal (needs_in u) buffers part ≡ None → first_refusal buffers (drop k parts) (drop k units) ≡
+    first_refusal buffers (drop (k + 1) parts) (drop (k + 1) units)
 refused_later buffers parts units k part u in_parts in_units part_is u_is accepted =
-    from_place buffers parts units k part u in_parts in_units part_is u_is ∙ ap (λ o. or_later o (first_refusal buffers (drop (k + 1) parts) (drop (k + 1) units))) accepted
+    from_place buffers parts units k part u in_parts in_units part_is u_is ∙
+    ap (λ o. or_later o (first_refusal buffers (drop (k + 1) parts) (drop (k + 1) units))) accepted
 
 -- the launch at a place is refused
-pub refused_here : (buffers : List BufferText) (parts : List Part) (units : List Unit') (k : ℕ) (part : Part) (u : Unit') (number : ℕ) → k < length parts → k < length units → part ≡ get_or parts k part → u ≡ get_or units k u
-    → spec.launch_refusal (needs_in u) buffers part ≡ Some number → first_refusal buffers (drop k parts) (drop k units) ≡ Some number
+pub refused_here : (buffers : List BufferText) (parts : List Part) (units : List Unit') (k : ℕ) (part : Part)
+    (u : Unit') (number : ℕ) → k < length parts → k < length units → part ≡ get_or parts k part → u ≡ get_or units k u
+    → spec.launch_refusal (needs_in u) buffers part ≡ Some number →
+    first_refusal buffers (drop k parts) (drop k units) ≡ Some number
 refused_here buffers parts units k part u number in_parts in_units part_is u_is refused =
-    from_place buffers parts units k part u in_parts in_units part_is u_is ∙ ap (λ o. or_later o (first_refusal buffers (drop (k + 1) parts) (drop (k + 1) units))) refused
+    from_place buffers parts units k part u in_parts in_units part_is u_is ∙
+    ap (λ o. or_later o (first_refusal buffers (drop (k + 1) parts) (drop (k + 1) units))) refused
 
 -- one more launch was bound
-pub one_bound : (turns : ℕ) (buffers : List BufferText) (parts : List Part) (k : ℕ) (d : Part) (list new : List Bindings) (launch : Bindings) → new ≡ list ++ launch ∷ [] → k < length parts → map launch_of list ≡ map (spec.launch_in turns buffers) (take k parts) → launch_of launch ≡ spec.launch_in turns buffers (get_or parts k d) → map launch_of new ≡ map (spec.launch_in turns buffers) (take (k + 1) parts)
+pub one_bound : (turns : ℕ) (buffers : List BufferText) (parts : List Part) (k : ℕ) (d : Part)
+    (list new : List Bindings) (launch : Bindings) → new ≡ list ++ launch ∷ [] → k < length parts →
+    map launch_of list ≡ map (spec.launch_in turns buffers) (take k parts) →
+    launch_of launch ≡ spec.launch_in turns buffers (get_or parts k d) →
+    map launch_of new ≡ map (spec.launch_in turns buffers) (take (k + 1) parts)
 one_bound turns buffers parts k d list new launch is lt before here =
     let next : suc k ≡ k + 1 = omega arith in
     let view : Bindings → Launch = launch_of in
-    ap (map launch_of) is ∙ (map-append view list (launch ∷ []) ∙ (ap (λ xs. xs ++ launch_of launch ∷ []) before ∙ (ap (λ x. map (spec.launch_in turns buffers) (take k parts) ++ x ∷ []) here
-    ∙ (sym (map-append (spec.launch_in turns buffers) (take k parts) (get_or parts k d ∷ [])) ∙ (ap (map (spec.launch_in turns buffers)) (sym (take-suc parts k d lt)) ∙ ap (λ n. map (spec.launch_in turns buffers) (take n parts)) next)))))
+    ap (map launch_of) is ∙ (map-append view list (launch ∷ []) ∙ (ap (λ xs. xs ++ launch_of launch ∷ []) before ∙
+    (ap (λ x. map (spec.launch_in turns buffers) (take k parts) ++ x ∷ []) here
+    ∙ (sym (map-append (spec.launch_in turns buffers) (take k parts) (get_or parts k d ∷ [])) ∙
+    (ap (map (spec.launch_in turns buffers)) (sym (take-suc parts k d lt)) ∙
+    ap (λ n. map (spec.launch_in turns buffers) (take n parts)) next)))))
 
 -- one more launch that is ready
-pub all_ready : (buffers : List BufferText) (list new : List Bindings) (launch : Bindings) → new ≡ list ++ launch ∷ [] → All (IsReady buffers) list → IsReady buffers launch → All (IsReady buffers) new
-all_ready buffers list new launch is all one = subst (λ (l : List Bindings). All (IsReady buffers) l) (sym is) (All-push (IsReady buffers) list launch all one)
+pub all_ready : (buffers : List BufferText) (list new : List Bindings) (launch : Bindings) →
+    new ≡ list ++ launch ∷ [] → All (IsReady buffers) list → IsReady buffers launch → All (IsReady buffers) new
+all_ready buffers list new launch is all one =
+    subst (λ (l : List Bindings). All (IsReady buffers) l) (sym is) (All-push (IsReady buffers) list launch all one)
 
 -- what is seen of a thing in a list
-pub at_place : {X Y : Type 0} (view : X → Y) (xs : List X) (k : ℕ) (x : X) → k < length xs → x ≡ get_or xs k x → view x ≡ get_or (map view xs) k (view x)
+pub at_place : {X Y : Type 0} (view : X → Y) (xs : List X) (k : ℕ) (x : X) → k < length xs → x ≡ get_or xs k x →
+    view x ≡ get_or (map view xs) k (view x)
 at_place view xs k x lt is = ap view is ∙ sym (get_or-map view xs k x (view x) lt)
 
 -- each launch of a file has the form of one
-pub part_has : (list : List LaunchPart) (k : ℕ) (d : Part) → k < length list → All (λ p. HasOneLength (part_of p)) list → HasOneLength (get_or (map part_of list) k d)
+pub part_has : (list : List LaunchPart) (k : ℕ) (d : Part) → k < length list →
+    All (λ p. HasOneLength (part_of p)) list → HasOneLength (get_or (map part_of list) k d)
 part_has [] k d lt all = absurd (omega arith)
 part_has (p ∷ list) zero d lt all = all 0 p (omega arith)
 part_has (p ∷ list) (suc k) d lt all = part_has list k d (omega arith) (λ n e less. all (suc n) e (omega arith))

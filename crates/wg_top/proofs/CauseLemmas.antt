@@ -13,20 +13,26 @@ use Rattle.wg_top.specs.declared.RunError.TheVariants.{Failed, Absent, Source, L
 use Rattle.wg_top.specs.declared.Summary.{Summary}
 use Rattle.cl_meaning.specs.Typed.{Unit'}
 use Rattle.wg_front.specs.Front.{HasUnit}
-use Rattle.wg_top.specs.Causes.{Standing, Stands, SourceLoaded, RunRead, StopsIn, RunStops, HasRun, Cause, ReadingCause, LeavesFiles, IsDone}
+use Rattle.wg_top.specs.Causes.{Standing, Stands, SourceLoaded, RunRead, StopsIn, RunStops, HasRun, Cause}
+use Rattle.wg_top.specs.Causes.{ReadingCause, LeavesFiles, IsDone}
 use Rattle.wg_top.specs.Units.{AreCompiled}
 use Rattle.wg_top.specs.Stages.{TextRead, LaunchCause, ProgramCause, BackCause, LeavesOthers, IsRun}
 
 -- counts that stand over two calls
-pub stands_over : (old new : Standing) (faults misses : ℕ) → old.faults ≤ faults → old.misses ≤ misses → faults ≤ new.faults → misses ≤ new.misses → Stands old new
+pub stands_over : (old new : Standing) (faults misses : ℕ) → old.faults ≤ faults → old.misses ≤ misses →
+    faults ≤ new.faults → misses ≤ new.misses → Stands old new
 stands_over old new faults misses a b c d = record { faults = omega arith; misses = omega arith }
 
 -- a launch file that was read after a load that leaves the files
-pub text_before : (files later : Option FileMap) (launch : List ℕ) (lanes turns : Option ℕ) (text : Text) → later ≡ files → TextRead later launch lanes turns text → TextRead files launch lanes turns text
-text_before files later launch lanes turns text same read = subst (λ (f : Option FileMap). TextRead f launch lanes turns text) same read
+pub text_before : (files later : Option FileMap) (launch : List ℕ) (lanes turns : Option ℕ) (text : Text) →
+    later ≡ files → TextRead later launch lanes turns text → TextRead files launch lanes turns text
+text_before files later launch lanes turns text same read =
+    subst (λ (f : Option FileMap). TextRead f launch lanes turns text) same read
 
 -- what was read
-pub run_read : (files : Option FileMap) (ask : Files) (bytes held : List ℕ) (text : Text) (s : List Unit') → SourceLoaded files ask.source bytes → held ≡ bytes → TextRead files ask.launch ask.lanes ask.turns text → HasUnit held text.defines → AreCompiled held text.defines text.list s → RunRead files ask text s
+pub run_read : (files : Option FileMap) (ask : Files) (bytes held : List ℕ) (text : Text) (s : List Unit') →
+    SourceLoaded files ask.source bytes → held ≡ bytes → TextRead files ask.launch ask.lanes ask.turns text →
+    HasUnit held text.defines → AreCompiled held text.defines text.list s → RunRead files ask text s
 run_read files ask bytes held text s loaded same read unit are = record {
   source_bytes = bytes;
   source_loaded = loaded;
@@ -39,28 +45,52 @@ run_read files ask bytes held text s loaded same read unit are = record {
 
 -- a count that rose later rose over all
 rose_over : (a b c : ℕ) → a ≤ b → b ≤ c → Rose b c → Rose a c
-rose_over a b c ab bc rose small = elim (cases_lt b last_count) [ inl lt ↦ let up : b < c = rose lt in omega arith | inr ge ↦ omega arith ]
+rose_over a b c ab bc rose small =
+    elim (cases_lt b last_count) [ inl lt ↦ let up : b < c = rose lt in omega arith | inr ge ↦ omega arith ]
 
 -- a refusal while the launch file is read
-pub launch_cause : (old mid new : Standing) (ask : Files) (bytes : List ℕ) (e : RunError) → SourceLoaded old.files ask.source bytes → mid.files ≡ old.files → Stands old mid → Stands mid new → LaunchCause mid new ask.launch ask.lanes ask.turns e → ReadingCause old new ask e
-launch_cause old mid new ask bytes Failed loaded same before after c = rose_over old.faults mid.faults new.faults before.faults after.faults c
-launch_cause old mid new ask bytes Absent loaded same before after c =
-    (rose_over old.misses mid.misses new.misses before.misses after.misses c.0, inr (bytes, loaded, subst (λ (f : Option FileMap). LacksFile f ask.launch) same c.1))
+pub launch_cause : (old mid new : Standing) (ask : Files) (bytes : List ℕ) (e : RunError) →
+    SourceLoaded old.files ask.source bytes → mid.files ≡ old.files → Stands old mid → Stands mid new →
+    LaunchCause mid new ask.launch ask.lanes ask.turns e → ReadingCause old new ask e
+launch_cause old mid new ask bytes Failed loaded same before after c =
+    rose_over old.faults mid.faults new.faults before.faults after.faults c
+launch_cause old mid new ask bytes Absent loaded same before after c = (
+  rose_over old.misses mid.misses new.misses before.misses after.misses c.0,
+  inr (bytes, loaded, subst (λ (f : Option FileMap). LacksFile f ask.launch) same c.1),
+)
 launch_cause old mid new ask bytes (Launch number) loaded same before after c =
-    record { source_bytes = bytes; source_loaded = loaded; launch_bytes = c.bytes; launch_loaded = subst (λ (f : Option FileMap). HasFileStart f ask.launch 1048577 c.bytes) same c.loaded; refused = c.refused }
+    record {
+      source_bytes = bytes;
+      source_loaded = loaded;
+      launch_bytes = c.bytes;
+      launch_loaded = subst (λ (f : Option FileMap). HasFileStart f ask.launch 1048577 c.bytes) same c.loaded;
+      refused = c.refused;
+    }
 launch_cause old mid new ask bytes Memory loaded same before after c = tt
 launch_cause old mid new ask bytes _ loaded same before after c = absurd c
 
 -- a refusal of the source's bytes
-pub program_cause : (old new : Standing) (ask : Files) (bytes : List ℕ) (text : Text) (e : RunError) → TextRead old.files ask.launch ask.lanes ask.turns text → SourceLoaded old.files ask.source bytes → ProgramCause bytes text e → ReadingCause old new ask e
+pub program_cause : (old new : Standing) (ask : Files) (bytes : List ℕ) (text : Text) (e : RunError) →
+    TextRead old.files ask.launch ask.lanes ask.turns text → SourceLoaded old.files ask.source bytes →
+    ProgramCause bytes text e → ReadingCause old new ask e
 program_cause old new ask bytes text (Source number place) read loaded c =
-    record { text = text; source_bytes = bytes; source_loaded = loaded; launch_bytes = read.bytes; launch_loaded = read.loaded; reads = read.reads; fault = c }
+    record {
+      text = text;
+      source_bytes = bytes;
+      source_loaded = loaded;
+      launch_bytes = read.bytes;
+      launch_loaded = read.loaded;
+      reads = read.reads;
+      fault = c;
+    }
 program_cause old new ask bytes text Memory read loaded c = tt
 program_cause old new ask bytes text _ read loaded c = absurd c
 
 -- a launch that is not done, on the files of before
-stops : (files later : Option FileMap) (ask : Files) (text : Text) (s : List Unit') (e : RunError) → RunRead files ask text s → later ≡ files → StopsIn later text s e → RunStops files ask e
-stops files later ask text s e read same c = record { text = text; units = s; read = read; stops = subst (λ (f : Option FileMap). StopsIn f text s e) same c }
+stops : (files later : Option FileMap) (ask : Files) (text : Text) (s : List Unit') (e : RunError) →
+    RunRead files ask text s → later ≡ files → StopsIn later text s e → RunStops files ask e
+stops files later ask text s e read same c =
+    record { text = text; units = s; read = read; stops = subst (λ (f : Option FileMap). StopsIn f text s e) same c }
 
 -- a refusal while all is read is one of the run
 pub reading_cause : (old new : Standing) (ask : Files) (e : RunError) → ReadingCause old new ask e → Cause old new ask e
@@ -72,23 +102,39 @@ reading_cause old new ask Memory c = tt
 reading_cause old new ask _ c = absurd c
 
 -- a refusal once all is read
-pub back_cause : (old mid new : Standing) (ask : Files) (text : Text) (s : List Unit') (e : RunError) → RunRead old.files ask text s → mid.files ≡ old.files → Stands old mid → Stands mid new → BackCause mid new text s e → Cause old new ask e
-back_cause old mid new ask text s Failed read same before after c = rose_over old.faults mid.faults new.faults before.faults after.faults c
-back_cause old mid new ask text s Absent read same before after c =
-    (rose_over old.misses mid.misses new.misses before.misses after.misses c.0, inr (text, s, record { read = read; accepted = c.1 }, subst (λ (f : Option FileMap). LacksOneFile f (loads_of text.buffers)) same c.2))
-back_cause old mid new ask text s (Launch number) read same before after c = inr (record { text = text; units = s; read = read; refused = c })
-back_cause old mid new ask text s (Range number several group item place) read same before after c = stops old.files mid.files ask text s (Range number several group item place) read same c
-back_cause old mid new ask text s (Parted number several group item place) read same before after c = stops old.files mid.files ask text s (Parted number several group item place) read same c
-back_cause old mid new ask text s (Turns number several) read same before after c = stops old.files mid.files ask text s (Turns number several) read same c
+pub back_cause : (old mid new : Standing) (ask : Files) (text : Text) (s : List Unit') (e : RunError) →
+    RunRead old.files ask text s → mid.files ≡ old.files → Stands old mid → Stands mid new →
+    BackCause mid new text s e → Cause old new ask e
+back_cause old mid new ask text s Failed read same before after c =
+    rose_over old.faults mid.faults new.faults before.faults after.faults c
+back_cause old mid new ask text s Absent read same before after c = (
+  rose_over old.misses mid.misses new.misses before.misses after.misses c.0,
+  inr (
+    text,
+    s,
+    record { read = read; accepted = c.1 },
+    subst (λ (f : Option FileMap). LacksOneFile f (loads_of text.buffers)) same c.2,
+  ),
+)
+back_cause old mid new ask text s (Launch number) read same before after c =
+    inr (record { text = text; units = s; read = read; refused = c })
+back_cause old mid new ask text s (Range number several group item place) read same before after c =
+    stops old.files mid.files ask text s (Range number several group item place) read same c
+back_cause old mid new ask text s (Parted number several group item place) read same before after c =
+    stops old.files mid.files ask text s (Parted number several group item place) read same c
+back_cause old mid new ask text s (Turns number several) read same before after c =
+    stops old.files mid.files ask text s (Turns number several) read same c
 back_cause old mid new ask text s Memory read same before after c = tt
 back_cause old mid new ask text s _ read same before after c = absurd c
 
 -- the launches ran on the files of before
-ran_before : (files later : Option FileMap) (text : Text) (s : List Unit') (after : List (List ℕ)) → later ≡ files → HasRun later text s after → HasRun files text s after
+ran_before : (files later : Option FileMap) (text : Text) (s : List Unit') (after : List (List ℕ)) → later ≡ files →
+    HasRun later text s after → HasRun files text s after
 ran_before files later text s after same run = subst (λ (f : Option FileMap). HasRun f text s after) same run
 
 -- which files a refusal leaves once all is read
-pub leaves_files : (old mid new : Standing) (ask : Files) (text : Text) (s : List Unit') (e : RunError) → RunRead old.files ask text s → mid.files ≡ old.files → LeavesOthers mid new text s e → LeavesFiles old new ask e
+pub leaves_files : (old mid new : Standing) (ask : Files) (text : Text) (s : List Unit') (e : RunError) →
+    RunRead old.files ask text s → mid.files ≡ old.files → LeavesOthers mid new text s e → LeavesFiles old new ask e
 leaves_files old mid new ask text s Failed read same left = elim left [
   | inl all ↦ inl (all ∙ same)
   | inr stopped ↦ inr (record {
@@ -97,7 +143,8 @@ leaves_files old mid new ask text s Failed read same left = elim left [
     read = record { read = read; accepted = stopped.accepted };
     after = stopped.after;
     run = ran_before old.files mid.files text s stopped.after same stopped.run;
-    stops = subst (λ (f : Option FileMap). StopsAt f new.files (saves_of text.buffers) stopped.after) same stopped.stops;
+    stops =
+        subst (λ (f : Option FileMap). StopsAt f new.files (saves_of text.buffers) stopped.after) same stopped.stops;
     others = subst (λ (f : Option FileMap). KeepsAllBut f new.files (saves_of text.buffers)) same stopped.others;
   })
 ]
@@ -110,7 +157,8 @@ leaves_files old mid new ask text s (Turns number several) read same left = left
 leaves_files old mid new ask text s Memory read same left = left ∙ same
 
 -- a run that is done
-pub is_done : (old mid new : Option FileMap) (ask : Files) (text : Text) (s : List Unit') (summary : Summary) → RunRead old ask text s → mid ≡ old → IsRun mid new text s summary → IsDone old new ask summary
+pub is_done : (old mid new : Option FileMap) (ask : Files) (text : Text) (s : List Unit') (summary : Summary) →
+    RunRead old ask text s → mid ≡ old → IsRun mid new text s summary → IsDone old new ask summary
 is_done old mid new ask text s summary read same run = record {
   text = text;
   units = s;
@@ -124,7 +172,8 @@ is_done old mid new ask text s summary read same run = record {
 }
 
 -- a command that runs nothing leaves the files
-pub leaves_read : (old new : Standing) (ask : Files) (e : RunError) → new.files ≡ old.files → ReadingCause old new ask e → LeavesFiles old new ask e
+pub leaves_read : (old new : Standing) (ask : Files) (e : RunError) → new.files ≡ old.files →
+    ReadingCause old new ask e → LeavesFiles old new ask e
 leaves_read old new ask Failed same c = inl same
 leaves_read old new ask Absent same c = same
 leaves_read old new ask (Source number place) same c = same

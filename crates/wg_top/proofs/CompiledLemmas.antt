@@ -27,26 +27,33 @@ use Rattle.wg_top.proofs.Passes.{suits, passes_in_outcomes}
 use Rattle.wg_top.proofs.Shape.{codes_have_few, holds_none}
 use Rattle.wg_top.proofs.Sites.{ends_have_places}
 
--- what the passes answer: a valid kernel, which variables vary, the plan, and a valid program of a group whose codes are valid and those of the kernel's regions
-pub record ArePasses (program : Program) (varying : List (List Test)) (kernel : Kernel) (plan : Planned) (width : Width) (p : Plain) : Type 0 where
+-- what the passes answer: a valid kernel, which variables vary, the plan, and a valid program of a group whose codes
+-- are valid and those of the kernel's regions
+pub record ArePasses (program : Program) (varying : List (List Test)) (kernel : Kernel) (plan : Planned)
+    (width : Width) (p : Plain) : Type 0 where
   pub fits : is_kernel kernel ≡ true
   pub varies : AreVarying program varying
   pub planned : IsPlan program kernel plan
   pub parts : HasPartsOf kernel plan width p
-  pub built : IsBuilt (λ region code. code ≡ region_code kernel plan.homes region) (split_of kernel) (work_before p.top NoWork)
+  pub built : IsBuilt (λ region code. code ≡ region_code kernel plan.homes region) (split_of kernel)
+      (work_before p.top NoWork)
   pub one : holds_barrier kernel.body ≡ false → IsOneCode p.top
   pub valid : is_group_program p ≡ true
   pub well : EachCode IsWell p.top
 
 -- where the kernel comes from the program, all that the passes answer is a compiled program
-pub compiled_from : (program : Program) (names : List (List Named)) (name name_in_code : List ℕ) (varying : List (List Test)) (kernel : Kernel) (plan : Planned) (width : Width) (p : Plain)
+pub compiled_from : (program : Program) (names : List (List Named)) (name name_in_code : List ℕ)
+    (varying : List (List Test)) (kernel : Kernel) (plan : Planned) (width : Width) (p : Plain)
     → IsLoweringOf program names kernel → ArePasses program varying kernel plan width p → name_in_code ≡ name
     → IsCompiledFrom program name varying kernel plan width name_in_code p
 compiled_from program names name name_in_code varying kernel plan width p lowered passes named = record {
   planned = record { varies = passes.varies; homes = passes.planned; parts = passes.parts };
-  outcomes = passes_in_outcomes program names kernel plan width p lowered (body_fits kernel passes.fits) passes.planned passes.parts passes.built
-      (λ launch buffers fits. ends_have_places program p passes.valid (passes.parts.sites ∙ lowered.parts.sites) launch buffers)
-      (each_follows kernel plan width p.top passes.fits (suits program names kernel plan lowered passes.planned) passes.well passes.built);
+  outcomes = passes_in_outcomes program names kernel plan width p lowered (body_fits kernel passes.fits)
+      passes.planned passes.parts passes.built
+      (λ launch buffers fits. ends_have_places program p passes.valid (passes.parts.sites ∙
+      lowered.parts.sites) launch buffers)
+      (each_follows kernel plan width p.top passes.fits (suits program names kernel plan lowered passes.planned)
+      passes.well passes.built);
   shaped = record {
     kernel = named;
     params = passes.parts.params ∙ lowered.parts.parameters;
@@ -56,12 +63,16 @@ compiled_from program names name name_in_code varying kernel plan width p lowere
 }
 
 -- the same of the kernel and the plan of a unit, with what is known of the plan
-pub compiled_in : (u : Unit') (width : Width) (name name_in_code : List ℕ) (kernel : Kernel) (plan : Planned) (p : Plain) → kernel ≡ kernel_in u → plan ≡ plan_in u → is_kernel kernel ≡ true
-    → IsPlanned (program_of u) (varying_of (program_of u)) (kernel_in u) (plan_in u) width p → IsLike (group_in (lanes_of width) u) p → (holds_barrier kernel.body ≡ false → IsOneCode p.top) → is_group_program p ≡ true → EachCode IsWell p.top → name_in_code ≡ name
+pub compiled_in : (u : Unit') (width : Width) (name name_in_code : List ℕ) (kernel : Kernel) (plan : Planned)
+    (p : Plain) → kernel ≡ kernel_in u → plan ≡ plan_in u → is_kernel kernel ≡ true
+    → IsPlanned (program_of u) (varying_of (program_of u)) (kernel_in u) (plan_in u) width p →
+    IsLike (group_in (lanes_of width) u) p → (holds_barrier kernel.body ≡ false → IsOneCode p.top) →
+    is_group_program p ≡ true → EachCode IsWell p.top → name_in_code ≡ name
     → IsLoweringOf (program_of u) (names_in u) (kernel_in u)
     → IsCompiledFrom (program_of u) name (varying_of (program_of u)) (kernel_in u) (plan_in u) width name_in_code p
 compiled_in u width name name_in_code kernel plan p kernel_is plan_is fits planned like one valid well named lowered =
-    compiled_from (program_of u) (names_in u) name name_in_code (varying_of (program_of u)) (kernel_in u) (plan_in u) width p lowered
+    compiled_from (program_of u) (names_in u) name name_in_code (varying_of (program_of u)) (kernel_in u) (plan_in u)
+    width p lowered
     (record {
       fits = subst (λ (k : Kernel). is_kernel k ≡ true) kernel_is fits;
       varies = planned.varies;

@@ -1,5 +1,6 @@
 -- The plan and the shape of a compiled kernel, from what the passes answer.
-use Rattle.std.proofs.Common.{◌≡◌, ℕ, zero, suc, List, [], ◌∷◌, length, map, unwrap_or, refl, sym, ap, subst, ◌∙◌, false}
+use Rattle.std.proofs.Common.{◌≡◌, ℕ, zero, suc, List, [], ◌∷◌, length, map, unwrap_or, refl, sym, ap, subst, ◌∙◌}
+use Rattle.std.proofs.Common.{false}
 use Rattle.std.specs.Prelude.{Result, Ok, Err, IfOk, slice_get}
 use Rattle.wg_num.specs.declared.types.Width.{Width}
 use Rattle.wg_num.specs.Operators.{lanes_of}
@@ -47,36 +48,48 @@ as_many [] = refl
 as_many (v ∷ vs) = ap suc (as_many vs)
 
 pub named_as : (functions : List Function) (f : ℕ)
-    → length {A = Named} (unwrap_or (slice_get (map (λ (g : Function). names_given g.variables) functions) f) []) ≡ length (unwrap_or (slice_get (map function_of functions) f) no_function).variables
+    → length {A = Named} (unwrap_or (slice_get (map (λ (g : Function). names_given g.variables) functions) f) []) ≡
+    length (unwrap_or (slice_get (map function_of functions) f) no_function).variables
 named_as [] f = refl
 named_as (g ∷ functions) zero = as_many g.variables
 named_as (g ∷ functions) (suc f) = named_as functions f
 
 -- the codes of a tree, read from its front, are those of its regions
-works_built : (code : RegionOf → PlainCode) (tree : Tree) → IsBuilt (λ region c. c ≡ code region) tree (works_before (works_of code tree) NoWork)
+works_built : (code : RegionOf → PlainCode) (tree : Tree) →
+    IsBuilt (λ region c. c ≡ code region) tree (works_before (works_of code tree) NoWork)
 works_built code NoRegion = tt
 works_built code (RegionThen region rest) = (refl, works_built code rest)
-works_built code (VoteThen test agreed refused mixed rest) = (refl, works_built code agreed, works_built code refused, refl, works_built code rest)
-works_built code (LoopThen first test body others rest) = (refl, works_built code test, works_built code body, refl, works_built code rest)
+works_built code (VoteThen test agreed refused mixed rest) =
+    (refl, works_built code agreed, works_built code refused, refl, works_built code rest)
+works_built code (LoopThen first test body others rest) =
+    (refl, works_built code test, works_built code body, refl, works_built code rest)
 
 -- the codes of a program that is like that of the unit are those of the unit's regions
-pub built_in : (u : Unit') (width : Width) (p : Plain) → IsLike (group_in (lanes_of width) u) p → IsBuilt (λ region code. code ≡ region_code (kernel_in u) (plan_in u).homes region) (split_of (kernel_in u)) (work_before p.top NoWork)
+pub built_in : (u : Unit') (width : Width) (p : Plain) → IsLike (group_in (lanes_of width) u) p →
+    IsBuilt (λ region code. code ≡ region_code (kernel_in u) (plan_in u).homes region) (split_of (kernel_in u))
+    (work_before p.top NoWork)
 unfolding group_in
 built_in u width p like =
     let code = region_code (kernel_in u) (plan_in u).homes in
-    subst (λ (c : Chain). IsBuilt (λ region c'. c' ≡ code region) (split_of (kernel_in u)) c) (sym like.chain) (works_built code (split_of (kernel_in u)))
+    subst (λ (c : Chain). IsBuilt (λ region c'. c' ≡ code region) (split_of (kernel_in u)) c) (sym like.chain)
+    (works_built code (split_of (kernel_in u)))
 
 -- the kernel, its plan and what its codes are
-pub planned_as : (u : Unit') (width : Width) (p : Plain) → IsValid (program_of u) → AreVarying (program_of u) (varying_of (program_of u)) → IsCounted (kernel_in u) (plan_in u) → HasPartsOf (kernel_in u) (plan_in u) width p
+pub planned_as : (u : Unit') (width : Width) (p : Plain) → IsValid (program_of u) →
+    AreVarying (program_of u) (varying_of (program_of u)) → IsCounted (kernel_in u) (plan_in u) →
+    HasPartsOf (kernel_in u) (plan_in u) width p
     → IsPlanned (program_of u) (varying_of (program_of u)) (kernel_in u) (plan_in u) width p
 unfolding kernel_in plan_in
 planned_as u width p valid varies counted parts = record {
   varies = varies;
-  homes = is_plan (program_of u) (names_in u) (kernel_in u) (varying_of (program_of u)) valid (has_cells (program_of u) (names_in u) valid (named_as u.functions)) varies counted;
+  homes = is_plan (program_of u) (names_in u) (kernel_in u) (varying_of (program_of u)) valid
+      (has_cells (program_of u) (names_in u) valid (named_as u.functions)) varies counted;
   parts = parts;
 }
 
-pub shaped_as : (u : Unit') (width : Width) (name name_in_code : List ℕ) (p : Plain) → IsValid (program_of u) → HasPartsOf (kernel_in u) (plan_in u) width p → IsLike (group_in (lanes_of width) u) p → (holds_barrier (kernel_in u).body ≡ false → IsOneCode p.top) → name_in_code ≡ name
+pub shaped_as : (u : Unit') (width : Width) (name name_in_code : List ℕ) (p : Plain) → IsValid (program_of u) →
+    HasPartsOf (kernel_in u) (plan_in u) width p → IsLike (group_in (lanes_of width) u) p →
+    (holds_barrier (kernel_in u).body ≡ false → IsOneCode p.top) → name_in_code ≡ name
     → IsShaped (program_of u) name name_in_code p
 unfolding kernel_in plan_in group_in
 shaped_as u width name name_in_code p valid parts like one named =
@@ -89,23 +102,34 @@ shaped_as u width name name_in_code p valid parts like one named =
     }
 
 -- the parts of a group program are those of the unit's kernel and plan
-pub parts_in : (u : Unit') (width : Width) (kernel : Kernel) (plan : Planned) (p : Plain) → kernel ≡ kernel_in u → plan ≡ plan_in u → HasPartsOf kernel plan width p → HasPartsOf (kernel_in u) (plan_in u) width p
-parts_in u width kernel plan p kernel_is plan_is parts = subst (λ (x : Planned). HasPartsOf (kernel_in u) x width p) plan_is (subst (λ (k : Kernel). HasPartsOf k plan width p) kernel_is parts)
+pub parts_in : (u : Unit') (width : Width) (kernel : Kernel) (plan : Planned) (p : Plain) → kernel ≡ kernel_in u →
+    plan ≡ plan_in u → HasPartsOf kernel plan width p → HasPartsOf (kernel_in u) (plan_in u) width p
+parts_in u width kernel plan p kernel_is plan_is parts =
+    subst (λ (x : Planned). HasPartsOf (kernel_in u) x width p) plan_is
+    (subst (λ (k : Kernel). HasPartsOf k plan width p) kernel_is parts)
 
 -- the kernel and the plan that the passes answer are those of the unit
-pub shaped_from : (u : Unit') (width : Width) (name name_in_code : List ℕ) (kernel : Kernel) (plan : Planned) (p : Plain) → IsValid (program_of u) → kernel ≡ kernel_in u → plan ≡ plan_in u → HasPartsOf kernel plan width p → IsLike (group_in (lanes_of width) u) p
+pub shaped_from : (u : Unit') (width : Width) (name name_in_code : List ℕ) (kernel : Kernel) (plan : Planned)
+    (p : Plain) → IsValid (program_of u) → kernel ≡ kernel_in u → plan ≡ plan_in u → HasPartsOf kernel plan width p →
+    IsLike (group_in (lanes_of width) u) p
     → (holds_barrier kernel.body ≡ false → IsOneCode p.top) → name_in_code ≡ name
     → IsShaped (program_of u) name name_in_code p
 shaped_from u width name name_in_code kernel plan p valid kernel_is plan_is parts like one named =
-    shaped_as u width name name_in_code p valid (parts_in u width kernel plan p kernel_is plan_is parts) like (subst (λ (k : Kernel). holds_barrier k.body ≡ false → IsOneCode p.top) kernel_is one) named
+    shaped_as u width name name_in_code p valid (parts_in u width kernel plan p kernel_is plan_is parts) like
+    (subst (λ (k : Kernel). holds_barrier k.body ≡ false → IsOneCode p.top) kernel_is one) named
 
-pub planned_from : (u : Unit') (width : Width) (kernel : Kernel) (plan : Planned) (p : Plain) → IsValid (program_of u) → AreVarying (program_of u) (varying_of (program_of u)) → kernel ≡ kernel_in u → plan ≡ plan_in u → IsCounted kernel plan → HasPartsOf kernel plan width p
+pub planned_from : (u : Unit') (width : Width) (kernel : Kernel) (plan : Planned) (p : Plain) →
+    IsValid (program_of u) → AreVarying (program_of u) (varying_of (program_of u)) → kernel ≡ kernel_in u →
+    plan ≡ plan_in u → IsCounted kernel plan → HasPartsOf kernel plan width p
     → IsPlanned (program_of u) (varying_of (program_of u)) (kernel_in u) (plan_in u) width p
 planned_from u width kernel plan p valid varies kernel_is plan_is counted parts =
-    planned_as u width p valid varies (subst (λ (x : Planned). IsCounted (kernel_in u) x) plan_is (subst (λ (k : Kernel). IsCounted k plan) kernel_is counted)) (parts_in u width kernel plan p kernel_is plan_is parts)
+    planned_as u width p valid varies (subst (λ (x : Planned). IsCounted (kernel_in u) x) plan_is
+    (subst (λ (k : Kernel). IsCounted k plan) kernel_is counted))
+    (parts_in u width kernel plan p kernel_is plan_is parts)
 
 -- what is kept once for a group is a variable that does not vary, which has equal values
-pub kept_once : (program : Program) (kernel : Kernel) (plan : Planned) → IsValid program → IsPlan program kernel plan → KeepsOnceWhatIsEqual program kernel plan
+pub kept_once : (program : Program) (kernel : Kernel) (plan : Planned) → IsValid program →
+    IsPlan program kernel plan → KeepsOnceWhatIsEqual program kernel plan
 kept_once program kernel plan valid is c s at =
     let steady = once_is_steady program kernel plan is c (record { slot = s; home = at }) in
     let owned : Owned = record { function = steady.variable.function; variable = steady.variable.number } in (

@@ -8,11 +8,13 @@ use Rattle.wg_top.specs.Causes.{Standing, Cause, LeavesFiles}
 use Rattle.wg_top.specs.Lines.{error_line, done_line, sample_line, status_of}
 use Rattle.command_words.specs.Command.{Files, Request, run, plan, code, sample}
 use Rattle.wg_top.specs.Shown.{Showing, plan_shown, code_shown}
-use Rattle.wg_top.specs.Ends.{SinkStanding, Outside, Ends, EndsShowing, EndsSample, EndsAsked, EndsSaying, SaysLine, KeepsOut}
+use Rattle.wg_top.specs.Ends.{SinkStanding, Outside, Ends, EndsShowing, EndsSample, EndsAsked, EndsSaying, SaysLine}
+use Rattle.wg_top.specs.Ends.{KeepsOut}
 use Rattle.wg_top.proofs.CauseLemmas.{reading_cause}
 
 -- what a refusal's status says of its cause
-pub status_failed : (old new : Standing) (ask : Files) (e : RunError) (n : ℕ) → n ≡ status_of e → Cause old new ask e → n ≡ 1 → Rose old.faults new.faults
+pub status_failed : (old new : Standing) (ask : Files) (e : RunError) (n : ℕ) → n ≡ status_of e →
+    Cause old new ask e → n ≡ 1 → Rose old.faults new.faults
 status_failed old new ask Failed n is cause one = cause
 status_failed old new ask Absent n is cause one = absurd (omega arith)
 status_failed old new ask (Source number place) n is cause one = absurd (omega arith)
@@ -22,7 +24,8 @@ status_failed old new ask (Parted number several group item place) n is cause on
 status_failed old new ask (Turns number several) n is cause one = absurd (omega arith)
 status_failed old new ask Memory n is cause one = absurd (omega arith)
 
-pub status_absent : (old new : Standing) (ask : Files) (e : RunError) (n : ℕ) → n ≡ status_of e → Cause old new ask e → n ≡ 9 → Rose old.misses new.misses
+pub status_absent : (old new : Standing) (ask : Files) (e : RunError) (n : ℕ) → n ≡ status_of e →
+    Cause old new ask e → n ≡ 9 → Rose old.misses new.misses
 status_absent old new ask Failed n is cause nine = absurd (omega arith)
 status_absent old new ask Absent n is cause nine = cause.0
 status_absent old new ask (Source number place) n is cause nine = absurd (omega arith)
@@ -33,7 +36,8 @@ status_absent old new ask (Turns number several) n is cause nine = absurd (omega
 status_absent old new ask Memory n is cause nine = absurd (omega arith)
 
 -- a refusal that is no failure leaves the files
-pub leaves_all : (old new : Standing) (ask : Files) (e : RunError) (n : ℕ) → n ≡ status_of e → LeavesFiles old new ask e → (n ≡ 1 → ⊥) → new.files ≡ old.files
+pub leaves_all : (old new : Standing) (ask : Files) (e : RunError) (n : ℕ) → n ≡ status_of e →
+    LeavesFiles old new ask e → (n ≡ 1 → ⊥) → new.files ≡ old.files
 leaves_all old new ask Failed n is leaves other = absurd (other is)
 leaves_all old new ask Absent n is leaves other = leaves
 leaves_all old new ask (Source number place) n is leaves other = leaves
@@ -54,7 +58,8 @@ status_above (Parted number several group item place) n is = (λ h. omega arith,
 status_above (Turns number several) n is = (λ h. omega arith, λ h. omega arith)
 status_above Memory n is = (λ h. omega arith, λ h. omega arith)
 
-pub ends_failed : (old new : Outside) (ask : Files) (n : ℕ) → Ends old new ask n → n ≡ 1 → Rose old.store.faults new.store.faults ⊎ Rose old.out.faults new.out.faults
+pub ends_failed : (old new : Outside) (ask : Files) (n : ℕ) → Ends old new ask n → n ≡ 1 →
+    Rose old.store.faults new.store.faults ⊎ Rose old.out.faults new.out.faults
 ends_failed old new ask n ends one = elim ends [
   | inl done ↦ absurd (omega (arith, done.status_is))
   | inr more ↦ elim more [
@@ -63,7 +68,8 @@ ends_failed old new ask n ends one = elim ends [
   ]
 ]
 
-pub ends_absent : (old new : Outside) (ask : Files) (n : ℕ) → Ends old new ask n → n ≡ 9 → Rose old.store.misses new.store.misses
+pub ends_absent : (old new : Outside) (ask : Files) (n : ℕ) → Ends old new ask n → n ≡ 9 →
+    Rose old.store.misses new.store.misses
 ends_absent old new ask n ends nine = elim ends [
   | inl done ↦ absurd (omega (arith, done.status_is))
   | inr more ↦ elim more [
@@ -72,7 +78,8 @@ ends_absent old new ask n ends nine = elim ends [
   ]
 ]
 
-pub ends_no_save : (old new : Outside) (ask : Files) (n : ℕ) → Ends old new ask n → (n ≡ 0 → ⊥) → (n ≡ 1 → ⊥) → new.store.files ≡ old.store.files
+pub ends_no_save : (old new : Outside) (ask : Files) (n : ℕ) → Ends old new ask n → (n ≡ 0 → ⊥) → (n ≡ 1 → ⊥) →
+    new.store.files ≡ old.store.files
 ends_no_save old new ask n ends not_done not_failed = elim ends [
   | inl done ↦ absurd (not_done done.status_is)
   | inr more ↦ elim more [
@@ -119,31 +126,37 @@ ends_no_usage old new ask n ends two = elim ends [
 
 -- ---- the same of a command that runs nothing
 
-showing_failed : (old new : Outside) (ask : Files) (show : Showing) (n : ℕ) → EndsShowing old new ask show n → n ≡ 1 → Rose old.store.faults new.store.faults ⊎ Rose old.out.faults new.out.faults
+showing_failed : (old new : Outside) (ask : Files) (show : Showing) (n : ℕ) → EndsShowing old new ask show n → n ≡ 1 →
+    Rose old.store.faults new.store.faults ⊎ Rose old.out.faults new.out.faults
 showing_failed old new ask show n ends one = elim ends [
   | inl done ↦ absurd (omega (arith, done.status_is))
   | inr more ↦ elim more [
     | inl unsaid ↦ inr unsaid.failed
-    | inr refused ↦ inl (status_failed old.store new.store ask refused.error n refused.status_is (reading_cause old.store new.store ask refused.error refused.cause) one)
+    | inr refused ↦ inl (status_failed old.store new.store ask refused.error n refused.status_is
+        (reading_cause old.store new.store ask refused.error refused.cause) one)
   ]
 ]
 
-showing_absent : (old new : Outside) (ask : Files) (show : Showing) (n : ℕ) → EndsShowing old new ask show n → n ≡ 9 → Rose old.store.misses new.store.misses
+showing_absent : (old new : Outside) (ask : Files) (show : Showing) (n : ℕ) → EndsShowing old new ask show n → n ≡ 9 →
+    Rose old.store.misses new.store.misses
 showing_absent old new ask show n ends nine = elim ends [
   | inl done ↦ absurd (omega (arith, done.status_is))
   | inr more ↦ elim more [
     | inl unsaid ↦ absurd (omega (arith, unsaid.status_is))
-    | inr refused ↦ status_absent old.store new.store ask refused.error n refused.status_is (reading_cause old.store new.store ask refused.error refused.cause) nine
+    | inr refused ↦ status_absent old.store new.store ask refused.error n refused.status_is
+        (reading_cause old.store new.store ask refused.error refused.cause) nine
   ]
 ]
 
-showing_stays : (old new : Outside) (ask : Files) (show : Showing) (n : ℕ) → EndsShowing old new ask show n → new.store.files ≡ old.store.files
+showing_stays : (old new : Outside) (ask : Files) (show : Showing) (n : ℕ) → EndsShowing old new ask show n →
+    new.store.files ≡ old.store.files
 showing_stays old new ask show n ends = elim ends [
   | inl done ↦ done.files_stay
   | inr more ↦ elim more [ inl unsaid ↦ unsaid.files_stay | inr refused ↦ refused.files_stay ]
 ]
 
-showing_quiet : (old new : Outside) (ask : Files) (show : Showing) (n : ℕ) → EndsShowing old new ask show n → n ≡ 0 → new.err ≡ old.err
+showing_quiet : (old new : Outside) (ask : Files) (show : Showing) (n : ℕ) → EndsShowing old new ask show n → n ≡ 0 →
+    new.err ≡ old.err
 showing_quiet old new ask show n ends zero = elim ends [
   | inl done ↦ done.err_stays
   | inr more ↦ elim more [
@@ -152,7 +165,8 @@ showing_quiet old new ask show n ends zero = elim ends [
   ]
 ]
 
-showing_line : (old new : Outside) (ask : Files) (show : Showing) (n : ℕ) → EndsShowing old new ask show n → (n ≡ 0 → ⊥) → SaysLine old.err new.err
+showing_line : (old new : Outside) (ask : Files) (show : Showing) (n : ℕ) → EndsShowing old new ask show n →
+    (n ≡ 0 → ⊥) → SaysLine old.err new.err
 showing_line old new ask show n ends not_done = elim ends [
   | inl done ↦ absurd (not_done done.status_is)
   | inr more ↦ elim more [
@@ -161,7 +175,8 @@ showing_line old new ask show n ends not_done = elim ends [
   ]
 ]
 
-showing_out : (old new : Outside) (ask : Files) (show : Showing) (n : ℕ) → EndsShowing old new ask show n → (n ≡ 0 → ⊥) → KeepsOut old.out new.out
+showing_out : (old new : Outside) (ask : Files) (show : Showing) (n : ℕ) → EndsShowing old new ask show n →
+    (n ≡ 0 → ⊥) → KeepsOut old.out new.out
 showing_out old new ask show n ends not_done = elim ends [
   | inl done ↦ absurd (not_done done.status_is)
   | inr more ↦ elim more [
@@ -170,7 +185,8 @@ showing_out old new ask show n ends not_done = elim ends [
   ]
 ]
 
-showing_no_usage : (old new : Outside) (ask : Files) (show : Showing) (n : ℕ) → EndsShowing old new ask show n → n ≡ 2 → ⊥
+showing_no_usage : (old new : Outside) (ask : Files) (show : Showing) (n : ℕ) → EndsShowing old new ask show n →
+    n ≡ 2 → ⊥
 showing_no_usage old new ask show n ends two = elim ends [
   | inl done ↦ omega (arith, done.status_is)
   | inr more ↦ elim more [
@@ -182,7 +198,8 @@ showing_no_usage old new ask show n ends two = elim ends [
 -- ---- and of the sample
 
 -- a refusal that is no fault of a store has neither status
-no_fault_status : (e : RunError) (n : ℕ) → n ≡ status_of e → (e ≡ Failed → ⊥) × (e ≡ Absent → ⊥) → (n ≡ 1 → ⊥) × (n ≡ 9 → ⊥)
+no_fault_status : (e : RunError) (n : ℕ) → n ≡ status_of e → (e ≡ Failed → ⊥) × (e ≡ Absent → ⊥) →
+    (n ≡ 1 → ⊥) × (n ≡ 9 → ⊥)
 no_fault_status Failed n is none = absurd (none.0 refl)
 no_fault_status Absent n is none = absurd (none.1 refl)
 no_fault_status (Source number place) n is none = (λ h. omega arith, λ h. omega arith)
@@ -192,7 +209,8 @@ no_fault_status (Parted number several group item place) n is none = (λ h. omeg
 no_fault_status (Turns number several) n is none = (λ h. omega arith, λ h. omega arith)
 no_fault_status Memory n is none = (λ h. omega arith, λ h. omega arith)
 
-sample_failed : (old_out new_out old_err new_err : SinkStanding) (k n : ℕ) → EndsSample old_out new_out old_err new_err k n → n ≡ 1 → Rose old_out.faults new_out.faults
+sample_failed : (old_out new_out old_err new_err : SinkStanding) (k n : ℕ) →
+    EndsSample old_out new_out old_err new_err k n → n ≡ 1 → Rose old_out.faults new_out.faults
 sample_failed old_out new_out old_err new_err k n ends one = elim ends [
   | inl done ↦ absurd (omega (arith, done.status_is))
   | inr more ↦ elim more [
@@ -201,7 +219,8 @@ sample_failed old_out new_out old_err new_err k n ends one = elim ends [
   ]
 ]
 
-sample_absent : (old_out new_out old_err new_err : SinkStanding) (k n : ℕ) → EndsSample old_out new_out old_err new_err k n → n ≡ 9 → ⊥
+sample_absent : (old_out new_out old_err new_err : SinkStanding) (k n : ℕ) →
+    EndsSample old_out new_out old_err new_err k n → n ≡ 9 → ⊥
 sample_absent old_out new_out old_err new_err k n ends nine = elim ends [
   | inl done ↦ omega (arith, done.status_is)
   | inr more ↦ elim more [
@@ -210,7 +229,8 @@ sample_absent old_out new_out old_err new_err k n ends nine = elim ends [
   ]
 ]
 
-sample_quiet : (old_out new_out old_err new_err : SinkStanding) (k n : ℕ) → EndsSample old_out new_out old_err new_err k n → n ≡ 0 → new_err ≡ old_err
+sample_quiet : (old_out new_out old_err new_err : SinkStanding) (k n : ℕ) →
+    EndsSample old_out new_out old_err new_err k n → n ≡ 0 → new_err ≡ old_err
 sample_quiet old_out new_out old_err new_err k n ends zero = elim ends [
   | inl done ↦ done.err_stays
   | inr more ↦ elim more [
@@ -219,7 +239,8 @@ sample_quiet old_out new_out old_err new_err k n ends zero = elim ends [
   ]
 ]
 
-sample_line_said : (old_out new_out old_err new_err : SinkStanding) (k n : ℕ) → EndsSample old_out new_out old_err new_err k n → (n ≡ 0 → ⊥) → SaysLine old_err new_err
+sample_line_said : (old_out new_out old_err new_err : SinkStanding) (k n : ℕ) →
+    EndsSample old_out new_out old_err new_err k n → (n ≡ 0 → ⊥) → SaysLine old_err new_err
 sample_line_said old_out new_out old_err new_err k n ends not_done = elim ends [
   | inl done ↦ absurd (not_done done.status_is)
   | inr more ↦ elim more [
@@ -228,7 +249,8 @@ sample_line_said old_out new_out old_err new_err k n ends not_done = elim ends [
   ]
 ]
 
-sample_out : (old_out new_out old_err new_err : SinkStanding) (k n : ℕ) → EndsSample old_out new_out old_err new_err k n → (n ≡ 0 → ⊥) → KeepsOut old_out new_out
+sample_out : (old_out new_out old_err new_err : SinkStanding) (k n : ℕ) →
+    EndsSample old_out new_out old_err new_err k n → (n ≡ 0 → ⊥) → KeepsOut old_out new_out
 sample_out old_out new_out old_err new_err k n ends not_done = elim ends [
   | inl done ↦ absurd (not_done done.status_is)
   | inr more ↦ elim more [
@@ -237,7 +259,8 @@ sample_out old_out new_out old_err new_err k n ends not_done = elim ends [
   ]
 ]
 
-sample_no_usage : (old_out new_out old_err new_err : SinkStanding) (k n : ℕ) → EndsSample old_out new_out old_err new_err k n → n ≡ 2 → ⊥
+sample_no_usage : (old_out new_out old_err new_err : SinkStanding) (k n : ℕ) →
+    EndsSample old_out new_out old_err new_err k n → n ≡ 2 → ⊥
 sample_no_usage old_out new_out old_err new_err k n ends two = elim ends [
   | inl done ↦ omega (arith, done.status_is)
   | inr more ↦ elim more [
@@ -248,37 +271,43 @@ sample_no_usage old_out new_out old_err new_err k n ends two = elim ends [
 
 -- ---- and of what is asked for
 
-pub asked_failed : (old new : Outside) (request : Request) (n : ℕ) → EndsAsked old new request n → n ≡ 1 → Rose old.store.faults new.store.faults ⊎ Rose old.out.faults new.out.faults
+pub asked_failed : (old new : Outside) (request : Request) (n : ℕ) → EndsAsked old new request n → n ≡ 1 →
+    Rose old.store.faults new.store.faults ⊎ Rose old.out.faults new.out.faults
 asked_failed old new (run ask) n ends one = ends_failed old new ask n ends one
 asked_failed old new (plan ask) n ends one = showing_failed old new ask plan_shown n ends one
 asked_failed old new (code ask) n ends one = showing_failed old new ask code_shown n ends one
 asked_failed old new (sample k) n ends one = inr (sample_failed old.out new.out old.err new.err k n ends.1 one)
 
-pub asked_absent : (old new : Outside) (request : Request) (n : ℕ) → EndsAsked old new request n → n ≡ 9 → Rose old.store.misses new.store.misses
+pub asked_absent : (old new : Outside) (request : Request) (n : ℕ) → EndsAsked old new request n → n ≡ 9 →
+    Rose old.store.misses new.store.misses
 asked_absent old new (run ask) n ends nine = ends_absent old new ask n ends nine
 asked_absent old new (plan ask) n ends nine = showing_absent old new ask plan_shown n ends nine
 asked_absent old new (code ask) n ends nine = showing_absent old new ask code_shown n ends nine
 asked_absent old new (sample k) n ends nine = absurd (sample_absent old.out new.out old.err new.err k n ends.1 nine)
 
-pub asked_no_save : (old new : Outside) (request : Request) (n : ℕ) → EndsAsked old new request n → (n ≡ 0 → ⊥) → (n ≡ 1 → ⊥) → new.store.files ≡ old.store.files
+pub asked_no_save : (old new : Outside) (request : Request) (n : ℕ) → EndsAsked old new request n → (n ≡ 0 → ⊥) →
+    (n ≡ 1 → ⊥) → new.store.files ≡ old.store.files
 asked_no_save old new (run ask) n ends a b = ends_no_save old new ask n ends a b
 asked_no_save old new (plan ask) n ends a b = showing_stays old new ask plan_shown n ends
 asked_no_save old new (code ask) n ends a b = showing_stays old new ask code_shown n ends
 asked_no_save old new (sample k) n ends a b = ap (λ s. s.files) ends.0
 
-pub asked_quiet : (old new : Outside) (request : Request) (n : ℕ) → EndsAsked old new request n → n ≡ 0 → new.err ≡ old.err
+pub asked_quiet : (old new : Outside) (request : Request) (n : ℕ) → EndsAsked old new request n → n ≡ 0 →
+    new.err ≡ old.err
 asked_quiet old new (run ask) n ends zero = ends_quiet old new ask n ends zero
 asked_quiet old new (plan ask) n ends zero = showing_quiet old new ask plan_shown n ends zero
 asked_quiet old new (code ask) n ends zero = showing_quiet old new ask code_shown n ends zero
 asked_quiet old new (sample k) n ends zero = sample_quiet old.out new.out old.err new.err k n ends.1 zero
 
-pub asked_line : (old new : Outside) (request : Request) (n : ℕ) → EndsAsked old new request n → (n ≡ 0 → ⊥) → SaysLine old.err new.err
+pub asked_line : (old new : Outside) (request : Request) (n : ℕ) → EndsAsked old new request n → (n ≡ 0 → ⊥) →
+    SaysLine old.err new.err
 asked_line old new (run ask) n ends not_done = ends_line old new ask n ends not_done
 asked_line old new (plan ask) n ends not_done = showing_line old new ask plan_shown n ends not_done
 asked_line old new (code ask) n ends not_done = showing_line old new ask code_shown n ends not_done
 asked_line old new (sample k) n ends not_done = sample_line_said old.out new.out old.err new.err k n ends.1 not_done
 
-pub asked_out : (old new : Outside) (request : Request) (n : ℕ) → EndsAsked old new request n → (n ≡ 0 → ⊥) → KeepsOut old.out new.out
+pub asked_out : (old new : Outside) (request : Request) (n : ℕ) → EndsAsked old new request n → (n ≡ 0 → ⊥) →
+    KeepsOut old.out new.out
 asked_out old new (run ask) n ends not_done = ends_out old new ask n ends not_done
 asked_out old new (plan ask) n ends not_done = showing_out old new ask plan_shown n ends not_done
 asked_out old new (code ask) n ends not_done = showing_out old new ask code_shown n ends not_done
@@ -297,8 +326,43 @@ memory_failed e = let never : ⊥ = cc e in never
 memory_absent : Memory ≡ Absent → ⊥
 memory_absent e = let never : ⊥ = cc e in never
 
-pub asked_memory : (old new : Outside) (request : Request) → EndsSaying old new (error_line [] Memory) → EndsAsked old new request 8
-asked_memory old new (run ask) saying = inr (inr (record { error = Memory; status_is = refl; cause = tt; leaves = ap (λ s. s.files) saying.store_stays; said = saying.said; out_stays = saying.out_stays }))
-asked_memory old new (plan ask) saying = inr (inr (record { error = Memory; status_is = refl; cause = tt; files_stay = ap (λ s. s.files) saying.store_stays; said = saying.said; out_stays = saying.out_stays }))
-asked_memory old new (code ask) saying = inr (inr (record { error = Memory; status_is = refl; cause = tt; files_stay = ap (λ s. s.files) saying.store_stays; said = saying.said; out_stays = saying.out_stays }))
-asked_memory old new (sample k) saying = (saying.store_stays, inr (inr (record { error = Memory; status_is = refl; cause = inl refl; no_fault = (λ e. memory_failed e, λ e. memory_absent e); said = saying.said; out_stays = saying.out_stays })))
+pub asked_memory : (old new : Outside) (request : Request) → EndsSaying old new (error_line [] Memory) →
+    EndsAsked old new request 8
+asked_memory old new (run ask) saying =
+    inr (inr (record {
+      error = Memory;
+      status_is = refl;
+      cause = tt;
+      leaves = ap (λ s. s.files) saying.store_stays;
+      said = saying.said;
+      out_stays = saying.out_stays;
+    }))
+asked_memory old new (plan ask) saying =
+    inr (inr (record {
+      error = Memory;
+      status_is = refl;
+      cause = tt;
+      files_stay = ap (λ s. s.files) saying.store_stays;
+      said = saying.said;
+      out_stays = saying.out_stays;
+    }))
+asked_memory old new (code ask) saying =
+    inr (inr (record {
+      error = Memory;
+      status_is = refl;
+      cause = tt;
+      files_stay = ap (λ s. s.files) saying.store_stays;
+      said = saying.said;
+      out_stays = saying.out_stays;
+    }))
+asked_memory old new (sample k) saying = (
+  saying.store_stays,
+  inr (inr (record {
+    error = Memory;
+    status_is = refl;
+    cause = inl refl;
+    no_fault = (λ e. memory_failed e, λ e. memory_absent e);
+    said = saying.said;
+    out_stays = saying.out_stays;
+  })),
+)

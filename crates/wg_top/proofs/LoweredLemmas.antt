@@ -18,7 +18,8 @@ use Rattle.wg_top.specs.Middle.{names_in, kernel_in}
 use Rattle.wg_top.proofs.DescribedLemmas.{named_as}
 
 -- the kernel of a valid program, which is a kernel since it was made
-pub lowered_in : (u : Unit') → IsValid (program_of u) → is_kernel (kernel_in u) ≡ true → IsLoweringOf (program_of u) (names_in u) (kernel_in u)
+pub lowered_in : (u : Unit') → IsValid (program_of u) → is_kernel (kernel_in u) ≡ true →
+    IsLoweringOf (program_of u) (names_in u) (kernel_in u)
 unfolding kernel_in
 lowered_in u valid fits = record {
   cells = has_cells (program_of u) (names_in u) valid (named_as u.functions);

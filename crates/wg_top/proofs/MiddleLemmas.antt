@@ -23,7 +23,9 @@ unfolding group_in
 group_params width u = refl
 
 -- the kinds of a kernel's parameters
-kinds_at : (functions : List Function) (k : ℕ) → parameter_kinds (unwrap_or (slice_get (map function_of functions) k) no_function) ≡ (needs_of_kernel functions k).kinds
+kinds_at : (functions : List Function) (k : ℕ) →
+    parameter_kinds (unwrap_or (slice_get (map function_of functions) k) no_function) ≡
+    (needs_of_kernel functions k).kinds
 kinds_at [] k = refl
 kinds_at (g ∷ functions) zero = refl
 kinds_at (g ∷ functions) (suc k) = kinds_at functions k
@@ -32,5 +34,6 @@ kinds_at (g ∷ functions) (suc k) = kinds_at functions k
 params_of : (width : ℕ) (u : Unit') → (group_in width u).params ≡ (needs_in u).kinds
 params_of width u = group_params width u ∙ (kernel_params u ∙ kinds_at u.functions u.kernel)
 
-pub params_in : (width : ℕ) (c : Compiled) → IsCompiledAt width c → (needs_in (unit_of c.program)).kinds ≡ (plain_of c.group).params
+pub params_in : (width : ℕ) (c : Compiled) → IsCompiledAt width c →
+    (needs_in (unit_of c.program)).kinds ≡ (plain_of c.group).params
 params_in width c passed = sym (params_of width (unit_of c.program)) ∙ sym (ap (λ p. p.params) passed.group.parts)

@@ -1,5 +1,6 @@
 -- The ends of a launch file's group programs are outcomes of its launches.
-use Rattle.std.proofs.Common.{◌≡◌, ℕ, zero, suc, ◌+◌, ◌<◌, ◌≤◌, Bool, List, [], ◌∷◌, ◌++◌, length, map, Option, Some, refl, sym, ◌∙◌, ap, subst, arith}
+use Rattle.std.proofs.Common.{◌≡◌, ℕ, zero, suc, ◌+◌, ◌<◌, ◌≤◌, Bool, List, [], ◌∷◌, ◌++◌, length, map, Option, Some}
+use Rattle.std.proofs.Common.{refl, sym, ◌∙◌, ap, subst, arith}
 use Rattle.std.specs.Prelude.{All, sum, slice_get, slice_index_or}
 use Rattle.std.proofs.Math.Nat.{mul-pos}
 use Rattle.std.proofs.lemmas.Option.{get_or_from_slice_get}
@@ -50,7 +51,8 @@ use Rattle.wg_top.specs.Described.{IsCompiledAt}
 use Rattle.wg_top.specs.Outcome.{IsOutcome, EndsInOutcomes}
 use Rattle.wg_top.specs.Outcomes.{AreMade, IsCompiledTo, AreCompiledTo, models_in, AreDone, EndBehind, IsOutcomeOf}
 use Rattle.wg_top.specs.Shown.{code_shown}
-use Rattle.wg_top.specs.Launches.{launch_end, launches_in, LaunchRan, LaunchesRan, EndsBehind, EndsSo, site_place, start_place}
+use Rattle.wg_top.specs.Launches.{launch_end, launches_in, LaunchRan, LaunchesRan, EndsBehind, EndsSo, site_place}
+use Rattle.wg_top.specs.Launches.{start_place}
 use Rattle.wg_top.proofs.MeaningLemmas.{end_like}
 use Rattle.wg_top.proofs.SumLemmas.{sum-append}
 
@@ -60,18 +62,25 @@ use Rattle.wg_top.proofs.SumLemmas.{sum-append}
 abbrev AreApart : List VarKind → Launch → Type 0
 AreApart kinds launch = (n m b : ℕ) (element element' : IntType) (root root' : Root)
     → slice_get kinds n ≡ Some (Pointer space.Constant element root) → slice_get launch.args n ≡ Some (bound.Buffer b)
-    → slice_get kinds m ≡ Some (Pointer space.Global element' root') → slice_get launch.args m ≡ Some (bound.Buffer b) → ⊥
+    → slice_get kinds m ≡ Some (Pointer space.Global element' root') →
+    slice_get launch.args m ≡ Some (bound.Buffer b) → ⊥
 
 -- the local objects of a group are those of the group program and of the arguments
-locals_are : (program : Program) (names : List (List Named)) (kernel : Kernel) (plan : Planned) (width : Width) (p : Plain) → IsLoweringOf program names kernel → HasPartsOf kernel plan width p → (launch : Launch) → local_sizes program launch ≡ p.locals ++ local_arguments launch.args
+locals_are : (program : Program) (names : List (List Named)) (kernel : Kernel) (plan : Planned) (width : Width)
+    (p : Plain) → IsLoweringOf program names kernel → HasPartsOf kernel plan width p → (launch : Launch) →
+    local_sizes program launch ≡ p.locals ++ local_arguments launch.args
 locals_are program names kernel plan width p lowered parts launch =
-    sym (same_locals program kernel lowered.arrays lowered.parts launch) ∙ ap (λ (ns : List ℕ). ns ++ local_arguments launch.args) (sym parts.locals)
+    sym (same_locals program kernel lowered.arrays lowered.parts launch) ∙
+    ap (λ (ns : List ℕ). ns ++ local_arguments launch.args) (sym parts.locals)
 
-pub fits_program : (program : Program) (names : List (List Named)) (kernel : Kernel) (plan : Planned) (width : Width) (p : Plain) → IsLoweringOf program names kernel → HasPartsOf kernel plan width p
+pub fits_program : (program : Program) (names : List (List Named)) (kernel : Kernel) (plan : Planned) (width : Width)
+    (p : Plain) → IsLoweringOf program names kernel → HasPartsOf kernel plan width p
     → (launch : Launch) → LaunchFits p.params (sum p.locals) launch → FitsProgram program launch
 fits_program program names kernel plan width p lowered parts launch fits =
     let kinds : p.params ≡ parameter_kinds (kernel_of program) = parts.params ∙ lowered.parts.parameters in
-    let bytes : sum (local_sizes program launch) ≡ sum p.locals + sum (local_arguments launch.args) = ap sum (locals_are program names kernel plan width p lowered parts launch) ∙ sum-append p.locals (local_arguments launch.args) in
+    let bytes : sum (local_sizes program launch) ≡ sum p.locals + sum (local_arguments launch.args) =
+    ap sum (locals_are program names kernel plan width p lowered parts launch) ∙
+    sum-append p.locals (local_arguments launch.args) in
     record {
       arguments = subst (λ (ks : List VarKind). ArgumentsFit launch ks launch.args) kinds fits.arguments;
       apart = subst (λ (ks : List VarKind). AreApart ks launch) kinds fits.apart;
@@ -89,7 +98,8 @@ fits_program program names kernel plan width p lowered parts launch fits =
 three_some : (a b c : ℕ) → 1 ≤ a → 1 ≤ b → 1 ≤ c → 0 < product (a ∷ b ∷ c ∷ [])
 three_some a b c x y z = mul-pos (omega arith) (mul-pos (omega arith) (mul-pos (omega arith) (omega arith)))
 
-pub has_sizes : (turns : ℕ) (buffers : List BufferText) (part : Part) → ((d : ℕ) → d < 3 → DimensionFits (launch_in turns buffers part) d) → HasSizes (launch_in turns buffers part)
+pub has_sizes : (turns : ℕ) (buffers : List BufferText) (part : Part) →
+    ((d : ℕ) → d < 3 → DimensionFits (launch_in turns buffers part) d) → HasSizes (launch_in turns buffers part)
 has_sizes turns buffers part fits =
     let first = fits 0 (omega arith) in
     let second = fits 1 (omega arith) in
@@ -101,11 +111,14 @@ has_sizes turns buffers part fits =
 
 -- ---- what is known of the ends of a group program
 
--- on buffers of its lengths the launch ends in an outcome of the program, at the program's places, and the buffers keep their lengths
+-- on buffers of its lengths the launch ends in an outcome of the program, at the program's places, and the buffers
+-- keep their lengths
 record Promise (program : Program) (p : Plain) (launch : Launch) : Type 0 where
   sites : p.sites ≡ program.sites
-  ends : (buffers : List (List ℕ)) → FitBuffers launch buffers → IsOutcome program launch buffers (launch_end p launch buffers).end (launch_end p launch buffers).buffers
-  keeps : (buffers : List (List ℕ)) → map (λ (b : List ℕ). length b) (launch_end p launch buffers).buffers ≡ map (λ (b : List ℕ). length b) buffers
+  ends : (buffers : List (List ℕ)) → FitBuffers launch buffers →
+      IsOutcome program launch buffers (launch_end p launch buffers).end (launch_end p launch buffers).buffers
+  keeps : (buffers : List (List ℕ)) → map (λ (b : List ℕ). length b) (launch_end p launch buffers).buffers ≡
+      map (λ (b : List ℕ). length b) buffers
 
 -- the same of each launch
 abbrev AllPromise : List Program → List Plain → List Launch → Type 0
@@ -119,17 +132,22 @@ AllPrepared [] [] = Unit {0}
 AllPrepared (p ∷ ps) (launch ∷ launches) = LaunchFits p.params (sum p.locals) launch × AllPrepared ps launches
 AllPrepared _ _ = ⊥
 
-ends_like : (program : Program) (q p : Plain) (launch : Launch) → IsLike q p → EndsInOutcomes program p → FitsProgram program launch → HasSizes launch → (buffers : List (List ℕ)) → FitBuffers launch buffers → IsOutcome program launch buffers (launch_end q launch buffers).end (launch_end q launch buffers).buffers
+ends_like : (program : Program) (q p : Plain) (launch : Launch) → IsLike q p → EndsInOutcomes program p →
+    FitsProgram program launch → HasSizes launch → (buffers : List (List ℕ)) → FitBuffers launch buffers →
+    IsOutcome program launch buffers (launch_end q launch buffers).end (launch_end q launch buffers).buffers
 unfolding launch_end
 ends_like program q p launch like ends fits sizes buffers fit =
-    subst (λ (e : RunEnded). IsOutcome program launch buffers e.end e.buffers) (end_like q p like launch buffers) (ends launch fits sizes buffers fit)
+    subst (λ (e : RunEnded). IsOutcome program launch buffers e.end e.buffers) (end_like q p like launch buffers)
+    (ends launch fits sizes buffers fit)
 
-keeps_lengths : (p : Plain) (launch : Launch) (buffers : List (List ℕ)) → map (λ (b : List ℕ). length b) (launch_end p launch buffers).buffers ≡ map (λ (b : List ℕ). length b) buffers
+keeps_lengths : (p : Plain) (launch : Launch) (buffers : List (List ℕ)) →
+    map (λ (b : List ℕ). length b) (launch_end p launch buffers).buffers ≡ map (λ (b : List ℕ). length b) buffers
 unfolding launch_end
 keeps_lengths p launch buffers = program_keeps p launch buffers
 
 -- the places of a unit's group program are those of the unit
-places_are : (width : ℕ) (u : Unit') → IsLoweringOf (program_of u) (names_in u) (kernel_in u) → (group_in width u).sites ≡ (program_of u).sites
+places_are : (width : ℕ) (u : Unit') → IsLoweringOf (program_of u) (names_in u) (kernel_in u) →
+    (group_in width u).sites ≡ (program_of u).sites
 unfolding group_in
 places_are width u lowered = lowered.parts.sites
 
@@ -145,30 +163,45 @@ all_at P [] all = tt
 all_at P (c ∷ cs) all = (all 0 c (omega arith), all_at P cs (λ k d lt. all (suc k) d (omega arith)))
 
 -- what is kept once is equal
-made_each : (width : ℕ) (cs : List Compiled) → AllAt (IsCompiledAt width) cs → AllAt (λ c. IsValid (program_of (unit_of c.program))) cs → AreMade (map (λ c. unit_of c.program) cs)
+made_each : (width : ℕ) (cs : List Compiled) → AllAt (IsCompiledAt width) cs →
+    AllAt (λ c. IsValid (program_of (unit_of c.program))) cs → AreMade (map (λ c. unit_of c.program) cs)
 made_each width [] passes valid = tt
-made_each width (c ∷ cs) passes valid = (record { valid = valid.0; lowered = passes.0.lowered valid.0; once = passes.0.once valid.0 }, made_each width cs passes.1 valid.1)
+made_each width (c ∷ cs) passes valid = (
+  record { valid = valid.0; lowered = passes.0.lowered valid.0; once = passes.0.once valid.0 },
+  made_each width cs passes.1 valid.1,
+)
 
-pub all_made : (width : ℕ) (cs : List Compiled) → All (IsCompiledAt width) cs → All (λ c. IsValid (program_of (unit_of c.program))) cs → AreMade (map (λ c. unit_of c.program) cs)
-all_made width cs passes valid = made_each width cs (all_at (IsCompiledAt width) cs passes) (all_at (λ c. IsValid (program_of (unit_of c.program))) cs valid)
+pub all_made : (width : ℕ) (cs : List Compiled) → All (IsCompiledAt width) cs →
+    All (λ c. IsValid (program_of (unit_of c.program))) cs → AreMade (map (λ c. unit_of c.program) cs)
+all_made width cs passes valid =
+    made_each width cs (all_at (IsCompiledAt width) cs passes) (all_at (λ c. IsValid (program_of (unit_of c.program)))
+    cs valid)
 
 -- the group program of each, under the name of its launch's kernel
-compiled_to : (width : ℕ) (c : Compiled) (name : List ℕ) → IsCompiledAt width c → IsValid (program_of (unit_of c.program)) → c.group.kernel ≡ name → IsCompiledTo width name (unit_of c.program)
+compiled_to : (width : ℕ) (c : Compiled) (name : List ℕ) → IsCompiledAt width c →
+    IsValid (program_of (unit_of c.program)) → c.group.kernel ≡ name → IsCompiledTo width name (unit_of c.program)
 compiled_to width c name passes valid named = record {
   group = plain_of c.group;
   like = passes.group;
   lanes = passes.lanes;
   lanes_are = passes.lanes_are;
   compiled =
-      subst (λ (n : List ℕ). IsCompiledFrom (program_of (unit_of c.program)) n (varying_of (program_of (unit_of c.program))) (kernel_in (unit_of c.program)) (plan_in (unit_of c.program)) passes.lanes n (plain_of c.group)) named (passes.whole valid);
+      subst (λ (n : List ℕ). IsCompiledFrom (program_of (unit_of c.program)) n
+      (varying_of (program_of (unit_of c.program))) (kernel_in (unit_of c.program))
+      (plan_in (unit_of c.program)) passes.lanes n (plain_of c.group)) named (passes.whole valid);
 }
 
 -- and its listing
-pub code_text_of : (width : ℕ) (c : Compiled) (text : List ℕ) → IsCompiledAt width c → IsValid (program_of (unit_of c.program)) → text ≡ listing_text c.group.kernel (plain_of c.group) → code_shown width c.group.kernel (unit_of c.program) text
+pub code_text_of : (width : ℕ) (c : Compiled) (text : List ℕ) → IsCompiledAt width c →
+    IsValid (program_of (unit_of c.program)) → text ≡ listing_text c.group.kernel (plain_of c.group) →
+    code_shown width c.group.kernel (unit_of c.program) text
 unfolding compiled_to
 code_text_of width c text passes valid is = (compiled_to width c c.group.kernel passes valid refl, is)
 
-compiled_each : (width : ℕ) (cs : List Compiled) (parts : List Part) → AllAt (IsCompiledAt width) cs → AllAt (λ c. IsValid (program_of (unit_of c.program))) cs → map (λ c. c.group.kernel) cs ≡ map (λ p. p.kernel) parts → AreCompiledTo width parts (map (λ c. unit_of c.program) cs)
+compiled_each : (width : ℕ) (cs : List Compiled) (parts : List Part) → AllAt (IsCompiledAt width) cs →
+    AllAt (λ c. IsValid (program_of (unit_of c.program))) cs →
+    map (λ c. c.group.kernel) cs ≡ map (λ p. p.kernel) parts →
+    AreCompiledTo width parts (map (λ c. unit_of c.program) cs)
 compiled_each width [] [] passes valid named = tt
 compiled_each width (c ∷ cs) (part ∷ parts) passes valid named =
     let first : c.group.kernel ≡ part.kernel = cc named in
@@ -177,29 +210,43 @@ compiled_each width (c ∷ cs) (part ∷ parts) passes valid named =
 compiled_each width [] (part ∷ parts) passes valid named = absurd (let never : ⊥ = cc named in never)
 compiled_each width (c ∷ cs) [] passes valid named = absurd (let never : ⊥ = cc named in never)
 
-pub all_compiled : (width : ℕ) (cs : List Compiled) (parts : List Part) → All (IsCompiledAt width) cs → All (λ c. IsValid (program_of (unit_of c.program))) cs → map (λ c. c.group.kernel) cs ≡ map (λ p. p.kernel) parts → AreCompiledTo width parts (map (λ c. unit_of c.program) cs)
-all_compiled width cs parts passes valid named = compiled_each width cs parts (all_at (IsCompiledAt width) cs passes) (all_at (λ c. IsValid (program_of (unit_of c.program))) cs valid) named
+pub all_compiled : (width : ℕ) (cs : List Compiled) (parts : List Part) → All (IsCompiledAt width) cs →
+    All (λ c. IsValid (program_of (unit_of c.program))) cs →
+    map (λ c. c.group.kernel) cs ≡ map (λ p. p.kernel) parts →
+    AreCompiledTo width parts (map (λ c. unit_of c.program) cs)
+all_compiled width cs parts passes valid named =
+    compiled_each width cs parts (all_at (IsCompiledAt width) cs passes)
+    (all_at (λ c. IsValid (program_of (unit_of c.program))) cs valid) named
 
 -- what was made ready fits
-pub prepared : (all : List Launcher) → All (λ q. LaunchFits (plain_of q.program).params (sum (plain_of q.program).locals) (launch_of q.launch)) all → AllPrepared (map (λ q. plain_of q.program) all) (map (λ q. launch_of q.launch) all)
+pub prepared : (all : List Launcher) →
+    All (λ q. LaunchFits (plain_of q.program).params (sum (plain_of q.program).locals) (launch_of q.launch)) all →
+    AllPrepared (map (λ q. plain_of q.program) all) (map (λ q. launch_of q.launch) all)
 prepared [] fit = tt
 prepared (q ∷ all) fit = (fit 0 q (omega arith), prepared all (λ k d lt. fit (suc k) d (omega arith)))
 
-promise : (width turns : ℕ) (buffers : List BufferText) (c : Compiled) (part : Part) → IsCompiledAt width c → IsValid (program_of (unit_of c.program))
-    → LaunchFits (plain_of c.group).params (sum (plain_of c.group).locals) (launch_in turns buffers part) → Promise (program_of (unit_of c.program)) (group_in width (unit_of c.program)) (launch_in turns buffers part)
+promise : (width turns : ℕ) (buffers : List BufferText) (c : Compiled) (part : Part) → IsCompiledAt width c →
+    IsValid (program_of (unit_of c.program))
+    → LaunchFits (plain_of c.group).params (sum (plain_of c.group).locals) (launch_in turns buffers part) →
+    Promise (program_of (unit_of c.program)) (group_in width (unit_of c.program)) (launch_in turns buffers part)
 promise width turns buffers c part passes valid fits = record {
   sites = places_are width (unit_of c.program) (passes.lowered valid);
-  ends = ends_like (program_of (unit_of c.program)) (group_in width (unit_of c.program)) (plain_of c.group) (launch_in turns buffers part) passes.group (passes.whole valid).outcomes
+  ends = ends_like (program_of (unit_of c.program)) (group_in width (unit_of c.program)) (plain_of c.group)
+      (launch_in turns buffers part) passes.group (passes.whole valid).outcomes
       (passes.fits valid (launch_in turns buffers part) fits) (has_sizes turns buffers part fits.dimensions);
   keeps = keeps_lengths (group_in width (unit_of c.program)) (launch_in turns buffers part);
 }
 
-promises : (width turns : ℕ) (buffers : List BufferText) (cs : List Compiled) (parts : List Part) → AllAt (IsCompiledAt width) cs → AllAt (λ c. IsValid (program_of (unit_of c.program))) cs
+promises : (width turns : ℕ) (buffers : List BufferText) (cs : List Compiled) (parts : List Part) →
+    AllAt (IsCompiledAt width) cs → AllAt (λ c. IsValid (program_of (unit_of c.program))) cs
     → AllPrepared (map (λ c. plain_of c.group) cs) (map (launch_in turns buffers) parts)
-    → AllPromise (map program_of (map (λ c. unit_of c.program) cs)) (map (group_in width) (map (λ c. unit_of c.program) cs)) (map (launch_in turns buffers) parts)
+    → AllPromise (map program_of (map (λ c. unit_of c.program) cs))
+    (map (group_in width) (map (λ c. unit_of c.program) cs)) (map (launch_in turns buffers) parts)
 promises width turns buffers [] [] passes valid fit = tt
-promises width turns buffers (c ∷ cs) (part ∷ parts) passes valid fit =
-    (promise width turns buffers c part passes.0 valid.0 fit.0, promises width turns buffers cs parts passes.1 valid.1 fit.1)
+promises width turns buffers (c ∷ cs) (part ∷ parts) passes valid fit = (
+  promise width turns buffers c part passes.0 valid.0 fit.0,
+  promises width turns buffers cs parts passes.1 valid.1 fit.1,
+)
 promises width turns buffers [] (part ∷ parts) passes valid fit = absurd fit
 promises width turns buffers (c ∷ cs) [] passes valid fit = absurd fit
 
@@ -210,26 +257,36 @@ abbrev AllOver : List ℕ → List Launch → Type 0
 AllOver sizes [] = Unit {0}
 AllOver sizes (launch ∷ launches) = (launch.lengths ≡ sizes) × AllOver sizes launches
 
-all_over : (turns : ℕ) (buffers : List BufferText) (parts : List Part) → AllOver (lengths_of buffers) (map (launch_in turns buffers) parts)
+all_over : (turns : ℕ) (buffers : List BufferText) (parts : List Part) →
+    AllOver (lengths_of buffers) (map (launch_in turns buffers) parts)
 all_over turns buffers [] = tt
 all_over turns buffers (part ∷ parts) = (refl, all_over turns buffers parts)
 
 -- a launch that is done may be done
-one_done : (g : Program) (p : Plain) (launch : Launch) (before mid : List (List ℕ)) → Promise g p launch → FitBuffers launch before → LaunchRan p launch before mid → EndsDone g launch before mid
+one_done : (g : Program) (p : Plain) (launch : Launch) (before mid : List (List ℕ)) → Promise g p launch →
+    FitBuffers launch before → LaunchRan p launch before mid → EndsDone g launch before mid
 one_done g p launch before mid known fit ran =
     subst (λ (left : List (List ℕ)). EndsDone g launch before left) ran.leaves
-    (subst (λ (e : RunEnd). IsOutcome g launch before e (launch_end p launch before).buffers) ran.done (known.ends before fit))
+    (subst (λ (e : RunEnd). IsOutcome g launch before e (launch_end p launch before).buffers) ran.done
+    (known.ends before fit))
 
 -- and leaves buffers of the same lengths
-still_fit : (g : Program) (p : Plain) (launch : Launch) (sizes : List ℕ) (before mid : List (List ℕ)) → Promise g p launch → map (λ (b : List ℕ). length b) before ≡ sizes → LaunchRan p launch before mid → map (λ (b : List ℕ). length b) mid ≡ sizes
-still_fit g p launch sizes before mid known fit ran = ap (λ (bs : List (List ℕ)). map (λ (b : List ℕ). length b) bs) (sym ran.leaves) ∙ (known.keeps before ∙ fit)
+still_fit : (g : Program) (p : Plain) (launch : Launch) (sizes : List ℕ) (before mid : List (List ℕ)) →
+    Promise g p launch → map (λ (b : List ℕ). length b) before ≡ sizes → LaunchRan p launch before mid →
+    map (λ (b : List ℕ). length b) mid ≡ sizes
+still_fit g p launch sizes before mid known fit ran =
+    ap (λ (bs : List (List ℕ)). map (λ (b : List ℕ). length b) bs) (sym ran.leaves) ∙ (known.keeps before ∙ fit)
 
-all_done : (sizes : List ℕ) (gs : List Program) (ps : List Plain) (launches : List Launch) (before after : List (List ℕ)) → AllPromise gs ps launches → AllOver sizes launches → map (λ (b : List ℕ). length b) before ≡ sizes → LaunchesRan ps launches before after → AreDone gs launches before after
+all_done : (sizes : List ℕ) (gs : List Program) (ps : List Plain) (launches : List Launch)
+    (before after : List (List ℕ)) → AllPromise gs ps launches → AllOver sizes launches →
+    map (λ (b : List ℕ). length b) before ≡ sizes → LaunchesRan ps launches before after →
+    AreDone gs launches before after
 all_done sizes [] [] [] before after known over fit ran = ran
 all_done sizes (g ∷ gs) (p ∷ ps) (launch ∷ launches) before after known over fit ran = (
   ran.0,
   one_done g p launch before ran.0 known.0 (fit ∙ sym over.0) ran.1,
-  all_done sizes gs ps launches ran.0 after known.1 over.1 (still_fit g p launch sizes before ran.0 known.0 fit ran.1) ran.2,
+  all_done sizes gs ps launches ran.0 after known.1 over.1 (still_fit g p launch sizes before ran.0 known.0 fit ran.1)
+      ran.2,
 )
 all_done sizes [] [] (launch ∷ launches) before after known over fit ran = absurd known
 all_done sizes [] (p ∷ ps) launches before after known over fit ran = absurd known
@@ -238,17 +295,23 @@ all_done sizes (g ∷ gs) (p ∷ ps) [] before after known over fit ran = absurd
 
 -- an end behind others may be that of the launch
 module _ (Ends : Program → Launch → List (List ℕ) → Type 0) (end : RunEnd) (IsPlaced : Option Plain → Type 0)
-    (one : (g : Program) (p : Plain) (launch : Launch) (buffers left : List (List ℕ)) → p.sites ≡ g.sites → IsPlaced (Some p) → IsOutcome g launch buffers end left → Ends g launch buffers) where
-  end_behind : (sizes : List ℕ) (gs : List Program) (ps : List Plain) (launches : List Launch) (before : List (List ℕ)) (behind : ℕ) → AllPromise gs ps launches → AllOver sizes launches → map (λ (b : List ℕ). length b) before ≡ sizes
-      → EndsBehind ps launches before behind end → IsPlaced (slice_get ps behind) → EndBehind Ends gs launches before behind
+    (one : (g : Program) (p : Plain) (launch : Launch) (buffers left : List (List ℕ)) → p.sites ≡ g.sites →
+    IsPlaced (Some p) → IsOutcome g launch buffers end left → Ends g launch buffers) where
+  end_behind : (sizes : List ℕ) (gs : List Program) (ps : List Plain) (launches : List Launch)
+      (before : List (List ℕ)) (behind : ℕ) → AllPromise gs ps launches → AllOver sizes launches →
+      map (λ (b : List ℕ). length b) before ≡ sizes
+      → EndsBehind ps launches before behind end → IsPlaced (slice_get ps behind) →
+      EndBehind Ends gs launches before behind
   end_behind sizes [] [] [] before behind known over fit ends placed = absurd ends
   end_behind sizes (g ∷ gs) (p ∷ ps) (launch ∷ launches) before zero known over fit ends placed =
       one g p launch before (launch_end p launch before).buffers known.0.sites placed
-      (subst (λ (e : RunEnd). IsOutcome g launch before e (launch_end p launch before).buffers) ends (known.0.ends before (fit ∙ sym over.0)))
+      (subst (λ (e : RunEnd). IsOutcome g launch before e (launch_end p launch before).buffers) ends
+      (known.0.ends before (fit ∙ sym over.0)))
   end_behind sizes (g ∷ gs) (p ∷ ps) (launch ∷ launches) before (suc behind) known over fit ends placed = (
     ends.0,
     one_done g p launch before ends.0 known.0 (fit ∙ sym over.0) ends.1,
-    end_behind sizes gs ps launches ends.0 behind known.1 over.1 (still_fit g p launch sizes before ends.0 known.0 fit ends.1) ends.2 placed,
+    end_behind sizes gs ps launches ends.0 behind known.1 over.1 (still_fit g p launch sizes before ends.0 known.0 fit
+        ends.1) ends.2 placed,
   )
   end_behind sizes [] [] (launch ∷ launches) before behind known over fit ends placed = absurd known
   end_behind sizes [] (p ∷ ps) launches before behind known over fit ends placed = absurd known
@@ -256,57 +319,83 @@ module _ (Ends : Program → Launch → List (List ℕ) → Type 0) (end : RunEn
   end_behind sizes (g ∷ gs) (p ∷ ps) [] before behind known over fit ends placed = absurd known
 
 -- the place that is printed is that of the site
-printed : (sites own : List Place) (site : ℕ) (place said : Place) → own ≡ sites → said ≡ slice_index_or own site start_place → slice_get sites site ≡ Some place → place ≡ said
+printed : (sites own : List Place) (site : ℕ) (place said : Place) → own ≡ sites →
+    said ≡ slice_index_or own site start_place → slice_get sites site ≡ Some place → place ≡ said
 printed sites own site place said same is at =
-    sym (get_or_from_slice_get own site place start_place (subst (λ (ps : List Place). slice_get ps site ≡ Some place) (sym same) at)) ∙ sym is
+    sym (get_or_from_slice_get own site place start_place (subst (λ (ps : List Place). slice_get ps site ≡ Some place)
+    (sym same) at)) ∙ sym is
 
 -- the place of the site of the launch that ends so
 abbrev IsAt : Place → ℕ → Option Plain → Type 0
 IsAt said site o = said ≡ site_place o site
 
-range_of : (group item site : ℕ) (said : Place) (g : Program) (p : Plain) (launch : Launch) (buffers left : List (List ℕ)) → p.sites ≡ g.sites → IsAt said site (Some p) → IsOutcome g launch buffers (run.Range group item site) left → EndsRange g launch buffers group item said
+range_of : (group item site : ℕ) (said : Place) (g : Program) (p : Plain) (launch : Launch)
+    (buffers left : List (List ℕ)) → p.sites ≡ g.sites → IsAt said site (Some p) →
+    IsOutcome g launch buffers (run.Range group item site) left → EndsRange g launch buffers group item said
 range_of group item site said g p launch buffers left same at outcome =
-    subst (λ (place : Place). EndsRange g launch buffers group item place) (printed g.sites p.sites site outcome.0 said same at outcome.1) outcome.2
+    subst (λ (place : Place). EndsRange g launch buffers group item place)
+    (printed g.sites p.sites site outcome.0 said same at outcome.1) outcome.2
 
-parted_of : (group item site : ℕ) (said : Place) (g : Program) (p : Plain) (launch : Launch) (buffers left : List (List ℕ)) → p.sites ≡ g.sites → IsAt said site (Some p) → IsOutcome g launch buffers (run.Parted group item site) left → EndsParted g launch buffers group item said
+parted_of : (group item site : ℕ) (said : Place) (g : Program) (p : Plain) (launch : Launch)
+    (buffers left : List (List ℕ)) → p.sites ≡ g.sites → IsAt said site (Some p) →
+    IsOutcome g launch buffers (run.Parted group item site) left → EndsParted g launch buffers group item said
 parted_of group item site said g p launch buffers left same at outcome =
-    subst (λ (place : Place). EndsParted g launch buffers group item place) (printed g.sites p.sites site outcome.0 said same at outcome.1) outcome.2
+    subst (λ (place : Place). EndsParted g launch buffers group item place)
+    (printed g.sites p.sites site outcome.0 said same at outcome.1) outcome.2
 
-so_outcome : (several : Bool) (sizes : List ℕ) (gs : List Program) (ps : List Plain) (launches : List Launch) (before : List (List ℕ)) (e : RunError) → AllPromise gs ps launches → AllOver sizes launches → map (λ (b : List ℕ). length b) before ≡ sizes → EndsSo several ps launches before e → IsOutcomeOf gs launches before e
+so_outcome : (several : Bool) (sizes : List ℕ) (gs : List Program) (ps : List Plain) (launches : List Launch)
+    (before : List (List ℕ)) (e : RunError) → AllPromise gs ps launches → AllOver sizes launches →
+    map (λ (b : List ℕ). length b) before ≡ sizes → EndsSo several ps launches before e →
+    IsOutcomeOf gs launches before e
 so_outcome several sizes gs ps launches before (error.Range number s group item place) known over fit ends =
     let x = ends.1 in
     record {
       behind = x.behind;
-      ends = end_behind (λ g launch buffers. EndsRange g launch buffers group item place) (run.Range group item x.site) (IsAt place x.site) (range_of group item x.site place) sizes gs ps launches before x.behind known over fit x.ends x.place_is;
+      ends = end_behind (λ g launch buffers. EndsRange g launch buffers group item place)
+          (run.Range group item x.site) (IsAt place x.site) (range_of group item x.site place) sizes gs ps launches
+          before x.behind known over fit x.ends x.place_is;
       number_is = x.number_is;
     }
 so_outcome several sizes gs ps launches before (error.Parted number s group item place) known over fit ends =
     let x = ends.1 in
     record {
       behind = x.behind;
-      ends = end_behind (λ g launch buffers. EndsParted g launch buffers group item place) (run.Parted group item x.site) (IsAt place x.site) (parted_of group item x.site place) sizes gs ps launches before x.behind known over fit x.ends x.place_is;
+      ends = end_behind (λ g launch buffers. EndsParted g launch buffers group item place)
+          (run.Parted group item x.site) (IsAt place x.site) (parted_of group item x.site place) sizes gs ps launches
+          before x.behind known over fit x.ends x.place_is;
       number_is = x.number_is;
     }
 so_outcome several sizes gs ps launches before (error.Turns number s) known over fit ends =
     let x = ends.1 in
     record {
       behind = x.behind;
-      ends = end_behind EndsTurns run.Turns (λ o. Unit {0}) (λ g p launch buffers left same placed outcome. outcome) sizes gs ps launches before x.behind known over fit x.ends tt;
+      ends = end_behind EndsTurns run.Turns (λ o. Unit {0}) (λ g p launch buffers left same placed outcome. outcome)
+          sizes gs ps launches before x.behind known over fit x.ends tt;
       number_is = x.number_is;
     }
 so_outcome several sizes gs ps launches before _ known over fit ends = absurd ends
 
 -- ---- the launches of a file, with its kernels
 
-module _ (text : Text) (cs : List Compiled) (passes : All (IsCompiledAt text.lanes) cs) (valid : All (λ c. IsValid (program_of (unit_of c.program))) cs)
-    (fit : AllPrepared (map (λ c. plain_of c.group) cs) (launches_in text)) (before : List (List ℕ)) (sizes : map (λ (b : List ℕ). length b) before ≡ lengths_of text.buffers) where
-  known : AllPromise (models_in (map (λ c. unit_of c.program) cs)) (programs_in text (map (λ c. unit_of c.program) cs)) (launches_in text)
-  known = promises text.lanes text.turns text.buffers cs text.list (all_at (IsCompiledAt text.lanes) cs passes) (all_at (λ c. IsValid (program_of (unit_of c.program))) cs valid) fit
+module _ (text : Text) (cs : List Compiled) (passes : All (IsCompiledAt text.lanes) cs)
+    (valid : All (λ c. IsValid (program_of (unit_of c.program))) cs)
+    (fit : AllPrepared (map (λ c. plain_of c.group) cs) (launches_in text)) (before : List (List ℕ))
+    (sizes : map (λ (b : List ℕ). length b) before ≡ lengths_of text.buffers) where
+  known : AllPromise (models_in (map (λ c. unit_of c.program) cs))
+      (programs_in text (map (λ c. unit_of c.program) cs)) (launches_in text)
+  known = promises text.lanes text.turns text.buffers cs text.list (all_at (IsCompiledAt text.lanes) cs passes)
+      (all_at (λ c. IsValid (program_of (unit_of c.program))) cs valid) fit
 
-  pub ran_outcome : (after : List (List ℕ)) → LaunchesRan (programs_in text (map (λ c. unit_of c.program) cs)) (launches_in text) before after → AreDone (models_in (map (λ c. unit_of c.program) cs)) (launches_in text) before after
+  pub ran_outcome : (after : List (List ℕ)) →
+      LaunchesRan (programs_in text (map (λ c. unit_of c.program) cs)) (launches_in text) before after →
+      AreDone (models_in (map (λ c. unit_of c.program) cs)) (launches_in text) before after
   ran_outcome after ran =
-      all_done (lengths_of text.buffers) _ _ (launches_in text) before after known (all_over text.turns text.buffers text.list) sizes ran
+      all_done (lengths_of text.buffers) _ _ (launches_in text) before after known
+      (all_over text.turns text.buffers text.list) sizes ran
 
-  pub stop_outcome : (e : RunError) → EndsSo text.several (programs_in text (map (λ c. unit_of c.program) cs)) (launches_in text) before e → IsOutcomeOf (models_in (map (λ c. unit_of c.program) cs)) (launches_in text) before e
+  pub stop_outcome : (e : RunError) →
+      EndsSo text.several (programs_in text (map (λ c. unit_of c.program) cs)) (launches_in text) before e →
+      IsOutcomeOf (models_in (map (λ c. unit_of c.program) cs)) (launches_in text) before e
   stop_outcome e ends =
-      so_outcome text.several (lengths_of text.buffers) _ _ (launches_in text) before e known (all_over text.turns text.buffers text.list) sizes ends
+      so_outcome text.several (lengths_of text.buffers) _ _ (launches_in text) before e known
+      (all_over text.turns text.buffers text.list) sizes ends

@@ -27,16 +27,21 @@ use Rattle.wg_top.proofs.MeaningLemmas.{one_chain}
 use Rattle.wg_top.proofs.ErasedLemmas.{program_same, names_same}
 
 -- what follows from two things that are said where there is a value
-pub if_both : {T E : Type 0} (r : Result T E) (P Q R : T → Type 0) → IfOk r P → IfOk r Q → ((x : T) → P x → Q x → R x) → IfOk r R
+pub if_both : {T E : Type 0} (r : Result T E) (P Q R : T → Type 0) → IfOk r P → IfOk r Q →
+    ((x : T) → P x → Q x → R x) → IfOk r R
 if_both (Ok x) P Q R p q f = f x p q
 if_both (Err e) P Q R p q f = tt
 
 -- a built program is like that of its kernel and plan
-pub like_built : (kernel : Kernel) (plan : Planned) (width : Width) (tree : RegionTree) (p : Plain) → p ≡ built_of kernel plan width tree → tree_before tree NoRegion ≡ split_of kernel
-    → IsBuilt (λ region code. code ≡ region_code kernel plan.homes region) (tree_before tree NoRegion) (work_before p.top NoWork) → IsLike (group_with (lanes_of width) kernel plan) p
+pub like_built : (kernel : Kernel) (plan : Planned) (width : Width) (tree : RegionTree) (p : Plain) →
+    p ≡ built_of kernel plan width tree → tree_before tree NoRegion ≡ split_of kernel
+    → IsBuilt (λ region code. code ≡ region_code kernel plan.homes region) (tree_before tree NoRegion)
+    (work_before p.top NoWork) → IsLike (group_with (lanes_of width) kernel plan) p
 like_built kernel plan width tree p is cut built = record {
   parts = is ∙ ap (λ (x : Plain). record (group_with (lanes_of width) kernel plan) { top = x.top }) (sym is);
-  chain = one_chain (region_code kernel plan.homes) (split_of kernel) (work_before p.top NoWork) (subst (λ (t : Tree). IsBuilt (λ region code. code ≡ region_code kernel plan.homes region) t (work_before p.top NoWork)) cut built);
+  chain = one_chain (region_code kernel plan.homes) (split_of kernel) (work_before p.top NoWork)
+      (subst (λ (t : Tree). IsBuilt (λ region code. code ≡ region_code kernel plan.homes region) t
+      (work_before p.top NoWork)) cut built);
 }
 
 -- the kernel and the plan of a unit
@@ -44,12 +49,18 @@ pub kernel_is : (p : Program) (k : Kernel) → k ≡ lowered_of (program_of p) (
 unfolding kernel_in
 kernel_is p k is = is ∙ sym (ap₂ lowered_of (program_same p) (names_same p))
 
-pub plan_is : (p : Program) (k : Kernel) (varying : List (List Test)) (plan : Planned) → k ≡ kernel_in (unit_of p) → varying ≡ varying_of (program_of p) → plan ≡ plan_of (program_of p) k varying → plan ≡ plan_in (unit_of p)
+pub plan_is : (p : Program) (k : Kernel) (varying : List (List Test)) (plan : Planned) → k ≡ kernel_in (unit_of p) →
+    varying ≡ varying_of (program_of p) → plan ≡ plan_of (program_of p) k varying → plan ≡ plan_in (unit_of p)
 unfolding plan_in
 plan_is p k varying plan kernel varies is =
-    is ∙ (ap (λ v. plan_of (program_of p) k v) varies ∙ (ap (λ x. plan_of (program_of p) x (varying_of (program_of p))) kernel ∙ ap (λ q. plan_of q (kernel_in (unit_of p)) (varying_of q)) (sym (program_same p))))
+    is ∙ (ap (λ v. plan_of (program_of p) k v) varies ∙
+    (ap (λ x. plan_of (program_of p) x (varying_of (program_of p))) kernel ∙
+    ap (λ q. plan_of q (kernel_in (unit_of p)) (varying_of q)) (sym (program_same p))))
 
 -- so the program of a group is that of the unit
-pub group_is : (width : ℕ) (p : Program) (k : Kernel) (plan : Planned) (g : Plain) → k ≡ kernel_in (unit_of p) → plan ≡ plan_in (unit_of p) → IsLike (group_with width k plan) g → IsLike (group_in width (unit_of p)) g
+pub group_is : (width : ℕ) (p : Program) (k : Kernel) (plan : Planned) (g : Plain) → k ≡ kernel_in (unit_of p) →
+    plan ≡ plan_in (unit_of p) → IsLike (group_with width k plan) g → IsLike (group_in width (unit_of p)) g
 unfolding group_in
-group_is width p k plan g kernel planned like = subst (λ (x : Kernel). IsLike (group_with width x (plan_in (unit_of p))) g) kernel (subst (λ (x : Planned). IsLike (group_with width k x) g) planned like)
+group_is width p k plan g kernel planned like =
+    subst (λ (x : Kernel). IsLike (group_with width x (plan_in (unit_of p))) g) kernel
+    (subst (λ (x : Planned). IsLike (group_with width k x) g) planned like)

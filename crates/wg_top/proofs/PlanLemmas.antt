@@ -32,20 +32,28 @@ plan_so : (u : Unit') → IsValid (program_of u) → IsPlan (program_of u) (kern
 unfolding plan_in
 plan_so u valid =
     let varying = varying_of (program_of u) in
-    is_plan (program_of u) (names_in u) (kernel_in u) varying valid (cells_in u valid) (λ v. varying_exact (program_of u) valid v.function v.number) (plan_counted (program_of u) (kernel_in u) varying)
+    is_plan (program_of u) (names_in u) (kernel_in u) varying valid (cells_in u valid)
+    (λ v. varying_exact (program_of u) valid v.function v.number)
+    (plan_counted (program_of u) (kernel_in u) varying)
 
 -- the lines of a valid unit's plan are its text
-plan_text_in : (u : Unit') (text : List ℕ) → IsValid (program_of u) → text ≡ plan_lines_of (program_of u) (kernel_in u) (plan_in u) → IsPlanText u text
+plan_text_in : (u : Unit') (text : List ℕ) → IsValid (program_of u) →
+    text ≡ plan_lines_of (program_of u) (kernel_in u) (plan_in u) → IsPlanText u text
 plan_text_in u text valid is = record {
   lines = is;
-  meaning = subst (AreLinesOf (program_of u) (names_in u) (crossing_of (program_of u))) (sym is) (lines_meant (program_of u) (names_in u) (kernel_in u) (plan_in u) (plan_so u valid) (cells_in u valid) valid);
-  once = crossing_differ (program_of u) (names_in u) (kernel_in u) (plan_in u) (plan_so u valid) (cells_in u valid) valid;
+  meaning = subst (AreLinesOf (program_of u) (names_in u) (crossing_of (program_of u))) (sym is)
+      (lines_meant (program_of u) (names_in u) (kernel_in u) (plan_in u) (plan_so u valid) (cells_in u valid) valid);
+  once =
+      crossing_differ (program_of u) (names_in u) (kernel_in u) (plan_in u) (plan_so u valid) (cells_in u valid) valid;
 }
 
 -- and so are those of a program, a kernel and a plan that are the unit's
-pub plan_text_of : (p : Program) (kernel : Kernel) (plan : Planned) (text : List ℕ) → IsValid (program_of (unit_of p)) → kernel ≡ kernel_in (unit_of p) → plan ≡ plan_in (unit_of p) → text ≡ plan_lines_of (model.program_of p) kernel plan → IsPlanText (unit_of p) text
+pub plan_text_of : (p : Program) (kernel : Kernel) (plan : Planned) (text : List ℕ) →
+    IsValid (program_of (unit_of p)) → kernel ≡ kernel_in (unit_of p) → plan ≡ plan_in (unit_of p) →
+    text ≡ plan_lines_of (model.program_of p) kernel plan → IsPlanText (unit_of p) text
 plan_text_of p kernel plan text valid kernel_is plan_is is =
     plan_text_in (unit_of p) text valid
     (is
     ∙ (ap (λ k. plan_lines_of (model.program_of p) k plan) kernel_is
-    ∙ (ap (plan_lines_of (model.program_of p) (kernel_in (unit_of p))) plan_is ∙ ap (λ q. plan_lines_of q (kernel_in (unit_of p)) (plan_in (unit_of p))) (sym (program_same p)))))
+    ∙ (ap (plan_lines_of (model.program_of p) (kernel_in (unit_of p))) plan_is ∙
+    ap (λ q. plan_lines_of q (kernel_in (unit_of p)) (plan_in (unit_of p))) (sym (program_same p)))))

@@ -2,7 +2,8 @@
 use Rattle.std.proofs.Common.{◌≡◌, ℕ, zero, suc, ◌+◌, ◌*◌, ◌/◌, ◌%◌, ◌^◌, ◌≤◌, [], ◌∷◌, inl, inr, refl, ◌∙◌, ap, arith}
 use Rattle.std.proofs.lemmas.Bool.{cases_lt}
 use Rattle.std.proofs.lemmas.Nat.{div-add-mod'}
-use native.Mathlib.Nat.{mul-le-mul_left, mul-le-mul_right, div-mul-le_self, mul_assoc, mul_comm, mul_left_comm, mul-le-mul, zero-mul}
+use native.Mathlib.Nat.{mul-le-mul_left, mul-le-mul_right, div-mul-le_self, mul_assoc, mul_comm, mul_left_comm}
+use native.Mathlib.Nat.{mul-le-mul, zero-mul}
 use Rattle.std.specs.Prelude.{slice_index}
 use Rattle.cl_model.specs.declared.launch.Launch.{Launch as Bindings}
 use Rattle.cl_model.specs.Sizes.{product}
@@ -32,7 +33,9 @@ some_groups global local some even = elim (cases_lt 0 (global / local)) [
 ]
 
 -- a launch in three dimensions: global sizes, local sizes, and numbers of groups
-module _ (a b c x y z : ℕ) (sa : 1 ≤ a) (sb : 1 ≤ b) (sc : 1 ≤ c) (sx : 1 ≤ x) (sy : 1 ≤ y) (sz : 1 ≤ z) (ea : a % x ≡ 0) (eb : b % y ≡ 0) (ec : c % z ≡ 0) (few : product (x ∷ y ∷ z ∷ []) ≤ 1024) (low : product (a ∷ b ∷ c ∷ []) ≤ 2 ^ 24) where
+module _ (a b c x y z : ℕ) (sa : 1 ≤ a) (sb : 1 ≤ b) (sc : 1 ≤ c) (sx : 1 ≤ x) (sy : 1 ≤ y) (sz : 1 ≤ z) (ea : a % x ≡
+    0) (eb : b % y ≡ 0) (ec : c % z ≡ 0) (few : product (x ∷ y ∷ z ∷ []) ≤ 1024) (low : product (a ∷ b ∷ c ∷ []) ≤
+    2 ^ 24) where
   size_few : x * (y * z) ≤ 1024
   size_few = omega (arith, product_three x y z)
 
@@ -50,7 +53,8 @@ module _ (a b c x y z : ℕ) (sa : 1 ≤ a) (sb : 1 ≤ b) (sc : 1 ≤ c) (sx : 
 
   pub items_limit : (a / x * (b / y * (c / z))) * (x * (y * z)) ≤ 2 ^ 24
   items_limit =
-      let most : (a / x * x) * ((b / y * y) * (c / z * z)) ≤ a * (b * c) = mul-le-mul (div-mul-le_self a x) (mul-le-mul (div-mul-le_self b y) (div-mul-le_self c z)) in
+      let most : (a / x * x) * ((b / y * y) * (c / z * z)) ≤ a * (b * c) =
+      mul-le-mul (div-mul-le_self a x) (mul-le-mul (div-mul-le_self b y) (div-mul-le_self c z)) in
       omega (arith, regrouped, product_three a b c)
 
   pub groups_limit : a / x * (b / y * (c / z)) ≤ 2 ^ 24
@@ -63,7 +67,8 @@ module _ (a b c x y z : ℕ) (sa : 1 ≤ a) (sb : 1 ≤ b) (sc : 1 ≤ c) (sx : 
   rest_limit = omega (arith, some_times (b / y * (c / z)) (a / x) first_some, groups_limit)
 
   pub first_limit : a / x * x ≤ 2 ^ 24
-  first_limit = omega (arith, div-mul-le_self a x, times_some a (b * c) (omega (arith, times_some b c sc)), product_three a b c)
+  first_limit =
+      omega (arith, div-mul-le_self a x, times_some a (b * c) (omega (arith, times_some b c sc)), product_three a b c)
 
 -- what the counts of a launch that can run are within
 pub record ThreeFit (a b c x y z : ℕ) : Type 0 where
@@ -77,7 +82,9 @@ pub record ThreeFit (a b c x y z : ℕ) : Type 0 where
   pub local_some : 1 ≤ x
   pub first : a / x * x ≤ 2 ^ 24
 
-pub three_fit : (launch : Bindings) → HasLimits (launch_of launch) → ThreeFit (slice_index launch.global 0) (slice_index launch.global 1) (slice_index launch.global 2) (slice_index launch.local 0) (slice_index launch.local 1) (slice_index launch.local 2)
+pub three_fit : (launch : Bindings) → HasLimits (launch_of launch) →
+    ThreeFit (slice_index launch.global 0) (slice_index launch.global 1) (slice_index launch.global 2)
+    (slice_index launch.local 0) (slice_index launch.local 1) (slice_index launch.local 2)
 three_fit launch can =
     let one = can.dimensions zero (omega arith) in
     let two = can.dimensions (suc zero) (omega arith) in
@@ -89,13 +96,21 @@ three_fit launch can =
     let y = slice_index launch.local 1 in
     let z = slice_index launch.local 2 in
     record {
-      plane = rest_limit a b c x y z one.some_global two.some_global three.some_global one.some_local two.some_local three.some_local one.divides two.divides three.divides can.group_limit can.item_limit;
-      groups = groups_limit a b c x y z one.some_global two.some_global three.some_global one.some_local two.some_local three.some_local one.divides two.divides three.divides can.group_limit can.item_limit;
-      cells = plane_few a b c x y z one.some_global two.some_global three.some_global one.some_local two.some_local three.some_local one.divides two.divides three.divides can.group_limit can.item_limit;
-      size = size_limit a b c x y z one.some_global two.some_global three.some_global one.some_local two.some_local three.some_local one.divides two.divides three.divides can.group_limit can.item_limit;
-      size_some = size_some a b c x y z one.some_global two.some_global three.some_global one.some_local two.some_local three.some_local one.divides two.divides three.divides can.group_limit can.item_limit;
-      items = items_limit a b c x y z one.some_global two.some_global three.some_global one.some_local two.some_local three.some_local one.divides two.divides three.divides can.group_limit can.item_limit;
-      first_some = first_some a b c x y z one.some_global two.some_global three.some_global one.some_local two.some_local three.some_local one.divides two.divides three.divides can.group_limit can.item_limit;
+      plane = rest_limit a b c x y z one.some_global two.some_global three.some_global one.some_local two.some_local
+          three.some_local one.divides two.divides three.divides can.group_limit can.item_limit;
+      groups = groups_limit a b c x y z one.some_global two.some_global three.some_global one.some_local
+          two.some_local three.some_local one.divides two.divides three.divides can.group_limit can.item_limit;
+      cells = plane_few a b c x y z one.some_global two.some_global three.some_global one.some_local two.some_local
+          three.some_local one.divides two.divides three.divides can.group_limit can.item_limit;
+      size = size_limit a b c x y z one.some_global two.some_global three.some_global one.some_local two.some_local
+          three.some_local one.divides two.divides three.divides can.group_limit can.item_limit;
+      size_some = size_some a b c x y z one.some_global two.some_global three.some_global one.some_local
+          two.some_local three.some_local one.divides two.divides three.divides can.group_limit can.item_limit;
+      items = items_limit a b c x y z one.some_global two.some_global three.some_global one.some_local two.some_local
+          three.some_local one.divides two.divides three.divides can.group_limit can.item_limit;
+      first_some = first_some a b c x y z one.some_global two.some_global three.some_global one.some_local
+          two.some_local three.some_local one.divides two.divides three.divides can.group_limit can.item_limit;
       local_some = one.some_local;
-      first = first_limit a b c x y z one.some_global two.some_global three.some_global one.some_local two.some_local three.some_local one.divides two.divides three.divides can.group_limit can.item_limit;
+      first = first_limit a b c x y z one.some_global two.some_global three.some_global one.some_local two.some_local
+          three.some_local one.divides two.divides three.divides can.group_limit can.item_limit;
     }

@@ -15,4 +15,6 @@ sum_push xs x = sum_is (xs ++ x ∷ []) ∙ (sum_by_push (λ n. n) xs x ∙ ap (
 
 pub sum-append : (xs ys : List ℕ) → sum (xs ++ ys) ≡ sum xs + sum ys
 sum-append [] ys = sym (zero-add (sum ys))
-sum-append (x ∷ xs) ys = sum-cons x (xs ++ ys) ∙ (ap (λ k. x + k) (sum-append xs ys) ∙ (sym (add_assoc x (sum xs) (sum ys)) ∙ ap (λ k. k + sum ys) (sym (sum-cons x xs))))
+sum-append (x ∷ xs) ys = sum-cons x (xs ++ ys) ∙
+    (ap (λ k. x + k) (sum-append xs ys) ∙
+    (sym (add_assoc x (sum xs) (sum ys)) ∙ ap (λ k. k + sum ys) (sym (sum-cons x xs))))

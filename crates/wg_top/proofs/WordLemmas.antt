@@ -55,5 +55,6 @@ one_ask (Some c) (sample n) (sample m) x y =
     ap sample number
 
 -- how a command ends is how whatever the words ask for ends
-pub as_asked : (old new : Outside) (words : List Text) (a b : Request) (n : ℕ) → AskFor words a → AskFor words b → EndsAsked old new a n → EndsAsked old new b n
+pub as_asked : (old new : Outside) (words : List Text) (a b : Request) (n : ℕ) → AskFor words a → AskFor words b →
+    EndsAsked old new a n → EndsAsked old new b n
 as_asked old new words a b n x y ends = subst (λ (r : Request). EndsAsked old new r n) (one_ask _ a b x y) ends

@@ -43,7 +43,8 @@ SourceLoaded files source bytes = HasFileStart files source 262145 bytes
 abbrev pub LaunchLoaded : Option FileMap → List ℕ → List ℕ → Type 0
 LaunchLoaded files launch bytes = HasFileStart files launch 1048577 bytes
 
--- the source and the launch file were loaded, the launch file with the options says this, and the source has a unit, and these typed units with the kernels of the launches
+-- the source and the launch file were loaded, the launch file with the options says this, and the source has a unit,
+-- and these typed units with the kernels of the launches
 pub record RunRead (files : Option FileMap) (ask : Files) (text : Text) (units : List Unit') : Type 0 where
   pub source_bytes : List ℕ
   pub source_loaded : SourceLoaded files ask.source source_bytes
@@ -58,7 +59,8 @@ pub record RunBound (files : Option FileMap) (ask : Files) (text : Text) (units 
   pub read : RunRead files ask text units
   pub accepted : bind_refusal text units ≡ None
 
--- the source and the launch file were loaded, and the condition of that number is the first that stands on the launch file
+-- the source and the launch file were loaded, and the condition of that number is the first that stands on the launch
+-- file
 pub record TextRefused (files : Option FileMap) (ask : Files) (number : ℕ) : Type 0 where
   pub source_bytes : List ℕ
   pub source_loaded : SourceLoaded files ask.source source_bytes
@@ -73,9 +75,11 @@ pub record BindRefused (files : Option FileMap) (ask : Files) (number : ℕ) : T
   pub read : RunRead files ask text units
   pub refused : bind_refusal text units ≡ Some number
 
--- the condition of that number stands of the source at that place: a source without a unit comes first, then the first launch whose kernel is at fault
+-- the condition of that number stands of the source at that place: a source without a unit comes first, then the
+-- first launch whose kernel is at fault
 abbrev pub IsSourceFault : List ℕ → Text → ℕ → Place → Type 0
-IsSourceFault bytes text number place = StandsAt bytes text.defines number place ⊎ IsFirstRefused bytes text.defines text.list number place
+IsSourceFault bytes text number place =
+    StandsAt bytes text.defines number place ⊎ IsFirstRefused bytes text.defines text.list number place
 
 -- the launch file was read, and the condition of that number stands of the source at that place
 pub record SourceRefused (files : Option FileMap) (ask : Files) (number : ℕ) (place : Place) : Type 0 where
@@ -89,13 +93,16 @@ pub record SourceRefused (files : Option FileMap) (ask : Files) (number : ℕ) (
 
 -- where files are told, the source is not among them, or the launch file where the source is there
 abbrev pub LacksText : Option FileMap → Files → Type 0
-LacksText files ask = LacksFile files ask.source ⊎ ((bytes : List ℕ) × SourceLoaded files ask.source bytes × LacksFile files ask.launch)
+LacksText files ask =
+    LacksFile files ask.source ⊎ ((bytes : List ℕ) × SourceLoaded files ask.source bytes × LacksFile files ask.launch)
 
--- where files are told, a name that was to be loaded is not among them: the source, or the launch file, or a buffer's file where all was read
+-- where files are told, a name that was to be loaded is not among them: the source, or the launch file, or a buffer's
+-- file where all was read
 abbrev pub LacksName : Option FileMap → Files → Type 0
 LacksName files ask =
     LacksText files ask
-    ⊎ ((text : Text) × (units : List Unit') × RunBound files ask text units × LacksOneFile files (loads_of text.buffers))
+    ⊎ ((text : Text) × (units : List Unit') × RunBound files ask text units ×
+    LacksOneFile files (loads_of text.buffers))
 
 -- the buffers of the launch file were loaded: these
 abbrev pub BuffersLoaded : Option FileMap → Text → List (List ℕ) → Type 0
@@ -115,7 +122,8 @@ pub record RunStopped (files : Option FileMap) (ask : Files) (error : RunError) 
   pub read : RunRead files ask text units
   pub stopped : IsStopped files text units error
 
--- besides, what is kept once is equal; and that end is an outcome of the launch, on buffers that those before it may leave
+-- besides, what is kept once is equal; and that end is an outcome of the launch, on buffers that those before it may
+-- leave
 pub record StopsIn (files : Option FileMap) (text : Text) (units : List Unit') (error : RunError) : Type 0 where
   pub stopped : IsStopped files text units error
   pub made : AreMade units
@@ -153,8 +161,10 @@ Cause old new ask Failed = Rose old.faults new.faults
 Cause old new ask Absent = Rose old.misses new.misses × Finds old.files ask Absent
 Cause old new ask (Source number place) = Finds old.files ask (Source number place)
 Cause old new ask (Launch number) = Finds old.files ask (Launch number)
-Cause old new ask (Range launch several group item place) = RunStops old.files ask (Range launch several group item place)
-Cause old new ask (Parted launch several group item place) = RunStops old.files ask (Parted launch several group item place)
+Cause old new ask (Range launch several group item place) =
+    RunStops old.files ask (Range launch several group item place)
+Cause old new ask (Parted launch several group item place) =
+    RunStops old.files ask (Parted launch several group item place)
 Cause old new ask (Turns launch several) = RunStops old.files ask (Turns launch several)
 Cause old new ask Memory = ⊤
 
@@ -167,7 +177,8 @@ ReadingCause old new ask (Launch number) = TextRefused old.files ask number
 ReadingCause old new ask Memory = ⊤
 ReadingCause old new ask _ = ⊥
 
--- the buffers were loaded, and the launches are done; what is kept once is equal; and those ends are outcomes of the launches
+-- the buffers were loaded, and the launches are done; what is kept once is equal; and those ends are outcomes of the
+-- launches
 pub record HasRun (files : Option FileMap) (text : Text) (units : List Unit') (after : List (List ℕ)) : Type 0 where
   pub before : List (List ℕ)
   pub loaded : BuffersLoaded files text before
@@ -176,7 +187,8 @@ pub record HasRun (files : Option FileMap) (text : Text) (units : List Unit') (a
   pub compiled : AreCompiledTo text.lanes text.list units
   pub outcome : AreDone (models_in units) (launches_in text) before after
 
--- saving had begun: the launches ran, the buffers before one are saved, and those behind it and all other names are as before
+-- saving had begun: the launches ran, the buffers before one are saved, and those behind it and all other names are
+-- as before
 pub record SaveFailed (old new : Option FileMap) (ask : Files) : Type 0 where
   pub text : Text
   pub units : List Unit'
@@ -203,7 +215,8 @@ pub record IsDone (old new : Option FileMap) (ask : Files) (summary : Summary) :
   pub groups : summary.groups ≡ all_groups (launches_in text)
   pub items : summary.items ≡ all_items (launches_in text)
 
--- the store tells its files, has the source and the launch file, no condition stands on what the launch file says, and the source has a unit and the launches' kernels
+-- the store tells its files, has the source and the launch file, no condition stands on what the launch file says,
+-- and the source has a unit and the launches' kernels
 pub record IsReadable (files : Option FileMap) (ask : Files) (text : Text) (units : List Unit') : Type 0 where
   pub source_bytes : List ℕ
   pub launch_bytes : List ℕ
@@ -216,24 +229,31 @@ pub record IsReadable (files : Option FileMap) (ask : Files) (text : Text) (unit
 -- besides, the store has the files that the buffers load, and no condition stands on the launches
 pub record IsTaken (files : Option FileMap) (ask : Files) (text : Text) (units : List Unit') : Type 0 where
   pub readable : IsReadable files ask text units
-  pub buffers_told : (name : List ℕ) → Contains (loads_of text.buffers) (Some name) → (bytes : List ℕ) × (told_file files name ≡ Some (Some bytes))
+  pub buffers_told : (name : List ℕ) → Contains (loads_of text.buffers) (Some name) → (bytes : List ℕ) ×
+      (told_file files name ≡ Some (Some bytes))
   pub accepted : bind_refusal text units ≡ None
 
 -- besides, each launch is done on the buffers that those before it leave
 pub record Accepted (files : Option FileMap) (ask : Files) (text : Text) (units : List Unit') : Type 0 where
   pub taken : IsTaken files ask text units
-  pub done : (before : List (List ℕ)) → BuffersLoaded files text before → (after : List (List ℕ)) × LaunchesRan (programs_in text units) (launches_in text) before after
+  pub done : (before : List (List ℕ)) → BuffersLoaded files text before → (after : List (List ℕ)) ×
+      LaunchesRan (programs_in text units) (launches_in text) before after
 
--- and of launches of which no run races, faults, parts or begins too many iterations: each is clean on the buffers that those before it leave
+-- and of launches of which no run races, faults, parts or begins too many iterations: each is clean on the buffers
+-- that those before it leave
 pub record AcceptedClean (files : Option FileMap) (ask : Files) (text : Text) (units : List Unit') : Type 0 where
   pub taken : IsTaken files ask text units
-  pub clean : (before : List (List ℕ)) → BuffersLoaded files text before → AreClean (models_in units) (launches_in text) before
+  pub clean : (before : List (List ℕ)) → BuffersLoaded files text before →
+      AreClean (models_in units) (launches_in text) before
 
--- what a run loads is there and accepted, and its launches are done, by what their group programs mean or since they are clean
+-- what a run loads is there and accepted, and its launches are done, by what their group programs mean or since they
+-- are clean
 abbrev pub AcceptedRun : Option FileMap → Files → Type 0
-AcceptedRun files ask = (text : Text) × (units : List Unit') × (Accepted files ask text units ⊎ AcceptedClean files ask text units)
+AcceptedRun files ask =
+    (text : Text) × (units : List Unit') × (Accepted files ask text units ⊎ AcceptedClean files ask text units)
 
--- every interleaving of the launches leaves these buffers, which are saved, each whole; all names that are not saved are as before
+-- every interleaving of the launches leaves these buffers, which are saved, each whole; all names that are not saved
+-- are as before
 pub record LeavesClean (old new : Option FileMap) (text : Text) (units : List Unit') : Type 0 where
   pub before : List (List ℕ)
   pub loaded : BuffersLoaded old text before

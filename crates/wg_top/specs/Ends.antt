@@ -10,7 +10,8 @@ use Rattle.command_words.specs.Command.{Files, Request, run, plan, code, sample,
 use Rattle.wg_top.specs.declared.Summary.{Summary}
 use Rattle.launch_file.specs.Texts.{Text}
 use Rattle.cl_meaning.specs.Typed.{Unit'}
-use Rattle.wg_top.specs.Causes.{Standing, standing, Finds, ReadingFinds, Cause, ReadingCause, RunRead, LeavesFiles, IsDone, IsReadable, AcceptedRun, LeavesClean}
+use Rattle.wg_top.specs.Causes.{Standing, standing, Finds, ReadingFinds, Cause, ReadingCause, RunRead, LeavesFiles}
+use Rattle.wg_top.specs.Causes.{IsDone, IsReadable, AcceptedRun, LeavesClean}
 use Rattle.wg_top.specs.Outcomes.{AreMade, AreCompiledTo}
 use Rattle.wg_top.specs.Shown.{Showing, plan_shown, code_shown, Shows}
 use Rattle.wg_top.specs.Sample.{sample_files, sample_ask, IsSample, SampleCause}
@@ -45,8 +46,14 @@ pub record Outside : Type 0 where
   pub err : SinkStanding
 
 -- the same, by the members of the three traits
-abbrev pub outside : {S O E : Type 0} → (S → Option FileMap) → (S → ℕ) → (S → ℕ) → (O → Option (List ℕ)) → (O → ℕ) → (E → Option (List ℕ)) → (E → ℕ) → S → O → E → Outside
-outside files faults misses out_written out_faults err_written err_faults store out err = record { store = standing files faults misses store; out = sink_standing out_written out_faults out; err = sink_standing err_written err_faults err }
+abbrev pub outside : {S O E : Type 0} → (S → Option FileMap) → (S → ℕ) → (S → ℕ) → (O → Option (List ℕ)) → (O → ℕ) →
+    (E → Option (List ℕ)) → (E → ℕ) → S → O → E → Outside
+outside files faults misses out_written out_faults err_written err_faults store out err =
+    record {
+      store = standing files faults misses store;
+      out = sink_standing out_written out_faults out;
+      err = sink_standing err_written err_faults err;
+    }
 
 -- the run is done, and its line is on `out`
 pub record EndsDone (old new : Outside) (ask : Files) (status : ℕ) : Type 0 where
@@ -131,7 +138,8 @@ pub record EndsUnread (old new : Outside) (ask : Files) (status : ℕ) : Type 0 
 
 -- how a command ends that runs nothing
 abbrev pub EndsShowing : Outside → Outside → Files → Showing → ℕ → Type 0
-EndsShowing old new ask show status = EndsShown old new ask show status ⊎ EndsUnshown old new ask show status ⊎ EndsUnread old new ask status
+EndsShowing old new ask show status =
+    EndsShown old new ask show status ⊎ EndsUnshown old new ask show status ⊎ EndsUnread old new ask status
 
 -- the sample's line is on `out`
 pub record EndsSampled (old_out new_out old_err new_err : SinkStanding) (number status : ℕ) : Type 0 where
@@ -162,14 +170,17 @@ pub record EndsNoSample (old_out new_out old_err new_err : SinkStanding) (number
 -- how the sample ends, which leaves the store alone
 abbrev pub EndsSample : SinkStanding → SinkStanding → SinkStanding → SinkStanding → ℕ → ℕ → Type 0
 EndsSample old_out new_out old_err new_err number status =
-    EndsSampled old_out new_out old_err new_err number status ⊎ EndsUnsampled old_out new_out old_err new_err number status ⊎ EndsNoSample old_out new_out old_err new_err number status
+    EndsSampled old_out new_out old_err new_err number status ⊎
+    EndsUnsampled old_out new_out old_err new_err number status ⊎
+    EndsNoSample old_out new_out old_err new_err number status
 
 -- how a command ends
 abbrev pub EndsAsked : Outside → Outside → Request → ℕ → Type 0
 EndsAsked old new (run ask) status = Ends old new ask status
 EndsAsked old new (plan ask) status = EndsShowing old new ask plan_shown status
 EndsAsked old new (code ask) status = EndsShowing old new ask code_shown status
-EndsAsked old new (sample number) status = (new.store ≡ old.store) × EndsSample old.out new.out old.err new.err number status
+EndsAsked old new (sample number) status =
+    (new.store ≡ old.store) × EndsSample old.out new.out old.err new.err number status
 
 -- what a command loads is there and accepted, and the launches of a run are done; the sample has files of its own
 abbrev pub AcceptedFor : Option FileMap → Request → Type 0
@@ -178,7 +189,8 @@ AcceptedFor files (plan ask) = (text : Text) × (units : List Unit') × IsReadab
 AcceptedFor files (code ask) = (text : Text) × (units : List Unit') × IsReadable files ask text units
 AcceptedFor files (sample number) = AcceptedRun (Some (sample_files number)) sample_ask
 
--- files that are told decide that a command is refused so, faults and want of memory aside; those of the sample are its own
+-- files that are told decide that a command is refused so, faults and want of memory aside; those of the sample are
+-- its own
 abbrev pub FindsFor : Option FileMap → Request → RunError → Type 0
 FindsFor files (run ask) error = (is_some files ≡ true) × Finds files ask error
 FindsFor files (plan ask) error = (is_some files ≡ true) × ReadingFinds files ask error
@@ -194,7 +206,8 @@ NoStoreFault (sample number) old new = ⊤
 
 -- nothing went to `out` but a first part of a line, where its faults rose
 abbrev pub KeepsOut : SinkStanding → SinkStanding → Type 0
-KeepsOut old new = (new ≡ old) ⊎ ((line : List ℕ) × AppendsPrefix old.written new.written line × Rose old.faults new.faults)
+KeepsOut old new =
+    (new ≡ old) ⊎ ((line : List ℕ) × AppendsPrefix old.written new.written line × Rose old.faults new.faults)
 
 -- a line went to `err`
 abbrev pub SaysLine : SinkStanding → SinkStanding → Type 0

@@ -10,7 +10,8 @@ use Rattle.launch_file.specs.declared.text.LaunchText.{LaunchText}
 use Rattle.wg_top.specs.declared.reading.Given.{Given}
 use Rattle.wg_top.specs.Described.{IsCompiledAt}
 
--- the names of its files are texts, the numbers of given names are below 2^63, no file is saved twice, and it has from 1 to 16 launches, each in 1 to 3 dimensions
+-- the names of its files are texts, the numbers of given names are below 2^63, no file is saved twice, and it has
+-- from 1 to 16 launches, each in 1 to 3 dimensions
 pub record IsText (text : LaunchText) : Type 0 where
   pub texts : All HasTexts text.buffers.items
   pub numbers : All HasNumber text.defines.list.items

@@ -1,5 +1,6 @@
 -- What the launches of a launch file do to its buffers, one after the other.
-use Rattle.std.specs.Prelude.{◌≡◌, ◌+◌, ◌<◌, ◌≤◌, ◌^◌, ⊤, ℕ, zero, suc, Bool, List, [], ◌∷◌, map, Option, Some, None, slice_get, slice_index_or}
+use Rattle.std.specs.Prelude.{◌≡◌, ◌+◌, ◌<◌, ◌≤◌, ◌^◌, ⊤, ℕ, zero, suc, Bool, List, [], ◌∷◌, map, Option, Some, None}
+use Rattle.std.specs.Prelude.{slice_get, slice_index_or}
 use Rattle.wg_num.specs.declared.types.Place.{Place}
 use Rattle.cl_model.specs.Sizes.{Launch, product, group_count, item_count}
 use Rattle.cl_model.specs.Fitting.{DimensionFits}
@@ -53,17 +54,20 @@ pub record LaunchRan (program : Plain) (launch : Launch) (before after : List (L
 -- the launches are done, each with its program, on the buffers that the one before it left
 abbrev pub LaunchesRan : List Plain → List Launch → (before after : List (List ℕ)) → Type 0
 LaunchesRan [] [] before after = after ≡ before
-LaunchesRan (p ∷ ps) (launch ∷ launches) before after = (mid : List (List ℕ)) × LaunchRan p launch before mid × LaunchesRan ps launches mid after
+LaunchesRan (p ∷ ps) (launch ∷ launches) before after =
+    (mid : List (List ℕ)) × LaunchRan p launch before mid × LaunchesRan ps launches mid after
 LaunchesRan _ _ before after = ⊥
 
 -- so many launches are done, and the next one ends so
 abbrev pub EndsBehind : List Plain → List Launch → (before : List (List ℕ)) → (behind : ℕ) → RunEnd → Type 0
 EndsBehind (p ∷ ps) (launch ∷ launches) before zero end = (launch_end p launch before).end ≡ end
-EndsBehind (p ∷ ps) (launch ∷ launches) before (suc behind) end = (mid : List (List ℕ)) × LaunchRan p launch before mid × EndsBehind ps launches mid behind end
+EndsBehind (p ∷ ps) (launch ∷ launches) before (suc behind) end =
+    (mid : List (List ℕ)) × LaunchRan p launch before mid × EndsBehind ps launches mid behind end
 EndsBehind _ _ before behind end = ⊥
 
 -- the launches before the one with that number, counted from 1, are done, and it ends so
-pub record EndsIn (programs : List Plain) (launches : List Launch) (before : List (List ℕ)) (number : ℕ) (end : RunEnd) : Type 0 where
+pub record EndsIn (programs : List Plain) (launches : List Launch) (before : List (List ℕ)) (number : ℕ)
+    (end : RunEnd) : Type 0 where
   pub behind : ℕ
   pub ends : EndsBehind programs launches before behind end
   pub number_is : number ≡ behind + 1
@@ -78,7 +82,8 @@ site_place None site = start_place
 site_place (Some p) site = slice_index_or p.sites site start_place
 
 -- the same as `EndsIn`, at a site, which has that place in the source
-pub record EndsAtSite (programs : List Plain) (launches : List Launch) (before : List (List ℕ)) (number : ℕ) (end : (site : ℕ) → RunEnd) (place : Place) : Type 0 where
+pub record EndsAtSite (programs : List Plain) (launches : List Launch) (before : List (List ℕ)) (number : ℕ)
+    (end : (site : ℕ) → RunEnd) (place : Place) : Type 0 where
   pub behind : ℕ
   pub site : ℕ
   pub ends : EndsBehind programs launches before behind (end site)
@@ -87,16 +92,21 @@ pub record EndsAtSite (programs : List Plain) (launches : List Launch) (before :
 
 -- a launch ends as the refusal says, in a file that lists its launches or does not
 abbrev pub EndsSo : Bool → List Plain → List Launch → (before : List (List ℕ)) → RunError → Type 0
-EndsSo listed programs launches before (error.Range number several group item place) = (several ≡ listed) × EndsAtSite programs launches before number (run.Range group item) place
-EndsSo listed programs launches before (error.Parted number several group item place) = (several ≡ listed) × EndsAtSite programs launches before number (run.Parted group item) place
-EndsSo listed programs launches before (error.Turns number several) = (several ≡ listed) × EndsIn programs launches before number run.Turns
+EndsSo listed programs launches before (error.Range number several group item place) =
+    (several ≡ listed) × EndsAtSite programs launches before number (run.Range group item) place
+EndsSo listed programs launches before (error.Parted number several group item place) =
+    (several ≡ listed) × EndsAtSite programs launches before number (run.Parted group item) place
+EndsSo listed programs launches before (error.Turns number several) =
+    (several ≡ listed) × EndsIn programs launches before number run.Turns
 EndsSo listed programs launches before _ = ⊥
 
 -- the refusal of a run whose launch with that number ends so; none where it is done
 abbrev pub refusal_of : RunEnd → (number : ℕ) (several : Bool) → List Place → Option RunError
 refusal_of run.Done number several sites = None
-refusal_of (run.Range group item site) number several sites = Some (error.Range number several group item (slice_index_or sites site start_place))
-refusal_of (run.Parted group item site) number several sites = Some (error.Parted number several group item (slice_index_or sites site start_place))
+refusal_of (run.Range group item site) number several sites =
+    Some (error.Range number several group item (slice_index_or sites site start_place))
+refusal_of (run.Parted group item site) number several sites =
+    Some (error.Parted number several group item (slice_index_or sites site start_place))
 refusal_of run.Turns number several sites = Some (error.Turns number several)
 
 -- how many groups the launches have together, and how many items

@@ -3,7 +3,8 @@ use Rattle.std.specs.Prelude.{◌≡◌, ◌||◌, true, false, ⊤, List, [], �
 use Rattle.std.specs.Prelude.{Bool as Test}
 use Rattle.cl_model.specs.Lists.{Each}
 use Rattle.cl_model.specs.Calls.{Instance, instances, function_at}
-use Rattle.cl_model.specs.Tree.{Statement, Do, Declare, Fill, Block, If, Loop, Switch, Break, Continue, Return, Barrier, Statements, empty, also, Arms, no_arm, arm, Program}
+use Rattle.cl_model.specs.Tree.{Statement, Do, Declare, Fill, Block, If, Loop, Switch, Break, Continue, Return}
+use Rattle.cl_model.specs.Tree.{Barrier, Statements, empty, also, Arms, no_arm, arm, Program}
 
 -- a statement is a loop, or has one in it
 abbrev mutual

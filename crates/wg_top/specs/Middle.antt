@@ -1,4 +1,5 @@
--- A typed unit through the passes: the kernel without calls, which variables vary, where its cells are kept, its regions, and the program of a group.
+-- A typed unit through the passes: the kernel without calls, which variables vary, where its cells are kept, its
+-- regions, and the program of a group.
 use Rattle.std.specs.Prelude.{◌≡◌, ℕ, true, false, List, map}
 use Rattle.cl_model.specs.Tree.{Table}
 use Rattle.cl_valid.specs.Erased.{program_of}
@@ -33,8 +34,11 @@ plan_in u = plan_of (program_of u) (kernel_in u) (varying_of (program_of u))
 abbrev pub works_of : (RegionOf → PlainCode) → Tree → Works
 works_of code NoRegion = idle
 works_of code (RegionThen region rest) = then_work (Items (code region)) (works_of code rest)
-works_of code (VoteThen test agreed refused mixed rest) = then_work (Vote (code test) (Seq (works_of code agreed)) (Seq (works_of code refused)) (code mixed)) (works_of code rest)
-works_of code (LoopThen test_first test body others rest) = then_work (Loop test_first (Seq (works_of code test)) (Seq (works_of code body)) (code others)) (works_of code rest)
+works_of code (VoteThen test agreed refused mixed rest) =
+    then_work (Vote (code test) (Seq (works_of code agreed)) (Seq (works_of code refused)) (code mixed))
+    (works_of code rest)
+works_of code (LoopThen test_first test body others rest) =
+    then_work (Loop test_first (Seq (works_of code test)) (Seq (works_of code body)) (code others)) (works_of code rest)
 
 -- the program of a group with a kernel and its plan, at a lane width
 abbrev pub group_with : ℕ → Kernel → Planned → Plain

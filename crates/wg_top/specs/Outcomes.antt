@@ -1,4 +1,5 @@
--- What a launch file's launches come to by the model: every interleaving of their work-items, one launch behind the other.
+-- What a launch file's launches come to by the model: every interleaving of their work-items, one launch behind the
+-- other.
 use Rattle.std.specs.Prelude.{◌≡◌, ◌+◌, ⊤, ℕ, zero, suc, List, [], ◌∷◌, length, map, take}
 use Rattle.wg_num.specs.declared.types.Width.{Width}
 use Rattle.wg_num.specs.Operators.{lanes_of}
@@ -22,8 +23,8 @@ use Rattle.wg_top.specs.Described.{KeepsOnceWhatIsEqual}
 
 -- ---- units
 
--- the program of a unit is valid, its kernel without calls comes from it, and what is kept once for a group has equal values in all its work-items at the same point, in each
--- launch that fits
+-- the program of a unit is valid, its kernel without calls comes from it, and what is kept once for a group has equal
+-- values in all its work-items at the same point, in each launch that fits
 pub record IsMade (u : Unit') : Type 0 where
   pub valid : IsValid (program_of u)
   pub lowered : IsLoweringOf (program_of u) (names_in u) (kernel_in u)
@@ -34,14 +35,15 @@ abbrev pub AreMade : List Unit' → Type 0
 AreMade [] = ⊤
 AreMade (u ∷ units) = IsMade u × AreMade units
 
--- the group program of a unit under a name, at so many lanes: it does what `group_in` does, in the same order; it has its plan, it ends in outcomes of the program in each
--- launch that fits, and it accesses no more than is written
+-- the group program of a unit under a name, at so many lanes: it does what `group_in` does, in the same order; it has
+-- its plan, it ends in outcomes of the program in each launch that fits, and it accesses no more than is written
 pub record IsCompiledTo (width : ℕ) (name : List ℕ) (u : Unit') : Type 0 where
   pub group : Plain
   pub like : IsLike (group_in width u) group
   pub lanes : Width
   pub lanes_are : lanes_of lanes ≡ width
-  pub compiled : IsCompiledFrom (program_of u) name (varying_of (program_of u)) (kernel_in u) (plan_in u) lanes name group
+  pub compiled : IsCompiledFrom (program_of u) name (varying_of (program_of u)) (kernel_in u) (plan_in u) lanes name
+      group
 
 -- the same of each launch's unit, under the name of its kernel
 abbrev pub AreCompiledTo : (width : ℕ) → List Part → List Unit' → Type 0
@@ -55,28 +57,35 @@ models_in units = map program_of units
 
 -- ---- every launch
 
--- each launch may be done: after some run of it on the buffers that the one before it left every work-item has ended; and the last one leaves these
+-- each launch may be done: after some run of it on the buffers that the one before it left every work-item has ended;
+-- and the last one leaves these
 abbrev pub AreDone : List Program → List Launch → (before after : List (List ℕ)) → Type 0
 AreDone [] [] before after = after ≡ before
-AreDone (p ∷ programs) (launch ∷ launches) before after = (mid : List (List ℕ)) × EndsDone p launch before mid × AreDone programs launches mid after
+AreDone (p ∷ programs) (launch ∷ launches) before after =
+    (mid : List (List ℕ)) × EndsDone p launch before mid × AreDone programs launches mid after
 AreDone _ _ before after = ⊥
 
 -- so many launches may be done, and the next one may end so on the buffers that they leave
-abbrev pub EndBehind : (Program → Launch → List (List ℕ) → Type 0) → List Program → List Launch → (before : List (List ℕ)) → (behind : ℕ) → Type 0
+abbrev pub EndBehind : (Program → Launch → List (List ℕ) → Type 0) → List Program → List Launch →
+    (before : List (List ℕ)) → (behind : ℕ) → Type 0
 EndBehind Ends (p ∷ programs) (launch ∷ launches) before zero = Ends p launch before
-EndBehind Ends (p ∷ programs) (launch ∷ launches) before (suc behind) = (mid : List (List ℕ)) × EndsDone p launch before mid × EndBehind Ends programs launches mid behind
+EndBehind Ends (p ∷ programs) (launch ∷ launches) before (suc behind) =
+    (mid : List (List ℕ)) × EndsDone p launch before mid × EndBehind Ends programs launches mid behind
 EndBehind Ends _ _ before behind = ⊥
 
 -- the launch with that number, counted from 1, may end so behind those before it
-pub record MayEnd (Ends : Program → Launch → List (List ℕ) → Type 0) (programs : List Program) (launches : List Launch) (before : List (List ℕ)) (number : ℕ) : Type 0 where
+pub record MayEnd (Ends : Program → Launch → List (List ℕ) →
+    Type 0) (programs : List Program) (launches : List Launch) (before : List (List ℕ)) (number : ℕ) : Type 0 where
   pub behind : ℕ
   pub ends : EndBehind Ends programs launches before behind
   pub number_is : number ≡ behind + 1
 
 -- what a refusal says of a launch is an outcome of that launch
 abbrev pub IsOutcomeOf : List Program → List Launch → (before : List (List ℕ)) → RunError → Type 0
-IsOutcomeOf programs launches before (error.Range number several group item place) = MayEnd (λ p launch buffers. EndsRange p launch buffers group item place) programs launches before number
-IsOutcomeOf programs launches before (error.Parted number several group item place) = MayEnd (λ p launch buffers. EndsParted p launch buffers group item place) programs launches before number
+IsOutcomeOf programs launches before (error.Range number several group item place) =
+    MayEnd (λ p launch buffers. EndsRange p launch buffers group item place) programs launches before number
+IsOutcomeOf programs launches before (error.Parted number several group item place) =
+    MayEnd (λ p launch buffers. EndsParted p launch buffers group item place) programs launches before number
 IsOutcomeOf programs launches before (error.Turns number several) = MayEnd EndsTurns programs launches before number
 IsOutcomeOf programs launches before _ = ⊥
 
@@ -85,17 +94,22 @@ IsOutcomeOf programs launches before _ = ⊥
 -- each launch is clean on the buffers that those before it leave
 abbrev pub AreClean : List Program → List Launch → (before : List (List ℕ)) → Type 0
 AreClean [] [] before = ⊤
-AreClean (p ∷ programs) (launch ∷ launches) before = IsCleanLaunch p launch before × ((mid : List (List ℕ)) → EndsDone p launch before mid → AreClean programs launches mid)
+AreClean (p ∷ programs) (launch ∷ launches) before =
+    IsCleanLaunch p launch before × ((mid : List (List ℕ)) → EndsDone p launch before mid →
+    AreClean programs launches mid)
 AreClean _ _ before = ⊥
 
--- every interleaving of the launch leaves these buffers: there is one after which every work-item has ended, and each run that no move can follow leaves them
+-- every interleaving of the launch leaves these buffers: there is one after which every work-item has ended, and each
+-- run that no move can follow leaves them
 pub record EachLeaves (program : Program) (launch : Launch) (before after : List (List ℕ)) : Type 0 where
   pub done : EndsDone program launch before after
   pub each : (moves : List Move) → IsMaximal (machine_of program launch) (start_world program launch before) moves
-      → take (length launch.lengths) (world_after (machine_of program launch) (start_world program launch before) moves).memory ≡ after
+      → take (length launch.lengths) (world_after (machine_of program launch) (start_world program launch before)
+      moves).memory ≡ after
 
 -- the same of each launch, on the buffers that the one before it leaves
 abbrev pub AllLeave : List Program → List Launch → (before after : List (List ℕ)) → Type 0
 AllLeave [] [] before after = after ≡ before
-AllLeave (p ∷ programs) (launch ∷ launches) before after = (mid : List (List ℕ)) × EachLeaves p launch before mid × AllLeave programs launches mid after
+AllLeave (p ∷ programs) (launch ∷ launches) before after =
+    (mid : List (List ℕ)) × EachLeaves p launch before mid × AllLeave programs launches mid after
 AllLeave _ _ before after = ⊥

@@ -23,7 +23,10 @@ words_from number k (suc count) = (number + k * 2654435769) % 4294967296 ∷ wor
 -- the files of a sample: the source, the launch file and the words with which its buffer starts
 abbrev pub sample_files : ℕ → FileMap
 sample_files number =
-    (codes "sample.cl", source_at (number % 3)) ∷ (codes "sample.toml", LAUNCH.now) ∷ (codes "a.bin", bytes_of_words (words_from number 0 65536)) ∷ []
+    (codes "sample.cl", source_at (number % 3)) ∷ (codes "sample.toml", LAUNCH.now) ∷ (
+      codes "a.bin",
+      bytes_of_words (words_from number 0 65536),
+    ) ∷ []
 
 -- what its run asks for
 abbrev pub sample_ask : Files

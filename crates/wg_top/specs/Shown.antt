@@ -17,7 +17,8 @@ use Rattle.wg_top.specs.Outcomes.{IsCompiledTo}
 abbrev pub Showing : Type 1
 Showing = (width : ℕ) → (name : List ℕ) → Unit' → (text : List ℕ) → Type 0
 
--- the text of a kernel's plan: a line for each variable that crosses, none twice, in the order in which declarations stand in the inlined text
+-- the text of a kernel's plan: a line for each variable that crosses, none twice, in the order in which declarations
+-- stand in the inlined text
 pub record IsPlanText (u : Unit') (text : List ℕ) : Type 0 where
   pub lines : text ≡ plan_lines_of (program_of u) (kernel_in u) (plan_in u)
   pub meaning : AreLinesOf (program_of u) (names_in u) (crossing_of (program_of u)) text
@@ -41,10 +42,12 @@ abbrev pub head_of : Bool → ℕ → List ℕ
 head_of several number = if several then codes "launch " ++ (decimal number ++ codes "\n") else []
 
 -- the texts of launches, the first of which has that number
-abbrev pub AreTexts : Showing → (width : ℕ) (several : Bool) (number : ℕ) → List Part → List Unit' → (text : List ℕ) → Type 0
+abbrev pub AreTexts : Showing → (width : ℕ) (several : Bool) (number : ℕ) → List Part → List Unit' → (text : List ℕ) →
+    Type 0
 AreTexts show width several number [] [] text = text ≡ []
 AreTexts show width several number (part ∷ parts) (u ∷ us) text =
-    (own : List ℕ) × (rest : List ℕ) × show width part.kernel u own × AreTexts show width several (suc number) parts us rest × (text ≡ head_of several number ++ (own ++ rest))
+    (own : List ℕ) × (rest : List ℕ) × show width part.kernel u own ×
+    AreTexts show width several (suc number) parts us rest × (text ≡ head_of several number ++ (own ++ rest))
 AreTexts show width several number _ _ text = ⊥
 
 -- the texts of a launch file's launches, in order

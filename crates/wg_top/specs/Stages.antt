@@ -64,10 +64,13 @@ BindCause text units _ = ⊥
 -- the cause of a refusal once all is read
 abbrev pub BackCause : Standing → Standing → Text → List Unit' → RunError → Type 0
 BackCause old new text units Failed = Rose old.faults new.faults
-BackCause old new text units Absent = Rose old.misses new.misses × (bind_refusal text units ≡ None) × LacksOneFile old.files (loads_of text.buffers)
+BackCause old new text units Absent =
+    Rose old.misses new.misses × (bind_refusal text units ≡ None) × LacksOneFile old.files (loads_of text.buffers)
 BackCause old new text units (Launch number) = bind_refusal text units ≡ Some number
-BackCause old new text units (Range launch several group item place) = StopsIn old.files text units (Range launch several group item place)
-BackCause old new text units (Parted launch several group item place) = StopsIn old.files text units (Parted launch several group item place)
+BackCause old new text units (Range launch several group item place) =
+    StopsIn old.files text units (Range launch several group item place)
+BackCause old new text units (Parted launch several group item place) =
+    StopsIn old.files text units (Parted launch several group item place)
 BackCause old new text units (Turns launch several) = StopsIn old.files text units (Turns launch several)
 BackCause old new text units Memory = ⊤
 BackCause old new text units _ = ⊥

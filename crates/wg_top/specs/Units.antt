@@ -16,7 +16,8 @@ needs_in u = needs_of_kernel u.functions u.kernel
 -- for each launch, the source has that typed unit with the launch's kernel
 abbrev pub AreCompiled : List ℕ → List Define → List Part → List Unit' → Type 0
 AreCompiled source defines [] [] = ⊤
-AreCompiled source defines (part ∷ parts) (u ∷ us) = IsCompiled source defines part.kernel u × AreCompiled source defines parts us
+AreCompiled source defines (part ∷ parts) (u ∷ us) =
+    IsCompiled source defines part.kernel u × AreCompiled source defines parts us
 AreCompiled source defines _ _ = ⊥
 
 -- the source has a typed unit with that kernel
@@ -28,7 +29,8 @@ pub record Compiles (source : List ℕ) (defines : List Define) (kernel : List �
 abbrev pub IsFirstRefused : List ℕ → List Define → List Part → ℕ → Place → Type 0
 IsFirstRefused source defines [] number place = ⊥
 IsFirstRefused source defines (part ∷ parts) number place =
-    IsFaulty source defines part.kernel number place ⊎ (Compiles source defines part.kernel × IsFirstRefused source defines parts number place)
+    IsFaulty source defines part.kernel number place ⊎
+    (Compiles source defines part.kernel × IsFirstRefused source defines parts number place)
 
 -- what is there, or what comes later
 abbrev pub or_later : Option ℕ → Option ℕ → Option ℕ
@@ -37,7 +39,8 @@ or_later (Some n) later = Some n
 
 -- the number of the first condition that stands on the launches, in order, each for its own kernel
 abbrev pub first_refusal : List BufferText → List Part → List Unit' → Option ℕ
-first_refusal buffers (part ∷ parts) (u ∷ us) = or_later (launch_refusal (needs_in u) buffers part) (first_refusal buffers parts us)
+first_refusal buffers (part ∷ parts) (u ∷ us) =
+    or_later (launch_refusal (needs_in u) buffers part) (first_refusal buffers parts us)
 first_refusal buffers _ _ = None
 
 -- the same for a launch file

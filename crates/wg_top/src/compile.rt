@@ -44,9 +44,11 @@ fn group_of(
     name: &Word,
     width: Width,
 ) -> Result<GroupProgram, Memory>
-    ensures like { IfOk result (λ g. IsLike (group_with (lanes_of width) (kernel_of kernel.now) (planned_of plan.now)) (plain_of g)) }
+    ensures like { IfOk result (λ g.
+        IsLike (group_with (lanes_of width) (kernel_of kernel.now) (planned_of plan.now)) (plain_of g)) }
     ensures parts { IfOk result (λ g. HasPartsOf (kernel_of kernel.now) (planned_of plan.now) width (plain_of g)) }
-    ensures one { IfOk result (λ g. holds_barrier (kernel_of kernel.now).body ≡ false → IsOneCode (plain_of g).top) }
+    ensures one { IfOk result (λ g. holds_barrier (kernel_of kernel.now).body ≡ false →
+        IsOneCode (plain_of g).top) }
     ensures name { IfOk result (λ g. g.kernel ≡ name.now) }
 {
     let tree = split(alloc, kernel)?;

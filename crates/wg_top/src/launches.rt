@@ -1,5 +1,26 @@
 // The launches of a launch file, one after the other, over its buffers.
-ghost use Rattle.std.specs.Prelude.{◌≡◌, ◌<◌, ◌≤◌, ◌+◌, ℕ, All, List, None, IfOk, IfErr, OnOk, length, map, IsTrue, ◌↔◌, ◌∷◌, [], sum, min, slice_index_or};
+ghost use Rattle.std.specs.Prelude.{
+  ◌≡◌,
+  ◌<◌,
+  ◌≤◌,
+  ◌+◌,
+  ℕ,
+  All,
+  List,
+  None,
+  IfOk,
+  IfErr,
+  OnOk,
+  length,
+  map,
+  IsTrue,
+  ◌↔◌,
+  ◌∷◌,
+  [],
+  sum,
+  min,
+  slice_index_or,
+};
 ghost use Rattle.cl_model.specs.View.{launch_of, buffers_of};
 ghost use Rattle.cl_model.specs.Sizes.{group_count, item_count};
 ghost use Rattle.cl_model.specs.Fitting.{FitBuffers};
@@ -12,7 +33,18 @@ ghost use Rattle.wg_top.specs.Described.{IsCompiledAt};
 ghost use Rattle.wg_top.specs.Units.{bind_refusal};
 ghost use Rattle.wg_top.specs.Given.{IsText};
 ghost use Rattle.wg_top.specs.Stages.{BindCause};
-ghost use Rattle.wg_top.specs.Launches.{launches_in, HasLimits, IsReady, AllFit, LaunchesRan, EndsSo, refusal_of, start_place, all_groups, all_items};
+ghost use Rattle.wg_top.specs.Launches.{
+  launches_in,
+  HasLimits,
+  IsReady,
+  AllFit,
+  LaunchesRan,
+  EndsSo,
+  refusal_of,
+  start_place,
+  all_groups,
+  all_items,
+};
 
 use crate::compile::Compiled;
 use crate::shared::SharedKernel;
@@ -43,7 +75,8 @@ pub(crate) fn bind_each(
     ensures launches { IfOk result (λ v. map launch_of v.items ≡ launches_in (text_of text.now)) }
     ensures ready { IfOk result (λ v. All (IsReady text.now.buffers.items) v.items) }
     ensures fit { IfOk result (λ v. AllFit kernels.now v.items) }
-    ensures accepted { IfOk result (λ v. bind_refusal (text_of text.now) (map (λ c. unit_of c.program) kernels.now) ≡ None) }
+    ensures accepted { IfOk result
+        (λ v. bind_refusal (text_of text.now) (map (λ c. unit_of c.program) kernels.now) ≡ None) }
     ensures err { IfErr result (BindCause (text_of text.now) (map (λ c. unit_of c.program) kernels.now)) }
 {
     let mut list = Vec::new(alloc);
@@ -139,7 +172,8 @@ fn prepare_one(alloc: Global, kernel: &Compiled, launch: Launch) -> Result<Launc
     requires { LaunchFits (plain_of kernel.now.group).params 0 (launch_of launch) }
     ensures program { IfOk result (λ l. l.program ≡ kernel.now.group) }
     ensures launch { IfOk result (λ l. l.launch ≡ launch) }
-    ensures fit { IfOk result (λ l. LaunchFits (plain_of l.program).params (sum (plain_of l.program).locals) (launch_of l.launch)) }
+    ensures fit { IfOk result (λ l. LaunchFits (plain_of l.program).params (sum (plain_of l.program).locals)
+        (launch_of l.launch)) }
 {
     if has_room(&kernel.group.locals, &launch.args) {
         Launcher::prepare(alloc, &kernel.group, launch)
@@ -155,9 +189,12 @@ pub(crate) fn prepare_each<'k>(
     launches: Vec<Launch>,
 ) -> Result<Vec<Launcher<'k>>, Memory>
     requires { AllFit kernels.now launches.items }
-    ensures programs { IfOk result (λ v. map (λ l. plain_of l.program) v.items ≡ map (λ c. plain_of c.group) kernels.now) }
+    ensures programs { IfOk result (λ v. map (λ l. plain_of l.program) v.items ≡
+        map (λ c. plain_of c.group) kernels.now) }
     ensures launches { IfOk result (λ v. map (λ l. l.launch) v.items ≡ launches.items) }
-    ensures fit { IfOk result (λ v. All (λ l. LaunchFits (plain_of l.program).params (sum (plain_of l.program).locals) (launch_of l.launch)) v.items) }
+    ensures fit { IfOk result (λ v.
+        All (λ l. LaunchFits (plain_of l.program).params (sum (plain_of l.program).locals) (launch_of l.launch))
+        v.items) }
 {
     let mut launchers = Vec::new(alloc);
     let mut rest = launches.into_iter();
@@ -216,10 +253,13 @@ pub(crate) fn run_each(
 ) -> Result<(), RunError>
     requires fit { All (λ l. FitBuffers (launch_of l.launch) (buffers_of buffers.old)) launchers.old.items }
     requires few { length launchers.old.items ≤ 16 }
-    ensures ran { OnOk result (LaunchesRan (map (λ l. plain_of l.program) launchers.old.items) (map (λ l. launch_of l.launch) launchers.old.items) (buffers_of buffers.old) (buffers_of buffers.new)) }
-    ensures stops { IfErr result (EndsSo several (map (λ l. plain_of l.program) launchers.old.items) (map (λ l. launch_of l.launch) launchers.old.items) (buffers_of buffers.old)) }
+    ensures ran { OnOk result (LaunchesRan (map (λ l. plain_of l.program) launchers.old.items)
+        (map (λ l. launch_of l.launch) launchers.old.items) (buffers_of buffers.old) (buffers_of buffers.new)) }
+    ensures stops { IfErr result (EndsSo several (map (λ l. plain_of l.program) launchers.old.items)
+        (map (λ l. launch_of l.launch) launchers.old.items) (buffers_of buffers.old)) }
     ensures launchers { launchers.new.items ≡ launchers.old.items }
-    ensures lengths { map (λ b. length b.items) buffers.new.list.items ≡ map (λ b. length b.items) buffers.old.list.items }
+    ensures lengths { map (λ b. length b.items) buffers.new.list.items ≡
+        map (λ b. length b.items) buffers.old.list.items }
 {
     for k in 0..launchers.len() {
         let launcher = &mut launchers[k];

@@ -8,7 +8,23 @@ ghost use Rattle.wg_outside.specs.Counts.{Rose};
 ghost use Rattle.wg_top.specs.Causes.{AcceptedClean, HasLoops};
 ghost use Rattle.wg_top.specs.declared.RunError.{RunError};
 ghost use Rattle.cl_meaning.specs.Typed.{Unit'};
-ghost use Rattle.wg_top.specs.Ends.{sink_standing, outside, AreWords, Ends, EndsShowing, EndsSample, EndsClean, EndsAsked, AcceptedFor, FindsFor, NoStoreFault, EndsSaying, KeepsOut, SaysLine, usage_line};
+ghost use Rattle.wg_top.specs.Ends.{
+  sink_standing,
+  outside,
+  AreWords,
+  Ends,
+  EndsShowing,
+  EndsSample,
+  EndsClean,
+  EndsAsked,
+  AcceptedFor,
+  FindsFor,
+  NoStoreFault,
+  EndsSaying,
+  KeepsOut,
+  SaysLine,
+  usage_line,
+};
 ghost use Rattle.wg_top.specs.Shown.{showing};
 ghost use Rattle.wg_top.specs.Lines.{status_of};
 
@@ -235,29 +251,38 @@ pub fn wgcc<S: Store, O: Sink, E: Sink>(
         usage_line }
 
     // What each status says.
-    ensures failed { result ≡ 1 → Rose (S.faults store.old) (S.faults store.new) ⊎ Rose (O.faults out.old) (O.faults out.new) }
+    ensures failed { result ≡ 1 → Rose (S.faults store.old) (S.faults store.new) ⊎
+        Rose (O.faults out.old) (O.faults out.new) }
     ensures absent { result ≡ 9 → Rose (S.misses store.old) (S.misses store.new) }
-    ensures looped { (ask : Files) → AreWords (map string_bytes words.now) (run ask) → result ≡ 7 → HasLoops (S.files store.old) ask }
+    ensures looped { (ask : Files) → AreWords (map string_bytes words.now) (run ask) → result ≡ 7 →
+        HasLoops (S.files store.old) ask }
     ensures no_save { (result ≡ 0 → ⊥) → (result ≡ 1 → ⊥) → S.files store.new ≡ S.files store.old }
-    ensures quiet { result ≡ 0 → sink_standing E.written E.faults err.new ≡ sink_standing E.written E.faults err.old }
-    ensures line { (result ≡ 0 → ⊥) → SaysLine (sink_standing E.written E.faults err.old) (sink_standing E.written E.faults err.new) }
-    ensures out { (result ≡ 0 → ⊥) → KeepsOut (sink_standing O.written O.faults out.old) (sink_standing O.written O.faults out.new) }
+    ensures quiet { result ≡ 0 → sink_standing E.written E.faults err.new ≡
+        sink_standing E.written E.faults err.old }
+    ensures line { (result ≡ 0 → ⊥) →
+        SaysLine (sink_standing E.written E.faults err.old) (sink_standing E.written E.faults err.new) }
+    ensures out { (result ≡ 0 → ⊥) →
+        KeepsOut (sink_standing O.written O.faults out.old) (sink_standing O.written O.faults out.new) }
 
     // What must come where the store tells its files and no fault rises, want of memory aside; the
     // sample's store is its own.
     ensures complete { (request : Request) → AreWords (map string_bytes words.now) request →
         AcceptedFor (S.files store.old) request →
-        NoStoreFault request (S.faults store.old) (S.faults store.new) → (Rose (O.faults out.old) (O.faults out.new) → ⊥) →
+        NoStoreFault request (S.faults store.old) (S.faults store.new) →
+        (Rose (O.faults out.old) (O.faults out.new) → ⊥) →
         (result ≡ 0) ⊎ (result ≡ 8) }
     ensures exact { (request : Request) (error : RunError) → AreWords (map string_bytes words.now) request →
         FindsFor (S.files store.old) request error →
-        NoStoreFault request (S.faults store.old) (S.faults store.new) → (result ≡ status_of error) ⊎ (result ≡ 8) }
+        NoStoreFault request (S.faults store.old) (S.faults store.new) → (result ≡ status_of error) ⊎
+        (result ≡ 8) }
 
     // Where no interleaving of any launch races, faults, parts or begins more iterations than the
     // turns: what every interleaving leaves is saved.
-    ensures clean { (ask : Files) (text : Text) (units : List Unit') → AreWords (map string_bytes words.now) (run ask) →
+    ensures clean { (ask : Files) (text : Text) (units : List Unit') →
+        AreWords (map string_bytes words.now) (run ask) →
         AcceptedClean (S.files store.old) ask text units →
-        (Rose (S.faults store.old) (S.faults store.new) → ⊥) → (Rose (O.faults out.old) (O.faults out.new) → ⊥) →
+        (Rose (S.faults store.old) (S.faults store.new) → ⊥) →
+        (Rose (O.faults out.old) (O.faults out.new) → ⊥) →
         EndsClean (S.files store.old) (S.files store.new) text units result }
 {
     match read_words(alloc, words) {

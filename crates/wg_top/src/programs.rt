@@ -22,8 +22,10 @@ use wg_num::{Memory, Width, Word};
 
 // The refusal of a run by that of its source.
 fn refused(error: SourceError) -> RunError
-    ensures source { (bytes : List ℕ) (text : Text) → IsRefusal bytes text.defines error → ProgramCause bytes text result }
-    ensures kernel { (bytes : List ℕ) (defines : List Define) (kernel : List ℕ) → IsUnitRefusal bytes defines kernel error → KernelCause bytes defines kernel result }
+    ensures source { (bytes : List ℕ) (text : Text) → IsRefusal bytes text.defines error →
+        ProgramCause bytes text result }
+    ensures kernel { (bytes : List ℕ) (defines : List Define) (kernel : List ℕ) →
+        IsUnitRefusal bytes defines kernel error → KernelCause bytes defines kernel result }
 {
     match error {
         SourceError::Fault { number, place } => RunError::Source { number, place },
@@ -38,10 +40,16 @@ fn compile_one(
     kernel: &Word,
     width: Width,
 ) -> Result<SharedKernel, RunError>
-    ensures compiled { IfOk result (λ c. (bytes : List ℕ) (defines : List Define) → IsSource bytes defines source.now.tokens.items (view source.now.unit) → source.now.places.items ≡ places_of bytes source.now.tokens.items → IsCompiled bytes defines kernel.now (unit_of c.program)) }
+    ensures compiled { IfOk result (λ c. (bytes : List ℕ) (defines : List Define) →
+        IsSource bytes defines source.now.tokens.items (view source.now.unit) →
+        source.now.places.items ≡ places_of bytes source.now.tokens.items →
+        IsCompiled bytes defines kernel.now (unit_of c.program)) }
     ensures passes { IfOk result (λ c. IsCompiledAt (lanes_of width) c) }
     ensures name { IfOk result (λ c. c.group.kernel ≡ kernel.now) }
-    ensures err { IfErr result (λ e. (bytes : List ℕ) (defines : List Define) → IsSource bytes defines source.now.tokens.items (view source.now.unit) → source.now.places.items ≡ places_of bytes source.now.tokens.items → source.now.end ≡ place_at bytes (length bytes) → KernelCause bytes defines kernel.now e) }
+    ensures err { IfErr result (λ e. (bytes : List ℕ) (defines : List Define) →
+        IsSource bytes defines source.now.tokens.items (view source.now.unit) →
+        source.now.places.items ≡ places_of bytes source.now.tokens.items →
+        source.now.end ≡ place_at bytes (length bytes) → KernelCause bytes defines kernel.now e) }
 {
     match compile_kernel(alloc, source, kernel.bytes()) {
         Ok(program) => match compile_program(alloc, program, kernel, width) {
@@ -64,12 +72,21 @@ fn kernel_for(
     width: Width,
     earlier: &[SharedKernel],
 ) -> Result<SharedKernel, RunError>
-    requires compiled { (bytes : List ℕ) (defines : List Define) → IsSource bytes defines source.now.tokens.items (view source.now.unit) → source.now.places.items ≡ places_of bytes source.now.tokens.items → All (λ c. IsCompiled bytes defines c.group.kernel (unit_of c.program)) earlier.now }
+    requires compiled { (bytes : List ℕ) (defines : List Define) →
+        IsSource bytes defines source.now.tokens.items (view source.now.unit) →
+        source.now.places.items ≡ places_of bytes source.now.tokens.items →
+        All (λ c. IsCompiled bytes defines c.group.kernel (unit_of c.program)) earlier.now }
     requires passes { All (IsCompiledAt (lanes_of width)) earlier.now }
-    ensures compiled { IfOk result (λ c. (bytes : List ℕ) (defines : List Define) → IsSource bytes defines source.now.tokens.items (view source.now.unit) → source.now.places.items ≡ places_of bytes source.now.tokens.items → IsCompiled bytes defines kernel.now (unit_of c.program)) }
+    ensures compiled { IfOk result (λ c. (bytes : List ℕ) (defines : List Define) →
+        IsSource bytes defines source.now.tokens.items (view source.now.unit) →
+        source.now.places.items ≡ places_of bytes source.now.tokens.items →
+        IsCompiled bytes defines kernel.now (unit_of c.program)) }
     ensures passes { IfOk result (λ c. IsCompiledAt (lanes_of width) c) }
     ensures name { IfOk result (λ c. c.group.kernel ≡ kernel.now) }
-    ensures err { IfErr result (λ e. (bytes : List ℕ) (defines : List Define) → IsSource bytes defines source.now.tokens.items (view source.now.unit) → source.now.places.items ≡ places_of bytes source.now.tokens.items → source.now.end ≡ place_at bytes (length bytes) → KernelCause bytes defines kernel.now e) }
+    ensures err { IfErr result (λ e. (bytes : List ℕ) (defines : List Define) →
+        IsSource bytes defines source.now.tokens.items (view source.now.unit) →
+        source.now.places.items ≡ places_of bytes source.now.tokens.items →
+        source.now.end ≡ place_at bytes (length bytes) → KernelCause bytes defines kernel.now e) }
 {
     for other in earlier {
         if other.compiled().group.kernel.bytes() == kernel.bytes() {
@@ -89,10 +106,16 @@ fn compile_each(
     list: &[LaunchPart],
     width: Width,
 ) -> Result<Vec<SharedKernel>, RunError>
-    ensures compiled { IfOk result (λ v. (bytes : List ℕ) (defines : List Define) → IsSource bytes defines source.now.tokens.items (view source.now.unit) → source.now.places.items ≡ places_of bytes source.now.tokens.items → AreCompiled bytes defines (map part_of list.now) (map (λ c. unit_of c.program) v.items)) }
+    ensures compiled { IfOk result (λ v. (bytes : List ℕ) (defines : List Define) →
+        IsSource bytes defines source.now.tokens.items (view source.now.unit) →
+        source.now.places.items ≡ places_of bytes source.now.tokens.items →
+        AreCompiled bytes defines (map part_of list.now) (map (λ c. unit_of c.program) v.items)) }
     ensures passes { IfOk result (λ v. All (IsCompiledAt (lanes_of width)) v.items) }
     ensures names { IfOk result (λ v. map (λ c. c.group.kernel) v.items ≡ map (λ p. p.kernel) list.now) }
-    ensures err { IfErr result (λ e. (bytes : List ℕ) (defines : List Define) → IsSource bytes defines source.now.tokens.items (view source.now.unit) → source.now.places.items ≡ places_of bytes source.now.tokens.items → source.now.end ≡ place_at bytes (length bytes) → KernelsCause bytes defines (map part_of list.now) e) }
+    ensures err { IfErr result (λ e. (bytes : List ℕ) (defines : List Define) →
+        IsSource bytes defines source.now.tokens.items (view source.now.unit) →
+        source.now.places.items ≡ places_of bytes source.now.tokens.items →
+        source.now.end ≡ place_at bytes (length bytes) → KernelsCause bytes defines (map part_of list.now) e) }
 {
     let mut kernels = Vec::new(alloc);
     for which in 0..list.len() {
@@ -117,9 +140,11 @@ pub(crate) fn compile_all(
     text: &LaunchText,
 ) -> Result<Vec<SharedKernel>, RunError>
     ensures unit { IfOk result (λ v. HasUnit bytes.now (text_of text.now).defines) }
-    ensures compiled { IfOk result (λ v. AreCompiled bytes.now (text_of text.now).defines (text_of text.now).list (map (λ c. unit_of c.program) v.items)) }
+    ensures compiled { IfOk result (λ v. AreCompiled bytes.now (text_of text.now).defines (text_of text.now).list
+        (map (λ c. unit_of c.program) v.items)) }
     ensures passes { IfOk result (λ v. All (IsCompiledAt (text_of text.now).lanes) v.items) }
-    ensures names { IfOk result (λ v. map (λ c. c.group.kernel) v.items ≡ map (λ p. p.kernel) (text_of text.now).list) }
+    ensures names { IfOk result (λ v. map (λ c. c.group.kernel) v.items ≡
+        map (λ p. p.kernel) (text_of text.now).list) }
     ensures err { IfErr result (ProgramCause bytes.now (text_of text.now)) }
 {
     match read_source(alloc, bytes, &text.defines) {

@@ -43,9 +43,11 @@ fn load_launch<S: Store>(
 ) -> Result<LaunchText, RunError>
     ensures ok { IfOk result (λ t. TextRead (S.files store.old) launch.now options.lanes options.turns (text_of t)) }
     ensures is { IfOk result IsText }
-    ensures err { IfErr result (LaunchCause (standing S.files S.faults S.misses store.old) (standing S.files S.faults S.misses store.new) launch.now options.lanes options.turns) }
+    ensures err { IfErr result (LaunchCause (standing S.files S.faults S.misses store.old)
+        (standing S.files S.faults S.misses store.new) launch.now options.lanes options.turns) }
     ensures files_stay { S.files store.new ≡ S.files store.old }
-    ensures stands { Stands (standing S.files S.faults S.misses store.old) (standing S.files S.faults S.misses store.new) }
+    ensures stands { Stands (standing S.files S.faults S.misses store.old)
+        (standing S.files S.faults S.misses store.new) }
 {
     match store.load(alloc, launch, LAUNCH_MOST) {
         Ok(bytes) => match read(alloc, &bytes, options.lanes, options.turns) {
@@ -67,11 +69,15 @@ pub(crate) fn read_all<S: Store>(
     launch: &str,
     options: Options,
 ) -> Result<Given, RunError>
-    ensures read { IfOk result (λ g. RunRead (S.files store.old) (asked source.now launch.now options.lanes options.turns) (text_of g.text) (map (λ c. unit_of c.program) g.kernels.items)) }
+    ensures read { IfOk result (λ g.
+        RunRead (S.files store.old) (asked source.now launch.now options.lanes options.turns) (text_of g.text)
+        (map (λ c. unit_of c.program) g.kernels.items)) }
     ensures given { IfOk result IsGiven }
-    ensures err { IfErr result (ReadingCause (standing S.files S.faults S.misses store.old) (standing S.files S.faults S.misses store.new) (asked source.now launch.now options.lanes options.turns)) }
+    ensures err { IfErr result (ReadingCause (standing S.files S.faults S.misses store.old)
+        (standing S.files S.faults S.misses store.new) (asked source.now launch.now options.lanes options.turns)) }
     ensures files_stay { S.files store.new ≡ S.files store.old }
-    ensures stands { Stands (standing S.files S.faults S.misses store.old) (standing S.files S.faults S.misses store.new) }
+    ensures stands { Stands (standing S.files S.faults S.misses store.old)
+        (standing S.files S.faults S.misses store.new) }
 {
     let bytes = match store.load(alloc, source, SOURCE_MOST) {
         Ok(bytes) => bytes,

@@ -44,10 +44,16 @@ fn run_bound<S: Store>(
     requires ready { All (IsReady text.now.buffers.items) launches.items }
     requires fit { AllFit kernels.now launches.items }
     requires accepted { bind_refusal (text_of text.now) (map (λ c. unit_of c.program) kernels.now) ≡ None }
-    ensures ok { IfOk result (IsRun (S.files store.old) (S.files store.new) (text_of text.now) (map (λ c. unit_of c.program) kernels.now)) }
-    ensures err { IfErr result (BackCause (standing S.files S.faults S.misses store.old) (standing S.files S.faults S.misses store.new) (text_of text.now) (map (λ c. unit_of c.program) kernels.now)) }
-    ensures left { IfErr result (LeavesOthers (standing S.files S.faults S.misses store.old) (standing S.files S.faults S.misses store.new) (text_of text.now) (map (λ c. unit_of c.program) kernels.now)) }
-    ensures stands { Stands (standing S.files S.faults S.misses store.old) (standing S.files S.faults S.misses store.new) }
+    ensures ok { IfOk result (IsRun (S.files store.old) (S.files store.new) (text_of text.now)
+        (map (λ c. unit_of c.program) kernels.now)) }
+    ensures err { IfErr result (BackCause (standing S.files S.faults S.misses store.old)
+        (standing S.files S.faults S.misses store.new) (text_of text.now)
+        (map (λ c. unit_of c.program) kernels.now)) }
+    ensures left { IfErr result (LeavesOthers (standing S.files S.faults S.misses store.old)
+        (standing S.files S.faults S.misses store.new) (text_of text.now)
+        (map (λ c. unit_of c.program) kernels.now)) }
+    ensures stands { Stands (standing S.files S.faults S.misses store.old)
+        (standing S.files S.faults S.misses store.new) }
 {
     let summary = count_all(&launches);
     let mut buffers = match load_all(alloc, store, &launches[0]) {
@@ -73,10 +79,16 @@ fn run_bound<S: Store>(
 // Binds the launches, and runs them from their files to their files.
 fn run_given<S: Store>(alloc: Global, store: &mut S, given: Given) -> Result<Summary, RunError>
     requires { IsGiven given }
-    ensures ok { IfOk result (IsRun (S.files store.old) (S.files store.new) (text_of given.text) (map (λ c. unit_of c.program) given.kernels.items)) }
-    ensures err { IfErr result (BackCause (standing S.files S.faults S.misses store.old) (standing S.files S.faults S.misses store.new) (text_of given.text) (map (λ c. unit_of c.program) given.kernels.items)) }
-    ensures left { IfErr result (LeavesOthers (standing S.files S.faults S.misses store.old) (standing S.files S.faults S.misses store.new) (text_of given.text) (map (λ c. unit_of c.program) given.kernels.items)) }
-    ensures stands { Stands (standing S.files S.faults S.misses store.old) (standing S.files S.faults S.misses store.new) }
+    ensures ok { IfOk result (IsRun (S.files store.old) (S.files store.new) (text_of given.text)
+        (map (λ c. unit_of c.program) given.kernels.items)) }
+    ensures err { IfErr result (BackCause (standing S.files S.faults S.misses store.old)
+        (standing S.files S.faults S.misses store.new) (text_of given.text)
+        (map (λ c. unit_of c.program) given.kernels.items)) }
+    ensures left { IfErr result (LeavesOthers (standing S.files S.faults S.misses store.old)
+        (standing S.files S.faults S.misses store.new) (text_of given.text)
+        (map (λ c. unit_of c.program) given.kernels.items)) }
+    ensures stands { Stands (standing S.files S.faults S.misses store.old)
+        (standing S.files S.faults S.misses store.new) }
 {
     let Given { text, kernels } = given;
     match bind_each(alloc, &kernels, &text) {
@@ -100,13 +112,19 @@ pub fn run_source<S: Store>(
     lanes: Option<u64>,
     turns: Option<u64>,
 ) -> Result<Summary, RunError>
-    ensures ok { IfOk result (IsDone (S.files store.old) (S.files store.new) (asked source.now launch.now lanes turns)) }
-    ensures err { IfErr result (Cause (standing S.files S.faults S.misses store.old) (standing S.files S.faults S.misses store.new) (asked source.now launch.now lanes turns)) }
-    ensures left { IfErr result (LeavesFiles (standing S.files S.faults S.misses store.old) (standing S.files S.faults S.misses store.new) (asked source.now launch.now lanes turns)) }
-    ensures stands { Stands (standing S.files S.faults S.misses store.old) (standing S.files S.faults S.misses store.new) }
-    ensures clean { IfOk result (λ _. (text : Text) (units : List Unit') → AcceptedClean (S.files store.old) (asked source.now launch.now lanes turns) text units →
+    ensures ok { IfOk result (IsDone (S.files store.old) (S.files store.new)
+        (asked source.now launch.now lanes turns)) }
+    ensures err { IfErr result (Cause (standing S.files S.faults S.misses store.old)
+        (standing S.files S.faults S.misses store.new) (asked source.now launch.now lanes turns)) }
+    ensures left { IfErr result (LeavesFiles (standing S.files S.faults S.misses store.old)
+        (standing S.files S.faults S.misses store.new) (asked source.now launch.now lanes turns)) }
+    ensures stands { Stands (standing S.files S.faults S.misses store.old)
+        (standing S.files S.faults S.misses store.new) }
+    ensures clean { IfOk result (λ _. (text : Text) (units : List Unit') →
+        AcceptedClean (S.files store.old) (asked source.now launch.now lanes turns) text units →
         LeavesClean (S.files store.old) (S.files store.new) text units) }
-    ensures only_memory { IfErr result (λ error. (text : Text) (units : List Unit') → AcceptedClean (S.files store.old) (asked source.now launch.now lanes turns) text units →
+    ensures only_memory { IfErr result (λ error. (text : Text) (units : List Unit') →
+        AcceptedClean (S.files store.old) (asked source.now launch.now lanes turns) text units →
         (Rose (S.faults store.old) (S.faults store.new) → ⊥) → error ≡ refusals.Memory) }
 {
     match read_all(alloc, store, source, launch, Options { lanes, turns }) {

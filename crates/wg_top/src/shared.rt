@@ -25,7 +25,14 @@ impl Model for SharedKernel {
 
     ghost Value = { Compiled };
 
-    ghost coded = { Prim.hlevel (codes, program.the_row.coded, kernel.the_row.coded, varying.the_row.coded, plan.the_row.coded, group.the_row.coded) };
+    ghost coded = { Prim.hlevel (
+      codes,
+      program.the_row.coded,
+      kernel.the_row.coded,
+      varying.the_row.coded,
+      plan.the_row.coded,
+      group.the_row.coded,
+    ) };
 
     ghost view = { λ k. k.compiled.value };
 }

@@ -40,7 +40,9 @@ fn put(text: &mut Vec<u8>, bytes: &[u8]) -> Result<(), Memory>
 
 // The text of one kernel.
 fn kernel_text(alloc: Global, shown: Shown, kernel: &Compiled) -> Result<Vec<u8>, Memory>
-    ensures { IfOk result (λ v. (width : ℕ) → IsCompiledAt width kernel.now → IsValid (program_of (unit_of kernel.now.program)) → showing shown width kernel.now.group.kernel (unit_of kernel.now.program) v.items) }
+    ensures { IfOk result (λ v. (width : ℕ) → IsCompiledAt width kernel.now →
+        IsValid (program_of (unit_of kernel.now.program)) →
+        showing shown width kernel.now.group.kernel (unit_of kernel.now.program) v.items) }
 {
     match shown {
         Shown::Plan => plan_text(alloc, &kernel.program, &kernel.kernel, &kernel.plan),
@@ -65,7 +67,8 @@ fn put_head(text: &mut Vec<u8>, several: bool, number: u64) -> Result<(), Memory
 // launch where the file lists its launches.
 fn texts_of(alloc: Global, shown: Shown, given: &Given) -> Result<Vec<u8>, Memory>
     requires { IsGiven given.now }
-    ensures { IfOk result (λ v. Shows (showing shown) (text_of given.now.text) (map (λ c. unit_of c.program) given.now.kernels.items) v.items) }
+    ensures { IfOk result (λ v. Shows (showing shown) (text_of given.now.text)
+        (map (λ c. unit_of c.program) given.now.kernels.items) v.items) }
 {
     let mut text = Vec::new(alloc);
     for k in 0..given.kernels.len() {
@@ -84,7 +87,8 @@ pub(crate) fn show_source<S: Store>(
     store: &mut S,
 ) -> Result<Vec<u8>, RunError>
     ensures ok { IfOk result (λ v. ShownRead (S.files store.old) (files_of files.entry) (showing shown) v.items) }
-    ensures err { IfErr result (ReadingCause (standing S.files S.faults S.misses store.old) (standing S.files S.faults S.misses store.new) (files_of files.entry)) }
+    ensures err { IfErr result (ReadingCause (standing S.files S.faults S.misses store.old)
+        (standing S.files S.faults S.misses store.new) (files_of files.entry)) }
     ensures files_stay { S.files store.new ≡ S.files store.old }
 {
     let options = Options {

@@ -1,9 +1,12 @@
 -- A launch whose items never wait, begin no iteration and each touch elements of their own is clean.
-use Rattle.std.proofs.Common.{◌≡◌, ◌≢◌, ℕ, ◌<◌, true, cond, List, [], ◌∷◌, length, Some, None, slice_get, slice_set, refl, sym, ap, ◌∙◌, subst, inl, inr, arith, length-set}
+use Rattle.std.proofs.Common.{◌≡◌, ◌≢◌, ℕ, ◌<◌, true, cond, List, [], ◌∷◌, length, Some, None, slice_get, slice_set}
+use Rattle.std.proofs.Common.{refl, sym, ap, ◌∙◌, subst, inl, inr, arith, length-set}
 use Rattle.std.proofs.lemmas.Bool.{cases_eq}
 use Rattle.std.proofs.lemmas.Option.{slice_get_within, same_Some}
 use Rattle.work_items.specs.Memory.{Memory, Access, bytes_of, has_element, is_in_range, loaded, Overlap}
-use Rattle.work_items.specs.Items.{Next, Ends, Waits, Goes, Begins, Loads, Stores, Machine, World, Move, Step, Release, HasStep, HasEnded, IsWaiting, fault_of, memory_after, state_after, IsPossible, moved}
+use Rattle.work_items.specs.Items.{Next, Ends, Waits, Goes, Begins, Loads, Stores, Machine, World, Move, Step}
+use Rattle.work_items.specs.Items.{Release, HasStep, HasEnded, IsWaiting, fault_of, memory_after, state_after}
+use Rattle.work_items.specs.Items.{IsPossible, moved}
 use Rattle.work_items.specs.Runs.{world_after, IsRun, turns, turns_of, turns_of_step, Conflict}
 use Rattle.work_items.specs.Clean.{IsClean}
 use Rattle.work_items.proofs.Lists.{get-set_same, get-set_other, element_within}
@@ -17,10 +20,12 @@ Owns On Mine item (Waits site after) = ⊥
 Owns On Mine item (Goes after) = On item after
 Owns On Mine item (Begins after) = ⊥
 Owns On Mine item (Loads site access after) = Mine item access × ((bytes : List ℕ) → On item (after bytes))
-Owns On Mine item (Stores site object index bytes after) = Mine item (record { object = object; size = length bytes; index = index }) × On item after
+Owns On Mine item (Stores site object index bytes after) =
+    Mine item (record { object = object; size = length bytes; index = index }) × On item after
 
 -- a step keeps the length of each object
-pub length-memory_after : {S : Type 0} (m : Memory) (n : Next S) (o : ℕ) → length (bytes_of (memory_after m n) o) ≡ length (bytes_of m o)
+pub length-memory_after : {S : Type 0} (m : Memory) (n : Next S) (o : ℕ) →
+    length (bytes_of (memory_after m n) o) ≡ length (bytes_of m o)
 length-memory_after m (Stores site object index bytes after) o = length-stored m object o index bytes
 length-memory_after m Ends o = refl
 length-memory_after m (Waits site after) o = refl
@@ -41,11 +46,14 @@ module _ {S P : Type 0} (machine : Machine S P) (On : ℕ → S → Type 0) (Min
   abbrev InRange : World S → Type 0
   InRange start = (i : ℕ) (a : Access) → i < length start.items → Mine i a → is_in_range start.memory a ≡ true
 
-  no_fault_of : (start world : World S) → InRange start → IsFine start world → (i : ℕ) (n : Next S) → i < length start.items → Owns On Mine i n → fault_of world.memory n ≡ None
+  no_fault_of : (start world : World S) → InRange start → IsFine start world → (i : ℕ) (n : Next S) →
+      i < length start.items → Owns On Mine i n → fault_of world.memory n ≡ None
   no_fault_of start world in_range fine i (Loads site access after) lt o =
-      ap (λ b. cond b None (Some site)) (ap (λ len. has_element len access.size access.index) (fine.lengths access.object) ∙ in_range i access lt o.0)
+      ap (λ b. cond b None (Some site)) (ap (λ len. has_element len access.size access.index)
+      (fine.lengths access.object) ∙ in_range i access lt o.0)
   no_fault_of start world in_range fine i (Stores site object index bytes after) lt o =
-      ap (λ b. cond b None (Some site)) (ap (λ len. has_element len (length bytes) index) (fine.lengths object) ∙ in_range i _ lt o.0)
+      ap (λ b. cond b None (Some site)) (ap (λ len. has_element len (length bytes) index) (fine.lengths object) ∙
+      in_range i _ lt o.0)
   no_fault_of start world in_range fine i Ends lt o = refl
   no_fault_of start world in_range fine i (Waits site after) lt o = refl
   no_fault_of start world in_range fine i (Goes after) lt o = refl
@@ -101,20 +109,26 @@ module _ {S P : Type 0} (machine : Machine S P) (On : ℕ → S → Type 0) (Min
   no_conflict i j ne (Goes f) n' p q c = absurd c
   no_conflict i j ne (Begins f) n' p q c = absurd c
 
-  inside : (start world : World S) → IsFine start world → (i : ℕ) (s : S) → slice_get world.items i ≡ Some s → i < length start.items
+  inside : (start world : World S) → IsFine start world → (i : ℕ) (s : S) → slice_get world.items i ≡ Some s →
+      i < length start.items
   inside start world fine i s at = let lt = slice_get_within world.items i s at in let same = fine.count in omega arith
 
-  fine_step : (start world : World S) → InRange start → IsFine start world → (move : Move) → IsPossible machine world move → IsFine start (moved machine world move)
+  fine_step : (start world : World S) → InRange start → IsFine start world → (move : Move) →
+      IsPossible machine world move → IsFine start (moved machine world move)
   fine_step start world in_range fine (Step i) p =
       let s = p.1.0 in
       let n = machine.next s in
       let o = owns i s (fine.on i s p.1.1) in
-      let same = moved-step machine world i s p.1.1 (no_fault_of start world in_range fine i n (inside start world fine i s p.1.1) o) in
+      let same = moved-step machine world i s p.1.1
+      (no_fault_of start world in_range fine i n (inside start world fine i s p.1.1) o) in
       subst (λ w. IsFine start w) (sym same) (record {
         calm = fine.calm;
         on = λ k t at. elim (cases_eq i k) [
           | inl e ↦
-              let is : state_after world.memory s n ≡ t = same_Some _ _ (sym (get-set_same world.items i s _ p.1.1) ∙ subst (λ j. slice_get (slice_set world.items i (state_after world.memory s n)) j ≡ Some t) (sym e) at) in
+              let is : state_after world.memory s n ≡ t =
+              same_Some _ _ (sym (get-set_same world.items i s _ p.1.1) ∙
+              subst (λ j. slice_get (slice_set world.items i (state_after world.memory s n)) j ≡ Some t) (sym e)
+              at) in
               subst (λ j. On j t) e (subst (λ x. On i x) is (on_after world.memory i s n o p.1.2))
           | inr ne ↦ fine.on k t (sym (get-set_other world.items i k _ ne) ∙ at)
         ];
@@ -125,29 +139,38 @@ module _ {S P : Type 0} (machine : Machine S P) (On : ℕ → S → Type 0) (Min
       let gathered = p.1.1 in
       let i = gathered.some_item.0 in
       let here = element_within world.items i gathered.some_item.1 in
-      absurd (no_wait i _ (owns i here.0 (fine.on i here.0 here.1)) (gathered.all_wait i here.0 gathered.some_item.2 here.1).0)
+      absurd (no_wait i _ (owns i here.0 (fine.on i here.0 here.1)) (gathered.all_wait i here.0 gathered.some_item.2
+      here.1).0)
 
-  fine_run : (start world : World S) → InRange start → IsFine start world → (moves : List Move) → IsRun machine world moves → IsFine start (world_after machine world moves)
+  fine_run : (start world : World S) → InRange start → IsFine start world → (moves : List Move) →
+      IsRun machine world moves → IsFine start (world_after machine world moves)
   fine_run start world in_range fine [] run = fine
-  fine_run start world in_range fine (move ∷ moves) run = fine_run start (moved machine world move) in_range (fine_step start world in_range fine move run.0) moves run.1
+  fine_run start world in_range fine (move ∷ moves) run =
+      fine_run start (moved machine world move) in_range (fine_step start world in_range fine move run.0) moves run.1
 
-  fine_turns : (start world : World S) → InRange start → IsFine start world → (moves : List Move) → IsRun machine world moves → turns machine world moves ≡ 0
+  fine_turns : (start world : World S) → InRange start → IsFine start world → (moves : List Move) →
+      IsRun machine world moves → turns machine world moves ≡ 0
   fine_turns start world in_range fine [] run = refl
   fine_turns start world in_range fine (Step i ∷ moves) run =
       let p = run.0 in
       let none = ap (turns_of_step machine) p.1.1 ∙ no_turn i _ (owns i p.1.0 (fine.on i p.1.0 p.1.1)) in
-      let rest = fine_turns start (moved machine world (Step i)) in_range (fine_step start world in_range fine (Step i) p) moves run.1 in
+      let rest = fine_turns start (moved machine world (Step i)) in_range
+      (fine_step start world in_range fine (Step i) p) moves run.1 in
       omega (arith, none, rest)
   fine_turns start world in_range fine (Release g ∷ moves) run =
-      let rest = fine_turns start (moved machine world (Release g)) in_range (fine_step start world in_range fine (Release g) run.0) moves run.1 in
+      let rest = fine_turns start (moved machine world (Release g)) in_range
+      (fine_step start world in_range fine (Release g) run.0) moves run.1 in
       omega (arith, rest)
 
   -- such a launch is clean, whatever its bound
-  pub owners_clean : (start : World S) (bound : ℕ) → start.fault ≡ None → ((i : ℕ) (s : S) → slice_get start.items i ≡ Some s → On i s) → InRange start → IsClean machine start bound
+  pub owners_clean : (start : World S) (bound : ℕ) → start.fault ≡ None →
+      ((i : ℕ) (s : S) → slice_get start.items i ≡ Some s → On i s) → InRange start → IsClean machine start bound
   owners_clean start bound calm on in_range = record {
     no_race = λ moves run race.
         let fine = fine_run start start in_range first moves run in
-        no_conflict race.one race.other race.apart _ _ (owns race.one race.state (fine.on race.one race.state race.at_one)) (owns race.other race.state' (fine.on race.other race.state' race.at_other)) race.conflict;
+        no_conflict race.one race.other race.apart _ _
+        (owns race.one race.state (fine.on race.one race.state race.at_one))
+        (owns race.other race.state' (fine.on race.other race.state' race.at_other)) race.conflict;
     no_fault = λ moves run. (fine_run start start in_range first moves run).calm;
     few_turns = λ moves run. let none = fine_turns start start in_range first moves run in omega arith;
     all_end = λ moves m i s at.

@@ -31,9 +31,16 @@ conflict_sym (Goes f) n' c = absurd c
 conflict_sym (Begins f) n' c = absurd c
 
 -- what is in range stays so
-pub fault_of-memory_after : {S T : Type 0} (m : Memory) (n : Next S) (n' : Next T) → fault_of (memory_after m n) n' ≡ fault_of m n'
-fault_of-memory_after m (Stores s o i bs f) (Loads s' a f') = ap (λ b. cond b None (Some s')) (is_in_range-stored m o i bs a)
-fault_of-memory_after m (Stores s o i bs f) (Stores s' o' i' bs' f') = ap (λ b. cond b None (Some s')) (is_in_range-stored m o i bs (record { object = o'; size = length bs'; index = i' }))
+pub fault_of-memory_after : {S T : Type 0} (m : Memory) (n : Next S) (n' : Next T) →
+    fault_of (memory_after m n) n' ≡ fault_of m n'
+fault_of-memory_after m (Stores s o i bs f) (Loads s' a f') =
+    ap (λ b. cond b None (Some s')) (is_in_range-stored m o i bs a)
+fault_of-memory_after m (Stores s o i bs f) (Stores s' o' i' bs' f') =
+    ap (λ b. cond b None (Some s')) (is_in_range-stored m o i bs (record {
+      object = o';
+      size = length bs';
+      index = i';
+    }))
 fault_of-memory_after m (Stores s o i bs f) Ends = refl
 fault_of-memory_after m (Stores s o i bs f) (Waits s' f') = refl
 fault_of-memory_after m (Stores s o i bs f) (Goes f') = refl
@@ -45,7 +52,8 @@ fault_of-memory_after m (Goes f) n' = refl
 fault_of-memory_after m (Begins f) n' = refl
 
 -- a step leads to the same state after a step that doesn't conflict
-pub state_after-memory_after : {S T : Type 0} (m : Memory) (n : Next S) (t : T) (n' : Next T) → fault_of m n ≡ None → fault_of m n' ≡ None → (Conflict n n' → ⊥) → state_after (memory_after m n) t n' ≡ state_after m t n'
+pub state_after-memory_after : {S T : Type 0} (m : Memory) (n : Next S) (t : T) (n' : Next T) → fault_of m n ≡ None →
+    fault_of m n' ≡ None → (Conflict n n' → ⊥) → state_after (memory_after m n) t n' ≡ state_after m t n'
 state_after-memory_after m (Stores s o i bs f) t (Loads s' a f') p q h =
     ap f' (loaded-stored m a o i bs (in_range_from _ s' q) (in_range_from _ s p) (λ c. h (overlap_sym a _ c)))
 state_after-memory_after m (Stores s o i bs f) t (Stores s' o' i' bs' f') p q h = refl
@@ -60,8 +68,10 @@ state_after-memory_after m (Goes f) t n' p q h = refl
 state_after-memory_after m (Begins f) t n' p q h = refl
 
 -- the two lead to one memory
-pub memory_after-memory_after : {S T : Type 0} (m : Memory) (n : Next S) (n' : Next T) → fault_of m n ≡ None → fault_of m n' ≡ None → (Conflict n n' → ⊥) → memory_after (memory_after m n) n' ≡ memory_after (memory_after m n') n
-memory_after-memory_after m (Stores s o i bs f) (Stores s' o' i' bs' f') p q h = stored-stored m o o' i i' bs bs' (in_range_from _ s p) (in_range_from _ s' q) h
+pub memory_after-memory_after : {S T : Type 0} (m : Memory) (n : Next S) (n' : Next T) → fault_of m n ≡ None →
+    fault_of m n' ≡ None → (Conflict n n' → ⊥) → memory_after (memory_after m n) n' ≡ memory_after (memory_after m n') n
+memory_after-memory_after m (Stores s o i bs f) (Stores s' o' i' bs' f') p q h =
+    stored-stored m o o' i i' bs bs' (in_range_from _ s p) (in_range_from _ s' q) h
 memory_after-memory_after m (Stores s o i bs f) (Loads s' a f') p q h = refl
 memory_after-memory_after m (Stores s o i bs f) Ends p q h = refl
 memory_after-memory_after m (Stores s o i bs f) (Waits s' f') p q h = refl

@@ -20,16 +20,23 @@ Fits lengths object size index = has_element (lengths object) size index ≡ tru
 abbrev pub DoesOnce : {S : Type 0} → (ℕ → ℕ) → (Access → List ℕ → Type 0) → Next S → Deed → S → Type 0
 DoesOnce lengths told (Waits site after) Passed to = after ≡ to
 DoesOnce lengths told (Begins after) Turned to = after ≡ to
-DoesOnce lengths told (Loads site access after) (Read at read bytes) to = (site ≡ at) × (access ≡ read) × Fits lengths access.object access.size access.index × told access bytes × (after bytes ≡ to)
+DoesOnce lengths told (Loads site access after) (Read at read bytes) to =
+    (site ≡ at) × (access ≡ read) × Fits lengths access.object access.size access.index × told access bytes ×
+    (after bytes ≡ to)
 DoesOnce lengths told (Stores site object index bytes after) (Wrote at object' index' bytes') to =
-    (site ≡ at) × (object ≡ object') × (index ≡ index') × (bytes ≡ bytes') × Fits lengths object (length bytes) index × (after ≡ to)
+    (site ≡ at) × (object ≡ object') × (index ≡ index') × (bytes ≡ bytes') ×
+    Fits lengths object (length bytes) index × (after ≡ to)
 DoesOnce lengths told _ _ to = ⊥
 
--- a history of an item: its deeds from one state to another, where objects have these lengths, and loads give what may be told
-pub data History {S : Type 0} (lengths : ℕ → ℕ) (told : Access → List ℕ → Type 0) (next : S → Next S) : S → List Deed → S → Type 0 where
+-- a history of an item: its deeds from one state to another, where objects have these lengths, and loads give what
+-- may be told
+pub data History {S : Type 0} (lengths : ℕ → ℕ) (told : Access → List ℕ → Type 0) (next : S → Next S) : S →
+    List Deed → S → Type 0 where
   nothing : {s : S} → History lengths told next s [] s
-  going : {s mid to : S} {deeds : List Deed} → next s ≡ Goes mid → History lengths told next mid deeds to → History lengths told next s deeds to
-  doing : {s mid to : S} {deed : Deed} {deeds : List Deed} → DoesOnce lengths told (next s) deed mid → History lengths told next mid deeds to → History lengths told next s (deed ∷ deeds) to
+  going : {s mid to : S} {deeds : List Deed} → next s ≡ Goes mid → History lengths told next mid deeds to →
+      History lengths told next s deeds to
+  doing : {s mid to : S} {deed : Deed} {deeds : List Deed} → DoesOnce lengths told (next s) deed mid →
+      History lengths told next mid deeds to → History lengths told next s (deed ∷ deeds) to
 
 -- each load from the memory gives what may be told
 abbrev pub Tells : (Access → List ℕ → Type 0) → Memory → Type 0
@@ -42,12 +49,14 @@ KeepsTold told keeps (Waits site after) = keeps after
 KeepsTold told keeps (Goes after) = keeps after
 KeepsTold told keeps (Begins after) = keeps after
 KeepsTold told keeps (Loads site access after) = (bytes : List ℕ) → told access bytes → keeps (after bytes)
-KeepsTold told keeps (Stores site object index bytes after) = keeps after × ((memory : Memory) → Tells told memory → Tells told (stored memory object index bytes))
+KeepsTold told keeps (Stores site object index bytes after) =
+    keeps after × ((memory : Memory) → Tells told memory → Tells told (stored memory object index bytes))
 
 -- what an event is to an item, where its group is freed or it is the item's own
 abbrev pub deed_of : (ℕ → ℕ) → ℕ → Event → List Deed
 deed_of group item (Loaded by site access bytes) = if nat_eq by item then Read site access bytes ∷ [] else []
-deed_of group item (Stored by site object index bytes) = if nat_eq by item then Wrote site object index bytes ∷ [] else []
+deed_of group item (Stored by site object index bytes) =
+    if nat_eq by item then Wrote site object index bytes ∷ [] else []
 deed_of group item (Faulted by site) = []
 deed_of group item (Began by) = if nat_eq by item then Turned ∷ [] else []
 deed_of group item (Freed freed) = if nat_eq (group item) freed then Passed ∷ [] else []
@@ -58,6 +67,8 @@ deeds_of group item [] = []
 deeds_of group item (event ∷ events) = deed_of group item event ++ deeds_of group item events
 
 -- what each item does in a run is a history of it: what the run's trace is to it
-pub record HasHistories {S P : Type 0} (machine : Machine S P) (lengths : ℕ → ℕ) (told : Access → List ℕ → Type 0) (start : World S) (moves : List Move) : Type 0 where
+pub record HasHistories {S P : Type 0} (machine : Machine S P) (lengths : ℕ → ℕ) (told : Access → List ℕ →
+    Type 0) (start : World S) (moves : List Move) : Type 0 where
   pub each : (item : ℕ) (first : S) → slice_get start.items item ≡ Some first
-      → (last : S) × (slice_get (world_after machine start moves).items item ≡ Some last) × History lengths told machine.next first (deeds_of machine.group item (trace machine start moves)) last
+      → (last : S) × (slice_get (world_after machine start moves).items item ≡ Some last) ×
+      History lengths told machine.next first (deeds_of machine.group item (trace machine start moves)) last

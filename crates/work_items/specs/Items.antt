@@ -1,5 +1,6 @@
 -- Work-items over one memory: what an item does next, and what a move does to the world.
-use Rattle.std.specs.Prelude.{◌≡◌, ℕ, suc, ◌<◌, ℤ, cond, List, [], ◌∷◌, length, Option, None, Some, slice_get, slice_set, nat_eq}
+use Rattle.std.specs.Prelude.{◌≡◌, ℕ, suc, ◌<◌, ℤ, cond, List, [], ◌∷◌, length, Option, None, Some, slice_get}
+use Rattle.std.specs.Prelude.{slice_set, nat_eq}
 use Rattle.work_items.specs.Memory.{Memory, Access, is_in_range, loaded, stored}
 
 -- what an item in some state does next
@@ -93,21 +94,26 @@ after_wait state _ = state
 -- all items of the group, of which there is one, wait at this point
 pub record IsGathered {S P : Type 0} (machine : Machine S P) (items : List S) (group : ℕ) (point : P) : Type 0 where
   pub some_item : (item : ℕ) × (item < length items) × (machine.group item ≡ group)
-  pub all_wait : (item : ℕ) (state : S) → machine.group item ≡ group → slice_get items item ≡ Some state → IsWaiting (machine.next state) × (machine.point state ≡ point)
+  pub all_wait : (item : ℕ) (state : S) → machine.group item ≡ group → slice_get items item ≡ Some state →
+      IsWaiting (machine.next state) × (machine.point state ≡ point)
 
 -- the move can be made. None follows a fault
 abbrev pub IsPossible : {S P : Type 0} → Machine S P → World S → Move → Type 0
-IsPossible {S} machine world (Step item) = (world.fault ≡ None) × ((state : S) × (slice_get world.items item ≡ Some state) × HasStep (machine.next state))
-IsPossible {S} {P} machine world (Release group) = (world.fault ≡ None) × ((point : P) × IsGathered machine world.items group point)
+IsPossible {S} machine world (Step item) =
+    (world.fault ≡ None) × ((state : S) × (slice_get world.items item ≡ Some state) × HasStep (machine.next state))
+IsPossible {S} {P} machine world (Release group) =
+    (world.fault ≡ None) × ((point : P) × IsGathered machine world.items group point)
 
 -- the state of an item after the release of a group
 abbrev pub released : {S P : Type 0} → Machine S P → ℕ → ℕ → S → S
-released machine group item state = cond (nat_eq (machine.group item) group) (after_wait state (machine.next state)) state
+released machine group item state =
+    cond (nat_eq (machine.group item) group) (after_wait state (machine.next state)) state
 
 -- the items after the release of a group, where the first of them has this number
 abbrev pub released_from : {S P : Type 0} → Machine S P → ℕ → ℕ → List S → List S
 released_from machine group first [] = []
-released_from machine group first (state ∷ states) = released machine group first state ∷ released_from machine group (suc first) states
+released_from machine group first (state ∷ states) =
+    released machine group first state ∷ released_from machine group (suc first) states
 
 -- the world after the step of an item, where its access is in range and where it is not
 abbrev pub after_step : {S P : Type 0} → Machine S P → World S → ℕ → S → Option ℕ → World S

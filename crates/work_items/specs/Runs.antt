@@ -1,7 +1,8 @@
 -- Runs: finite lists of moves from a start world.
 use Rattle.std.specs.Prelude.{◌≡◌, ◌≢◌, ℕ, ◌+◌, List, [], ◌∷◌, length, Option, None, Some, slice_get}
 use Rattle.work_items.specs.Memory.{Overlap}
-use Rattle.work_items.specs.Items.{Next, Begins, Loads, Stores, Machine, World, Move, Step, Release, HasEnded, IsPossible, moved}
+use Rattle.work_items.specs.Items.{Next, Begins, Loads, Stores, Machine, World, Move, Step, Release, HasEnded}
+use Rattle.work_items.specs.Items.{IsPossible, moved}
 
 -- the world after these moves
 abbrev pub world_after : {S P : Type 0} → Machine S P → World S → List Move → World S
@@ -44,10 +45,16 @@ turns machine world (move ∷ moves) = turns_of_move machine world move + turns 
 
 -- the steps access a common byte, and one of them stores
 abbrev pub Conflict : {S T : Type 0} → Next S → Next T → Type 0
-Conflict (Loads site access after) (Stores site' object index bytes after') = Overlap access (record { object = object; size = length bytes; index = index })
-Conflict (Stores site object index bytes after) (Loads site' access after') = Overlap (record { object = object; size = length bytes; index = index }) access
+Conflict (Loads site access after) (Stores site' object index bytes after') =
+    Overlap access (record { object = object; size = length bytes; index = index })
+Conflict (Stores site object index bytes after) (Loads site' access after') =
+    Overlap (record { object = object; size = length bytes; index = index }) access
 Conflict (Stores site object index bytes after) (Stores site' object' index' bytes' after') =
-    Overlap (record { object = object; size = length bytes; index = index }) (record { object = object'; size = length bytes'; index = index' })
+    Overlap (record { object = object; size = length bytes; index = index }) (record {
+      object = object';
+      size = length bytes';
+      index = index';
+    })
 Conflict _ _ = ⊥
 
 -- the next steps of two items conflict
@@ -63,4 +70,5 @@ pub record Races {S P : Type 0} (machine : Machine S P) (world : World S) : Type
 
 -- every item has ended
 abbrev pub AllEnded : {S P : Type 0} → Machine S P → World S → Type 0
-AllEnded {S} machine world = (item : ℕ) (state : S) → slice_get world.items item ≡ Some state → HasEnded (machine.next state)
+AllEnded {S} machine world =
+    (item : ℕ) (state : S) → slice_get world.items item ≡ Some state → HasEnded (machine.next state)

@@ -1,7 +1,8 @@
 -- One machine's runs as runs of another: a compiled kernel's, as runs of its program.
 use Rattle.std.specs.Prelude.{◌≡◌, ℕ, zero, suc, ℤ, List, [], ◌∷◌, ◌++◌, Option, None, Some, slice_get}
 use Rattle.work_items.specs.Memory.{Memory, Access, loaded}
-use Rattle.work_items.specs.Items.{Next, Ends, Waits, Goes, Begins, Loads, Stores, Machine, World, Fault, Move, Step, Release, IsWaiting, fault_of, moved}
+use Rattle.work_items.specs.Items.{Next, Ends, Waits, Goes, Begins, Loads, Stores, Machine, World, Fault, Move, Step}
+use Rattle.work_items.specs.Items.{Release, IsWaiting, fault_of, moved}
 use Rattle.work_items.specs.Runs.{world_after, IsRun, turns}
 use Rattle.work_items.specs.Clean.{IsDone, IsRange, IsParted, ExceedsTurns}
 
@@ -52,24 +53,32 @@ pub data SameLabel {S T : Type 0} (R : S → T → Type 0) : Next S → Next T �
   both_wait : {site : ℕ} {s : S} {t : T} → R s t → SameLabel R (Waits site s) (Waits site t)
   both_go : {s : S} {t : T} → R s t → SameLabel R (Goes s) (Goes t)
   both_begin : {s : S} {t : T} → R s t → SameLabel R (Begins s) (Begins t)
-  both_load : {site : ℕ} {access : Access} {f : List ℕ → S} {g : List ℕ → T} → ((bytes : List ℕ) → R (f bytes) (g bytes)) → SameLabel R (Loads site access f) (Loads site access g)
-  both_store : {site object : ℕ} {index : ℤ} {bytes : List ℕ} {s : S} {t : T} → R s t → SameLabel R (Stores site object index bytes s) (Stores site object index bytes t)
+  both_load : {site : ℕ} {access : Access} {f : List ℕ → S} {g : List ℕ → T} →
+      ((bytes : List ℕ) → R (f bytes) (g bytes)) → SameLabel R (Loads site access f) (Loads site access g)
+  both_store : {site object : ℕ} {index : ℤ} {bytes : List ℕ} {s : S} {t : T} → R s t →
+      SameLabel R (Stores site object index bytes s) (Stores site object index bytes t)
 
 -- a step of the one machine is matched in this state of the other, where steps with no access may lead to it
 abbrev pub MatchesAt : {S T Q : Type 0} → Machine T Q → (S → T → Type 0) → Q → Next S → T → Type 0
 MatchesAt machine R point (Goes after) state = R after state
-MatchesAt machine R point next state = SameLabel R next (machine.next state) × (IsWaiting next → machine.point state ≡ point)
+MatchesAt machine R point next state =
+    SameLabel R next (machine.next state) × (IsWaiting next → machine.point state ≡ point)
 
 -- each step of a state is matched from each related state
-pub record Simulates {S P T Q : Type 0} (machine : Machine S P) (other : Machine T Q) (point_of : P → Q) (R : S → T → Type 0) : Type 0 where
+pub record Simulates {S P T Q : Type 0} (machine : Machine S P) (other : Machine T Q) (point_of : P → Q) (R : S → T →
+    Type 0) : Type 0 where
   pub same_group : (item : ℕ) → other.group item ≡ machine.group item
-  pub matches : (s : S) (t : T) → R s t → (n : ℕ) × (t' : T) × GoesIn other.next n t t' × MatchesAt other R (point_of (machine.point s)) (machine.next s) t'
+  pub matches : (s : S) (t : T) → R s t → (n : ℕ) × (t' : T) × GoesIn other.next n t t' ×
+      MatchesAt other R (point_of (machine.point s)) (machine.next s) t'
 
--- the same, counted: states that are related for one move more are matched, and lead to states that are related for one move fewer
-pub record SimulatesFor {S P T Q : Type 0} (machine : Machine S P) (other : Machine T Q) (point_of : P → Q) (R : ℕ → S → T → Type 0) : Type 0 where
+-- the same, counted: states that are related for one move more are matched, and lead to states that are related for
+-- one move fewer
+pub record SimulatesFor {S P T Q : Type 0} (machine : Machine S P) (other : Machine T Q) (point_of : P → Q) (R : ℕ →
+    S → T → Type 0) : Type 0 where
   pub same_group : (item : ℕ) → other.group item ≡ machine.group item
   pub fewer : (n : ℕ) (s : S) (t : T) → R (suc n) s t → R n s t
-  pub matches : (n : ℕ) (s : S) (t : T) → R (suc n) s t → (k : ℕ) × (t' : T) × GoesIn other.next k t t' × MatchesAt other (R n) (point_of (machine.point s)) (machine.next s) t'
+  pub matches : (n : ℕ) (s : S) (t : T) → R (suc n) s t → (k : ℕ) × (t' : T) × GoesIn other.next k t t' ×
+      MatchesAt other (R n) (point_of (machine.point s)) (machine.next s) t'
 
 -- so many moves, and one for each move of a list
 abbrev pub moves_and : {A : Type 0} → List A → ℕ → ℕ
@@ -90,7 +99,8 @@ pub record AreRelated {S T : Type 0} (R : S → T → Type 0) (world : World S) 
   pub items : world.fault ≡ None → (item : ℕ) → RelatedAt R (slice_get world.items item) (slice_get other.items item)
 
 -- a run of the other machine that is seen alike
-pub record IsMatched {S P T Q : Type 0} (machine : Machine S P) (other : Machine T Q) (R : S → T → Type 0) (world : World S) (moves : List Move) (world' : World T) : Type 0 where
+pub record IsMatched {S P T Q : Type 0} (machine : Machine S P) (other : Machine T Q) (R : S → T →
+    Type 0) (world : World S) (moves : List Move) (world' : World T) : Type 0 where
   pub moves' : List Move
   pub run : IsRun other world' moves'
   pub related : AreRelated R (world_after machine world moves) (world_after other world' moves')
@@ -98,7 +108,8 @@ pub record IsMatched {S P T Q : Type 0} (machine : Machine S P) (other : Machine
   pub same_turns : turns other world' moves' ≡ turns machine world moves
 
 -- the outcomes of the one machine are outcomes of the other
-pub record HasOutcomesOf {S P T Q : Type 0} (machine : Machine S P) (can_come : S → P → Type 0) (start : World S) (other : Machine T Q) (can_come' : T → Q → Type 0) (start' : World T) : Type 0 where
+pub record HasOutcomesOf {S P T Q : Type 0} (machine : Machine S P) (can_come : S → P →
+    Type 0) (start : World S) (other : Machine T Q) (can_come' : T → Q → Type 0) (start' : World T) : Type 0 where
   pub done : (memory : Memory) → IsDone machine start memory → IsDone other start' memory
   pub range : (fault : Fault) → IsRange machine start fault → IsRange other start' fault
   pub parted : (item site : ℕ) → IsParted machine can_come start item site → IsParted other can_come' start' item site

@@ -1,7 +1,8 @@
 use Rattle.std.proofs.Common.{map, inr, refl, string_bytes}
 use Rattle.command_words.specs.Command.{Request, run, request_of}
 use Rattle.wg_top.specs.Ends.{Outside, outside, EndsSaying, usage_line}
-use Rattle.wg_top.proofs.EndLemmas.{asked_failed, asked_absent, asked_no_save, asked_quiet, asked_line, asked_out, asked_no_usage, asked_memory}
+use Rattle.wg_top.proofs.EndLemmas.{asked_failed, asked_absent, asked_no_save, asked_quiet, asked_line, asked_out}
+use Rattle.wg_top.proofs.EndLemmas.{asked_no_usage, asked_memory}
 use Rattle.wg_top.proofs.WordLemmas.{as_asked}
 use Rattle.wg_top.proofs.CompleteLemmas.{ends_clean, ends_loops}
 use Rattle.wg_top.proofs.AskedLemmas.{asked_complete, asked_exact}
@@ -9,109 +10,152 @@ use Rattle.wg_top.proofs.wgcc.Goals as goal
 
 pub returns-in-Ok-clause-ends : goal.returns-in-Ok-clause-ends
 returns-in-Ok-clause-ends g c =
-    let old : Outside = (outside g.S.Store.files g.S.Store.faults g.S.Store.misses g.O.Sink.written g.O.Sink.faults g.E.Sink.written g.E.Sink.faults c.args.store.now c.args.out.now c.args.err.now) in
-    let new : Outside = (outside g.S.Store.files g.S.Store.faults g.S.Store.misses g.O.Sink.written g.O.Sink.faults g.E.Sink.written g.E.Sink.faults c.do_words.new.store c.do_words.new.out c.do_words.new.err) in
+    let old : Outside = (outside g.S.Store.files g.S.Store.faults g.S.Store.misses g.O.Sink.written g.O.Sink.faults
+    g.E.Sink.written g.E.Sink.faults c.args.store.now c.args.out.now c.args.err.now) in
+    let new : Outside = (outside g.S.Store.files g.S.Store.faults g.S.Store.misses g.O.Sink.written g.O.Sink.faults
+    g.E.Sink.written g.E.Sink.faults c.do_words.new.store c.do_words.new.out c.do_words.new.err) in
     let request : Request = request_of c.in-Ok.asked in
-    λ other given. as_asked old new (map string_bytes c.args.words.now) request other c.do_words.result c.in-Ok.ensures.asked given.asks c.do_words.ensures
+    λ other given. as_asked old new (map string_bytes c.args.words.now) request other c.do_words.result
+    c.in-Ok.ensures.asked given.asks c.do_words.ensures
 
 pub returns-in-Ok-clause-usage_only : goal.returns-in-Ok-clause-usage_only
 returns-in-Ok-clause-usage_only g c =
-    let old : Outside = (outside g.S.Store.files g.S.Store.faults g.S.Store.misses g.O.Sink.written g.O.Sink.faults g.E.Sink.written g.E.Sink.faults c.args.store.now c.args.out.now c.args.err.now) in
-    let new : Outside = (outside g.S.Store.files g.S.Store.faults g.S.Store.misses g.O.Sink.written g.O.Sink.faults g.E.Sink.written g.E.Sink.faults c.do_words.new.store c.do_words.new.out c.do_words.new.err) in
+    let old : Outside = (outside g.S.Store.files g.S.Store.faults g.S.Store.misses g.O.Sink.written g.O.Sink.faults
+    g.E.Sink.written g.E.Sink.faults c.args.store.now c.args.out.now c.args.err.now) in
+    let new : Outside = (outside g.S.Store.files g.S.Store.faults g.S.Store.misses g.O.Sink.written g.O.Sink.faults
+    g.E.Sink.written g.E.Sink.faults c.do_words.new.store c.do_words.new.out c.do_words.new.err) in
     let request : Request = request_of c.in-Ok.asked in
     λ two taken. asked_no_usage old new request c.do_words.result c.do_words.ensures two
 
 pub returns-in-Ok-clause-usage_line : goal.returns-in-Ok-clause-usage_line
 returns-in-Ok-clause-usage_line g c =
-    let old : Outside = (outside g.S.Store.files g.S.Store.faults g.S.Store.misses g.O.Sink.written g.O.Sink.faults g.E.Sink.written g.E.Sink.faults c.args.store.now c.args.out.now c.args.err.now) in
-    let new : Outside = (outside g.S.Store.files g.S.Store.faults g.S.Store.misses g.O.Sink.written g.O.Sink.faults g.E.Sink.written g.E.Sink.faults c.do_words.new.store c.do_words.new.out c.do_words.new.err) in
+    let old : Outside = (outside g.S.Store.files g.S.Store.faults g.S.Store.misses g.O.Sink.written g.O.Sink.faults
+    g.E.Sink.written g.E.Sink.faults c.args.store.now c.args.out.now c.args.err.now) in
+    let new : Outside = (outside g.S.Store.files g.S.Store.faults g.S.Store.misses g.O.Sink.written g.O.Sink.faults
+    g.E.Sink.written g.E.Sink.faults c.do_words.new.store c.do_words.new.out c.do_words.new.err) in
     let request : Request = request_of c.in-Ok.asked in
-    λ two. absurd {A = EndsSaying old new usage_line} (asked_no_usage old new request c.do_words.result c.do_words.ensures two)
+    λ two. absurd {A = EndsSaying old new usage_line} (asked_no_usage old new request c.do_words.result
+    c.do_words.ensures two)
 
 pub returns-in-Ok-clause-failed : goal.returns-in-Ok-clause-failed
 returns-in-Ok-clause-failed g c =
-    let old : Outside = (outside g.S.Store.files g.S.Store.faults g.S.Store.misses g.O.Sink.written g.O.Sink.faults g.E.Sink.written g.E.Sink.faults c.args.store.now c.args.out.now c.args.err.now) in
-    let new : Outside = (outside g.S.Store.files g.S.Store.faults g.S.Store.misses g.O.Sink.written g.O.Sink.faults g.E.Sink.written g.E.Sink.faults c.do_words.new.store c.do_words.new.out c.do_words.new.err) in
+    let old : Outside = (outside g.S.Store.files g.S.Store.faults g.S.Store.misses g.O.Sink.written g.O.Sink.faults
+    g.E.Sink.written g.E.Sink.faults c.args.store.now c.args.out.now c.args.err.now) in
+    let new : Outside = (outside g.S.Store.files g.S.Store.faults g.S.Store.misses g.O.Sink.written g.O.Sink.faults
+    g.E.Sink.written g.E.Sink.faults c.do_words.new.store c.do_words.new.out c.do_words.new.err) in
     let request : Request = request_of c.in-Ok.asked in
     asked_failed old new request c.do_words.result c.do_words.ensures
 
 pub returns-in-Ok-clause-absent : goal.returns-in-Ok-clause-absent
 returns-in-Ok-clause-absent g c =
-    let old : Outside = (outside g.S.Store.files g.S.Store.faults g.S.Store.misses g.O.Sink.written g.O.Sink.faults g.E.Sink.written g.E.Sink.faults c.args.store.now c.args.out.now c.args.err.now) in
-    let new : Outside = (outside g.S.Store.files g.S.Store.faults g.S.Store.misses g.O.Sink.written g.O.Sink.faults g.E.Sink.written g.E.Sink.faults c.do_words.new.store c.do_words.new.out c.do_words.new.err) in
+    let old : Outside = (outside g.S.Store.files g.S.Store.faults g.S.Store.misses g.O.Sink.written g.O.Sink.faults
+    g.E.Sink.written g.E.Sink.faults c.args.store.now c.args.out.now c.args.err.now) in
+    let new : Outside = (outside g.S.Store.files g.S.Store.faults g.S.Store.misses g.O.Sink.written g.O.Sink.faults
+    g.E.Sink.written g.E.Sink.faults c.do_words.new.store c.do_words.new.out c.do_words.new.err) in
     let request : Request = request_of c.in-Ok.asked in
     asked_absent old new request c.do_words.result c.do_words.ensures
 
 pub returns-in-Ok-clause-no_save : goal.returns-in-Ok-clause-no_save
 returns-in-Ok-clause-no_save g c =
-    let old : Outside = (outside g.S.Store.files g.S.Store.faults g.S.Store.misses g.O.Sink.written g.O.Sink.faults g.E.Sink.written g.E.Sink.faults c.args.store.now c.args.out.now c.args.err.now) in
-    let new : Outside = (outside g.S.Store.files g.S.Store.faults g.S.Store.misses g.O.Sink.written g.O.Sink.faults g.E.Sink.written g.E.Sink.faults c.do_words.new.store c.do_words.new.out c.do_words.new.err) in
+    let old : Outside = (outside g.S.Store.files g.S.Store.faults g.S.Store.misses g.O.Sink.written g.O.Sink.faults
+    g.E.Sink.written g.E.Sink.faults c.args.store.now c.args.out.now c.args.err.now) in
+    let new : Outside = (outside g.S.Store.files g.S.Store.faults g.S.Store.misses g.O.Sink.written g.O.Sink.faults
+    g.E.Sink.written g.E.Sink.faults c.do_words.new.store c.do_words.new.out c.do_words.new.err) in
     let request : Request = request_of c.in-Ok.asked in
     asked_no_save old new request c.do_words.result c.do_words.ensures
 
 pub returns-in-Ok-clause-quiet : goal.returns-in-Ok-clause-quiet
 returns-in-Ok-clause-quiet g c =
-    let old : Outside = (outside g.S.Store.files g.S.Store.faults g.S.Store.misses g.O.Sink.written g.O.Sink.faults g.E.Sink.written g.E.Sink.faults c.args.store.now c.args.out.now c.args.err.now) in
-    let new : Outside = (outside g.S.Store.files g.S.Store.faults g.S.Store.misses g.O.Sink.written g.O.Sink.faults g.E.Sink.written g.E.Sink.faults c.do_words.new.store c.do_words.new.out c.do_words.new.err) in
+    let old : Outside = (outside g.S.Store.files g.S.Store.faults g.S.Store.misses g.O.Sink.written g.O.Sink.faults
+    g.E.Sink.written g.E.Sink.faults c.args.store.now c.args.out.now c.args.err.now) in
+    let new : Outside = (outside g.S.Store.files g.S.Store.faults g.S.Store.misses g.O.Sink.written g.O.Sink.faults
+    g.E.Sink.written g.E.Sink.faults c.do_words.new.store c.do_words.new.out c.do_words.new.err) in
     let request : Request = request_of c.in-Ok.asked in
     asked_quiet old new request c.do_words.result c.do_words.ensures
 
 pub returns-in-Ok-clause-line : goal.returns-in-Ok-clause-line
 returns-in-Ok-clause-line g c =
-    let old : Outside = (outside g.S.Store.files g.S.Store.faults g.S.Store.misses g.O.Sink.written g.O.Sink.faults g.E.Sink.written g.E.Sink.faults c.args.store.now c.args.out.now c.args.err.now) in
-    let new : Outside = (outside g.S.Store.files g.S.Store.faults g.S.Store.misses g.O.Sink.written g.O.Sink.faults g.E.Sink.written g.E.Sink.faults c.do_words.new.store c.do_words.new.out c.do_words.new.err) in
+    let old : Outside = (outside g.S.Store.files g.S.Store.faults g.S.Store.misses g.O.Sink.written g.O.Sink.faults
+    g.E.Sink.written g.E.Sink.faults c.args.store.now c.args.out.now c.args.err.now) in
+    let new : Outside = (outside g.S.Store.files g.S.Store.faults g.S.Store.misses g.O.Sink.written g.O.Sink.faults
+    g.E.Sink.written g.E.Sink.faults c.do_words.new.store c.do_words.new.out c.do_words.new.err) in
     let request : Request = request_of c.in-Ok.asked in
     asked_line old new request c.do_words.result c.do_words.ensures
 
 pub returns-in-Ok-clause-out : goal.returns-in-Ok-clause-out
 returns-in-Ok-clause-out g c =
-    let old : Outside = (outside g.S.Store.files g.S.Store.faults g.S.Store.misses g.O.Sink.written g.O.Sink.faults g.E.Sink.written g.E.Sink.faults c.args.store.now c.args.out.now c.args.err.now) in
-    let new : Outside = (outside g.S.Store.files g.S.Store.faults g.S.Store.misses g.O.Sink.written g.O.Sink.faults g.E.Sink.written g.E.Sink.faults c.do_words.new.store c.do_words.new.out c.do_words.new.err) in
+    let old : Outside = (outside g.S.Store.files g.S.Store.faults g.S.Store.misses g.O.Sink.written g.O.Sink.faults
+    g.E.Sink.written g.E.Sink.faults c.args.store.now c.args.out.now c.args.err.now) in
+    let new : Outside = (outside g.S.Store.files g.S.Store.faults g.S.Store.misses g.O.Sink.written g.O.Sink.faults
+    g.E.Sink.written g.E.Sink.faults c.do_words.new.store c.do_words.new.out c.do_words.new.err) in
     let request : Request = request_of c.in-Ok.asked in
     asked_out old new request c.do_words.result c.do_words.ensures
 
 pub returns-in-Ok-clause-complete : goal.returns-in-Ok-clause-complete
 returns-in-Ok-clause-complete g c =
-    let old : Outside = (outside g.S.Store.files g.S.Store.faults g.S.Store.misses g.O.Sink.written g.O.Sink.faults g.E.Sink.written g.E.Sink.faults c.args.store.now c.args.out.now c.args.err.now) in
-    let new : Outside = (outside g.S.Store.files g.S.Store.faults g.S.Store.misses g.O.Sink.written g.O.Sink.faults g.E.Sink.written g.E.Sink.faults c.do_words.new.store c.do_words.new.out c.do_words.new.err) in
+    let old : Outside = (outside g.S.Store.files g.S.Store.faults g.S.Store.misses g.O.Sink.written g.O.Sink.faults
+    g.E.Sink.written g.E.Sink.faults c.args.store.now c.args.out.now c.args.err.now) in
+    let new : Outside = (outside g.S.Store.files g.S.Store.faults g.S.Store.misses g.O.Sink.written g.O.Sink.faults
+    g.E.Sink.written g.E.Sink.faults c.do_words.new.store c.do_words.new.out c.do_words.new.err) in
     let request : Request = request_of c.in-Ok.asked in
-    λ other given all quiet out_quiet. asked_complete old new other c.do_words.result (as_asked old new (map string_bytes c.args.words.now) request other c.do_words.result c.in-Ok.ensures.asked given.asks c.do_words.ensures) all quiet out_quiet
+    λ other given all quiet out_quiet. asked_complete old new other c.do_words.result
+    (as_asked old new (map string_bytes c.args.words.now) request other c.do_words.result c.in-Ok.ensures.asked
+    given.asks c.do_words.ensures) all quiet out_quiet
 
 pub returns-in-Ok-clause-clean : goal.returns-in-Ok-clause-clean
 returns-in-Ok-clause-clean g c =
-    let old : Outside = (outside g.S.Store.files g.S.Store.faults g.S.Store.misses g.O.Sink.written g.O.Sink.faults g.E.Sink.written g.E.Sink.faults c.args.store.now c.args.out.now c.args.err.now) in
-    let new : Outside = (outside g.S.Store.files g.S.Store.faults g.S.Store.misses g.O.Sink.written g.O.Sink.faults g.E.Sink.written g.E.Sink.faults c.do_words.new.store c.do_words.new.out c.do_words.new.err) in
+    let old : Outside = (outside g.S.Store.files g.S.Store.faults g.S.Store.misses g.O.Sink.written g.O.Sink.faults
+    g.E.Sink.written g.E.Sink.faults c.args.store.now c.args.out.now c.args.err.now) in
+    let new : Outside = (outside g.S.Store.files g.S.Store.faults g.S.Store.misses g.O.Sink.written g.O.Sink.faults
+    g.E.Sink.written g.E.Sink.faults c.do_words.new.store c.do_words.new.out c.do_words.new.err) in
     let request : Request = request_of c.in-Ok.asked in
-    λ ask text s given all quiet out_quiet. ends_clean old new ask text s c.do_words.result (as_asked old new (map string_bytes c.args.words.now) request (run ask) c.do_words.result c.in-Ok.ensures.asked given.asks c.do_words.ensures) all quiet out_quiet
+    λ ask text s given all quiet out_quiet. ends_clean old new ask text s c.do_words.result
+    (as_asked old new (map string_bytes c.args.words.now) request (run ask) c.do_words.result
+    c.in-Ok.ensures.asked given.asks c.do_words.ensures) all quiet out_quiet
 
 pub returns-in-Ok-clause-looped : goal.returns-in-Ok-clause-looped
 returns-in-Ok-clause-looped g c =
-    let old : Outside = (outside g.S.Store.files g.S.Store.faults g.S.Store.misses g.O.Sink.written g.O.Sink.faults g.E.Sink.written g.E.Sink.faults c.args.store.now c.args.out.now c.args.err.now) in
-    let new : Outside = (outside g.S.Store.files g.S.Store.faults g.S.Store.misses g.O.Sink.written g.O.Sink.faults g.E.Sink.written g.E.Sink.faults c.do_words.new.store c.do_words.new.out c.do_words.new.err) in
+    let old : Outside = (outside g.S.Store.files g.S.Store.faults g.S.Store.misses g.O.Sink.written g.O.Sink.faults
+    g.E.Sink.written g.E.Sink.faults c.args.store.now c.args.out.now c.args.err.now) in
+    let new : Outside = (outside g.S.Store.files g.S.Store.faults g.S.Store.misses g.O.Sink.written g.O.Sink.faults
+    g.E.Sink.written g.E.Sink.faults c.do_words.new.store c.do_words.new.out c.do_words.new.err) in
     let request : Request = request_of c.in-Ok.asked in
-    λ ask given seven. ends_loops old new ask c.do_words.result (as_asked old new (map string_bytes c.args.words.now) request (run ask) c.do_words.result c.in-Ok.ensures.asked given.asks c.do_words.ensures) seven
+    λ ask given seven. ends_loops old new ask c.do_words.result (as_asked old new (map string_bytes c.args.words.now)
+    request (run ask) c.do_words.result c.in-Ok.ensures.asked given.asks c.do_words.ensures) seven
 
 pub returns-in-Ok-clause-exact : goal.returns-in-Ok-clause-exact
 returns-in-Ok-clause-exact g c =
-    let old : Outside = (outside g.S.Store.files g.S.Store.faults g.S.Store.misses g.O.Sink.written g.O.Sink.faults g.E.Sink.written g.E.Sink.faults c.args.store.now c.args.out.now c.args.err.now) in
-    let new : Outside = (outside g.S.Store.files g.S.Store.faults g.S.Store.misses g.O.Sink.written g.O.Sink.faults g.E.Sink.written g.E.Sink.faults c.do_words.new.store c.do_words.new.out c.do_words.new.err) in
+    let old : Outside = (outside g.S.Store.files g.S.Store.faults g.S.Store.misses g.O.Sink.written g.O.Sink.faults
+    g.E.Sink.written g.E.Sink.faults c.args.store.now c.args.out.now c.args.err.now) in
+    let new : Outside = (outside g.S.Store.files g.S.Store.faults g.S.Store.misses g.O.Sink.written g.O.Sink.faults
+    g.E.Sink.written g.E.Sink.faults c.do_words.new.store c.do_words.new.out c.do_words.new.err) in
     let request : Request = request_of c.in-Ok.asked in
-    λ other error given finds quiet. asked_exact old new other error c.do_words.result (as_asked old new (map string_bytes c.args.words.now) request other c.do_words.result c.in-Ok.ensures.asked given.asks c.do_words.ensures) finds quiet
+    λ other error given finds quiet. asked_exact old new other error c.do_words.result
+    (as_asked old new (map string_bytes c.args.words.now) request other c.do_words.result c.in-Ok.ensures.asked
+    given.asks c.do_words.ensures) finds quiet
 
 pub returns-in-Ok-clause-usage : goal.returns-in-Ok-clause-usage
 returns-in-Ok-clause-usage g c = λ other. absurd (other c.in-Ok.ensures.taken)
 
 pub returns-in-Err-Memory-clause-ends : goal.returns-in-Err-Memory-clause-ends
 returns-in-Err-Memory-clause-ends g c =
-    let old : Outside = (outside g.S.Store.files g.S.Store.faults g.S.Store.misses g.O.Sink.written g.O.Sink.faults g.E.Sink.written g.E.Sink.faults c.args.store.now c.args.out.now c.args.err.now) in
-    let new : Outside = (outside g.S.Store.files g.S.Store.faults g.S.Store.misses g.O.Sink.written g.O.Sink.faults g.E.Sink.written g.E.Sink.faults c.args.store.now c.args.out.now c.say_error.new.sink) in
-    λ request given. asked_memory old new request (record { store_stays = refl; out_stays = refl; said = c.say_error.ensures.said })
+    let old : Outside = (outside g.S.Store.files g.S.Store.faults g.S.Store.misses g.O.Sink.written g.O.Sink.faults
+    g.E.Sink.written g.E.Sink.faults c.args.store.now c.args.out.now c.args.err.now) in
+    let new : Outside = (outside g.S.Store.files g.S.Store.faults g.S.Store.misses g.O.Sink.written g.O.Sink.faults
+    g.E.Sink.written g.E.Sink.faults c.args.store.now c.args.out.now c.say_error.new.sink) in
+    λ request given. asked_memory old new request (record {
+      store_stays = refl;
+      out_stays = refl;
+      said = c.say_error.ensures.said;
+    })
 
 pub returns-in-Err-Usage-clause-complete : goal.returns-in-Err-Usage-clause-complete
-returns-in-Err-Usage-clause-complete g c = λ request given all quiet out_quiet. absurd (c.read_words.ensures.usage (cc) given.taken)
+returns-in-Err-Usage-clause-complete g c =
+    λ request given all quiet out_quiet. absurd (c.read_words.ensures.usage (cc) given.taken)
 
 pub returns-in-Err-Usage-clause-clean : goal.returns-in-Err-Usage-clause-clean
-returns-in-Err-Usage-clause-clean g c = λ ask text s given all quiet out_quiet. absurd (c.read_words.ensures.usage (cc) given.taken)
+returns-in-Err-Usage-clause-clean g c =
+    λ ask text s given all quiet out_quiet. absurd (c.read_words.ensures.usage (cc) given.taken)
 
 pub returns-in-Err-Memory-clause-clean : goal.returns-in-Err-Memory-clause-clean
 returns-in-Err-Memory-clause-clean g c = λ ask text s given all quiet out_quiet. inr (refl, refl)

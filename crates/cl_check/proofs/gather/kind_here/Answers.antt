@@ -5,4 +5,5 @@ use Rattle.cl_check.proofs.Aside.{kind_aside}
 use Rattle.cl_check.proofs.gather.kind_here.Goals as goal
 
 pub returns : goal.returns
-returns c = λ places. c.kind_of.ensures ∙ sym (kind_aside places c.args.environment.now roles.Other (view c.args.tree.now) c.args.kinds.now)
+returns c = λ places. c.kind_of.ensures ∙
+    sym (kind_aside places c.args.environment.now roles.Other (view c.args.tree.now) c.args.kinds.now)

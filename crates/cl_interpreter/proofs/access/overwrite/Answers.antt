@@ -7,4 +7,5 @@ loop-k-init c = sym (over_none c.args.bytes.now c.args.first)
 
 pub loop-k-preserved : goal.loop-k-preserved
 loop-k-preserved c =
-    over_more c.args.bytes.now c.args.new.now c.loop-k.bytes c.args.first c.loop-k.k (c.args.first + c.loop-k.k) (slice_index_or c.args.new.now c.loop-k.k 0) c.loop-k.invariant refl refl (omega arith) (omega arith)
+    over_more c.args.bytes.now c.args.new.now c.loop-k.bytes c.args.first c.loop-k.k (c.args.first + c.loop-k.k)
+    (slice_index_or c.args.new.now c.loop-k.k 0) c.loop-k.invariant refl refl (omega arith) (omega arith)

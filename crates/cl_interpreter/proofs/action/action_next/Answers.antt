@@ -23,7 +23,8 @@ returns-in-Load-clause-next c =
     let fits : SFits w128 c.nth-a.result = search rules in
     let back = to_z-of_z w128 c.nth-a.result fits in
     loads_done c.memory_only-in-Load.result c.load.result _ _ c.memory_only-in-Load.ensures c.load.ensures
-    (ap (λ (v : ℤ). items.Loads c.in-Load.site (access_at p l i c.in-Load.element c.in-Load.root v) (λ bytes. pushed i (value_of_bytes c.in-Load.element bytes))) (back ∙ c.nth-a.ensures)
+    (ap (λ (v : ℤ). items.Loads c.in-Load.site (access_at p l i c.in-Load.element c.in-Load.root v)
+    (λ bytes. pushed i (value_of_bytes c.in-Load.element bytes))) (back ∙ c.nth-a.ensures)
     ∙ sym (ap (λ (z : Action). action_next p l i (action_of z) c.args.args.now.items i.values i.tasks) c.in-Load.is))
 
 pub returns-in_err-v-in-Builtin-clause-reason : goal.returns-in_err-v-in-Builtin-clause-reason
@@ -31,5 +32,9 @@ returns-in_err-v-in-Builtin-clause-reason c =
     let a_fits : SFits w128 c.nth-a.result = search rules in
     let b_fits : SFits w128 c.nth-b.result = search rules in
     let c_fits : SFits w128 c.nth.result = search rules in
-    let p = err_from_is_err_and c.from_residual-in_err-v-in-Builtin.result c.from_residual-in_err-v-in-Builtin.ensures.1 in
-    rw (p.1, p.2) (builtin_reason (launch_of c.args.launch.now) c.args.item.number c.args.action c.in-Builtin.f c.in-Builtin.of c.args.args.now.items _ _ _ _ c.in-Builtin.is (to_z-of_z w128 c.nth-a.result a_fits ∙ c.nth-a.ensures) (to_z-of_z w128 c.nth-b.result b_fits ∙ c.nth-b.ensures) (to_z-of_z w128 c.nth.result c_fits ∙ c.nth.ensures) c.in_err-v-in-Builtin.ensures.reason)
+    let p =
+    err_from_is_err_and c.from_residual-in_err-v-in-Builtin.result c.from_residual-in_err-v-in-Builtin.ensures.1 in
+    rw (p.1, p.2) (builtin_reason (launch_of c.args.launch.now) c.args.item.number c.args.action c.in-Builtin.f
+    c.in-Builtin.of c.args.args.now.items _ _ _ _ c.in-Builtin.is (to_z-of_z w128 c.nth-a.result a_fits ∙
+    c.nth-a.ensures) (to_z-of_z w128 c.nth-b.result b_fits ∙
+    c.nth-b.ensures) (to_z-of_z w128 c.nth.result c_fits ∙ c.nth.ensures) c.in_err-v-in-Builtin.ensures.reason)

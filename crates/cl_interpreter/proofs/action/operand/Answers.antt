@@ -20,13 +20,17 @@ not_shift _ h k = refl
 pub returns-in_default-clause-value : goal.returns-in_default-clause-value
 returns-in_default-clause-value c =
     let back = to_z-of_z w128 c.args.v c.ranges.v in
-    IfOk-weaker c.typed.result (λ (n : ℤ). (n ≡ to_z w128 (of_z w128 c.args.v)) × IsValue c.args.t (to_z w128 (of_z w128 c.args.v))) _
-    (λ n h. let value : IsValue c.args.t c.args.v = subst (IsValue c.args.t) back h.1 in (h.0 ∙ back, record { wide = value_wide c.args.t c.args.v value; value = λ _. value })) c.typed.ensures.value
+    IfOk-weaker c.typed.result (λ (n : ℤ). (n ≡ to_z w128 (of_z w128 c.args.v)) ×
+    IsValue c.args.t (to_z w128 (of_z w128 c.args.v))) _
+    (λ n h. let value : IsValue c.args.t c.args.v = subst (IsValue c.args.t) back h.1 in
+    (h.0 ∙ back, record { wide = value_wide c.args.t c.args.v value; value = λ _. value })) c.typed.ensures.value
 
 pub returns-in_default-clause-reason : goal.returns-in_default-clause-reason
 returns-in_default-clause-reason c =
     let w = to_z w128 (of_z w128 c.args.v) in
     let back = to_z-of_z w128 c.args.v c.ranges.v in
     let whole = not_shift c.args.op c.in_default.not-Shl c.in_default.not-Shr in
-    IfErr-weaker c.typed.result (IsReason ⊥ (¬ IsValue c.args.t w)) (IsReason ⊥ (¬ IsOperand c.args.op c.args.t c.args.v))
-    (λ e h. reason_weaker ⊥ (¬ IsValue c.args.t w) ⊥ (¬ IsOperand c.args.op c.args.t c.args.v) e (λ x. x) (λ n o. n (subst (IsValue c.args.t) (sym back) (o.value whole))) h) c.typed.ensures.reason
+    IfErr-weaker c.typed.result (IsReason ⊥ (¬ IsValue c.args.t w))
+    (IsReason ⊥ (¬ IsOperand c.args.op c.args.t c.args.v))
+    (λ e h. reason_weaker ⊥ (¬ IsValue c.args.t w) ⊥ (¬ IsOperand c.args.op c.args.t c.args.v) e (λ x. x)
+    (λ n o. n (subst (IsValue c.args.t) (sym back) (o.value whole))) h) c.typed.ensures.reason

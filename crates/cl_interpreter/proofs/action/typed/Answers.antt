@@ -8,4 +8,5 @@ use Rattle.cl_interpreter.proofs.action.typed.Goals as goal
 pub returns-else-convert-v-clause-reason : goal.returns-else-convert-v-clause-reason
 returns-else-convert-v-clause-reason c =
     let back = to_z-of_z w128 c.args.v c.ranges.v in
-    λ (h : IsValue c.args.t c.args.v). c.if-convert-v.false (ap (of_z w128) (c.convert.ensures.same ∙ ap (wrap_of c.args.t) back ∙ wrap_value c.args.t c.args.v h))
+    λ (h : IsValue c.args.t c.args.v). c.if-convert-v.false (ap (of_z w128) (c.convert.ensures.same ∙
+    ap (wrap_of c.args.t) back ∙ wrap_value c.args.t c.args.v h))

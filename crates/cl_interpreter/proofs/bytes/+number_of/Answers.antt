@@ -24,4 +24,8 @@ overflow_add-result t c =
 
 pub returns-in-len1-up-clause-below : goal.returns-in-len1-up-clause-below
 returns-in-len1-up-clause-below t c =
-    grown _ (length c.args.bytes.now) c.number_of.result c.from.result (omega (arith, length-drop {A = ℕ}, length-take {A = ℕ})) (omega (arith, c.type_inv.bytes 0, c.from.ensures)) c.number_of.ensures.below
+    grown _ (length c.args.bytes.now) c.number_of.result c.from.result (omega (
+      arith,
+      length-drop {A = ℕ},
+      length-take {A = ℕ},
+    )) (omega (arith, c.type_inv.bytes 0, c.from.ensures)) c.number_of.ensures.below

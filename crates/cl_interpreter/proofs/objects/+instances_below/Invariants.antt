@@ -10,4 +10,6 @@ decreases-instances_below l = l.depth
 
 abbrev pub invariant-loop-call : goal.invariant-loop-call
 invariant-loop-call l =
-    map instance_of l.instances.items ++ behind (program_of l.program) (l.depth - 1) l.path (map call_of (drop l.call-index l.call-items)) ≡ map instance_of l.fn.instances.items ++ instances_below (program_of l.program) l.depth l.path l.function
+    map instance_of l.instances.items ++ behind (program_of l.program) (l.depth - 1) l.path
+    (map call_of (drop l.call-index l.call-items)) ≡ map instance_of l.fn.instances.items ++
+    instances_below (program_of l.program) l.depth l.path l.function

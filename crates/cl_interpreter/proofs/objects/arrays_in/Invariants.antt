@@ -7,4 +7,7 @@ use Rattle.cl_interpreter.proofs.objects.arrays_in.Given as goal
 
 abbrev pub invariant-loop-instance : goal.invariant-loop-instance
 invariant-loop-instance l =
-    map placed_of l.placed.items ++ chosen_of l.local (placed_in (program_of l.program) (map instance_of (drop l.instance-index l.instance-items))) ≡ chosen_of l.local (placed_arrays (program_of l.program))
+    map placed_of l.placed.items ++
+    chosen_of l.local (placed_in (program_of l.program)
+    (map instance_of (drop l.instance-index l.instance-items))) ≡
+    chosen_of l.local (placed_arrays (program_of l.program))

@@ -7,4 +7,6 @@ use Rattle.cl_interpreter.proofs.objects.passed_objects.Given as goal
 
 abbrev pub invariant-loop-root : goal.invariant-loop-root
 invariant-loop-root l =
-    (length l.objects.items ≡ l.root-index) × ((n : ℕ) → n < l.root-index → nth_object l.objects.items n ≡ passed_object (program_of l.program) (launch_of l.launch) (item_of l.item) (slice_get l.roots n))
+    (length l.objects.items ≡ l.root-index) × ((n : ℕ) → n < l.root-index →
+    nth_object l.objects.items n ≡ passed_object (program_of l.program) (launch_of l.launch) (item_of l.item)
+    (slice_get l.roots n))

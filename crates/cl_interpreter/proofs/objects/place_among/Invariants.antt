@@ -4,4 +4,5 @@ use Rattle.cl_interpreter.specs.Objects.{placed_of}
 use Rattle.cl_interpreter.proofs.objects.place_among.Given as goal
 
 abbrev pub invariant-loop-k : goal.invariant-loop-k
-invariant-loop-k l = place_among (map placed_of l.placed) l.path l.number ≡ l.k + place_among (map placed_of (drop l.k l.placed)) l.path l.number
+invariant-loop-k l = place_among (map placed_of l.placed) l.path l.number ≡ l.k +
+    place_among (map placed_of (drop l.k l.placed)) l.path l.number

@@ -16,4 +16,5 @@ returns-in-Some-clause-next c =
     let rest = c.pop_front.new.self.items in
     let same = IfOk-at_ok (λ (k : rust_item.Item). item_of k ≡ i) c.in_ok-item.ensures c.item.ensures in
     let first : c.in_ok-item.item.tasks.items ≡ c.in-Some.task ∷ rest = search rules in
-    IfOk-weaker c.task_next.result _ _ (λ n h. h ∙ first_done p l i j (task_of c.in-Some.task) (tasks_of rest) same (ap tasks_of first)) c.task_next.ensures.next
+    IfOk-weaker c.task_next.result _ _ (λ n h. h ∙
+    first_done p l i j (task_of c.in-Some.task) (tasks_of rest) same (ap tasks_of first)) c.task_next.ensures.next

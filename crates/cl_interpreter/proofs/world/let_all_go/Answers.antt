@@ -10,13 +10,17 @@ loop-k-preserved c =
     let f : c.loop-k.k < length c.loop-k.items.items = omega (arith, c.loop-k.invariant.0) in
     elim c.if-is_in.branch [
       | then-is_in w ↦
-          part_goes c.args.size c.args.group c.loop-k.k c.len-k-end.result c.args.items.now.items c.loop-k.items.items c.if-is_in.items.items w.index_mut.result.now w.let_go.new.item
-          c.loop-k.invariant (sym w.if-is_in.ensures) f w.index_mut.ensures.value w.let_go.ensures (ap (λ (v : Vec rust_item.Item Global). v.items) w.items-is)
+          part_goes c.args.size c.args.group c.loop-k.k c.len-k-end.result c.args.items.now.items c.loop-k.items.items
+          c.if-is_in.items.items w.index_mut.result.now w.let_go.new.item
+          c.loop-k.invariant (sym w.if-is_in.ensures) f w.index_mut.ensures.value w.let_go.ensures
+          (ap (λ (v : Vec rust_item.Item Global). v.items) w.items-is)
       | else-is_in w ↦
-          rw w.items-is (part_stays c.args.size c.args.group c.loop-k.k c.len-k-end.result c.args.items.now.items c.loop-k.items.items c.loop-k.invariant (sym w.if-is_in.ensures))
+          rw w.items-is (part_stays c.args.size c.args.group c.loop-k.k c.len-k-end.result c.args.items.now.items
+          c.loop-k.items.items c.loop-k.invariant (sym w.if-is_in.ensures))
     ]
 
 pub returns : goal.returns
 returns c =
     let e : c.loop-k.k ≡ c.len-k-end.result = omega arith in
-    part_done c.args.size c.args.group c.loop-k.k c.len-k-end.result c.args.items.now.items c.loop-k.items.items c.loop-k.invariant e
+    part_done c.args.size c.args.group c.loop-k.k c.len-k-end.result c.args.items.now.items c.loop-k.items.items
+    c.loop-k.invariant e

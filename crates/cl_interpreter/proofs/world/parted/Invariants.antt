@@ -6,4 +6,5 @@ use Rattle.cl_interpreter.proofs.world.parted.Given as goal
 
 abbrev pub invariant-loop-k : goal.invariant-loop-k
 invariant-loop-k l =
-    (k : ℕ) (i j : Item) → k < l.k → k / l.size ≡ l.group → slice_get (map item_of l.items) k ≡ Some i → slice_get (map item_of l.items) l.one ≡ Some j → StandTogether i j
+    (k : ℕ) (i j : Item) → k < l.k → k / l.size ≡ l.group → slice_get (map item_of l.items) k ≡ Some i →
+    slice_get (map item_of l.items) l.one ≡ Some j → StandTogether i j

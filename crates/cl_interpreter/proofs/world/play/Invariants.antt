@@ -8,4 +8,5 @@ use Rattle.cl_interpreter.proofs.world.play.Given as goal
 
 abbrev pub invariant-loop-number : goal.invariant-loop-number
 invariant-loop-number l =
-    Plays (machine_of (program_of l.program) (launch_of l.launch)) (world_of l.fn.world) (map move_of l.moves) l.number (world_of l.world)
+    Plays (machine_of (program_of l.program) (launch_of l.launch)) (world_of l.fn.world) (map move_of l.moves)
+    l.number (world_of l.world)

@@ -18,10 +18,13 @@ returns-clause-played c =
     let p = typed.program_of c.args.program.now in
     let first = start_world p l (typed.buffers_of c.args.buffers.now) in
     let moves = map move_of c.args.moves.now in
-    let t = IfOk-at_ok (λ (s : rust_start.Start). program_of s.program ≡ p) c.in_ok-start.ensures c.start_world.ensures.tree in
-    let w = IfOk-at_ok (λ (s : rust_start.Start). world_of s.world ≡ first) c.in_ok-start.ensures c.start_world.ensures.world in
+    let t = IfOk-at_ok (λ (s : rust_start.Start). program_of s.program ≡ p) c.in_ok-start.ensures
+    c.start_world.ensures.tree in
+    let w = IfOk-at_ok (λ (s : rust_start.Start). world_of s.world ≡ first) c.in_ok-start.ensures
+    c.start_world.ensures.world in
     subst (λ (q : Program). IfOk c.play.result (IsPlayed (machine_of q l) first moves)) t
-    (subst (λ (v : World Item). IfOk c.play.result (IsPlayed (machine_of (program_of c.in_ok-start.start.program) l) v moves)) w c.play.ensures.played)
+    (subst (λ (v : World Item). IfOk c.play.result (IsPlayed (machine_of (program_of c.in_ok-start.start.program) l) v
+    moves)) w c.play.ensures.played)
 
 pub returns-clause-reason : goal.returns-clause-reason
 returns-clause-reason c =
@@ -29,7 +32,11 @@ returns-clause-reason c =
     let p = typed.program_of c.args.program.now in
     let first = start_world p l (typed.buffers_of c.args.buffers.now) in
     let moves = map move_of c.args.moves.now in
-    let t = IfOk-at_ok (λ (s : rust_start.Start). program_of s.program ≡ p) c.in_ok-start.ensures c.start_world.ensures.tree in
-    let w = IfOk-at_ok (λ (s : rust_start.Start). world_of s.world ≡ first) c.in_ok-start.ensures c.start_world.ensures.world in
+    let t = IfOk-at_ok (λ (s : rust_start.Start). program_of s.program ≡ p) c.in_ok-start.ensures
+    c.start_world.ensures.tree in
+    let w = IfOk-at_ok (λ (s : rust_start.Start). world_of s.world ≡ first) c.in_ok-start.ensures
+    c.start_world.ensures.world in
     subst (λ (q : Program). IfErr c.play.result (IsReasonOfMoves (machine_of q l) l first moves)) t
-    (subst (λ (v : World Item). IfErr c.play.result (IsReasonOfMoves (machine_of (program_of c.in_ok-start.start.program) l) l v moves)) w c.play.ensures.reason)
+    (subst (λ (v : World Item). IfErr c.play.result
+    (IsReasonOfMoves (machine_of (program_of c.in_ok-start.start.program) l) l v moves)) w
+    c.play.ensures.reason)

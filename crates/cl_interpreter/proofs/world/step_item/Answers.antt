@@ -9,5 +9,6 @@ use Rattle.cl_interpreter.proofs.world.step_item.Goals as goal
 pub returns-in-Ok-clause-made : goal.returns-in-Ok-clause-made
 returns-in-Ok-clause-made c =
     let f : c.args.item < length c.args.world.now.items.items = omega (arith, c.args.world.now.items.ok.0) in
-    c.in-Ok.ensures.made (machine_of (program_of c.args.program.now) (launch_of c.args.launch.now)) (item_of c.index.result.now)
+    c.in-Ok.ensures.made (machine_of (program_of c.args.program.now) (launch_of c.args.launch.now))
+    (item_of c.index.result.now)
     (item_there c.args.world.now.items.items c.args.item c.index.result.now f c.index.ensures) c.in_ok-next.ensures.next

@@ -7,5 +7,7 @@ use Rattle.cl_kinds.proofs.calls.arguments_fit.Goals as goal
 
 pub returns : goal.returns
 returns c =
-    let all : arguments_fit c.loop-kind.left.now (known (drop c.loop-kind.kind-index c.args.kinds.now)) ≡ true = rw (drop_all c.loop-kind.kind-index c.args.kinds.now c.loop-kind-test.false) (no_argument c.loop-kind.left.now) in
+    let all : arguments_fit c.loop-kind.left.now (known (drop c.loop-kind.kind-index c.args.kinds.now)) ≡ true =
+    rw (drop_all c.loop-kind.kind-index c.args.kinds.now c.loop-kind-test.false)
+    (no_argument c.loop-kind.left.now) in
     sym all ∙ c.loop-kind.invariant

@@ -4,4 +4,5 @@ use Rattle.cl_kinds.specs.Known.{known}
 use Rattle.cl_kinds.proofs.calls.arguments_fit.Given as goal
 
 abbrev pub invariant-loop-kind : goal.invariant-loop-kind
-invariant-loop-kind l = spec.arguments_fit l.left (known (drop l.kind-index l.kinds)) ≡ spec.arguments_fit l.parameters (known l.kinds)
+invariant-loop-kind l =
+    spec.arguments_fit l.left (known (drop l.kind-index l.kinds)) ≡ spec.arguments_fit l.parameters (known l.kinds)

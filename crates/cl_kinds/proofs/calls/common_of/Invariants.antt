@@ -4,4 +4,5 @@ use Rattle.cl_kinds.specs.Known.{known}
 use Rattle.cl_kinds.proofs.calls.common_of.Given as goal
 
 abbrev pub invariant-loop-kind : goal.invariant-loop-kind
-invariant-loop-kind l = spec.common_of l.all (spec.counted_types (known (drop l.kind-index l.kinds))) ≡ spec.common_of l.fn.of (spec.counted_types (known l.kinds))
+invariant-loop-kind l = spec.common_of l.all (spec.counted_types (known (drop l.kind-index l.kinds))) ≡
+    spec.common_of l.fn.of (spec.counted_types (known l.kinds))

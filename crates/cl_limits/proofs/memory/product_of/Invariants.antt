@@ -4,6 +4,7 @@ use Rattle.cl_limits.proofs.memory.product_of.Given as goal
 
 abbrev pub invariant-loop-length : goal.invariant-loop-length
 invariant-loop-length l = record {
-  same : min (l.count * product (drop l.length-index l.lengths)) 18446744073709551615 ≡ min (product l.lengths) 18446744073709551615;
+  same : min (l.count * product (drop l.length-index l.lengths)) 18446744073709551615 ≡
+      min (product l.lengths) 18446744073709551615;
   within : l.count ≤ 18446744073709551615;
 }

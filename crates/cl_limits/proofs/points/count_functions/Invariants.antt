@@ -5,6 +5,7 @@ use Rattle.cl_limits.proofs.points.count_functions.Given as goal
 
 abbrev pub invariant-loop-tree : goal.invariant-loop-tree
 invariant-loop-tree l = record {
-  same : l.count + length (functions_among (views (drop l.tree-index l.trees))) ≡ length (functions_among (views l.trees));
+  same : l.count + length (functions_among (views (drop l.tree-index l.trees))) ≡
+      length (functions_among (views l.trees));
   within : l.count ≤ l.tree-index;
 }

@@ -4,4 +4,5 @@ use Rattle.cl_limits.specs.Rounds.{with_calls, next_totals}
 use Rattle.cl_limits.proofs.sums.next_totals.Given as goal
 
 abbrev pub invariant-loop-call : goal.invariant-loop-call
-invariant-loop-call l = with_calls l.cap l.counts l.sums.items (map call_of (drop l.call-index l.calls)) ≡ next_totals l.cap l.own (map call_of l.calls) l.counts
+invariant-loop-call l = with_calls l.cap l.counts l.sums.items (map call_of (drop l.call-index l.calls)) ≡
+    next_totals l.cap l.own (map call_of l.calls) l.counts

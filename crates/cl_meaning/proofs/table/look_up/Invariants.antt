@@ -3,4 +3,5 @@ use Rattle.cl_meaning.specs.Pieces.{looked_up}
 use Rattle.cl_meaning.proofs.table.look_up.Given as goal
 
 abbrev pub invariant-loop-text : goal.invariant-loop-text
-invariant-loop-text g l = looked_up l.word (map (λ r. record { word = r.0.now; value = r.1 }) (drop l.text-index l.table)) ≡ looked_up l.word (map (λ r. record { word = r.0.now; value = r.1 }) l.table)
+invariant-loop-text g l = looked_up l.word (map (λ r. record { word = r.0.now; value = r.1 })
+    (drop l.text-index l.table)) ≡ looked_up l.word (map (λ r. record { word = r.0.now; value = r.1 }) l.table)

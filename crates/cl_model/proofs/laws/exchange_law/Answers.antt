@@ -5,4 +5,5 @@ pub returns-clause-valid : goal.returns-clause-valid
 returns-clause-valid c = valid_at _ _ c.in_ok-program.ensures.program exchange_valid
 
 pub returns-clause-clean : goal.returns-clause-clean
-returns-clause-clean c = clean_at _ _ _ _ _ _ c.in_ok-program.ensures.program c.in_ok-launch.ensures c.in_ok-buffers.ensures exchange_whole
+returns-clause-clean c =
+    clean_at _ _ _ _ _ _ c.in_ok-program.ensures.program c.in_ok-launch.ensures c.in_ok-buffers.ensures exchange_whole

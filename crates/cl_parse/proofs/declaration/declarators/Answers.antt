@@ -11,13 +11,23 @@ use Rattle.cl_parse.proofs.declaration.declarators.Goals as goal
 
 pub returns-in_err-member : goal.returns-in_err-member
 returns-in_err-member c =
-    let f : Fails c.in_err-member.field-0.0 (all_of (is terminals.Comma) (behind_comma (readers c.args.room).declarator) c.args.items.now) =
-    list_fails (is terminals.Comma) (behind_comma (readers c.args.room).declarator) (commas_shrink (readers c.args.room).declarator Declarator (all_good c.args.room).declarator) (members c.members.list) c.members.rest.now c.in_err-member.field-0.0 _ (sym c.next_is.ensures ∙ c.members-test.true) c.in_err-member.ensures c.members.invariant in
+    let f : Fails c.in_err-member.field-0.0
+    (all_of (is terminals.Comma) (behind_comma (readers c.args.room).declarator) c.args.items.now) =
+    list_fails (is terminals.Comma) (behind_comma (readers c.args.room).declarator)
+    (commas_shrink (readers c.args.room).declarator Declarator (all_good c.args.room).declarator)
+    (members c.members.list) c.members.rest.now c.in_err-member.field-0.0 _ (sym c.next_is.ensures ∙
+    c.members-test.true) c.in_err-member.ensures c.members.invariant in
     search rules
 
 pub members-smaller : goal.members-smaller
-members-smaller c = let s : length c.in_ok-member.behind.now < length c.members.rest.now = (commas_shrink (readers c.args.room).declarator Declarator (all_good c.args.room).declarator) c.members.rest.now c.in_ok-member.behind.now _ c.in_ok-member.ensures in s
+members-smaller c = let s : length c.in_ok-member.behind.now < length c.members.rest.now =
+    (commas_shrink (readers c.args.room).declarator Declarator (all_good c.args.room).declarator) c.members.rest.now
+    c.in_ok-member.behind.now _ c.in_ok-member.ensures in s
 
 pub members-preserved : goal.members-preserved
 members-preserved c =
-    list_keeps (is terminals.Comma) (behind_comma (readers c.args.room).declarator) (commas_shrink (readers c.args.room).declarator Declarator (all_good c.args.room).declarator) (members c.members.list) (members c.in_ok-list.list) (members c.in_ok-member.member) c.members.rest.now c.in_ok-member.behind.now _ (sym c.next_is.ensures ∙ c.members-test.true) c.in_ok-member.ensures c.in_ok-list.ensures c.members.invariant
+    list_keeps (is terminals.Comma) (behind_comma (readers c.args.room).declarator)
+    (commas_shrink (readers c.args.room).declarator Declarator (all_good c.args.room).declarator)
+    (members c.members.list) (members c.in_ok-list.list) (members c.in_ok-member.member) c.members.rest.now
+    c.in_ok-member.behind.now _ (sym c.next_is.ensures ∙ c.members-test.true) c.in_ok-member.ensures
+    c.in_ok-list.ensures c.members.invariant

@@ -6,7 +6,9 @@ use Rattle.cl_read.specs.Reading.{is, readers, all_of, behind_comma}
 use Rattle.cl_parse.proofs.declaration.declarators.Given as goal
 
 abbrev pub invariant-members : goal.invariant-members
-invariant-members l = with_front (members l.list) (all_of (is terminals.Comma) (behind_comma (readers l.room).declarator) l.rest) ≡ all_of (is terminals.Comma) (behind_comma (readers l.room).declarator) l.items
+invariant-members l = with_front (members l.list)
+    (all_of (is terminals.Comma) (behind_comma (readers l.room).declarator) l.rest) ≡
+    all_of (is terminals.Comma) (behind_comma (readers l.room).declarator) l.items
 
 abbrev pub decreases-members : goal.decreases-members
 decreases-members l = length l.rest

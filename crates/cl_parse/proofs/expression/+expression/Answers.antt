@@ -11,13 +11,22 @@ use Rattle.cl_parse.proofs.expression.+expression.Goals as goal
 
 pub arguments-returns-in_err-member : goal.arguments-returns-in_err-member
 arguments-returns-in_err-member t c =
-    let f : Fails c.in_err-member.field-0.0 (all_of (is terminals.Comma) (behind_comma (readers c.args.room).assign) c.args.items.now) =
-    list_fails (is terminals.Comma) (behind_comma (readers c.args.room).assign) (commas_shrink (readers c.args.room).assign Assign (all_good c.args.room).assign) (members c.members.list) c.members.rest.now c.in_err-member.field-0.0 _ (sym c.next_is.ensures ∙ c.members-test.true) c.in_err-member.ensures c.members.invariant in
+    let f : Fails c.in_err-member.field-0.0 (all_of (is terminals.Comma) (behind_comma (readers c.args.room).assign)
+    c.args.items.now) =
+    list_fails (is terminals.Comma) (behind_comma (readers c.args.room).assign)
+    (commas_shrink (readers c.args.room).assign Assign (all_good c.args.room).assign) (members c.members.list)
+    c.members.rest.now c.in_err-member.field-0.0 _ (sym c.next_is.ensures ∙
+    c.members-test.true) c.in_err-member.ensures c.members.invariant in
     search rules
 
 pub arguments-members-smaller : goal.arguments-members-smaller
-arguments-members-smaller t c = let s : length c.in_ok-member.behind.now < length c.members.rest.now = (commas_shrink (readers c.args.room).assign Assign (all_good c.args.room).assign) c.members.rest.now c.in_ok-member.behind.now _ c.in_ok-member.ensures in s
+arguments-members-smaller t c = let s : length c.in_ok-member.behind.now < length c.members.rest.now =
+    (commas_shrink (readers c.args.room).assign Assign (all_good c.args.room).assign) c.members.rest.now
+    c.in_ok-member.behind.now _ c.in_ok-member.ensures in s
 
 pub arguments-members-preserved : goal.arguments-members-preserved
 arguments-members-preserved t c =
-    list_keeps (is terminals.Comma) (behind_comma (readers c.args.room).assign) (commas_shrink (readers c.args.room).assign Assign (all_good c.args.room).assign) (members c.members.list) (members c.in_ok-list.list) (members c.in_ok-member.member) c.members.rest.now c.in_ok-member.behind.now _ (sym c.next_is.ensures ∙ c.members-test.true) c.in_ok-member.ensures c.in_ok-list.ensures c.members.invariant
+    list_keeps (is terminals.Comma) (behind_comma (readers c.args.room).assign)
+    (commas_shrink (readers c.args.room).assign Assign (all_good c.args.room).assign) (members c.members.list)
+    (members c.in_ok-list.list) (members c.in_ok-member.member) c.members.rest.now c.in_ok-member.behind.now _
+    (sym c.next_is.ensures ∙ c.members-test.true) c.in_ok-member.ensures c.in_ok-list.ensures c.members.invariant

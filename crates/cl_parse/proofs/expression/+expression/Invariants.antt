@@ -60,25 +60,33 @@ abbrev pub decreases-level : goal.decreases-level
 decreases-level l = 64 * l.budget + 8 + l.number
 
 abbrev pub invariant-expression_chain-operators : goal.invariant-expression_chain-operators
-invariant-expression_chain-operators l = chain l.room (is terminals.Comma) (expr_step l.room (readers l.room)) l.count (view l.left.tree) l.rest ≡ chain l.room (is terminals.Comma) (expr_step l.room (readers l.room)) l.room (view l.fn.head.tree) l.items
+invariant-expression_chain-operators l =
+    chain l.room (is terminals.Comma) (expr_step l.room (readers l.room)) l.count (view l.left.tree) l.rest ≡
+    chain l.room (is terminals.Comma) (expr_step l.room (readers l.room)) l.room (view l.fn.head.tree) l.items
 
 abbrev pub decreases-expression_chain-operators : goal.decreases-expression_chain-operators
 decreases-expression_chain-operators l = l.count
 
 abbrev pub invariant-level_chain-operators : goal.invariant-level_chain-operators
-invariant-level_chain-operators l = chain l.room (joins l.number) (level_step l.room (readers l.room) l.number) l.count (view l.left.tree) l.rest ≡ chain l.room (joins l.number) (level_step l.room (readers l.room) l.number) l.room (view l.fn.head.tree) l.items
+invariant-level_chain-operators l =
+    chain l.room (joins l.number) (level_step l.room (readers l.room) l.number) l.count (view l.left.tree) l.rest ≡
+    chain l.room (joins l.number) (level_step l.room (readers l.room) l.number) l.room (view l.fn.head.tree) l.items
 
 abbrev pub decreases-level_chain-operators : goal.decreases-level_chain-operators
 decreases-level_chain-operators l = l.count
 
 abbrev pub invariant-postfix_parts-operators : goal.invariant-postfix_parts-operators
-invariant-postfix_parts-operators l = chain l.room postfixes (postfix_step l.room (readers l.room)) l.count (view l.left.tree) l.rest ≡ chain l.room postfixes (postfix_step l.room (readers l.room)) l.room (view l.fn.head.tree) l.items
+invariant-postfix_parts-operators l =
+    chain l.room postfixes (postfix_step l.room (readers l.room)) l.count (view l.left.tree) l.rest ≡
+    chain l.room postfixes (postfix_step l.room (readers l.room)) l.room (view l.fn.head.tree) l.items
 
 abbrev pub decreases-postfix_parts-operators : goal.decreases-postfix_parts-operators
 decreases-postfix_parts-operators l = l.count
 
 abbrev pub invariant-arguments-members : goal.invariant-arguments-members
-invariant-arguments-members l = with_front (members l.list) (all_of (is terminals.Comma) (behind_comma (readers l.room).assign) l.rest) ≡ all_of (is terminals.Comma) (behind_comma (readers l.room).assign) l.items
+invariant-arguments-members l =
+    with_front (members l.list) (all_of (is terminals.Comma) (behind_comma (readers l.room).assign) l.rest) ≡
+    all_of (is terminals.Comma) (behind_comma (readers l.room).assign) l.items
 
 abbrev pub decreases-arguments-members : goal.decreases-arguments-members
 decreases-arguments-members l = length l.rest

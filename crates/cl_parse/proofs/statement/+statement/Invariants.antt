@@ -50,13 +50,17 @@ abbrev pub decreases-default_statement : goal.decreases-default_statement
 decreases-default_statement l = 16 * l.room + 14
 
 abbrev pub invariant-lines-members : goal.invariant-lines-members
-invariant-lines-members l = with_front (members l.list) (all_of (λ k. not (same k terminals.CloseBrace)) (each (line_of (readers l.room))) l.rest) ≡ all_of (λ k. not (same k terminals.CloseBrace)) (each (line_of (readers l.room))) l.items
+invariant-lines-members l = with_front (members l.list) (all_of (λ k. not (same k terminals.CloseBrace))
+    (each (line_of (readers l.room))) l.rest) ≡ all_of (λ k. not (same k terminals.CloseBrace))
+    (each (line_of (readers l.room))) l.items
 
 abbrev pub decreases-lines-members : goal.decreases-lines-members
 decreases-lines-members l = length l.rest
 
 abbrev pub invariant-statements-members : goal.invariant-statements-members
-invariant-statements-members l = with_front (members l.list) (all_of (λ k. not (same k terminals.CloseBrace)) (each (readers l.room).statement) l.rest) ≡ all_of (λ k. not (same k terminals.CloseBrace)) (each (readers l.room).statement) l.items
+invariant-statements-members l =
+    with_front (members l.list) (all_of (λ k. not (same k terminals.CloseBrace)) (each (readers l.room).statement)
+    l.rest) ≡ all_of (λ k. not (same k terminals.CloseBrace)) (each (readers l.room).statement) l.items
 
 abbrev pub decreases-statements-members : goal.decreases-statements-members
 decreases-statements-members l = length l.rest

@@ -10,13 +10,23 @@ use Rattle.cl_parse.proofs.unit.heads.Goals as goal
 
 pub returns-in_err-member : goal.returns-in_err-member
 returns-in_err-member c =
-    let f : Fails c.in_err-member.field-0.0 (all_of starts_head (each (head_of (readers 252) (readers 253) (readers 254))) c.args.items.now) =
-    list_fails starts_head (each (head_of (readers 252) (readers 253) (readers 254))) (heads_shrink (readers 252) (readers 253) (readers 254) (all_good 252) (all_good 253) (all_good 254)) (members c.members.list) c.members.rest.now c.in_err-member.field-0.0 _ (sym c.next_in.ensures ∙ c.members-test.true) c.in_err-member.ensures c.members.invariant in
+    let f : Fails c.in_err-member.field-0.0
+    (all_of starts_head (each (head_of (readers 252) (readers 253) (readers 254))) c.args.items.now) =
+    list_fails starts_head (each (head_of (readers 252) (readers 253) (readers 254)))
+    (heads_shrink (readers 252) (readers 253) (readers 254) (all_good 252) (all_good 253) (all_good 254))
+    (members c.members.list) c.members.rest.now c.in_err-member.field-0.0 _ (sym c.next_in.ensures ∙
+    c.members-test.true) c.in_err-member.ensures c.members.invariant in
     search rules
 
 pub members-smaller : goal.members-smaller
-members-smaller c = let s : length c.in_ok-member.behind.now < length c.members.rest.now = (heads_shrink (readers 252) (readers 253) (readers 254) (all_good 252) (all_good 253) (all_good 254)) c.members.rest.now c.in_ok-member.behind.now _ c.in_ok-member.ensures in s
+members-smaller c = let s : length c.in_ok-member.behind.now < length c.members.rest.now =
+    (heads_shrink (readers 252) (readers 253) (readers 254) (all_good 252) (all_good 253) (all_good 254))
+    c.members.rest.now c.in_ok-member.behind.now _ c.in_ok-member.ensures in s
 
 pub members-preserved : goal.members-preserved
 members-preserved c =
-    list_keeps starts_head (each (head_of (readers 252) (readers 253) (readers 254))) (heads_shrink (readers 252) (readers 253) (readers 254) (all_good 252) (all_good 253) (all_good 254)) (members c.members.list) (members c.in_ok-list.list) (members c.in_ok-member.member) c.members.rest.now c.in_ok-member.behind.now _ (sym c.next_in.ensures ∙ c.members-test.true) c.in_ok-member.ensures c.in_ok-list.ensures c.members.invariant
+    list_keeps starts_head (each (head_of (readers 252) (readers 253) (readers 254)))
+    (heads_shrink (readers 252) (readers 253) (readers 254) (all_good 252) (all_good 253) (all_good 254))
+    (members c.members.list) (members c.in_ok-list.list) (members c.in_ok-member.member) c.members.rest.now
+    c.in_ok-member.behind.now _ (sym c.next_in.ensures ∙ c.members-test.true) c.in_ok-member.ensures
+    c.in_ok-list.ensures c.members.invariant

@@ -2,7 +2,8 @@ use Rattle.std.proofs.Common.{◌≡◌, [], drop, arith}
 use Rattle.std.proofs.lemmas.Grind.{common_steps}
 use Rattle.std.specs.Vec.Iter.{into_iter_items}
 use Rattle.cl_meaning.specs.declared.kind.Parameter.TheVariants as parameters
-use Rattle.cl_piece.proofs.Arguments.{drop_step, roots_step, arguments_step, roots_done, arguments_done, roots_all, arguments_all}
+use Rattle.cl_piece.proofs.Arguments.{drop_step, roots_step, arguments_step, roots_done, arguments_done, roots_all}
+use Rattle.cl_piece.proofs.Arguments.{arguments_all}
 use Rattle.cl_piece.proofs.calls.all_passed.Goals as goal
 
 pub returns-in_default-clause-roots : goal.returns-in_default-clause-roots
@@ -19,8 +20,12 @@ pub loop-parameter-preserved : goal.loop-parameter-preserved
 loop-parameter-preserved c =
     let i = c.loop-parameter.parameter-index in
     record {
-      roots = roots_step _ _ _ _ _ _ _ _ c.in-Some.piece _ c.in_ok-push.ensures c.in_ok-argument.ensures.root c.in-Some.ensures.cases.0 (drop_step c.args.parameters.now i parameters.Outside (omega arith)) c.loop-parameter.invariant.roots;
-      values = arguments_step _ _ _ _ _ _ _ _ c.in-Some.piece _ c.in_ok-push.ensures c.in_ok-argument.ensures.value c.in-Some.ensures.cases.0 (drop_step c.args.parameters.now i _ (omega arith)) c.loop-parameter.invariant.values;
+      roots = roots_step _ _ _ _ _ _ _ _ c.in-Some.piece _ c.in_ok-push.ensures c.in_ok-argument.ensures.root
+          c.in-Some.ensures.cases.0 (drop_step c.args.parameters.now i parameters.Outside (omega arith))
+          c.loop-parameter.invariant.roots;
+      values = arguments_step _ _ _ _ _ _ _ _ c.in-Some.piece _ c.in_ok-push.ensures c.in_ok-argument.ensures.value
+          c.in-Some.ensures.cases.0 (drop_step c.args.parameters.now i _ (omega arith))
+          c.loop-parameter.invariant.values;
     }
 
 pub returns-clause-roots : goal.returns-clause-roots

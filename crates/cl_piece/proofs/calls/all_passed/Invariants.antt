@@ -8,6 +8,8 @@ use Rattle.cl_piece.proofs.calls.all_passed.Given as goal
 
 abbrev pub invariant-loop-parameter : goal.invariant-loop-parameter
 invariant-loop-parameter l = record {
-  roots : listed_roots l.arguments.items ++ roots_passed (drop l.parameter-index l.parameters) (map piece_of (into_iter_items l.rest)) ≡ roots_passed l.parameters (map piece_of l.fn.pieces.items);
-  values : arguments_then (listed_arguments l.arguments.items) (all_passed (drop l.parameter-index l.parameters) (map piece_of (into_iter_items l.rest))) ≡ all_passed l.parameters (map piece_of l.fn.pieces.items);
+  roots : listed_roots l.arguments.items ++ roots_passed (drop l.parameter-index l.parameters)
+      (map piece_of (into_iter_items l.rest)) ≡ roots_passed l.parameters (map piece_of l.fn.pieces.items);
+  values : arguments_then (listed_arguments l.arguments.items) (all_passed (drop l.parameter-index l.parameters)
+      (map piece_of (into_iter_items l.rest))) ≡ all_passed l.parameters (map piece_of l.fn.pieces.items);
 }

@@ -6,4 +6,5 @@ use Rattle.cl_piece.specs.View.{piece_of}
 use Rattle.cl_piece.proofs.calls.operands.Given as goal
 
 abbrev pub invariant-loop-piece : goal.invariant-loop-piece
-invariant-loop-piece l = map expression_of l.values.items ++ operands l.of (map piece_of (into_iter_items l.piece-iterator)) ≡ operands l.of (map piece_of l.fn.pieces.items)
+invariant-loop-piece l = map expression_of l.values.items ++
+    operands l.of (map piece_of (into_iter_items l.piece-iterator)) ≡ operands l.of (map piece_of l.fn.pieces.items)

@@ -4,4 +4,5 @@ use Rattle.cl_piece.specs.View.{piece_of}
 use Rattle.cl_piece.proofs.calls.types_in.Given as goal
 
 abbrev pub invariant-loop-piece : goal.invariant-loop-piece
-invariant-loop-piece l = l.types.items ++ types_in (map piece_of (drop l.piece-index l.pieces)) ≡ types_in (map piece_of l.pieces)
+invariant-loop-piece l =
+    l.types.items ++ types_in (map piece_of (drop l.piece-index l.pieces)) ≡ types_in (map piece_of l.pieces)

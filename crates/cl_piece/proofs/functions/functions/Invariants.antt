@@ -5,4 +5,5 @@ use Rattle.cl_piece.specs.View.{piece_of, function_of}
 use Rattle.cl_piece.proofs.functions.functions.Given as goal
 
 abbrev pub invariant-loop-piece : goal.invariant-loop-piece
-invariant-loop-piece l = map function_of l.all.items ++ functions_in (map piece_of (into_iter_items l.piece-iterator)) ≡ functions_in (map piece_of l.fn.pieces.items)
+invariant-loop-piece l = map function_of l.all.items ++
+    functions_in (map piece_of (into_iter_items l.piece-iterator)) ≡ functions_in (map piece_of l.fn.pieces.items)

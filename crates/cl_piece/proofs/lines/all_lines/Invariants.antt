@@ -6,4 +6,5 @@ use Rattle.cl_piece.specs.View.{piece_of}
 use Rattle.cl_piece.proofs.lines.all_lines.Given as goal
 
 abbrev pub invariant-loop-piece : goal.invariant-loop-piece
-invariant-loop-piece l = followed (listed_statements l.lines.items) (all_lines (map piece_of (into_iter_items l.piece-iterator))) ≡ all_lines (map piece_of l.fn.pieces.items)
+invariant-loop-piece l = followed (listed_statements l.lines.items)
+    (all_lines (map piece_of (into_iter_items l.piece-iterator))) ≡ all_lines (map piece_of l.fn.pieces.items)

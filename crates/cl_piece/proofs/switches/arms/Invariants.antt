@@ -6,4 +6,5 @@ use Rattle.cl_piece.specs.Arms.{arms_with}
 use Rattle.cl_piece.proofs.switches.arms.Given as goal
 
 abbrev pub invariant-loop-piece : goal.invariant-loop-piece
-invariant-loop-piece l = arms_with l.all.items l.last (map piece_of (into_iter_items l.piece-iterator)) ≡ arms_of (map piece_of l.fn.pieces.items)
+invariant-loop-piece l = arms_with l.all.items l.last (map piece_of (into_iter_items l.piece-iterator)) ≡
+    arms_of (map piece_of l.fn.pieces.items)

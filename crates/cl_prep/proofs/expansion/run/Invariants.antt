@@ -8,7 +8,8 @@ use Rattle.cl_prep.proofs.expansion.run.Given as goal
 abbrev pub invariant-loop-at : goal.invariant-loop-at
 invariant-loop-at l = record {
   within : l.at ≤ length l.tokens;
-  led : Leads (start_state l.tokens (scope_of l.fn.scope).names) (state l.at (drop l.at l.tokens) (scope_of l.scope) l.out.items l.replaced);
+  led : Leads (start_state l.tokens (scope_of l.fn.scope).names) (state l.at (drop l.at l.tokens) (scope_of l.scope)
+      l.out.items l.replaced);
   clear : AreClear l.marks.items;
   few : length l.out.items ≤ token_limit;
   seldom : l.replaced ≤ replacement_limit;

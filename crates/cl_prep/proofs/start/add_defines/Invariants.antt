@@ -4,4 +4,5 @@ use Rattle.cl_prep.specs.Table.{names_of}
 use Rattle.cl_prep.proofs.start.add_defines.Given as goal
 
 abbrev pub invariant-loop-define : goal.invariant-loop-define
-invariant-loop-define l = with_defines (Some (names_of l.names)) (drop l.define-index l.defines) ≡ with_defines (Some (names_of l.fn.names)) l.defines
+invariant-loop-define l = with_defines (Some (names_of l.names)) (drop l.define-index l.defines) ≡
+    with_defines (Some (names_of l.fn.names)) l.defines

@@ -7,4 +7,6 @@ pub returns : goal.returns
 unfolding start_names
 returns c =
     c.in_ok-add_unsigned.ensures
-    ∙ ap (λ (n : Names). names_in n unsigned_limits) (c.in_ok-add_wide.ensures ∙ ap (λ (n : Names). names_in n wide_limits) (c.in_ok-add_narrow.ensures ∙ ap (λ (n : Names). names_in n narrow_limits) c.no_names-names.ensures))
+    ∙ ap (λ (n : Names). names_in n unsigned_limits) (c.in_ok-add_wide.ensures ∙
+    ap (λ (n : Names). names_in n wide_limits) (c.in_ok-add_narrow.ensures ∙
+    ap (λ (n : Names). names_in n narrow_limits) c.no_names-names.ensures))

@@ -12,4 +12,5 @@ returns c = λ places.
     ap (λ (o : Owner). in_owner (env_of places c.args.environment.now) o)
     (c.headed-environment.ensures
     ∙ headed_by (owner_of c.args.environment.now.owner) _ _ _ _ c.is_kernel_head-kernel.ensures
-    (c.in_ok-sizes.ensures ∙ ap (λ ts. head_sizes (views ts)) c.deref.ensures.value ∙ ap head_sizes (sym (parts_view c.args.part.now))))
+    (c.in_ok-sizes.ensures ∙ ap (λ ts. head_sizes (views ts)) c.deref.ensures.value ∙
+    ap head_sizes (sym (parts_view c.args.part.now))))

@@ -9,5 +9,7 @@ use Rattle.cl_scope.proofs.between.behind_result.Goals as goal
 
 pub returns : goal.returns
 returns c = λ places.
-    ap (λ (y : Yield). in_owner (env_of places c.args.environment.now) (record (env_of places c.args.environment.now).owner { result = y }))
-    (c.yield_of-environment.ensures ∙ ap (λ ts. yield_of (views ts)) c.deref.ensures.value ∙ ap yield_of (sym (parts_view c.args.part.now)))
+    ap (λ (y : Yield). in_owner (env_of places c.args.environment.now)
+    (record (env_of places c.args.environment.now).owner { result = y }))
+    (c.yield_of-environment.ensures ∙ ap (λ ts. yield_of (views ts)) c.deref.ensures.value ∙
+    ap yield_of (sym (parts_view c.args.part.now)))

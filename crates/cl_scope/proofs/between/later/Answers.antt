@@ -34,4 +34,6 @@ returns-in-CaseNode c = on_ok_weaker c.behind_label.result
     c.behind_label.ensures
 
 pub returns-in_default : goal.returns-in_default
-returns-in_default c = λ places. later_elsewhere (env_of places c.args.environment.now) c.args.form c.args.front (view c.args.part.now) c.args.kind c.in_default.not-FunctionNode c.in_default.not-PrototypeNode c.in_default.not-DeclareNode c.in_default.not-SwitchNode c.in_default.not-CaseNode
+returns-in_default c = λ places. later_elsewhere (env_of places c.args.environment.now) c.args.form c.args.front
+    (view c.args.part.now) c.args.kind c.in_default.not-FunctionNode c.in_default.not-PrototypeNode
+    c.in_default.not-DeclareNode c.in_default.not-SwitchNode c.in_default.not-CaseNode

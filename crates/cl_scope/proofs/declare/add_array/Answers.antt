@@ -12,7 +12,12 @@ pub returns : goal.returns
 returns c = on_ok_weaker c.declare.result
     (λ h (places : List Place).
     h places
-    ∙ ap (λ (e : Env). declare e c.args.declarator.now.name.now (firm c.args.meaning)) (c.in_ok-keep_array.ensures places)
-    ∙ ap (λ (n : List ℕ). declare (kept_array (env_of places c.args.environment.now) (array_of c.args.array) (table_bytes c.args.declared c.args.array.dims.items (declarator_view c.args.declarator.now))) n (firm c.args.meaning)) (sym c.requires)
-    ∙ with_array_is (env_of places c.args.environment.now) (array_of c.args.array) (table_bytes c.args.declared c.args.array.dims.items (declarator_view c.args.declarator.now)) c.args.meaning _ refl)
+    ∙ ap (λ (e : Env). declare e c.args.declarator.now.name.now (firm c.args.meaning))
+    (c.in_ok-keep_array.ensures places)
+    ∙ ap (λ (n : List ℕ). declare (kept_array (env_of places c.args.environment.now) (array_of c.args.array)
+    (table_bytes c.args.declared c.args.array.dims.items (declarator_view c.args.declarator.now))) n
+    (firm c.args.meaning)) (sym c.requires)
+    ∙ with_array_is (env_of places c.args.environment.now) (array_of c.args.array)
+    (table_bytes c.args.declared c.args.array.dims.items (declarator_view c.args.declarator.now)) c.args.meaning _
+    refl)
     c.declare.ensures

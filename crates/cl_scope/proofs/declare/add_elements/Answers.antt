@@ -14,7 +14,9 @@ pub returns : goal.returns
 returns c = on_ok_weaker c.add_array.result
     (λ h.
     h c.args.places.now
-    ∙ elements_are (env_of c.args.places.now c.args.environment.now) c.args.declared (declarator_view c.args.declarator.now) c.kept_in-space.result _ c.in_ok-dims.dims.items _ (array_of c.in_ok-array.array) c.in_ok-root.root c.each_of-each.result
+    ∙ elements_are (env_of c.args.places.now c.args.environment.now) c.args.declared
+    (declarator_view c.args.declarator.now) c.kept_in-space.result _ c.in_ok-dims.dims.items _
+    (array_of c.in_ok-array.array) c.in_ok-root.root c.each_of-each.result
     (c.in_ok-array.ensures c.args.environment.now)
     (c.in_ok-root.ensures ∙ next_root_same c.args.places.now c.args.environment.now c.kept_in-space.result)
     (c.each_of-each.ensures ∙ ap each_of c.deref.ensures.value)

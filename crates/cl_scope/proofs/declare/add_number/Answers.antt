@@ -12,6 +12,12 @@ pub returns : goal.returns
 returns c = on_ok_weaker c.add_variable.result
     (λ h (places : List Place).
     h places
-    ∙ ap (λ (n : ℕ). with_variable_at (env_of places c.args.environment.now) c.args.name.now c.args.place (var_kinds.Scalar c.args.declared.of) (meanings.Scalar c.args.declared.of c.args.declared.constant n))
-    (counted variable_of c.in_ok-number.number c.args.environment.now.variables.items (omega (arith, c.in_ok-number.ensures, c.len.ensures, c.args.environment.now.variables.ok))))
+    ∙ ap (λ (n : ℕ). with_variable_at (env_of places c.args.environment.now) c.args.name.now c.args.place
+    (var_kinds.Scalar c.args.declared.of) (meanings.Scalar c.args.declared.of c.args.declared.constant n))
+    (counted variable_of c.in_ok-number.number c.args.environment.now.variables.items (omega (
+      arith,
+      c.in_ok-number.ensures,
+      c.len.ensures,
+      c.args.environment.now.variables.ok,
+    ))))
     c.add_variable.ensures

@@ -13,7 +13,9 @@ pub returns : goal.returns
 returns c = on_ok_weaker c.add_array.result
     (λ h.
     h c.args.places.now
-    ∙ object_is (env_of c.args.places.now c.args.environment.now) c.args.declared (declarator_view c.args.declarator.now) c.args.space c.in_ok-dims.dims.items (array_of c.in_ok-array.array) c.in_ok-root.root
+    ∙ object_is (env_of c.args.places.now c.args.environment.now) c.args.declared
+    (declarator_view c.args.declarator.now) c.args.space c.in_ok-dims.dims.items (array_of c.in_ok-array.array)
+    c.in_ok-root.root
     (c.in_ok-array.ensures c.args.environment.now)
     (c.in_ok-root.ensures ∙ next_root_same c.args.places.now c.args.environment.now c.args.space)
     c.in_ok-dims.ensures)

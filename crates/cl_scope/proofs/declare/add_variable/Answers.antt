@@ -12,5 +12,9 @@ returns c = on_ok_weaker c.declare.result
     (λ h (places : List Place).
     h places
     ∙ ap (λ (e : Env). declare e c.args.name.now (firm c.args.meaning)) (c.in_ok-push_variable.ensures places)
-    ∙ ap (λ (n : List ℕ). declare (kept_variable (env_of places c.args.environment.now) (record { name = n; kind = c.args.kind; place = c.args.place })) c.args.name.now (firm c.args.meaning)) c.in_ok-new.ensures)
+    ∙ ap (λ (n : List ℕ). declare (kept_variable (env_of places c.args.environment.now) (record {
+      name = n;
+      kind = c.args.kind;
+      place = c.args.place;
+    })) c.args.name.now (firm c.args.meaning)) c.in_ok-new.ensures)
     c.declare.ensures

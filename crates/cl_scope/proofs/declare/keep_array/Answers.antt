@@ -11,14 +11,20 @@ pub returns-then-is_at_unit : goal.returns-then-is_at_unit
 returns-then-is_at_unit c = on_ok_weaker c.push_table.result
     (λ h (places : List Place).
     h places
-    ∙ ap (λ (b : List ℕ). with_table_kept (env_of places c.args.environment.now) (record { array = array_of c.args.array; bytes = b }))
-    (c.in_ok-bytes.ensures ∙ ap (λ (ls : List ℕ). table_bytes c.args.declared ls (declarator_view c.args.declarator.now)) c.deref.ensures.value)
-    ∙ kept_at_unit (env_of places c.args.environment.now) (array_of c.args.array) (table_bytes c.args.declared c.args.array.dims.items (declarator_view c.args.declarator.now)) (sym c.if-is_at_unit.ensures))
+    ∙ ap (λ (b : List ℕ). with_table_kept (env_of places c.args.environment.now)
+    (record { array = array_of c.args.array; bytes = b }))
+    (c.in_ok-bytes.ensures ∙ ap (λ (ls : List ℕ).
+    table_bytes c.args.declared ls (declarator_view c.args.declarator.now)) c.deref.ensures.value)
+    ∙ kept_at_unit (env_of places c.args.environment.now) (array_of c.args.array)
+    (table_bytes c.args.declared c.args.array.dims.items (declarator_view c.args.declarator.now))
+    (sym c.if-is_at_unit.ensures))
     c.push_table.ensures
 
 pub returns : goal.returns
 returns c = on_ok_weaker c.push_array.result
     (λ h (places : List Place).
     h places
-    ∙ kept_in_function (env_of places c.args.environment.now) (array_of c.args.array) (table_bytes c.args.declared c.args.array.dims.items (declarator_view c.args.declarator.now)) (sym c.if-is_at_unit.ensures))
+    ∙ kept_in_function (env_of places c.args.environment.now) (array_of c.args.array)
+    (table_bytes c.args.declared c.args.array.dims.items (declarator_view c.args.declarator.now))
+    (sym c.if-is_at_unit.ensures))
     c.push_array.ensures

@@ -11,6 +11,10 @@ pub returns : goal.returns
 returns c = on_ok_weaker c.declare.result
     (λ h (places : List Place).
     h places
-    ∙ ap (λ (m : Meaning). declare (env_of places c.args.environment.now) c.args.name.now (record { meaning = m; firm = false })) c.in_ok-meaning.ensures
-    ∙ prototype_is (env_of places c.args.environment.now) c.args.name.now (sym c.is_announced.ensures ∙ c.if-not-is_announced.false))
+    ∙ ap (λ (m : Meaning). declare (env_of places c.args.environment.now) c.args.name.now (record {
+      meaning = m;
+      firm = false;
+    })) c.in_ok-meaning.ensures
+    ∙ prototype_is (env_of places c.args.environment.now) c.args.name.now (sym c.is_announced.ensures ∙
+    c.if-not-is_announced.false))
     c.declare.ensures

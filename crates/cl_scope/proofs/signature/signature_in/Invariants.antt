@@ -5,4 +5,5 @@ use Rattle.cl_scope.specs.View.{signature_of}
 use Rattle.cl_scope.proofs.signature.signature_in.Given as goal
 
 abbrev pub invariant-loop-part : goal.invariant-loop-part
-invariant-loop-part l = signature_in l.fn.word (views l.parts) ≡ with_parts (signature_of l.signature) (views (drop l.part-index l.parts))
+invariant-loop-part l =
+    signature_in l.fn.word (views l.parts) ≡ with_parts (signature_of l.signature) (views (drop l.part-index l.parts))

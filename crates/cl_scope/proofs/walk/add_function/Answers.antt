@@ -9,5 +9,7 @@ use Rattle.cl_scope.proofs.walk.add_function.Goals as goal
 
 pub returns : goal.returns
 returns c = on_ok_weaker c.declare.result
-    (λ h (places : List Place). h places ∙ ap (λ (m : Meaning). declare (env_of places c.args.environment.now) c.args.name.now (firm m)) c.in_ok-meaning.ensures)
+    (λ h (places : List Place). h places ∙
+    ap (λ (m : Meaning). declare (env_of places c.args.environment.now) c.args.name.now (firm m))
+    c.in_ok-meaning.ensures)
     c.declare.ensures

@@ -6,5 +6,8 @@ pub returns-clause-every : goal.returns-clause-every
 returns-clause-every c = λ t v h. c.outcome_of.ensures ∙ literal_complete c.args.word.now t v h
 
 pub returns-clause-malformed : goal.returns-clause-malformed
-returns-clause-malformed c =
-    (λ h. malformed_sound c.args.word.now (sym c.outcome_of.ensures ∙ h), λ h. c.outcome_of.ensures ∙ malformed_complete c.args.word.now h)
+returns-clause-malformed c = (
+  λ h. malformed_sound c.args.word.now (sym c.outcome_of.ensures ∙ h),
+  λ h. c.outcome_of.ensures ∙
+      malformed_complete c.args.word.now h,
+)

@@ -7,5 +7,6 @@ use Rattle.ctx_plan.proofs.holding.statement_holds.Goals as goal
 pub returns : goal.returns
 returns c =
     c.some_hold.ensures
-    ∙ (ap (points_hold (entry c.args.inside.now)) (c.deref.ensures.value ∙ (c.in_ok-put_points.ensures ∙ ap (points_onto (statement_of c.args.s.now)) c.new-points.ensures.items))
+    ∙ (ap (points_hold (entry c.args.inside.now)) (c.deref.ensures.value ∙
+    (c.in_ok-put_points.ensures ∙ ap (points_onto (statement_of c.args.s.now)) c.new-points.ensures.items))
     ∙ statement_behind (entry c.args.inside.now) (statement_of c.args.s.now) [])

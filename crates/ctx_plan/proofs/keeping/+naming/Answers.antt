@@ -13,31 +13,46 @@ use Rattle.ctx_plan.proofs.keeping.+naming.Goals as goal
 pub name_line-returns-in-Set : goal.name_line-returns-in-Set
 name_line-returns-in-Set t c =
     leads_as c.args.naming.now c.name_cell.new.naming _ _ (sym (ap (λ l. pieces_of (line_before l NoLine)) c.in-Set.is))
-    (leads_then c.args.naming.now c.name_work.new.naming c.name_cell.new.naming (named_by_work (work_of c.in-Set.work)) (Names c.in-Set.to ∷ []) c.name_work.ensures c.name_cell.ensures)
+    (leads_then c.args.naming.now c.name_work.new.naming c.name_cell.new.naming
+    (named_by_work (work_of c.in-Set.work)) (Names c.in-Set.to ∷ []) c.name_work.ensures c.name_cell.ensures)
 
 pub name_lines-loop-line-preserved : goal.name_lines-loop-line-preserved
 name_lines-loop-line-preserved t c =
-    lines_step c.args.naming.now c.loop-line.naming c.name_line.new.naming c.args.lines.now c.loop-line.line-index c.line-item.result c.loop-line-test.true c.line-item.is c.loop-line.invariant c.in_ok-name_line.ensures
+    lines_step c.args.naming.now c.loop-line.naming c.name_line.new.naming c.args.lines.now c.loop-line.line-index
+    c.line-item.result c.loop-line-test.true c.line-item.is c.loop-line.invariant c.in_ok-name_line.ensures
 
 pub name_line-returns-in_ok-name_lines-in-If-2 : goal.name_line-returns-in_ok-name_lines-in-If-2
 name_line-returns-in_ok-name_lines-in-If-2 t c =
     on_ok_weaker c.pass_cut-in-If-3.result (λ k.
-    if_led _ _ _ _ _ _ _ _ c.args.line.now c.in-If.site c.in-If.test c.in-If.yes c.in-If.no c.either_holds-cut.result c.in-If.is
-    (c.either_holds-cut.ensures ∙ (ap (λ xs. holds_barrier (lines_of xs) || holds_barrier (lines_of c.deref-in-If.result.now)) c.deref.ensures.value ∙ ap (λ xs. holds_barrier (lines_of c.in-If.yes.items) || holds_barrier (lines_of xs)) c.deref-in-If.ensures.value))
+    if_led _ _ _ _ _ _ _ _ c.args.line.now c.in-If.site c.in-If.test c.in-If.yes c.in-If.no c.either_holds-cut.result
+    c.in-If.is
+    (c.either_holds-cut.ensures ∙
+    (ap (λ xs. holds_barrier (lines_of xs) || holds_barrier (lines_of c.deref-in-If.result.now))
+    c.deref.ensures.value ∙ ap (λ xs. holds_barrier (lines_of c.in-If.yes.items) ||
+    holds_barrier (lines_of xs)) c.deref-in-If.ensures.value))
     c.in_ok-pass_cut-in-If.ensures c.name_atom-in-If.ensures c.in_ok-pass_cut-in-If-2.ensures
-    (subst (λ xs. Leads c.pass_cut-in-If.new.naming c.name_lines.new.naming (pieces_of (lines_of xs))) c.deref-in-If-2.ensures.value c.in_ok-name_lines-in-If.ensures)
+    (subst (λ xs. Leads c.pass_cut-in-If.new.naming c.name_lines.new.naming (pieces_of (lines_of xs)))
+    c.deref-in-If-2.ensures.value c.in_ok-name_lines-in-If.ensures)
     c.in_ok-pass_cut-in-If-3.ensures
-    (subst (λ xs. Leads c.pass_cut-in-If-2.new.naming c.name_lines-in-If.new.naming (pieces_of (lines_of xs))) c.deref-in-If-3.ensures.value c.in_ok-name_lines-in-If-2.ensures)
+    (subst (λ xs. Leads c.pass_cut-in-If-2.new.naming c.name_lines-in-If.new.naming (pieces_of (lines_of xs)))
+    c.deref-in-If-3.ensures.value c.in_ok-name_lines-in-If-2.ensures)
     k) c.pass_cut-in-If-3.ensures
 
 pub name_line-returns-in_ok-name_lines-in-Loop-2 : goal.name_line-returns-in_ok-name_lines-in-Loop-2
 name_line-returns-in_ok-name_lines-in-Loop-2 t c =
     on_ok_weaker c.pass_cut-in-Loop-3.result (λ k.
-    loop_led _ _ _ _ _ _ _ c.args.line.now c.in-Loop.site c.in-Loop.test_first c.in-Loop.test c.in-Loop.answer c.in-Loop.body c.either_holds-cut-in-Loop.result c.in-Loop.is
-    (c.either_holds-cut-in-Loop.ensures ∙ (ap (λ xs. holds_barrier (lines_of xs) || holds_barrier (lines_of c.deref-in-Loop-2.result.now)) c.deref-in-Loop.ensures.value ∙ ap (λ xs. holds_barrier (lines_of c.in-Loop.test.items) || holds_barrier (lines_of xs)) c.deref-in-Loop-2.ensures.value))
+    loop_led _ _ _ _ _ _ _ c.args.line.now c.in-Loop.site c.in-Loop.test_first c.in-Loop.test c.in-Loop.answer
+    c.in-Loop.body c.either_holds-cut-in-Loop.result c.in-Loop.is
+    (c.either_holds-cut-in-Loop.ensures ∙
+    (ap (λ xs. holds_barrier (lines_of xs) || holds_barrier (lines_of c.deref-in-Loop-2.result.now))
+    c.deref-in-Loop.ensures.value ∙
+    ap (λ xs. holds_barrier (lines_of c.in-Loop.test.items) || holds_barrier (lines_of xs))
+    c.deref-in-Loop-2.ensures.value))
     c.in_ok-pass_cut-in-Loop.ensures
-    (subst (λ xs. Leads c.pass_cut-in-Loop.new.naming c.name_lines-in-Loop.new.naming (pieces_of (lines_of xs))) c.deref-in-Loop-3.ensures.value c.in_ok-name_lines-in-Loop.ensures)
+    (subst (λ xs. Leads c.pass_cut-in-Loop.new.naming c.name_lines-in-Loop.new.naming (pieces_of (lines_of xs)))
+    c.deref-in-Loop-3.ensures.value c.in_ok-name_lines-in-Loop.ensures)
     c.name_atom-in-Loop.ensures
     c.in_ok-pass_cut-in-Loop-2.ensures
-    (subst (λ xs. Leads c.pass_cut-in-Loop-2.new.naming c.name_lines-in-Loop-2.new.naming (pieces_of (lines_of xs))) c.deref-in-Loop-4.ensures.value c.in_ok-name_lines-in-Loop-2.ensures)
+    (subst (λ xs. Leads c.pass_cut-in-Loop-2.new.naming c.name_lines-in-Loop-2.new.naming (pieces_of (lines_of xs)))
+    c.deref-in-Loop-4.ensures.value c.in_ok-name_lines-in-Loop-2.ensures)
     k) c.pass_cut-in-Loop-3.ensures

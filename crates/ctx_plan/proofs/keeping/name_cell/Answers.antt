@@ -14,7 +14,8 @@ returns-in-None c =
     let be = c.len-then-cell-len.ensures in
     let ok' = n.across.ok in
     let lt' : c.args.cell < length n.across.items = omega (arith, b, be, ok') in
-    name_first n _ c.args.cell lt lt' refl (slice_get_read n.first.items (length n.first.items) c.args.cell c.index-first.result.now refl lt c.index-first.ensures ∙ ap Some c.in-None.is) refl refl
+    name_first n _ c.args.cell lt lt' refl (slice_get_read n.first.items (length n.first.items) c.args.cell
+    c.index-first.result.now refl lt c.index-first.ensures ∙ ap Some c.in-None.is) refl refl
 
 pub returns-then-piece-naming : goal.returns-then-piece-naming
 returns-then-piece-naming c =
@@ -27,7 +28,9 @@ returns-then-piece-naming c =
     let be = c.len-then-cell-len.ensures in
     let ok' = n.across.ok in
     let lt' : c.args.cell < length n.across.items = omega (arith, b, be, ok') in
-    name_across n _ c.args.cell lt lt' refl c.in-Some.piece (slice_get_read n.first.items (length n.first.items) c.args.cell c.index-first.result.now refl lt c.index-first.ensures ∙ ap Some c.in-Some.is) c.if-piece-naming.true refl refl
+    name_across n _ c.args.cell lt lt' refl c.in-Some.piece (slice_get_read n.first.items (length n.first.items)
+    c.args.cell c.index-first.result.now refl lt c.index-first.ensures ∙
+    ap Some c.in-Some.is) c.if-piece-naming.true refl refl
 
 pub returns-else-piece-naming : goal.returns-else-piece-naming
 returns-else-piece-naming c =
@@ -40,4 +43,6 @@ returns-else-piece-naming c =
     let be = c.len-then-cell-len.ensures in
     let ok' = n.across.ok in
     let lt' : c.args.cell < length n.across.items = omega (arith, b, be, ok') in
-    name_again n _ c.args.cell lt lt' refl c.in-Some.piece (slice_get_read n.first.items (length n.first.items) c.args.cell c.index-first.result.now refl lt c.index-first.ensures ∙ ap Some c.in-Some.is) c.if-piece-naming.false refl refl
+    name_again n _ c.args.cell lt lt' refl c.in-Some.piece (slice_get_read n.first.items (length n.first.items)
+    c.args.cell c.index-first.result.now refl lt c.index-first.ensures ∙
+    ap Some c.in-Some.is) c.if-piece-naming.false refl refl

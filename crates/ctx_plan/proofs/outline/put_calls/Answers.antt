@@ -7,4 +7,5 @@ use Rattle.ctx_plan.proofs.Outlines.{calls_put}
 use Rattle.ctx_plan.proofs.outline.put_calls.Goals as goal
 
 pub returns : goal.returns
-returns c = on_ok_weaker c.put_expression.result (λ e rest. ap (λ xs. pieces_then xs rest) e ∙ calls_put (calls_in (expression_of c.args.e.now)) c.args.pieces.now.items rest) c.put_expression.ensures
+returns c = on_ok_weaker c.put_expression.result (λ e rest. ap (λ xs. pieces_then xs rest) e ∙
+    calls_put (calls_in (expression_of c.args.e.now)) c.args.pieces.now.items rest) c.put_expression.ensures

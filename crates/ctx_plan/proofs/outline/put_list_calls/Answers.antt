@@ -7,4 +7,6 @@ use Rattle.ctx_plan.proofs.Outlines.{calls_put}
 use Rattle.ctx_plan.proofs.outline.put_list_calls.Goals as goal
 
 pub returns : goal.returns
-returns c = on_ok_weaker c.put_expressions.result (λ e rest. ap (λ xs. pieces_then xs rest) e ∙ calls_put (calls_among (listed_expressions c.args.list.now)) c.args.pieces.now.items rest) c.put_expressions.ensures
+returns c = on_ok_weaker c.put_expressions.result (λ e rest. ap (λ xs. pieces_then xs rest) e ∙
+    calls_put (calls_among (listed_expressions c.args.list.now)) c.args.pieces.now.items rest)
+    c.put_expressions.ensures

@@ -7,4 +7,6 @@ use Rattle.ctx_plan.proofs.Outlines.{calls_put}
 use Rattle.ctx_plan.proofs.outline.put_optional_calls.Goals as goal
 
 pub returns : goal.returns
-returns c = on_ok_weaker c.put_optional.result (λ e rest. ap (λ xs. pieces_then xs rest) e ∙ calls_put (calls_in_optional (optional_expression c.args.e.now)) c.args.pieces.now.items rest) c.put_optional.ensures
+returns c = on_ok_weaker c.put_optional.result (λ e rest. ap (λ xs. pieces_then xs rest) e ∙
+    calls_put (calls_in_optional (optional_expression c.args.e.now)) c.args.pieces.now.items rest)
+    c.put_optional.ensures

@@ -11,4 +11,5 @@ loop-parameter-preserved c = λ rest.
     let one : i + 1 ≡ suc i = omega arith in
     c.in_ok-put_piece.ensures (parameters_then (i + 1) (n - (i + 1)) rest)
     ∙ (ap (λ m. pieces_then c.loop-parameter.pieces.items (DeclaresThen i (parameters_then m (n - (i + 1)) rest))) one
-    ∙ (sym (ap (λ m. pieces_then c.loop-parameter.pieces.items (parameters_then i m rest)) more) ∙ c.loop-parameter.invariant rest))
+    ∙ (sym (ap (λ m. pieces_then c.loop-parameter.pieces.items (parameters_then i m rest)) more) ∙
+    c.loop-parameter.invariant rest))

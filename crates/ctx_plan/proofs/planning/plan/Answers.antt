@@ -8,4 +8,5 @@ use Rattle.ctx_plan.proofs.planning.plan.Goals as goal
 
 pub returns-clause-counted : goal.returns-clause-counted
 returns-clause-counted c =
-    subst (IsCounted (kernel_of c.args.kernel.now)) (sym c.in_ok-plan.ensures) (plan_counted (program_of c.args.program.now) (kernel_of c.args.kernel.now) (varying_of c.args.varying.now))
+    subst (IsCounted (kernel_of c.args.kernel.now)) (sym c.in_ok-plan.ensures)
+    (plan_counted (program_of c.args.program.now) (kernel_of c.args.kernel.now) (varying_of c.args.varying.now))

@@ -8,7 +8,8 @@ abbrev pub invariant-mark_crossing-loop-i : goal.invariant-mark_crossing-loop-i
 invariant-mark_crossing-loop-i l = record {
   within : l.i ≤ length l.block;
   cut : l.cut ≡ has_cut (entry l.inside) (pieces_then (drop l.i l.block) NoPiece);
-  marks : l.crossing.items ≡ mark_crossing (entry l.inside) (pieces_then (drop l.i l.block) NoPiece) l.fn.crossing.items;
+  marks : l.crossing.items ≡ mark_crossing (entry l.inside) (pieces_then (drop l.i l.block) NoPiece)
+      l.fn.crossing.items;
 }
 
 abbrev pub decreases-mark_crossing-loop-i : goal.decreases-mark_crossing-loop-i

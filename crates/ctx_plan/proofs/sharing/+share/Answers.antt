@@ -13,4 +13,5 @@ share_piece-returns-in_ok-share_block-in-Block t c = λ rest.
     ap (λ p. share_columns M c.args.within c.args.next (piece_then p rest) S) c.in-Block.is
     ∙ (ap (λ o. share_columns M c.args.within c.args.next o S) (block_piece c.in-Block.inner rest)
     ∙ ap (share_columns M c.args.within c.args.next rest)
-    (sym (c.in_ok-share_block-in-Block.ensures ∙ ap (λ xs. share_block M c.args.within (pieces_then xs NoPiece) S) c.deref.ensures.value)))
+    (sym (c.in_ok-share_block-in-Block.ensures ∙
+    ap (λ xs. share_block M c.args.within (pieces_then xs NoPiece) S) c.deref.ensures.value)))

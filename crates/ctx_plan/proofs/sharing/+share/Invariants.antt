@@ -6,4 +6,7 @@ use Rattle.ctx_plan.specs.View.{plain_columns}
 use Rattle.ctx_plan.proofs.sharing.+share.Given as goal
 
 abbrev pub invariant-share_block-loop-piece : goal.invariant-share_block-loop-piece
-invariant-share_block-loop-piece l = share_columns (entry l.marked) l.within l.next (pieces_then (drop l.piece-index l.block) NoPiece) (plain_columns l.columns) ≡ share_columns (entry l.marked) l.within l.fn.around (pieces_then l.block NoPiece) (plain_columns l.fn.columns)
+invariant-share_block-loop-piece l =
+    share_columns (entry l.marked) l.within l.next (pieces_then (drop l.piece-index l.block) NoPiece)
+    (plain_columns l.columns) ≡ share_columns (entry l.marked) l.within l.fn.around (pieces_then l.block NoPiece)
+    (plain_columns l.fn.columns)

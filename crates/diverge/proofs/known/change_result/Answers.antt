@@ -5,8 +5,13 @@ use Rattle.diverge.proofs.known.change_result.Goals as goal
 
 pub returns-then-function-rows : goal.returns-then-function-rows
 returns-then-function-rows c =
-    changed_there (with_result_entry c.args.entry) c.args.rows.now c.args.function c.index-rows-function.result _ c.if-function-rows.true c.index-rows-function.is
+    changed_there (with_result_entry c.args.entry) c.args.rows.now c.args.function c.index-rows-function.result _
+    c.if-function-rows.true c.index-rows-function.is
     (ap (λ r. with_result_entry c.args.entry (row_of r)) (sym c.index-rows-function.is))
 
 pub returns-else-function-rows : goal.returns-else-function-rows
-returns-else-function-rows c = changed_nowhere (with_result_entry c.args.entry) c.args.rows.now c.args.function (omega (arith, c.if-function-rows.false))
+returns-else-function-rows c =
+    changed_nowhere (with_result_entry c.args.entry) c.args.rows.now c.args.function (omega (
+      arith,
+      c.if-function-rows.false,
+    ))

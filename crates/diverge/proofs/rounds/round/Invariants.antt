@@ -6,4 +6,5 @@ use Rattle.diverge.proofs.rounds.round.Given as goal
 
 abbrev pub invariant-loop-function : goal.invariant-loop-function
 invariant-loop-function l =
-    over_functions l.program.kernel l.function (map function_of (drop l.function l.own-items)) (state_of l.known) ≡ round (program_of l.program) (state_of l.fn.known)
+    over_functions l.program.kernel l.function (map function_of (drop l.function l.own-items)) (state_of l.known) ≡
+    round (program_of l.program) (state_of l.fn.known)

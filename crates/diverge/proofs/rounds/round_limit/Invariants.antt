@@ -4,4 +4,5 @@ use Rattle.diverge.specs.Rounds.{entries_of, round_limit}
 use Rattle.diverge.proofs.rounds.round_limit.Given as goal
 
 abbrev pub invariant-loop-own : goal.invariant-loop-own
-invariant-loop-own l = l.count + entries_of (map function_of (drop l.own-index l.own-items)) ≡ round_limit (program_of l.program)
+invariant-loop-own l =
+    l.count + entries_of (map function_of (drop l.own-index l.own-items)) ≡ round_limit (program_of l.program)

@@ -5,4 +5,5 @@ use Rattle.diverge.proofs.rounds.settle.Goals as goal
 
 pub loop-preserved : goal.loop-preserved
 loop-preserved c =
-    rounds_more (program_of c.args.program.now) c.args.limit c.loop.counter (state_of c.loop.known) (state_of c.round.new.known) _ c.loop-test.true c.round.ensures c.if-not-known.false c.loop.invariant
+    rounds_more (program_of c.args.program.now) c.args.limit c.loop.counter (state_of c.loop.known)
+    (state_of c.round.new.known) _ c.loop-test.true c.round.ensures c.if-not-known.false c.loop.invariant

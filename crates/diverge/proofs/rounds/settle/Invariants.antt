@@ -5,4 +5,5 @@ use Rattle.diverge.specs.Rounds.{rounds}
 use Rattle.diverge.proofs.rounds.settle.Given as goal
 
 abbrev pub invariant-loop : goal.invariant-loop
-invariant-loop l = rounds (program_of l.program) (l.limit - l.counter) (state_of l.known) ≡ rounds (program_of l.program) l.limit (state_of l.fn.known)
+invariant-loop l = rounds (program_of l.program) (l.limit - l.counter) (state_of l.known) ≡
+    rounds (program_of l.program) l.limit (state_of l.fn.known)

@@ -8,12 +8,16 @@ use Rattle.diverge.proofs.statements.+statements.Given as goal
 
 abbrev pub invariant-statements-loop-number : goal.invariant-statements-loop-number
 invariant-statements-loop-number l = record {
-  steps : forward (function_of l.own) l.at l.number l.ways l.open (drop l.number l.list) (state_of l.known) ≡ forward (function_of l.own) l.at 0 no_way 0 l.list (state_of l.fn.known);
+  steps : forward (function_of l.own) l.at l.number l.ways l.open (drop l.number l.list) (state_of l.known) ≡
+      forward (function_of l.own) l.at 0 no_way 0 l.list (state_of l.fn.known);
   within : l.open ≤ l.number;
 }
 
 abbrev pub invariant-arms-loop-arm : goal.invariant-arms-loop-arm
 invariant-arms-loop-arm l = record {
-  ways : joined (gone_over_arms (function_of l.own) l.at (listed_arms (drop l.arm-index l.list)) (state_of l.known)).ways l.ways ≡ (gone_over_arms (function_of l.own) l.at (listed_arms l.list) (state_of l.fn.known)).ways;
-  state : (gone_over_arms (function_of l.own) l.at (listed_arms (drop l.arm-index l.list)) (state_of l.known)).state ≡ (gone_over_arms (function_of l.own) l.at (listed_arms l.list) (state_of l.fn.known)).state;
+  ways : joined (gone_over_arms (function_of l.own) l.at (listed_arms (drop l.arm-index l.list))
+      (state_of l.known)).ways l.ways ≡
+      (gone_over_arms (function_of l.own) l.at (listed_arms l.list) (state_of l.fn.known)).ways;
+  state : (gone_over_arms (function_of l.own) l.at (listed_arms (drop l.arm-index l.list)) (state_of l.known)).state ≡
+      (gone_over_arms (function_of l.own) l.at (listed_arms l.list) (state_of l.fn.known)).state;
 }

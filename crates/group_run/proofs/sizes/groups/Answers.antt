@@ -15,5 +15,6 @@ pub returns-clause-sizes : goal.returns-clause-sizes
 returns-clause-sizes c =
     let g = c.args.launch.now.global in
     let l = c.args.launch.now.local in
-    groups_are_sizes (slice_index_or g 0 0) (slice_index_or g 1 0) (slice_index_or g 2 0) (slice_index_or l 0 0) (slice_index_or l 1 0) (slice_index_or l 2 0)
+    groups_are_sizes (slice_index_or g 0 0) (slice_index_or g 1 0) (slice_index_or g 2 0) (slice_index_or l 0 0)
+    (slice_index_or l 1 0) (slice_index_or l 2 0)
     c.requires.global c.requires.local c.requires.divides

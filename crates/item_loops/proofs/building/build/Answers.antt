@@ -15,7 +15,8 @@ returns-in-Some-clause-parts c =
     let kernel = kernel_of c.args.kernel.now in
     let plan = planned_of c.args.plan.now in
     let same = c.in-Some.ensures.same ∙ c.in_ok-parts.ensures.plain in
-    subst (λ (p : Plain). HasPartsOf kernel plan c.args.width p) (sym same) (has_parts kernel plan c.args.width c.args.tree.now)
+    subst (λ (p : Plain). HasPartsOf kernel plan c.args.width p) (sym same)
+    (has_parts kernel plan c.args.width c.args.tree.now)
 
 pub returns-in-Some-clause-one : goal.returns-in-Some-clause-one
 returns-in-Some-clause-one c = λ h.
@@ -27,4 +28,5 @@ pub returns-in-Some-clause-built : goal.returns-in-Some-clause-built
 returns-in-Some-clause-built c =
     let code = region_code (kernel_of c.args.kernel.now) c.args.plan.now.homes.items in
     let same = c.in-Some.ensures.same ∙ c.in_ok-parts.ensures.plain in
-    subst (λ (p : Plain). IsBuilt (λ r k. k ≡ code r) (tree_before c.args.tree.now NoRegion) (work_before p.top NoWork)) (sym same) (built_before code c.args.tree.now NoRegion NoWork tt)
+    subst (λ (p : Plain). IsBuilt (λ r k. k ≡ code r) (tree_before c.args.tree.now NoRegion)
+    (work_before p.top NoWork)) (sym same) (built_before code c.args.tree.now NoRegion NoWork tt)

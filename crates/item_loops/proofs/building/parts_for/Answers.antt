@@ -14,4 +14,5 @@ returns-clause-plain c =
     ∙ ap (λ (ts : List Table). map (λ (t : Table). t.bytes) ts) c.in_ok-objects.ensures.tables in
     let o = c.in_ok-objects.ensures in
     let h = c.in_ok-head.ensures in
-    same_parts _ (built_of (kernel_of c.args.kernel.now) (planned_of c.args.plan.now) c.args.width c.args.tree.now) refl refl refl h.params tables o.locals o.privates h.sites c.in_ok-top.ensures
+    same_parts _ (built_of (kernel_of c.args.kernel.now) (planned_of c.args.plan.now) c.args.width c.args.tree.now)
+    refl refl refl h.params tables o.locals o.privates h.sites c.in_ok-top.ensures

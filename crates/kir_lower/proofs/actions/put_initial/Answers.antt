@@ -8,4 +8,6 @@ use Rattle.kir_lower.proofs.actions.put_initial.Goals as goal
 pub returns : goal.returns
 returns c =
     let lines = lines_of c.loop-value.lines.items in
-    sym (c.loop-value.invariant ∙ ap (λ z. joined_to lines (initial_lines c.args.site c.args.of c.args.array c.loop-value.k z)) (empty_list c.loop-value.rest.now c.in_default.ensures.cases) ∙ join_none lines)
+    sym (c.loop-value.invariant ∙ ap
+    (λ z. joined_to lines (initial_lines c.args.site c.args.of c.args.array c.loop-value.k z))
+    (empty_list c.loop-value.rest.now c.in_default.ensures.cases) ∙ join_none lines)

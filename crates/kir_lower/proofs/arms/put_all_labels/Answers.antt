@@ -10,4 +10,7 @@ use Rattle.kir_lower.proofs.arms.put_all_labels.Goals as goal
 pub returns-clause-lines : goal.returns-clause-lines
 returns-clause-lines c =
     let lines = lines_of c.loop-arm.lines.items in
-    sym (c.loop-arm.invariant.0 ∙ ap (λ z. joined_to lines ((all_labels_code c.args.of.site c.args.of.value c.args.of.chosen c.loop-arm.k (listed_arms z) (made_of c.loop-arm.made)).lines)) (empty_list c.loop-arm.rest.now c.in_default.ensures.cases) ∙ join_none lines)
+    sym (c.loop-arm.invariant.0 ∙ ap
+    (λ z. joined_to lines ((all_labels_code c.args.of.site c.args.of.value c.args.of.chosen c.loop-arm.k
+    (listed_arms z) (made_of c.loop-arm.made)).lines))
+    (empty_list c.loop-arm.rest.now c.in_default.ensures.cases) ∙ join_none lines)

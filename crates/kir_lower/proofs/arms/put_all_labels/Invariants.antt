@@ -10,7 +10,8 @@ abbrev pub invariant-loop-arm : goal.invariant-loop-arm
 invariant-loop-arm l =
     let all = all_labels_code l.of.site l.of.value l.of.chosen 0 (listed_arms l.arms) (made_of l.fn.made) in
     let left = all_labels_code l.of.site l.of.value l.of.chosen l.k (listed_arms l.rest) (made_of l.made) in
-    (joined_to (lines_of l.fn.lines.items) all.lines ≡ joined_to (lines_of l.lines.items) left.lines) × (all.made ≡ left.made)
+    (joined_to (lines_of l.fn.lines.items) all.lines ≡ joined_to (lines_of l.lines.items) left.lines) ×
+    (all.made ≡ left.made)
 
 abbrev pub decreases-loop-arm : goal.decreases-loop-arm
 decreases-loop-arm l = length l.rest

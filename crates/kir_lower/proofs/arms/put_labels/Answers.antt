@@ -9,4 +9,7 @@ use Rattle.kir_lower.proofs.arms.put_labels.Goals as goal
 pub returns-clause-lines : goal.returns-clause-lines
 returns-clause-lines c =
     let lines = lines_of c.loop-label.lines.items in
-    sym (c.loop-label.invariant.0 ∙ ap (λ z. joined_to lines ((labels_code c.args.of.site c.args.of.value c.args.of.chosen c.args.number z (made_of c.loop-label.made)).lines)) (empty_list c.loop-label.rest.now c.in_default.ensures.cases) ∙ join_none lines)
+    sym (c.loop-label.invariant.0 ∙
+    ap (λ z. joined_to lines ((labels_code c.args.of.site c.args.of.value c.args.of.chosen c.args.number z
+    (made_of c.loop-label.made)).lines)) (empty_list c.loop-label.rest.now c.in_default.ensures.cases) ∙
+    join_none lines)

@@ -9,7 +9,8 @@ abbrev pub invariant-loop-label : goal.invariant-loop-label
 invariant-loop-label l =
     let all = labels_code l.of.site l.of.value l.of.chosen l.number l.labels (made_of l.fn.made) in
     let left = labels_code l.of.site l.of.value l.of.chosen l.number l.rest (made_of l.made) in
-    (joined_to (lines_of l.fn.lines.items) all.lines ≡ joined_to (lines_of l.lines.items) left.lines) × (all.made ≡ left.made)
+    (joined_to (lines_of l.fn.lines.items) all.lines ≡ joined_to (lines_of l.lines.items) left.lines) ×
+    (all.made ≡ left.made)
 
 abbrev pub decreases-loop-label : goal.decreases-loop-label
 decreases-loop-label l = length l.rest

@@ -6,7 +6,8 @@ use Rattle.kir_lower.proofs.entering.put_bound.Given as goal
 
 abbrev pub invariant-loop-others : goal.invariant-loop-others
 invariant-loop-others l =
-    joined_to (lines_of l.fn.lines.items) (bound_lines l.base 0 l.kinds) ≡ joined_to (lines_of l.lines.items) (bound_lines l.cell l.n l.rest)
+    joined_to (lines_of l.fn.lines.items) (bound_lines l.base 0 l.kinds) ≡ joined_to (lines_of l.lines.items)
+    (bound_lines l.cell l.n l.rest)
 
 abbrev pub decreases-loop-others : goal.decreases-loop-others
 decreases-loop-others l = length l.rest

@@ -8,4 +8,5 @@ use Rattle.kir_lower.proofs.entering.put_parameters.Goals as goal
 pub returns : goal.returns
 returns c =
     let lines = lines_of c.loop-value.lines.items in
-    sym (c.loop-value.invariant ∙ ap (λ z. joined_to lines (parameter_lines c.loop-value.cell z)) (empty_list c.loop-value.rest.now c.in_default.ensures.cases) ∙ join_none lines)
+    sym (c.loop-value.invariant ∙ ap (λ z. joined_to lines (parameter_lines c.loop-value.cell z))
+    (empty_list c.loop-value.rest.now c.in_default.ensures.cases) ∙ join_none lines)

@@ -6,7 +6,8 @@ use Rattle.kir_lower.proofs.entering.put_parameters.Given as goal
 
 abbrev pub invariant-loop-value : goal.invariant-loop-value
 invariant-loop-value l =
-    joined_to (lines_of l.fn.lines.items) (parameter_lines l.base l.values) ≡ joined_to (lines_of l.lines.items) (parameter_lines l.cell l.rest)
+    joined_to (lines_of l.fn.lines.items) (parameter_lines l.base l.values) ≡ joined_to (lines_of l.lines.items)
+    (parameter_lines l.cell l.rest)
 
 abbrev pub decreases-loop-value : goal.decreases-loop-value
 decreases-loop-value l = length l.rest

@@ -15,4 +15,5 @@ pub way_out-returns-in-Switch : goal.way_out-returns-in-Switch
 way_out-returns-in-Switch t c =
     c.way_out_of_arms.ensures
     ∙ ap (λ l. way_out_of_arms false c.args.continues (listed_arms l)) c.deref-in-Switch.ensures.value
-    ∙ sym (ap (way_out c.args.breaks c.args.continues) (ap statement_of c.in-Switch.is ∙ switch_listed c.in-Switch.site c.in-Switch.value c.in-Switch.arms))
+    ∙ sym (ap (way_out c.args.breaks c.args.continues) (ap statement_of c.in-Switch.is ∙
+    switch_listed c.in-Switch.site c.in-Switch.value c.in-Switch.arms))

@@ -16,5 +16,8 @@ returns-in-Some c =
     let code = kernel_code program (names_of c.args.program.now) in
     let known = c.in_ok-parts.ensures in
     c.in-Some.ensures.some
-    ∙ kernel_parts c.in_ok-parts.parts.kinds.items (parameter_kinds (called.kernel_of program)) (made_of c.in_ok-parts.parts.made) code.made _ program.tables (lines_of c.in_ok-parts.parts.body.items) code.lines c.in_ok-sites.sites.items program.sites
-    known.kinds known.made (c.in_ok-tables.ensures ∙ ap (λ z. map table_of z) c.deref.ensures.value) known.body (c.in_ok-sites.ensures ∙ c.deref-2.ensures.value)
+    ∙ kernel_parts c.in_ok-parts.parts.kinds.items (parameter_kinds (called.kernel_of program))
+    (made_of c.in_ok-parts.parts.made) code.made _ program.tables (lines_of c.in_ok-parts.parts.body.items)
+    code.lines c.in_ok-sites.sites.items program.sites
+    known.kinds known.made (c.in_ok-tables.ensures ∙ ap (λ z. map table_of z) c.deref.ensures.value) known.body
+    (c.in_ok-sites.ensures ∙ c.deref-2.ensures.value)

@@ -6,4 +6,5 @@ use Rattle.lane_code.proofs.parts.+node.Goals as goal
 
 pub node_fits_in-returns-in-Seq : goal.node_fits_in-returns-in-Seq
 node_fits_in-returns-in-Seq t c =
-    c.nodes_fit_in.ensures ∙ sym (node_seq_fits (names_of (parts_of c.args.parts.now)) c.args.node.now c.in-Seq.nodes c.in-Seq.is)
+    c.nodes_fit_in.ensures ∙ sym (node_seq_fits (names_of (parts_of c.args.parts.now)) c.args.node.now c.in-Seq.nodes
+    c.in-Seq.is)

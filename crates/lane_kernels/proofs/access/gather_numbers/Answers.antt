@@ -12,7 +12,8 @@ returns-in-1 g c =
     let m = c.args.mask in
     let places = c.args.places in
     let one : c.size_in_bytes.result ≡ 1 = grind (arith, c.in-1) in
-    subst (λ s. MatchResult c.gather_of.result (λ v. IsEmpty (faults s (length bytes) m places) × (v ≡ zip2 (number_from s bytes) m places)) (IsLowest (faults s (length bytes) m places)))
+    subst (λ s. MatchResult c.gather_of.result (λ v. IsEmpty (faults s (length bytes) m places) ×
+    (v ≡ zip2 (number_from s bytes) m places)) (IsLowest (faults s (length bytes) m places)))
     (sym one ∙ c.size_in_bytes.ensures.value) c.gather_of.ensures
 
 pub returns-in-2 : goal.returns-in-2
@@ -21,7 +22,8 @@ returns-in-2 g c =
     let m = c.args.mask in
     let places = c.args.places in
     let one : c.size_in_bytes.result ≡ 2 = grind (arith, c.in-2) in
-    subst (λ s. MatchResult c.gather_of-in-2.result (λ v. IsEmpty (faults s (length bytes) m places) × (v ≡ zip2 (number_from s bytes) m places)) (IsLowest (faults s (length bytes) m places)))
+    subst (λ s. MatchResult c.gather_of-in-2.result (λ v. IsEmpty (faults s (length bytes) m places) ×
+    (v ≡ zip2 (number_from s bytes) m places)) (IsLowest (faults s (length bytes) m places)))
     (sym one ∙ c.size_in_bytes.ensures.value) c.gather_of-in-2.ensures
 
 pub returns-in-4 : goal.returns-in-4
@@ -30,7 +32,8 @@ returns-in-4 g c =
     let m = c.args.mask in
     let places = c.args.places in
     let one : c.size_in_bytes.result ≡ 4 = grind (arith, c.in-4) in
-    subst (λ s. MatchResult c.gather_of-in-4.result (λ v. IsEmpty (faults s (length bytes) m places) × (v ≡ zip2 (number_from s bytes) m places)) (IsLowest (faults s (length bytes) m places)))
+    subst (λ s. MatchResult c.gather_of-in-4.result (λ v. IsEmpty (faults s (length bytes) m places) ×
+    (v ≡ zip2 (number_from s bytes) m places)) (IsLowest (faults s (length bytes) m places)))
     (sym one ∙ c.size_in_bytes.ensures.value) c.gather_of-in-4.ensures
 
 pub returns-in_default : goal.returns-in_default
@@ -39,5 +42,6 @@ returns-in_default g c =
     let m = c.args.mask in
     let places = c.args.places in
     let one : c.size_in_bytes.result ≡ 8 = grind (arith, c.size_in_bytes.ensures.size.small, c.in_default) in
-    subst (λ s. MatchResult c.gather_of-in_default.result (λ v. IsEmpty (faults s (length bytes) m places) × (v ≡ zip2 (number_from s bytes) m places)) (IsLowest (faults s (length bytes) m places)))
+    subst (λ s. MatchResult c.gather_of-in_default.result (λ v. IsEmpty (faults s (length bytes) m places) ×
+    (v ≡ zip2 (number_from s bytes) m places)) (IsLowest (faults s (length bytes) m places)))
     (sym one ∙ c.size_in_bytes.ensures.value) c.gather_of-in_default.ensures

@@ -21,10 +21,13 @@ loop-i-preserved g c =
     let fault = is_fault size (length bytes) in
     record {
       long = length-set _ _ _ ∙ inv.long;
-      written = written_next c.loop-i.lanes (zip2 (number_from size bytes) m places) i c.in-Some.lane 0 inv.written (omega (arith, inv.long)) (omega (arith, length-zip2 (number_from size bytes) m places same, long))
-          (c.in-Some.ensures.1 ∙ sym (get_or-zip2 (number_from size bytes) m places i false 0 0 (omega (arith, long)) (omega (arith, wide))));
+      written = written_next c.loop-i.lanes (zip2 (number_from size bytes) m places) i c.in-Some.lane 0 inv.written
+          (omega (arith, inv.long)) (omega (arith, length-zip2 (number_from size bytes) m places same, long))
+          (c.in-Some.ensures.1 ∙ sym (get_or-zip2 (number_from size bytes) m places i false 0 0 (omega (arith, long))
+          (omega (arith, wide))));
       clear = below_more (λ k. get_or (faults size (length bytes) m places) k false ≡ false) i inv.clear
-          (get_or-zip2 fault m places i false 0 false (omega (arith, long)) (omega (arith, wide)) ∙ c.in-Some.ensures.0);
+          (get_or-zip2 fault m places i false 0 false (omega (arith, long)) (omega (arith, wide)) ∙
+          c.in-Some.ensures.0);
     }
 
 pub returns : goal.returns
@@ -37,6 +40,13 @@ returns g c =
     let wide : length places ≡ g.row.W = search rules in
     let same = long ∙ sym wide in
     let inv = c.loop-i.invariant in (
-      none_anywhere (faults size (length bytes) m places) c.loop-i.i (omega (arith, length-zip2 (is_fault size (length bytes)) m places same, long)) inv.clear,
-      written_all c.loop-i.lanes (zip2 (number_from size bytes) m places) c.loop-i.i inv.written (omega (arith, inv.long)) (omega (arith, length-zip2 (number_from size bytes) m places same, long)),
+      none_anywhere (faults size (length bytes) m places) c.loop-i.i (omega (
+        arith,
+        length-zip2 (is_fault size (length bytes)) m places same,
+        long,
+      )) inv.clear,
+      written_all c.loop-i.lanes (zip2 (number_from size bytes) m places) c.loop-i.i inv.written (omega (
+        arith,
+        inv.long,
+      )) (omega (arith, length-zip2 (number_from size bytes) m places same, long)),
     )

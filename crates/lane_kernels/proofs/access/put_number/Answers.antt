@@ -16,5 +16,6 @@ returns-in_default c =
     let bytes = c.args.bytes.now in
     let x = c.args.x in
     let eight : c.args.size ≡ 8 = grind (arith, c.requires.size.small, c.in_default) in
-    c.put_four-in_default-2.ensures ∙ ap (λ ys. put_chunk (from + 4) ys (digits_l 256 4 (x / 2 ^ 32))) c.put_four-in_default.ensures
+    c.put_four-in_default-2.ensures ∙
+    ap (λ ys. put_chunk (from + 4) ys (digits_l 256 4 (x / 2 ^ 32))) c.put_four-in_default.ensures
     ∙ put_8 from x bytes ∙ ap (λ s. put_chunk from bytes (digits_l 256 s x)) (sym eight)

@@ -10,7 +10,9 @@ returns-in-1-clause-cases g c =
     let m = c.args.mask in
     let places = c.args.places in
     let one : c.size_in_bytes.result ≡ 1 = grind (arith, c.in-1) in
-    subst (λ s. MatchResult c.scatter_of.result (λ _. IsEmpty (faults s (length bytes) m places)) (IsLowest (faults s (length bytes) m places))) (sym one ∙ c.size_in_bytes.ensures.value) c.scatter_of.ensures.cases
+    subst (λ s. MatchResult c.scatter_of.result (λ _. IsEmpty (faults s (length bytes) m places))
+    (IsLowest (faults s (length bytes) m places))) (sym one ∙
+    c.size_in_bytes.ensures.value) c.scatter_of.ensures.cases
 
 pub returns-in-1-clause-stored : goal.returns-in-1-clause-stored
 returns-in-1-clause-stored g c =
@@ -18,7 +20,8 @@ returns-in-1-clause-stored g c =
     let m = c.args.mask in
     let places = c.args.places in
     let one : c.size_in_bytes.result ≡ 1 = grind (arith, c.in-1) in
-    subst (λ s. OnOk c.scatter_of.result (c.scatter_of.new.bytes ≡ scattered s bytes m places c.args.lanes)) (sym one ∙ c.size_in_bytes.ensures.value) c.scatter_of.ensures.stored
+    subst (λ s. OnOk c.scatter_of.result (c.scatter_of.new.bytes ≡ scattered s bytes m places c.args.lanes))
+    (sym one ∙ c.size_in_bytes.ensures.value) c.scatter_of.ensures.stored
 
 pub returns-in-1-clause-below : goal.returns-in-1-clause-below
 returns-in-1-clause-below g c =
@@ -26,7 +29,8 @@ returns-in-1-clause-below g c =
     let m = c.args.mask in
     let places = c.args.places in
     let one : c.size_in_bytes.result ≡ 1 = grind (arith, c.in-1) in
-    subst (λ s. IfErr c.scatter_of.result (λ k. c.scatter_of.new.bytes ≡ scattered s bytes (take k m) (take k places) (take k c.args.lanes))) (sym one ∙ c.size_in_bytes.ensures.value) c.scatter_of.ensures.below
+    subst (λ s. IfErr c.scatter_of.result (λ k. c.scatter_of.new.bytes ≡ scattered s bytes (take k m) (take k places)
+    (take k c.args.lanes))) (sym one ∙ c.size_in_bytes.ensures.value) c.scatter_of.ensures.below
 
 pub returns-in-2-clause-cases : goal.returns-in-2-clause-cases
 returns-in-2-clause-cases g c =
@@ -34,7 +38,9 @@ returns-in-2-clause-cases g c =
     let m = c.args.mask in
     let places = c.args.places in
     let one : c.size_in_bytes.result ≡ 2 = grind (arith, c.in-2) in
-    subst (λ s. MatchResult c.scatter_of-in-2.result (λ _. IsEmpty (faults s (length bytes) m places)) (IsLowest (faults s (length bytes) m places))) (sym one ∙ c.size_in_bytes.ensures.value) c.scatter_of-in-2.ensures.cases
+    subst (λ s. MatchResult c.scatter_of-in-2.result (λ _. IsEmpty (faults s (length bytes) m places))
+    (IsLowest (faults s (length bytes) m places))) (sym one ∙
+    c.size_in_bytes.ensures.value) c.scatter_of-in-2.ensures.cases
 
 pub returns-in-2-clause-stored : goal.returns-in-2-clause-stored
 returns-in-2-clause-stored g c =
@@ -42,7 +48,8 @@ returns-in-2-clause-stored g c =
     let m = c.args.mask in
     let places = c.args.places in
     let one : c.size_in_bytes.result ≡ 2 = grind (arith, c.in-2) in
-    subst (λ s. OnOk c.scatter_of-in-2.result (c.scatter_of-in-2.new.bytes ≡ scattered s bytes m places c.args.lanes)) (sym one ∙ c.size_in_bytes.ensures.value) c.scatter_of-in-2.ensures.stored
+    subst (λ s. OnOk c.scatter_of-in-2.result (c.scatter_of-in-2.new.bytes ≡ scattered s bytes m places c.args.lanes))
+    (sym one ∙ c.size_in_bytes.ensures.value) c.scatter_of-in-2.ensures.stored
 
 pub returns-in-2-clause-below : goal.returns-in-2-clause-below
 returns-in-2-clause-below g c =
@@ -50,7 +57,9 @@ returns-in-2-clause-below g c =
     let m = c.args.mask in
     let places = c.args.places in
     let one : c.size_in_bytes.result ≡ 2 = grind (arith, c.in-2) in
-    subst (λ s. IfErr c.scatter_of-in-2.result (λ k. c.scatter_of-in-2.new.bytes ≡ scattered s bytes (take k m) (take k places) (take k c.args.lanes))) (sym one ∙ c.size_in_bytes.ensures.value) c.scatter_of-in-2.ensures.below
+    subst (λ s. IfErr c.scatter_of-in-2.result (λ k. c.scatter_of-in-2.new.bytes ≡
+    scattered s bytes (take k m) (take k places) (take k c.args.lanes))) (sym one ∙
+    c.size_in_bytes.ensures.value) c.scatter_of-in-2.ensures.below
 
 pub returns-in-4-clause-cases : goal.returns-in-4-clause-cases
 returns-in-4-clause-cases g c =
@@ -58,7 +67,9 @@ returns-in-4-clause-cases g c =
     let m = c.args.mask in
     let places = c.args.places in
     let one : c.size_in_bytes.result ≡ 4 = grind (arith, c.in-4) in
-    subst (λ s. MatchResult c.scatter_of-in-4.result (λ _. IsEmpty (faults s (length bytes) m places)) (IsLowest (faults s (length bytes) m places))) (sym one ∙ c.size_in_bytes.ensures.value) c.scatter_of-in-4.ensures.cases
+    subst (λ s. MatchResult c.scatter_of-in-4.result (λ _. IsEmpty (faults s (length bytes) m places))
+    (IsLowest (faults s (length bytes) m places))) (sym one ∙
+    c.size_in_bytes.ensures.value) c.scatter_of-in-4.ensures.cases
 
 pub returns-in-4-clause-stored : goal.returns-in-4-clause-stored
 returns-in-4-clause-stored g c =
@@ -66,7 +77,8 @@ returns-in-4-clause-stored g c =
     let m = c.args.mask in
     let places = c.args.places in
     let one : c.size_in_bytes.result ≡ 4 = grind (arith, c.in-4) in
-    subst (λ s. OnOk c.scatter_of-in-4.result (c.scatter_of-in-4.new.bytes ≡ scattered s bytes m places c.args.lanes)) (sym one ∙ c.size_in_bytes.ensures.value) c.scatter_of-in-4.ensures.stored
+    subst (λ s. OnOk c.scatter_of-in-4.result (c.scatter_of-in-4.new.bytes ≡ scattered s bytes m places c.args.lanes))
+    (sym one ∙ c.size_in_bytes.ensures.value) c.scatter_of-in-4.ensures.stored
 
 pub returns-in-4-clause-below : goal.returns-in-4-clause-below
 returns-in-4-clause-below g c =
@@ -74,7 +86,9 @@ returns-in-4-clause-below g c =
     let m = c.args.mask in
     let places = c.args.places in
     let one : c.size_in_bytes.result ≡ 4 = grind (arith, c.in-4) in
-    subst (λ s. IfErr c.scatter_of-in-4.result (λ k. c.scatter_of-in-4.new.bytes ≡ scattered s bytes (take k m) (take k places) (take k c.args.lanes))) (sym one ∙ c.size_in_bytes.ensures.value) c.scatter_of-in-4.ensures.below
+    subst (λ s. IfErr c.scatter_of-in-4.result (λ k. c.scatter_of-in-4.new.bytes ≡
+    scattered s bytes (take k m) (take k places) (take k c.args.lanes))) (sym one ∙
+    c.size_in_bytes.ensures.value) c.scatter_of-in-4.ensures.below
 
 pub returns-in_default-clause-cases : goal.returns-in_default-clause-cases
 returns-in_default-clause-cases g c =
@@ -82,7 +96,9 @@ returns-in_default-clause-cases g c =
     let m = c.args.mask in
     let places = c.args.places in
     let one : c.size_in_bytes.result ≡ 8 = grind (arith, c.size_in_bytes.ensures.size.small, c.in_default) in
-    subst (λ s. MatchResult c.scatter_of-in_default.result (λ _. IsEmpty (faults s (length bytes) m places)) (IsLowest (faults s (length bytes) m places))) (sym one ∙ c.size_in_bytes.ensures.value) c.scatter_of-in_default.ensures.cases
+    subst (λ s. MatchResult c.scatter_of-in_default.result (λ _. IsEmpty (faults s (length bytes) m places))
+    (IsLowest (faults s (length bytes) m places))) (sym one ∙
+    c.size_in_bytes.ensures.value) c.scatter_of-in_default.ensures.cases
 
 pub returns-in_default-clause-stored : goal.returns-in_default-clause-stored
 returns-in_default-clause-stored g c =
@@ -90,7 +106,9 @@ returns-in_default-clause-stored g c =
     let m = c.args.mask in
     let places = c.args.places in
     let one : c.size_in_bytes.result ≡ 8 = grind (arith, c.size_in_bytes.ensures.size.small, c.in_default) in
-    subst (λ s. OnOk c.scatter_of-in_default.result (c.scatter_of-in_default.new.bytes ≡ scattered s bytes m places c.args.lanes)) (sym one ∙ c.size_in_bytes.ensures.value) c.scatter_of-in_default.ensures.stored
+    subst (λ s. OnOk c.scatter_of-in_default.result (c.scatter_of-in_default.new.bytes ≡
+    scattered s bytes m places c.args.lanes)) (sym one ∙
+    c.size_in_bytes.ensures.value) c.scatter_of-in_default.ensures.stored
 
 pub returns-in_default-clause-below : goal.returns-in_default-clause-below
 returns-in_default-clause-below g c =
@@ -98,4 +116,6 @@ returns-in_default-clause-below g c =
     let m = c.args.mask in
     let places = c.args.places in
     let one : c.size_in_bytes.result ≡ 8 = grind (arith, c.size_in_bytes.ensures.size.small, c.in_default) in
-    subst (λ s. IfErr c.scatter_of-in_default.result (λ k. c.scatter_of-in_default.new.bytes ≡ scattered s bytes (take k m) (take k places) (take k c.args.lanes))) (sym one ∙ c.size_in_bytes.ensures.value) c.scatter_of-in_default.ensures.below
+    subst (λ s. IfErr c.scatter_of-in_default.result (λ k. c.scatter_of-in_default.new.bytes ≡
+    scattered s bytes (take k m) (take k places) (take k c.args.lanes))) (sym one ∙
+    c.size_in_bytes.ensures.value) c.scatter_of-in_default.ensures.below

@@ -18,10 +18,16 @@ loop-i-preserved g c =
     let inv = c.loop-i.invariant in
     record {
       long = c.put_lane.auto.bytes ∙ inv.long;
-      written = c.if-not-put_lane.ensures.stored ∙ ap (λ b. lane_put size b (get_or m i false) (get_or places i 0) (get_or c.args.lanes i 0)) inv.written
-          ∙ sym (scattered_next size bytes m places c.args.lanes i (omega (arith, long)) (omega (arith, wide)) (omega (arith, given)));
+      written = c.if-not-put_lane.ensures.stored ∙
+          ap (λ b. lane_put size b (get_or m i false) (get_or places i 0) (get_or c.args.lanes i 0)) inv.written
+          ∙ sym (scattered_next size bytes m places c.args.lanes i (omega (arith, long)) (omega (arith, wide))
+          (omega (arith, given)));
       clear = below_more (λ k. get_or (faults size (length bytes) m places) k false ≡ false) i inv.clear
-          (get_or-zip2 (is_fault size (length bytes)) m places i false 0 false (omega (arith, long)) (omega (arith, wide)) ∙ ap (λ n. is_fault size n (get_or m i false) (get_or places i 0)) (sym inv.long) ∙ not_true _ c.if-not-put_lane.ensures.done);
+          (get_or-zip2 (is_fault size (length bytes)) m places i false 0 false (omega (arith, long)) (omega (
+            arith,
+            wide,
+          )) ∙ ap (λ n. is_fault size n (get_or m i false) (get_or places i 0)) (sym inv.long) ∙
+          not_true _ c.if-not-put_lane.ensures.done);
     }
 
 pub returns-clause-cases : goal.returns-clause-cases
@@ -32,4 +38,5 @@ returns-clause-cases g c =
     let wide : length places ≡ g.row.W = search rules in
     let same = long ∙ sym wide in
     none_anywhere (faults g.row.S (length c.args.bytes.now) m places) c.loop-i.i
-    (omega (arith, length-zip2 (is_fault g.row.S (length c.args.bytes.now)) m places same, long)) c.loop-i.invariant.clear
+    (omega (arith, length-zip2 (is_fault g.row.S (length c.args.bytes.now)) m places same, long))
+    c.loop-i.invariant.clear

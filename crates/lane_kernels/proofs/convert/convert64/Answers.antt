@@ -10,4 +10,6 @@ returns-clause-lanes g c =
     let from = c.args.from in
     c.extend64-2.ensures ∙ ap (map (extended 64 to)) c.extend64.ensures
     ∙ map_of_map (extended 64 to) (extended 64 from) c.args.a
-    ∙ same_map (λ p. extended 64 to (extended 64 from p)) (convert_lane 64 to from) (λ p. K.convert_extended 64 (2 ^ 63) refl refl (omega arith) (omega arith) to from p c.requires.to c.requires.from) c.args.a
+    ∙ same_map (λ p. extended 64 to (extended 64 from p)) (convert_lane 64 to from)
+    (λ p. K.convert_extended 64 (2 ^ 63) refl refl (omega arith) (omega arith) to from p c.requires.to
+    c.requires.from) c.args.a

@@ -14,4 +14,5 @@ returns-clause-lanes g c =
     c.extend32.ensures ∙ ap (map (extended 32 to)) (c.low_halves.ensures ∙ ap (map low) c.extend64.ensures)
     ∙ ap (map (extended 32 to)) (map_of_map low (extended 64 from) c.args.a)
     ∙ map_of_map (extended 32 to) (λ p. low (extended 64 from p)) c.args.a
-    ∙ same_map (λ p. extended 32 to (low (extended 64 from p))) (convert_lane 32 to from) (narrow_extended to from c.requires.to (omega (arith, c.requires.from))) c.args.a
+    ∙ same_map (λ p. extended 32 to (low (extended 64 from p))) (convert_lane 32 to from)
+    (narrow_extended to from c.requires.to (omega (arith, c.requires.from))) c.args.a

@@ -11,8 +11,10 @@ returns-clause-lanes g c =
     let to = c.args.to in
     let from = c.args.from in
     let b = bias_of 32 from in
-    widened c.bias-lift.result g.row.W c.extend32-held.result (ap length c.extend32-held.ensures ∙ length-map c.args.a (extended 32 from) ∙ c.fits-a.0)
+    widened c.bias-lift.result g.row.W c.extend32-held.result (ap length c.extend32-held.ensures ∙
+    length-map c.args.a (extended 32 from) ∙ c.fits-a.0)
     ∙ ap (λ b. map (λ p. sub_in 64 (add_in 32 p b) b) c.extend32-held.result) c.bias-lift.ensures
     ∙ ap (map (λ p. sub_in 64 (add_in 32 p b) b)) c.extend32-held.ensures
     ∙ map_of_map (λ p. sub_in 64 (add_in 32 p b) b) (extended 32 from) c.args.a
-    ∙ same_map (λ p. sub_in 64 (add_in 32 (extended 32 from p) b) b) (convert_lane 64 to from) (widen_extended to from c.requires.to c.requires.from) c.args.a
+    ∙ same_map (λ p. sub_in 64 (add_in 32 (extended 32 from p) b) b) (convert_lane 64 to from)
+    (widen_extended to from c.requires.to c.requires.from) c.args.a

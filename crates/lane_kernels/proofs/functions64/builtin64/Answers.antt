@@ -17,7 +17,8 @@ returns-in-Min-clause-lanes g c =
     ∙ ap (λ k. zip2 (lesser_lane 64 k) c.extend64.result c.extend64-in-Min.result) c.bias-lift.ensures
     ∙ ap₂ (zip2 (lesser_lane 64 (bias_of 64 t))) c.extend64.ensures c.extend64-in-Min.ensures
     ∙ zip2-maps (lesser_lane 64 (bias_of 64 t)) (extended 64 t) (extended 64 t) a b
-    ∙ zip2_as_zip3 _ (builtin_lane 64 Min t) (λ p q r. K.lane_lesser 64 (2 ^ 63) refl refl (omega arith) (omega arith) t n p q r) g.row.W a b c.args.c c.fits-a.0 c.fits-b.0 c.fits-c.0
+    ∙ zip2_as_zip3 _ (builtin_lane 64 Min t) (λ p q r. K.lane_lesser 64 (2 ^ 63) refl refl (omega arith) (omega arith)
+    t n p q r) g.row.W a b c.args.c c.fits-a.0 c.fits-b.0 c.fits-c.0
     ∙ ap (λ f. zip3 (builtin_lane 64 f t) a b c.args.c) (sym c.in-Min.is)
 
 pub returns-in-Max-clause-lanes : goal.returns-in-Max-clause-lanes
@@ -30,5 +31,6 @@ returns-in-Max-clause-lanes g c =
     ∙ ap (λ k. zip2 (greater_lane 64 k) c.extend64-in-Max.result c.extend64-in-Max-2.result) c.bias-lift.ensures
     ∙ ap₂ (zip2 (greater_lane 64 (bias_of 64 t))) c.extend64-in-Max.ensures c.extend64-in-Max-2.ensures
     ∙ zip2-maps (greater_lane 64 (bias_of 64 t)) (extended 64 t) (extended 64 t) a b
-    ∙ zip2_as_zip3 _ (builtin_lane 64 Max t) (λ p q r. K.lane_greater 64 (2 ^ 63) refl refl (omega arith) (omega arith) t n p q r) g.row.W a b c.args.c c.fits-a.0 c.fits-b.0 c.fits-c.0
+    ∙ zip2_as_zip3 _ (builtin_lane 64 Max t) (λ p q r. K.lane_greater 64 (2 ^ 63) refl refl (omega arith)
+    (omega arith) t n p q r) g.row.W a b c.args.c c.fits-a.0 c.fits-b.0 c.fits-c.0
     ∙ ap (λ f. zip3 (builtin_lane 64 f t) a b c.args.c) (sym c.in-Max.is)

@@ -13,9 +13,11 @@ builtin-requires-clause-first c =
 pub builtin-requires-clause-second : goal.builtin-requires-clause-second
 builtin-requires-clause-second c =
     let f : SFits w128 c.value-2.result = search rules in
-    subst (IsValue c.args.t) (sym (to_z-of_z w128 c.value-2.result f ∙ c.value-2.ensures)) (IsValue-value c.args.t c.args.q)
+    subst (IsValue c.args.t) (sym (to_z-of_z w128 c.value-2.result f ∙ c.value-2.ensures))
+    (IsValue-value c.args.t c.args.q)
 
 pub builtin-requires-clause-third : goal.builtin-requires-clause-third
 builtin-requires-clause-third c =
     let f : SFits w128 c.value-3.result = search rules in
-    subst (IsValue c.args.t) (sym (to_z-of_z w128 c.value-3.result f ∙ c.value-3.ensures)) (IsValue-value c.args.t c.args.r)
+    subst (IsValue c.args.t) (sym (to_z-of_z w128 c.value-3.result f ∙ c.value-3.ensures))
+    (IsValue-value c.args.t c.args.r)

@@ -10,14 +10,36 @@ use Rattle.lane_kernels.proofs.lanes32.binary32.Goals.{in-Shl, in_default}
 pub values32-requires : goal.values32-requires
 values32-requires g c =
     let t = c.args.t in
-    let n = c.requires.fits in
-    (omega (arith, c.requires.lanes), (n, (subst (Each1 (IsLane 32 t)) (sym c.extend32-left.ensures) (each_map (IsLane 32 t) (extended 32 t) (λ p. K.IsLane-extended 32 (2 ^ 31) refl refl (omega arith) (omega arith) t p n) c.args.a), λ e. shift_is c.args.op c.in-Shl.is e)))
+    let n = c.requires.fits in (
+      omega (arith, c.requires.lanes),
+      (
+        n,
+        (
+          subst (Each1 (IsLane 32 t)) (sym c.extend32-left.ensures)
+              (each_map (IsLane 32 t) (extended 32 t) (λ p. K.IsLane-extended 32 (2 ^ 31) refl refl (omega arith)
+              (omega arith) t p n) c.args.a),
+          λ e. shift_is c.args.op c.in-Shl.is e,
+        ),
+      ),
+    )
 
 pub values32-requires-in_default : goal.values32-requires-in_default
 values32-requires-in_default g c =
     let t = c.args.t in
-    let n = c.requires.fits in
-    (omega (arith, c.requires.lanes), (n, (subst (Each1 (IsLane 32 t)) (sym c.extend32-left.ensures) (each_map (IsLane 32 t) (extended 32 t) (λ p. K.IsLane-extended 32 (2 ^ 31) refl refl (omega arith) (omega arith) t p n) c.args.a), λ e. subst (Each1 (IsLane 32 t)) (sym c.extend32.ensures) (each_map (IsLane 32 t) (extended 32 t) (λ p. K.IsLane-extended 32 (2 ^ 31) refl refl (omega arith) (omega arith) t p n) c.args.b))))
+    let n = c.requires.fits in (
+      omega (arith, c.requires.lanes),
+      (
+        n,
+        (
+          subst (Each1 (IsLane 32 t)) (sym c.extend32-left.ensures)
+              (each_map (IsLane 32 t) (extended 32 t) (λ p. K.IsLane-extended 32 (2 ^ 31) refl refl (omega arith)
+              (omega arith) t p n) c.args.a),
+          λ e. subst (Each1 (IsLane 32 t)) (sym c.extend32.ensures)
+              (each_map (IsLane 32 t) (extended 32 t) (λ p. K.IsLane-extended 32 (2 ^ 31) refl refl (omega arith)
+              (omega arith) t p n) c.args.b),
+        ),
+      ),
+    )
 
 pub returns-clause-lanes : goal.returns-clause-lanes
 returns-clause-lanes g c =
@@ -28,8 +50,13 @@ returns-clause-lanes g c =
     let n = c.requires.fits in
     elim c.match-op.branch [
       | in-Shl w ↦ w.result-is ∙ w.values32.ensures ∙ ap (λ x. zip2 (binary_lane 32 op t) x b) c.extend32-left.ensures
-          ∙ zip2-map_left (binary_lane 32 op t) (extended 32 t) a b ∙ zip2_same _ (binary_lane 32 op t) (λ p q. ap (lane 32) (K.shift_extended 32 (2 ^ 31) refl refl (omega arith) (omega arith) op t p q n)) a b
-      | in_default w ↦ w.result-is ∙ w.values32-in_default.ensures ∙ ap₂ (λ x y. zip2 (binary_lane 32 op t) x y) c.extend32-left.ensures w.extend32.ensures
+          ∙ zip2-map_left (binary_lane 32 op t) (extended 32 t) a b ∙
+          zip2_same _ (binary_lane 32 op t)
+          (λ p q. ap (lane 32) (K.shift_extended 32 (2 ^ 31) refl refl (omega arith) (omega arith) op t p q n)) a b
+      | in_default w ↦ w.result-is ∙ w.values32-in_default.ensures ∙
+          ap₂ (λ x y. zip2 (binary_lane 32 op t) x y) c.extend32-left.ensures w.extend32.ensures
           ∙ zip2-maps (binary_lane 32 op t) (extended 32 t) (extended 32 t) a b
-          ∙ zip2_same _ (binary_lane 32 op t) (λ p q. ap (lane 32) (K.binary_extended 32 (2 ^ 31) refl refl (omega arith) (omega arith) op t p q n (is_no_shift op w.in_default.not-Shl w.in_default.not-Shr))) a b
+          ∙ zip2_same _ (binary_lane 32 op t)
+          (λ p q. ap (lane 32) (K.binary_extended 32 (2 ^ 31) refl refl (omega arith) (omega arith) op t p q n
+          (is_no_shift op w.in_default.not-Shl w.in_default.not-Shr))) a b
     ]

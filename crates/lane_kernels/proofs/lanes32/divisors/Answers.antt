@@ -7,5 +7,6 @@ use Rattle.lane_kernels.proofs.lanes32.divisors.Goals as goal
 
 pub returns : goal.returns
 returns g c =
-    L.one_for_zero 32 31 4294967295 refl refl g.row.W c.signed_as-size.result (ap length c.signed_as-size.ensures ∙ length-zip2 ((signed_by 32) c.args.bias) c.args.b c.args.b refl ∙ c.fits-b.0)
+    L.one_for_zero 32 31 4294967295 refl refl g.row.W c.signed_as-size.result (ap length c.signed_as-size.ensures ∙
+    length-zip2 ((signed_by 32) c.args.bias) c.args.b c.args.b refl ∙ c.fits-b.0)
     ∙ L.divisor_lanes 32 31 4294967295 refl refl c.args.bias c.args.b c.signed_as-size.result c.signed_as-size.ensures

@@ -8,11 +8,14 @@ use Rattle.std.proofs.lemmas.Simd.{Each2-of}
 use Rattle.lane_kernels.proofs.lanes32.quotients.Goals as goal
 
 pub nonzero_div-size : goal.nonzero_div-size
-nonzero_div-size g c = Each2-of (λ _. Unit {0}) (λ y. 0 < y) _ (λ x y u v. v) c.signed_as.result c.divisors.result (L.any_lane 32 31 4294967295 refl refl c.signed_as.result) (subst (Each1 (λ y. 0 < y)) (sym c.divisors.ensures) (L.some_divisors 32 31 4294967295 refl refl c.args.bias c.args.b))
+nonzero_div-size g c = Each2-of (λ _. Unit {0}) (λ y. 0 < y) _ (λ x y u v. v) c.signed_as.result c.divisors.result
+    (L.any_lane 32 31 4294967295 refl refl c.signed_as.result) (subst (Each1 (λ y. 0 < y)) (sym c.divisors.ensures)
+    (L.some_divisors 32 31 4294967295 refl refl c.args.bias c.args.b))
 
 pub returns : goal.returns
 returns g c =
     ap (sel_l (map (top 31) (zip2 (all_if 4294967295 eqb) c.args.b (replicate g.row.W 0))) (replicate g.row.W 0))
     (c.signed_as-quotient.ensures ∙ ap (zip2 ((signed_by 32) c.args.bias) c.args.b) (c.signed_as-2.ensures
-    ∙ ap₂ (λ x y. zip2 ((signed_by 32) c.args.bias) c.args.a (zip2 (λ u v. u / v) x y)) c.signed_as.ensures c.divisors.ensures))
+    ∙ ap₂ (λ x y. zip2 ((signed_by 32) c.args.bias) c.args.a (zip2 (λ u v. u / v) x y)) c.signed_as.ensures
+    c.divisors.ensures))
     ∙ L.quotient_lanes 32 31 4294967295 refl refl c.args.bias g.row.W c.args.a c.args.b c.fits-a.0 c.fits-b.0

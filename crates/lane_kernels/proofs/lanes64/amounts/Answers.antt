@@ -10,4 +10,6 @@ use Rattle.lane_kernels.proofs.lanes64.amounts.Goals as goal
 pub returns : goal.returns
 returns g c =
     zip2_splat bit_and c.args.b g.row.W c.amount_bits.result c.fits-b.0
-    ∙ L.map_same 64 63 18446744073709551615 refl refl (λ q. bit_and q c.amount_bits.result) (λ q. q % width_bits c.args.t) (λ q. ap (bit_and q) c.amount_bits.ensures ∙ K.amount_masked 64 (2 ^ 63) refl refl (omega arith) (omega arith) c.args.t q c.requires) c.args.b
+    ∙ L.map_same 64 63 18446744073709551615 refl refl (λ q. bit_and q c.amount_bits.result)
+    (λ q. q % width_bits c.args.t) (λ q. ap (bit_and q) c.amount_bits.ensures ∙
+    K.amount_masked 64 (2 ^ 63) refl refl (omega arith) (omega arith) c.args.t q c.requires) c.args.b

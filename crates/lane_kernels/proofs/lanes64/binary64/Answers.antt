@@ -10,14 +10,36 @@ use Rattle.lane_kernels.proofs.lanes64.binary64.Goals.{in-Shl, in_default}
 pub values64-requires : goal.values64-requires
 values64-requires g c =
     let t = c.args.t in
-    let n = c.requires.fits in
-    (omega (arith, c.requires.lanes), (n, (subst (Each1 (IsLane 64 t)) (sym c.extend64-left.ensures) (each_map (IsLane 64 t) (extended 64 t) (λ p. K.IsLane-extended 64 (2 ^ 63) refl refl (omega arith) (omega arith) t p n) c.args.a), λ e. shift_is c.args.op c.in-Shl.is e)))
+    let n = c.requires.fits in (
+      omega (arith, c.requires.lanes),
+      (
+        n,
+        (
+          subst (Each1 (IsLane 64 t)) (sym c.extend64-left.ensures)
+              (each_map (IsLane 64 t) (extended 64 t) (λ p. K.IsLane-extended 64 (2 ^ 63) refl refl (omega arith)
+              (omega arith) t p n) c.args.a),
+          λ e. shift_is c.args.op c.in-Shl.is e,
+        ),
+      ),
+    )
 
 pub values64-requires-in_default : goal.values64-requires-in_default
 values64-requires-in_default g c =
     let t = c.args.t in
-    let n = c.requires.fits in
-    (omega (arith, c.requires.lanes), (n, (subst (Each1 (IsLane 64 t)) (sym c.extend64-left.ensures) (each_map (IsLane 64 t) (extended 64 t) (λ p. K.IsLane-extended 64 (2 ^ 63) refl refl (omega arith) (omega arith) t p n) c.args.a), λ e. subst (Each1 (IsLane 64 t)) (sym c.extend64.ensures) (each_map (IsLane 64 t) (extended 64 t) (λ p. K.IsLane-extended 64 (2 ^ 63) refl refl (omega arith) (omega arith) t p n) c.args.b))))
+    let n = c.requires.fits in (
+      omega (arith, c.requires.lanes),
+      (
+        n,
+        (
+          subst (Each1 (IsLane 64 t)) (sym c.extend64-left.ensures)
+              (each_map (IsLane 64 t) (extended 64 t) (λ p. K.IsLane-extended 64 (2 ^ 63) refl refl (omega arith)
+              (omega arith) t p n) c.args.a),
+          λ e. subst (Each1 (IsLane 64 t)) (sym c.extend64.ensures)
+              (each_map (IsLane 64 t) (extended 64 t) (λ p. K.IsLane-extended 64 (2 ^ 63) refl refl (omega arith)
+              (omega arith) t p n) c.args.b),
+        ),
+      ),
+    )
 
 pub returns-clause-lanes : goal.returns-clause-lanes
 returns-clause-lanes g c =
@@ -28,8 +50,13 @@ returns-clause-lanes g c =
     let n = c.requires.fits in
     elim c.match-op.branch [
       | in-Shl w ↦ w.result-is ∙ w.values64.ensures ∙ ap (λ x. zip2 (binary_lane 64 op t) x b) c.extend64-left.ensures
-          ∙ zip2-map_left (binary_lane 64 op t) (extended 64 t) a b ∙ zip2_same _ (binary_lane 64 op t) (λ p q. ap (lane 64) (K.shift_extended 64 (2 ^ 63) refl refl (omega arith) (omega arith) op t p q n)) a b
-      | in_default w ↦ w.result-is ∙ w.values64-in_default.ensures ∙ ap₂ (λ x y. zip2 (binary_lane 64 op t) x y) c.extend64-left.ensures w.extend64.ensures
+          ∙ zip2-map_left (binary_lane 64 op t) (extended 64 t) a b ∙
+          zip2_same _ (binary_lane 64 op t)
+          (λ p q. ap (lane 64) (K.shift_extended 64 (2 ^ 63) refl refl (omega arith) (omega arith) op t p q n)) a b
+      | in_default w ↦ w.result-is ∙ w.values64-in_default.ensures ∙
+          ap₂ (λ x y. zip2 (binary_lane 64 op t) x y) c.extend64-left.ensures w.extend64.ensures
           ∙ zip2-maps (binary_lane 64 op t) (extended 64 t) (extended 64 t) a b
-          ∙ zip2_same _ (binary_lane 64 op t) (λ p q. ap (lane 64) (K.binary_extended 64 (2 ^ 63) refl refl (omega arith) (omega arith) op t p q n (is_no_shift op w.in_default.not-Shl w.in_default.not-Shr))) a b
+          ∙ zip2_same _ (binary_lane 64 op t)
+          (λ p q. ap (lane 64) (K.binary_extended 64 (2 ^ 63) refl refl (omega arith) (omega arith) op t p q n
+          (is_no_shift op w.in_default.not-Shl w.in_default.not-Shr))) a b
     ]

@@ -2,7 +2,8 @@ use Rattle.std.proofs.Common.{refl, arith}
 use Rattle.std.proofs.Common.{◌*◌, ◌^◌, ◌%◌, ap, ◌∙◌, sym, map, not, nat_eq, nat_lt, nat_le, bit_and, bit_or, bit_xor}
 use Rattle.std.specs.Int.{from_bool}
 use Rattle.std.specs.Simd.Lanes.{zip2}
-use Rattle.wg_num.specs.declared.types.Bin.TheVariants.{Add, Sub, Mul, Div, Rem, Shl, Shr, And, Or, Xor, Eq, Ne, Lt, Le, Gt, Ge}
+use Rattle.wg_num.specs.declared.types.Bin.TheVariants.{Add, Sub, Mul, Div, Rem, Shl, Shr, And, Or, Xor, Eq, Ne, Lt}
+use Rattle.wg_num.specs.declared.types.Bin.TheVariants.{Le, Gt, Ge}
 use Rattle.wg_num.specs.Wrap.{value_of, width_bits}
 use Rattle.wg_num.specs.Operators.{is_shift}
 use Rattle.lane_values.specs.Lanes.{FitsLane, IsLane, binary_value}
@@ -11,7 +12,9 @@ use Rattle.lane_kernels.proofs.LaneLaws as K
 use Rattle.lane_kernels.proofs.ListLaws as L
 use Rattle.lane_kernels.proofs.ListLaws.{add_in, sub_in}
 use Rattle.lane_kernels.proofs.lanes64.numbers64.Goals as goal
-use Rattle.lane_kernels.proofs.lanes64.numbers64.Goals.{in-Add, in-Sub, in-Mul, in-Div, in-Rem, in-Shl, in-Shr, in-And, in-Or, in-Xor, in-Eq, in-Ne, in-Lt, in-Le, in-Gt, in-Ge}
+use Rattle.lane_kernels.proofs.lanes64.numbers64.Goals.{in-Add, in-Sub, in-Mul, in-Div, in-Rem, in-Shl, in-Shr}
+use Rattle.lane_kernels.proofs.lanes64.numbers64.Goals.{in-And, in-Or, in-Xor, in-Eq, in-Ne, in-Lt, in-Le, in-Gt}
+use Rattle.lane_kernels.proofs.lanes64.numbers64.Goals.{in-Ge}
 
 pub returns : goal.returns
 returns g c =
@@ -22,20 +25,97 @@ returns g c =
     let left = c.requires.left in
     let k = c.bias-lift.result in
     elim c.match-op.branch [
-      | in-Add w ↦ ap (map (value_of t)) w.result-is ∙ L.lanes_same 64 63 18446744073709551615 refl refl (IsLane 64 t) (IsLane 64 t) (value_of t) (add_in 64) (binary_value Add t) (K.lane_add 64 (2 ^ 63) refl refl (omega arith) (omega arith) t n) a b left (c.requires.right (ap is_shift w.in-Add.is)) ∙ ap (λ o. zip2 (binary_value o t) a b) (sym w.in-Add.is)
-      | in-Sub w ↦ ap (map (value_of t)) w.result-is ∙ L.lanes_same 64 63 18446744073709551615 refl refl (IsLane 64 t) (IsLane 64 t) (value_of t) (sub_in 64) (binary_value Sub t) (K.lane_sub 64 (2 ^ 63) refl refl (omega arith) (omega arith) t n) a b left (c.requires.right (ap is_shift w.in-Sub.is)) ∙ ap (λ o. zip2 (binary_value o t) a b) (sym w.in-Sub.is)
-      | in-Mul w ↦ ap (map (value_of t)) w.result-is ∙ L.lanes_same 64 63 18446744073709551615 refl refl (IsLane 64 t) (IsLane 64 t) (value_of t) (λ x y. x * y % 2 ^ 64) (binary_value Mul t) (K.lane_mul 64 (2 ^ 63) refl refl (omega arith) (omega arith) t n) a b left (c.requires.right (ap is_shift w.in-Mul.is)) ∙ ap (λ o. zip2 (binary_value o t) a b) (sym w.in-Mul.is)
-      | in-Div w ↦ ap (map (value_of t)) (w.result-is ∙ w.quotients.ensures ∙ ap (λ m. zip2 ((quotient_lane 64) m) a b) c.bias-lift.ensures) ∙ L.lanes_same 64 63 18446744073709551615 refl refl (IsLane 64 t) (IsLane 64 t) (value_of t) ((quotient_lane 64) ((bias_of 64) t)) (binary_value Div t) (K.lane_div 64 (2 ^ 63) refl refl (omega arith) (omega arith) t n) a b left (c.requires.right (ap is_shift w.in-Div.is)) ∙ ap (λ o. zip2 (binary_value o t) a b) (sym w.in-Div.is)
-      | in-Rem w ↦ ap (map (value_of t)) (w.result-is ∙ w.rests.ensures ∙ ap (λ m. zip2 ((rest_lane 64) m) a b) c.bias-lift.ensures) ∙ L.lanes_same 64 63 18446744073709551615 refl refl (IsLane 64 t) (IsLane 64 t) (value_of t) ((rest_lane 64) ((bias_of 64) t)) (binary_value Rem t) (K.lane_rem 64 (2 ^ 63) refl refl (omega arith) (omega arith) t n) a b left (c.requires.right (ap is_shift w.in-Rem.is)) ∙ ap (λ o. zip2 (binary_value o t) a b) (sym w.in-Rem.is)
-      | in-Shl w ↦ ap (map (value_of t)) (w.result-is ∙ w.shifted_left.ensures) ∙ L.lanes_same 64 63 18446744073709551615 refl refl (IsLane 64 t) (λ _. Unit {0}) (value_of t) ((shl_lane 64) (width_bits t)) (binary_value Shl t) (λ p q l r. K.lane_shl 64 (2 ^ 63) refl refl (omega arith) (omega arith) t n p q l) a b left (L.any_lane 64 63 18446744073709551615 refl refl b) ∙ ap (λ o. zip2 (binary_value o t) a b) (sym w.in-Shl.is)
-      | in-Shr w ↦ ap (map (value_of t)) (w.result-is ∙ w.shifted_right.ensures) ∙ L.lanes_same 64 63 18446744073709551615 refl refl (IsLane 64 t) (λ _. Unit {0}) (value_of t) ((shr_lane 64) ((bias_of 64) t) (width_bits t)) (binary_value Shr t) (λ p q l r. K.lane_shr 64 (2 ^ 63) refl refl (omega arith) (omega arith) t n p q l) a b left (L.any_lane 64 63 18446744073709551615 refl refl b) ∙ ap (λ o. zip2 (binary_value o t) a b) (sym w.in-Shr.is)
-      | in-And w ↦ ap (map (value_of t)) w.result-is ∙ L.lanes_same 64 63 18446744073709551615 refl refl (IsLane 64 t) (IsLane 64 t) (value_of t) bit_and (binary_value And t) (K.lane_and 64 (2 ^ 63) refl refl (omega arith) (omega arith) t n) a b left (c.requires.right (ap is_shift w.in-And.is)) ∙ ap (λ o. zip2 (binary_value o t) a b) (sym w.in-And.is)
-      | in-Or w ↦ ap (map (value_of t)) w.result-is ∙ L.lanes_same 64 63 18446744073709551615 refl refl (IsLane 64 t) (IsLane 64 t) (value_of t) bit_or (binary_value Or t) (K.lane_or 64 (2 ^ 63) refl refl (omega arith) (omega arith) t n) a b left (c.requires.right (ap is_shift w.in-Or.is)) ∙ ap (λ o. zip2 (binary_value o t) a b) (sym w.in-Or.is)
-      | in-Xor w ↦ ap (map (value_of t)) w.result-is ∙ L.lanes_same 64 63 18446744073709551615 refl refl (IsLane 64 t) (IsLane 64 t) (value_of t) bit_xor (binary_value Xor t) (K.lane_xor 64 (2 ^ 63) refl refl (omega arith) (omega arith) t n) a b left (c.requires.right (ap is_shift w.in-Xor.is)) ∙ ap (λ o. zip2 (binary_value o t) a b) (sym w.in-Xor.is)
-      | in-Eq w ↦ ap (map (value_of t)) (w.result-is ∙ L.compared 64 63 18446744073709551615 refl refl (λ x y. nat_eq x y) (add_in 64) k g.row.W a b c.fits-a.0 c.fits-b.0 ∙ ap (λ m. zip2 (λ u v. from_bool (nat_eq ((add_in 64) u m) ((add_in 64) v m))) a b) c.bias-lift.ensures) ∙ L.lanes_same 64 63 18446744073709551615 refl refl (IsLane 64 t) (IsLane 64 t) (value_of t) (λ x y. from_bool (nat_eq ((raised 64) ((bias_of 64) t) x) ((raised 64) ((bias_of 64) t) y))) (binary_value Eq t) (K.lane_eq 64 (2 ^ 63) refl refl (omega arith) (omega arith) t n) a b left (c.requires.right (ap is_shift w.in-Eq.is)) ∙ ap (λ o. zip2 (binary_value o t) a b) (sym w.in-Eq.is)
-      | in-Ne w ↦ ap (map (value_of t)) (w.result-is ∙ L.compared 64 63 18446744073709551615 refl refl (λ x y. not (nat_eq x y)) (add_in 64) k g.row.W a b c.fits-a.0 c.fits-b.0 ∙ ap (λ m. zip2 (λ u v. from_bool (not (nat_eq ((add_in 64) u m) ((add_in 64) v m)))) a b) c.bias-lift.ensures) ∙ L.lanes_same 64 63 18446744073709551615 refl refl (IsLane 64 t) (IsLane 64 t) (value_of t) (λ x y. from_bool (not (nat_eq ((raised 64) ((bias_of 64) t) x) ((raised 64) ((bias_of 64) t) y)))) (binary_value Ne t) (K.lane_ne 64 (2 ^ 63) refl refl (omega arith) (omega arith) t n) a b left (c.requires.right (ap is_shift w.in-Ne.is)) ∙ ap (λ o. zip2 (binary_value o t) a b) (sym w.in-Ne.is)
-      | in-Lt w ↦ ap (map (value_of t)) (w.result-is ∙ L.compared 64 63 18446744073709551615 refl refl (λ x y. nat_lt x y) (add_in 64) k g.row.W a b c.fits-a.0 c.fits-b.0 ∙ ap (λ m. zip2 (λ u v. from_bool (nat_lt ((add_in 64) u m) ((add_in 64) v m))) a b) c.bias-lift.ensures) ∙ L.lanes_same 64 63 18446744073709551615 refl refl (IsLane 64 t) (IsLane 64 t) (value_of t) (λ x y. from_bool (nat_lt ((raised 64) ((bias_of 64) t) x) ((raised 64) ((bias_of 64) t) y))) (binary_value Lt t) (K.lane_lt 64 (2 ^ 63) refl refl (omega arith) (omega arith) t n) a b left (c.requires.right (ap is_shift w.in-Lt.is)) ∙ ap (λ o. zip2 (binary_value o t) a b) (sym w.in-Lt.is)
-      | in-Le w ↦ ap (map (value_of t)) (w.result-is ∙ L.compared 64 63 18446744073709551615 refl refl (λ x y. nat_le x y) (add_in 64) k g.row.W a b c.fits-a.0 c.fits-b.0 ∙ ap (λ m. zip2 (λ u v. from_bool (nat_le ((add_in 64) u m) ((add_in 64) v m))) a b) c.bias-lift.ensures) ∙ L.lanes_same 64 63 18446744073709551615 refl refl (IsLane 64 t) (IsLane 64 t) (value_of t) (λ x y. from_bool (nat_le ((raised 64) ((bias_of 64) t) x) ((raised 64) ((bias_of 64) t) y))) (binary_value Le t) (K.lane_le 64 (2 ^ 63) refl refl (omega arith) (omega arith) t n) a b left (c.requires.right (ap is_shift w.in-Le.is)) ∙ ap (λ o. zip2 (binary_value o t) a b) (sym w.in-Le.is)
-      | in-Gt w ↦ ap (map (value_of t)) (w.result-is ∙ L.compared 64 63 18446744073709551615 refl refl nat_lt (add_in 64) k g.row.W b a c.fits-b.0 c.fits-a.0 ∙ L.zip2_swap 64 63 18446744073709551615 refl refl (λ u v. from_bool (nat_lt ((add_in 64) u k) ((add_in 64) v k))) b a ∙ ap (λ m. zip2 (λ u v. from_bool (nat_lt ((add_in 64) v m) ((add_in 64) u m))) a b) c.bias-lift.ensures) ∙ L.lanes_same 64 63 18446744073709551615 refl refl (IsLane 64 t) (IsLane 64 t) (value_of t) (λ x y. from_bool (nat_lt ((raised 64) ((bias_of 64) t) y) ((raised 64) ((bias_of 64) t) x))) (binary_value Gt t) (K.lane_gt 64 (2 ^ 63) refl refl (omega arith) (omega arith) t n) a b left (c.requires.right (ap is_shift w.in-Gt.is)) ∙ ap (λ o. zip2 (binary_value o t) a b) (sym w.in-Gt.is)
-      | in-Ge w ↦ ap (map (value_of t)) (w.result-is ∙ L.compared 64 63 18446744073709551615 refl refl nat_le (add_in 64) k g.row.W b a c.fits-b.0 c.fits-a.0 ∙ L.zip2_swap 64 63 18446744073709551615 refl refl (λ u v. from_bool (nat_le ((add_in 64) u k) ((add_in 64) v k))) b a ∙ ap (λ m. zip2 (λ u v. from_bool (nat_le ((add_in 64) v m) ((add_in 64) u m))) a b) c.bias-lift.ensures) ∙ L.lanes_same 64 63 18446744073709551615 refl refl (IsLane 64 t) (IsLane 64 t) (value_of t) (λ x y. from_bool (nat_le ((raised 64) ((bias_of 64) t) y) ((raised 64) ((bias_of 64) t) x))) (binary_value Ge t) (K.lane_ge 64 (2 ^ 63) refl refl (omega arith) (omega arith) t n) a b left (c.requires.right (ap is_shift w.in-Ge.is)) ∙ ap (λ o. zip2 (binary_value o t) a b) (sym w.in-Ge.is)
+      | in-Add w ↦ ap (map (value_of t)) w.result-is ∙
+          L.lanes_same 64 63 18446744073709551615 refl refl (IsLane 64 t) (IsLane 64 t) (value_of t) (add_in 64)
+          (binary_value Add t) (K.lane_add 64 (2 ^ 63) refl refl (omega arith) (omega arith) t n) a b left
+          (c.requires.right (ap is_shift w.in-Add.is)) ∙ ap (λ o. zip2 (binary_value o t) a b) (sym w.in-Add.is)
+      | in-Sub w ↦ ap (map (value_of t)) w.result-is ∙
+          L.lanes_same 64 63 18446744073709551615 refl refl (IsLane 64 t) (IsLane 64 t) (value_of t) (sub_in 64)
+          (binary_value Sub t) (K.lane_sub 64 (2 ^ 63) refl refl (omega arith) (omega arith) t n) a b left
+          (c.requires.right (ap is_shift w.in-Sub.is)) ∙ ap (λ o. zip2 (binary_value o t) a b) (sym w.in-Sub.is)
+      | in-Mul w ↦ ap (map (value_of t)) w.result-is ∙
+          L.lanes_same 64 63 18446744073709551615 refl refl (IsLane 64 t) (IsLane 64 t) (value_of t) (λ x y. x * y %
+          2 ^ 64) (binary_value Mul t) (K.lane_mul 64 (2 ^ 63) refl refl (omega arith) (omega arith) t n) a b left
+          (c.requires.right (ap is_shift w.in-Mul.is)) ∙ ap (λ o. zip2 (binary_value o t) a b) (sym w.in-Mul.is)
+      | in-Div w ↦ ap (map (value_of t)) (w.result-is ∙ w.quotients.ensures ∙
+          ap (λ m. zip2 ((quotient_lane 64) m) a b) c.bias-lift.ensures) ∙
+          L.lanes_same 64 63 18446744073709551615 refl refl (IsLane 64 t) (IsLane 64 t) (value_of t)
+          ((quotient_lane 64) ((bias_of 64) t)) (binary_value Div t) (K.lane_div 64 (2 ^ 63) refl refl (omega arith)
+          (omega arith) t n) a b left (c.requires.right (ap is_shift w.in-Div.is)) ∙
+          ap (λ o. zip2 (binary_value o t) a b) (sym w.in-Div.is)
+      | in-Rem w ↦ ap (map (value_of t)) (w.result-is ∙ w.rests.ensures ∙
+          ap (λ m. zip2 ((rest_lane 64) m) a b) c.bias-lift.ensures) ∙
+          L.lanes_same 64 63 18446744073709551615 refl refl (IsLane 64 t) (IsLane 64 t) (value_of t)
+          ((rest_lane 64) ((bias_of 64) t)) (binary_value Rem t) (K.lane_rem 64 (2 ^ 63) refl refl (omega arith)
+          (omega arith) t n) a b left (c.requires.right (ap is_shift w.in-Rem.is)) ∙
+          ap (λ o. zip2 (binary_value o t) a b) (sym w.in-Rem.is)
+      | in-Shl w ↦ ap (map (value_of t)) (w.result-is ∙ w.shifted_left.ensures) ∙
+          L.lanes_same 64 63 18446744073709551615 refl refl (IsLane 64 t) (λ _. Unit {0}) (value_of t)
+          ((shl_lane 64) (width_bits t)) (binary_value Shl t)
+          (λ p q l r. K.lane_shl 64 (2 ^ 63) refl refl (omega arith) (omega arith) t n p q l) a b left
+          (L.any_lane 64 63 18446744073709551615 refl refl b) ∙ ap (λ o. zip2 (binary_value o t) a b) (sym w.in-Shl.is)
+      | in-Shr w ↦ ap (map (value_of t)) (w.result-is ∙ w.shifted_right.ensures) ∙
+          L.lanes_same 64 63 18446744073709551615 refl refl (IsLane 64 t) (λ _. Unit {0}) (value_of t)
+          ((shr_lane 64) ((bias_of 64) t) (width_bits t)) (binary_value Shr t)
+          (λ p q l r. K.lane_shr 64 (2 ^ 63) refl refl (omega arith) (omega arith) t n p q l) a b left
+          (L.any_lane 64 63 18446744073709551615 refl refl b) ∙ ap (λ o. zip2 (binary_value o t) a b) (sym w.in-Shr.is)
+      | in-And w ↦ ap (map (value_of t)) w.result-is ∙
+          L.lanes_same 64 63 18446744073709551615 refl refl (IsLane 64 t) (IsLane 64 t) (value_of t) bit_and
+          (binary_value And t) (K.lane_and 64 (2 ^ 63) refl refl (omega arith) (omega arith) t n) a b left
+          (c.requires.right (ap is_shift w.in-And.is)) ∙ ap (λ o. zip2 (binary_value o t) a b) (sym w.in-And.is)
+      | in-Or w ↦ ap (map (value_of t)) w.result-is ∙
+          L.lanes_same 64 63 18446744073709551615 refl refl (IsLane 64 t) (IsLane 64 t) (value_of t) bit_or
+          (binary_value Or t) (K.lane_or 64 (2 ^ 63) refl refl (omega arith) (omega arith) t n) a b left
+          (c.requires.right (ap is_shift w.in-Or.is)) ∙ ap (λ o. zip2 (binary_value o t) a b) (sym w.in-Or.is)
+      | in-Xor w ↦ ap (map (value_of t)) w.result-is ∙
+          L.lanes_same 64 63 18446744073709551615 refl refl (IsLane 64 t) (IsLane 64 t) (value_of t) bit_xor
+          (binary_value Xor t) (K.lane_xor 64 (2 ^ 63) refl refl (omega arith) (omega arith) t n) a b left
+          (c.requires.right (ap is_shift w.in-Xor.is)) ∙ ap (λ o. zip2 (binary_value o t) a b) (sym w.in-Xor.is)
+      | in-Eq w ↦ ap (map (value_of t)) (w.result-is ∙
+          L.compared 64 63 18446744073709551615 refl refl (λ x y. nat_eq x y) (add_in 64) k g.row.W a b c.fits-a.0
+          c.fits-b.0 ∙ ap (λ m. zip2 (λ u v. from_bool (nat_eq ((add_in 64) u m) ((add_in 64) v m))) a b)
+          c.bias-lift.ensures) ∙ L.lanes_same 64 63 18446744073709551615 refl refl (IsLane 64 t) (IsLane 64 t)
+          (value_of t) (λ x y. from_bool (nat_eq ((raised 64) ((bias_of 64) t) x) ((raised 64) ((bias_of 64) t) y)))
+          (binary_value Eq t) (K.lane_eq 64 (2 ^ 63) refl refl (omega arith) (omega arith) t n) a b left
+          (c.requires.right (ap is_shift w.in-Eq.is)) ∙ ap (λ o. zip2 (binary_value o t) a b) (sym w.in-Eq.is)
+      | in-Ne w ↦ ap (map (value_of t)) (w.result-is ∙
+          L.compared 64 63 18446744073709551615 refl refl (λ x y. not (nat_eq x y)) (add_in 64) k g.row.W a b
+          c.fits-a.0 c.fits-b.0 ∙ ap (λ m.
+          zip2 (λ u v. from_bool (not (nat_eq ((add_in 64) u m) ((add_in 64) v m)))) a b) c.bias-lift.ensures) ∙
+          L.lanes_same 64 63 18446744073709551615 refl refl (IsLane 64 t) (IsLane 64 t) (value_of t)
+          (λ x y. from_bool (not (nat_eq ((raised 64) ((bias_of 64) t) x) ((raised 64) ((bias_of 64) t) y))))
+          (binary_value Ne t) (K.lane_ne 64 (2 ^ 63) refl refl (omega arith) (omega arith) t n) a b left
+          (c.requires.right (ap is_shift w.in-Ne.is)) ∙ ap (λ o. zip2 (binary_value o t) a b) (sym w.in-Ne.is)
+      | in-Lt w ↦ ap (map (value_of t)) (w.result-is ∙
+          L.compared 64 63 18446744073709551615 refl refl (λ x y. nat_lt x y) (add_in 64) k g.row.W a b c.fits-a.0
+          c.fits-b.0 ∙ ap (λ m. zip2 (λ u v. from_bool (nat_lt ((add_in 64) u m) ((add_in 64) v m))) a b)
+          c.bias-lift.ensures) ∙ L.lanes_same 64 63 18446744073709551615 refl refl (IsLane 64 t) (IsLane 64 t)
+          (value_of t) (λ x y. from_bool (nat_lt ((raised 64) ((bias_of 64) t) x) ((raised 64) ((bias_of 64) t) y)))
+          (binary_value Lt t) (K.lane_lt 64 (2 ^ 63) refl refl (omega arith) (omega arith) t n) a b left
+          (c.requires.right (ap is_shift w.in-Lt.is)) ∙ ap (λ o. zip2 (binary_value o t) a b) (sym w.in-Lt.is)
+      | in-Le w ↦ ap (map (value_of t)) (w.result-is ∙
+          L.compared 64 63 18446744073709551615 refl refl (λ x y. nat_le x y) (add_in 64) k g.row.W a b c.fits-a.0
+          c.fits-b.0 ∙ ap (λ m. zip2 (λ u v. from_bool (nat_le ((add_in 64) u m) ((add_in 64) v m))) a b)
+          c.bias-lift.ensures) ∙ L.lanes_same 64 63 18446744073709551615 refl refl (IsLane 64 t) (IsLane 64 t)
+          (value_of t) (λ x y. from_bool (nat_le ((raised 64) ((bias_of 64) t) x) ((raised 64) ((bias_of 64) t) y)))
+          (binary_value Le t) (K.lane_le 64 (2 ^ 63) refl refl (omega arith) (omega arith) t n) a b left
+          (c.requires.right (ap is_shift w.in-Le.is)) ∙ ap (λ o. zip2 (binary_value o t) a b) (sym w.in-Le.is)
+      | in-Gt w ↦ ap (map (value_of t)) (w.result-is ∙
+          L.compared 64 63 18446744073709551615 refl refl nat_lt (add_in 64) k g.row.W b a c.fits-b.0 c.fits-a.0 ∙
+          L.zip2_swap 64 63 18446744073709551615 refl refl
+          (λ u v. from_bool (nat_lt ((add_in 64) u k) ((add_in 64) v k))) b a ∙
+          ap (λ m. zip2 (λ u v. from_bool (nat_lt ((add_in 64) v m) ((add_in 64) u m))) a b) c.bias-lift.ensures) ∙
+          L.lanes_same 64 63 18446744073709551615 refl refl (IsLane 64 t) (IsLane 64 t) (value_of t)
+          (λ x y. from_bool (nat_lt ((raised 64) ((bias_of 64) t) y) ((raised 64) ((bias_of 64) t) x)))
+          (binary_value Gt t) (K.lane_gt 64 (2 ^ 63) refl refl (omega arith) (omega arith) t n) a b left
+          (c.requires.right (ap is_shift w.in-Gt.is)) ∙ ap (λ o. zip2 (binary_value o t) a b) (sym w.in-Gt.is)
+      | in-Ge w ↦ ap (map (value_of t)) (w.result-is ∙
+          L.compared 64 63 18446744073709551615 refl refl nat_le (add_in 64) k g.row.W b a c.fits-b.0 c.fits-a.0 ∙
+          L.zip2_swap 64 63 18446744073709551615 refl refl
+          (λ u v. from_bool (nat_le ((add_in 64) u k) ((add_in 64) v k))) b a ∙
+          ap (λ m. zip2 (λ u v. from_bool (nat_le ((add_in 64) v m) ((add_in 64) u m))) a b) c.bias-lift.ensures) ∙
+          L.lanes_same 64 63 18446744073709551615 refl refl (IsLane 64 t) (IsLane 64 t) (value_of t)
+          (λ x y. from_bool (nat_le ((raised 64) ((bias_of 64) t) y) ((raised 64) ((bias_of 64) t) x)))
+          (binary_value Ge t) (K.lane_ge 64 (2 ^ 63) refl refl (omega arith) (omega arith) t n) a b left
+          (c.requires.right (ap is_shift w.in-Ge.is)) ∙ ap (λ o. zip2 (binary_value o t) a b) (sym w.in-Ge.is)
     ]

@@ -8,9 +8,11 @@ pub returns : goal.returns
 returns g c =
     let long : length c.args.mask ≡ g.row.W = search rules in
     ap (λ m. sel_l m c.args.new c.args.old)
-    (ap (λ xs. map (top 31) (zip2 (λ u v. cond (not (eqb u v)) 4294967295 0) xs (replicate g.row.W 0))) c.numbers_of32.ensures ∙ L.mask_again 32 31 4294967295 refl refl g.row.W c.args.mask long)
+    (ap (λ xs. map (top 31) (zip2 (λ u v. cond (not (eqb u v)) 4294967295 0) xs (replicate g.row.W 0)))
+    c.numbers_of32.ensures ∙ L.mask_again 32 31 4294967295 refl refl g.row.W c.args.mask long)
 
 pub returns-then-is_full : goal.returns-then-is_full
 returns-then-is_full g c =
     let long : length c.args.mask ≡ g.row.W = search rules in
-    full_select c.args.mask c.args.new c.args.old g.row.W long c.fits-new.0 c.fits-old.0 (sym c.is_full.ensures ∙ c.if-is_full.true)
+    full_select c.args.mask c.args.new c.args.old g.row.W long c.fits-new.0 c.fits-old.0 (sym c.is_full.ensures ∙
+    c.if-is_full.true)

@@ -8,6 +8,9 @@ loop-i-preserved g c =
     let i = c.loop-i.i in
     let lt = c.loop-i-test.true in (
       length-set _ _ _ ∙ c.loop-i.invariant.0,
-      written_next c.loop-i.set (map (λ x. not (nat_eq x 0)) c.args.a) i _ false c.loop-i.invariant.1 (omega (arith, c.loop-i.invariant.0)) (omega (arith, length-map c.args.a (λ x. not (nat_eq x 0)), c.fits-a.0))
+      written_next c.loop-i.set (map (λ x. not (nat_eq x 0)) c.args.a) i _ false c.loop-i.invariant.1 (omega (
+        arith,
+        c.loop-i.invariant.0,
+      )) (omega (arith, length-map c.args.a (λ x. not (nat_eq x 0)), c.fits-a.0))
           (sym (get_or-map (λ x. not (nat_eq x 0)) c.args.a i 0 false (omega (arith, c.fits-a.0)))),
     )

@@ -10,11 +10,17 @@ loop-i-preserved g c =
     let i = c.loop-i.i in
     let lt = c.loop-i-test.true in (
       length-set _ _ _ ∙ c.loop-i.invariant.0,
-      written_next c.loop-i.lanes (map from_bool c.args.mask) i _ 0 c.loop-i.invariant.1 (omega (arith, c.loop-i.invariant.0)) (omega (arith, length-map c.args.mask from_bool, long))
+      written_next c.loop-i.lanes (map from_bool c.args.mask) i _ 0 c.loop-i.invariant.1 (omega (
+        arith,
+        c.loop-i.invariant.0,
+      )) (omega (arith, length-map c.args.mask from_bool, long))
           (sym (get_or-map from_bool c.args.mask i false 0 (omega (arith, long)))),
     )
 
 pub returns : goal.returns
 returns g c =
     let long : length c.args.mask ≡ g.row.W = search rules in
-    written_all c.loop-i.lanes (map from_bool c.args.mask) c.loop-i.i c.loop-i.invariant.1 (omega (arith, c.loop-i.invariant.0)) (omega (arith, length-map c.args.mask from_bool, long))
+    written_all c.loop-i.lanes (map from_bool c.args.mask) c.loop-i.i c.loop-i.invariant.1 (omega (
+      arith,
+      c.loop-i.invariant.0,
+    )) (omega (arith, length-map c.args.mask from_bool, long))

@@ -10,4 +10,5 @@ use Rattle.lane_machine.proofs.asks.answer64.Goals as goal
 pub returns : goal.returns
 returns c =
     c.lane_of64.ensures
-    ∙ ap (lane 64) (to_z_pos w128 c.answer.result (omega (arith, c.answer.type_inv)) ∙ c.answer.ensures ∙ ap (answer_of (launch_of c.args.launch.now) c.args.item c.args.what) (sym (value_uint c.args.d)))
+    ∙ ap (lane 64) (to_z_pos w128 c.answer.result (omega (arith, c.answer.type_inv)) ∙ c.answer.ensures ∙
+    ap (answer_of (launch_of c.args.launch.now) c.args.item c.args.what) (sym (value_uint c.args.d)))

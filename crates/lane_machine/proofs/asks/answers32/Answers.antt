@@ -14,12 +14,17 @@ loop-i-preserved g c =
     let inv = c.loop-i.invariant in
     record {
       long = length-set _ _ _ ∙ inv.long;
-      written = written_next c.loop-i.lanes all i c.answer32.result 0 inv.written (omega (arith, inv.long)) (omega (arith, length-answers 32 launch c.args.item c.args.what c.args.dims, c.fits-dims.0))
-          (c.answer32.ensures ∙ sym (get_or-answers 32 launch c.args.item c.args.what c.args.dims i (omega (arith, c.fits-dims.0))));
+      written = written_next c.loop-i.lanes all i c.answer32.result 0 inv.written (omega (arith, inv.long))
+          (omega (arith, length-answers 32 launch c.args.item c.args.what c.args.dims, c.fits-dims.0))
+          (c.answer32.ensures ∙ sym (get_or-answers 32 launch c.args.item c.args.what c.args.dims i (omega (
+            arith,
+            c.fits-dims.0,
+          ))));
     }
 
 pub returns : goal.returns
 returns g c =
     let launch = launch_of c.args.launch.now in
-    written_all c.loop-i.lanes (answers 32 launch c.args.item c.args.what c.args.dims) c.loop-i.i c.loop-i.invariant.written (omega (arith, c.loop-i.invariant.long))
+    written_all c.loop-i.lanes (answers 32 launch c.args.item c.args.what c.args.dims) c.loop-i.i
+    c.loop-i.invariant.written (omega (arith, c.loop-i.invariant.long))
     (omega (arith, length-answers 32 launch c.args.item c.args.what c.args.dims, c.fits-dims.0))

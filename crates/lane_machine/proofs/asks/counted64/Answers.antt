@@ -25,15 +25,21 @@ loop-i-preserved g c =
     let i = c.loop-i.i in
     let inv = c.loop-i.invariant in
     let lt = c.loop-i-test.true in
-    let step : c.ahead.result ≡ cond (does_grow what d) i 0 = c.ahead.ensures ∙ ap (λ b. cond b i 0) c.grows-growing.ensures in
-    let is : (c.answer-first.result + c.ahead.result) % 2 ^ 64 ≡ lane 64 (answer_of launch (item + i) what (value_of Uint (get_or dims i 0))) =
+    let step : c.ahead.result ≡ cond (does_grow what d) i 0 =
+    c.ahead.ensures ∙ ap (λ b. cond b i 0) c.grows-growing.ensures in
+    let is : (c.answer-first.result + c.ahead.result) % 2 ^ 64 ≡
+    lane 64 (answer_of launch (item + i) what (value_of Uint (get_or dims i 0))) =
     ap (λ k. (c.answer-first.result + k) % 2 ^ 64) step
     ∙ sym (lane_number (c.answer-first.result + cond (does_grow what d) i 0))
-    ∙ sym (ap (lane 64) (ap (λ q. answer_of launch (item + i) what (value_of Uint q)) (get_or-replicate g.row.W i d 0 (omega arith)) ∙ ap (answer_of launch (item + i) what) (value_small d (omega (arith, c.ranges.d)))
-    ∙ counted l c.requires.sizes.local item i (omega (arith, c.requires.row, lt)) what d c.answer-first.result c.answer-first.ensures)) in
+    ∙ sym (ap (lane 64) (ap (λ q. answer_of launch (item + i) what (value_of Uint q))
+    (get_or-replicate g.row.W i d 0 (omega arith)) ∙
+    ap (answer_of launch (item + i) what) (value_small d (omega (arith, c.ranges.d)))
+    ∙ counted l c.requires.sizes.local item i (omega (arith, c.requires.row, lt)) what d c.answer-first.result
+    c.answer-first.ensures)) in
     record {
       long = length-set _ _ _ ∙ inv.long;
-      written = written_next c.loop-i.lanes all i ((c.answer-first.result + c.ahead.result) % 2 ^ 64) 0 inv.written (omega (arith, inv.long)) (omega (arith, length-answers 64 launch item what dims, long))
+      written = written_next c.loop-i.lanes all i ((c.answer-first.result + c.ahead.result) % 2 ^ 64) 0 inv.written
+          (omega (arith, inv.long)) (omega (arith, length-answers 64 launch item what dims, long))
           (is ∙ sym (get_or-answers 64 launch item what dims i (omega (arith, long))));
     }
 
@@ -42,5 +48,6 @@ returns g c =
     let launch = launch_of c.args.launch.now in
     let dims = replicate g.row.W c.args.d in
     let long : length dims ≡ g.row.W = length-replicate g.row.W c.args.d in
-    written_all c.loop-i.lanes (answers 64 launch c.args.item c.args.what dims) c.loop-i.i c.loop-i.invariant.written (omega (arith, c.loop-i.invariant.long))
+    written_all c.loop-i.lanes (answers 64 launch c.args.item c.args.what dims) c.loop-i.i c.loop-i.invariant.written
+    (omega (arith, c.loop-i.invariant.long))
     (omega (arith, length-answers 64 launch c.args.item c.args.what dims, long))

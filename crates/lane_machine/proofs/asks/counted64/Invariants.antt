@@ -6,5 +6,6 @@ use Rattle.lane_machine.proofs.asks.counted64.Given as goal
 abbrev pub invariant-loop-i : goal.invariant-loop-i
 invariant-loop-i g l = record {
   long : length l.lanes ≡ g.row.W;
-  written : take l.i l.lanes ≡ take l.i (answers 64 (launch_of l.fn.launch) l.fn.item l.fn.what (replicate g.row.W l.fn.d));
+  written : take l.i l.lanes ≡ take l.i (answers 64 (launch_of l.fn.launch) l.fn.item l.fn.what
+      (replicate g.row.W l.fn.d));
 }

@@ -15,13 +15,18 @@ loop-i-preserved g c =
     let inv = c.loop-i.invariant in
     record {
       long = length-set _ _ _ ∙ inv.long;
-      written = written_next c.loop-i.lanes all i c.answer64.result 0 inv.written (omega (arith, inv.long)) (omega (arith, length-answers 64 launch c.args.item c.args.what c.args.places, long))
-          (c.answer64.ensures ∙ sym (get_or-answers 64 launch c.args.item c.args.what c.args.places i (omega (arith, long))));
+      written = written_next c.loop-i.lanes all i c.answer64.result 0 inv.written (omega (arith, inv.long))
+          (omega (arith, length-answers 64 launch c.args.item c.args.what c.args.places, long))
+          (c.answer64.ensures ∙ sym (get_or-answers 64 launch c.args.item c.args.what c.args.places i (omega (
+            arith,
+            long,
+          ))));
     }
 
 pub returns : goal.returns
 returns g c =
     let launch = launch_of c.args.launch.now in
     let long : length c.args.places ≡ g.row.W = search rules in
-    written_all c.loop-i.lanes (answers 64 launch c.args.item c.args.what c.args.places) c.loop-i.i c.loop-i.invariant.written (omega (arith, c.loop-i.invariant.long))
+    written_all c.loop-i.lanes (answers 64 launch c.args.item c.args.what c.args.places) c.loop-i.i
+    c.loop-i.invariant.written (omega (arith, c.loop-i.invariant.long))
     (omega (arith, length-answers 64 launch c.args.item c.args.what c.args.places, long))

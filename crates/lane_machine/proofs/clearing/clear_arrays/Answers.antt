@@ -9,7 +9,8 @@ loop-i-preserved c =
     let xs = c.loop-i.arrays.items in
     let i = c.loop-i.i in
     let h : i < length xs = search rules in
-    let next = array_next c.args.arrays.now.items xs i c.index_mut.result.now c.clear_objects.new.objects h c.index_mut.ensures.value c.clear_objects.ensures inv.same inv.done in
+    let next = array_next c.args.arrays.now.items xs i c.index_mut.result.now c.clear_objects.new.objects h
+    c.index_mut.ensures.value c.clear_objects.ensures inv.same inv.done in
     record { long = length-set xs i _ ∙ inv.long; same = next.0; done = next.1 }
 
 pub returns : goal.returns

@@ -9,7 +9,8 @@ loop-i-preserved c =
     let xs = c.loop-i.columns.items in
     let i = c.loop-i.i in
     let h : i < length xs = search rules in
-    let next = object_next c.args.columns.now.items xs i c.index_mut.result.now c.clear_numbers.new.numbers h c.index_mut.ensures.value c.clear_numbers.ensures inv.same inv.done in
+    let next = object_next c.args.columns.now.items xs i c.index_mut.result.now c.clear_numbers.new.numbers h
+    c.index_mut.ensures.value c.clear_numbers.ensures inv.same inv.done in
     record { long = length-set xs i _ ∙ inv.long; same = next.0; done = next.1 }
 
 pub returns : goal.returns

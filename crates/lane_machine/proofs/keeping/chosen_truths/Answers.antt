@@ -17,8 +17,12 @@ loop-i-preserved g c =
     let inv = c.loop-i.invariant in
     record {
       long = length-set _ _ _ ∙ inv.long;
-      written = written_next c.loop-i.lanes (zip3 chosen a b d) i c.one_of.result false inv.written (omega (arith, inv.long)) (omega (arith, length-zip3 chosen g.row.W a b d la lb ld))
-          (c.one_of.ensures ∙ sym (get_or-zip3 chosen a b d i false false false false (omega (arith, la)) (omega (arith, lb)) (omega (arith, ld))));
+      written = written_next c.loop-i.lanes (zip3 chosen a b d) i c.one_of.result false inv.written (omega (
+        arith,
+        inv.long,
+      )) (omega (arith, length-zip3 chosen g.row.W a b d la lb ld))
+          (c.one_of.ensures ∙ sym (get_or-zip3 chosen a b d i false false false false (omega (arith, la))
+          (omega (arith, lb)) (omega (arith, ld))));
     }
 
 pub returns : goal.returns
@@ -29,4 +33,7 @@ returns g c =
     let la : length a ≡ g.row.W = search rules in
     let lb : length b ≡ g.row.W = search rules in
     let ld : length d ≡ g.row.W = search rules in
-    written_all c.loop-i.lanes (zip3 chosen a b d) c.loop-i.i c.loop-i.invariant.written (omega (arith, c.loop-i.invariant.long)) (omega (arith, length-zip3 chosen g.row.W a b d la lb ld))
+    written_all c.loop-i.lanes (zip3 chosen a b d) c.loop-i.i c.loop-i.invariant.written (omega (
+      arith,
+      c.loop-i.invariant.long,
+    )) (omega (arith, length-zip3 chosen g.row.W a b d la lb ld))

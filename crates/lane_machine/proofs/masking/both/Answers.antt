@@ -15,8 +15,10 @@ loop-i-preserved g c =
     let inv = c.loop-i.invariant in
     record {
       long = length-set _ _ _ ∙ inv.long;
-      written = written_next c.loop-i.set (zip2 (λ x y. x && y) a b) i _ false inv.written (omega (arith, inv.long)) (omega (arith, length-zip2 (λ x y. x && y) a b (first ∙ sym second), first))
-          (c.and.ensures ∙ sym (get_or-zip2 (λ x y. x && y) a b i false false false (omega (arith, first)) (omega (arith, second))));
+      written = written_next c.loop-i.set (zip2 (λ x y. x && y) a b) i _ false inv.written (omega (arith, inv.long))
+          (omega (arith, length-zip2 (λ x y. x && y) a b (first ∙ sym second), first))
+          (c.and.ensures ∙ sym (get_or-zip2 (λ x y. x && y) a b i false false false (omega (arith, first))
+          (omega (arith, second))));
     }
 
 pub returns : goal.returns
@@ -25,4 +27,7 @@ returns g c =
     let b = c.args.b in
     let first : length a ≡ g.row.W = search rules in
     let second : length b ≡ g.row.W = search rules in
-    written_all c.loop-i.set (zip2 (λ x y. x && y) a b) c.loop-i.i c.loop-i.invariant.written (omega (arith, c.loop-i.invariant.long)) (omega (arith, length-zip2 (λ x y. x && y) a b (first ∙ sym second), first))
+    written_all c.loop-i.set (zip2 (λ x y. x && y) a b) c.loop-i.i c.loop-i.invariant.written (omega (
+      arith,
+      c.loop-i.invariant.long,
+    )) (omega (arith, length-zip2 (λ x y. x && y) a b (first ∙ sym second), first))

@@ -7,6 +7,7 @@ loop-i-preserved c =
     let i = c.loop-i.i in
     let within : i < length c.args.args.now = search rules in
     record {
-      value = ap₂ (λ a b. a + b) c.loop-i.invariant.value c.one_if_local-one.ensures.value ∙ sym (locals_next c.args.args.now i _ within);
+      value = ap₂ (λ a b. a + b) c.loop-i.invariant.value c.one_if_local-one.ensures.value ∙
+          sym (locals_next c.args.args.now i _ within);
       few = omega (arith, c.loop-i.invariant.few, c.one_if_local-one.ensures.few);
     }

@@ -4,5 +4,6 @@ use Rattle.lane_machine.proofs.own.clear_own.Given as goal
 
 abbrev pub invariant-loop-i : goal.invariant-loop-i
 invariant-loop-i g l = record {
-  written : map (λ (v : Vec ℕ Global). v.items) l.objects.items ≡ changed (map (λ (v : Vec ℕ Global). v.items) l.fn.objects.items) l.fn.first (take l.i (map clears l.fn.mask));
+  written : map (λ (v : Vec ℕ Global). v.items) l.objects.items ≡
+      changed (map (λ (v : Vec ℕ Global). v.items) l.fn.objects.items) l.fn.first (take l.i (map clears l.fn.mask));
 }

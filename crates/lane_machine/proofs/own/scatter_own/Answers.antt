@@ -20,9 +20,12 @@ loop-i-preserved g c =
     let i = c.loop-i.i in
     let inv = c.loop-i.invariant in
     record {
-      written = store_next size g.row.W c.args.first m index from lm li lf old i now _ (search rules) inv.written c.if-not-store_item.ensures.stored;
-      clear = below_more (λ k. get_or (own_faults size m index (window [] old c.args.first g.row.W)) k false ≡ false) i inv.clear
-          (store_fault size g.row.W c.args.first m index from lm li lf old i now (search rules) inv.written ∙ not_true _ c.if-not-store_item.ensures.done);
+      written = store_next size g.row.W c.args.first m index from lm li lf old i now _ (search rules) inv.written
+          c.if-not-store_item.ensures.stored;
+      clear = below_more (λ k. get_or (own_faults size m index (window [] old c.args.first g.row.W)) k false ≡ false)
+          i inv.clear
+          (store_fault size g.row.W c.args.first m index from lm li lf old i now (search rules) inv.written ∙
+          not_true _ c.if-not-store_item.ensures.done);
     }
 
 pub returns-then-not-store_item : goal.returns-then-not-store_item
@@ -39,8 +42,13 @@ returns-then-not-store_item g c =
     let i = c.loop-i.i in
     let inv = c.loop-i.invariant in (
       lowest_some (own_faults size m index (window [] old c.args.first g.row.W)) i
-          (record { set = store_fault size g.row.W c.args.first m index from lm li lf old i now (search rules) inv.written ∙ not_false _ c.if-not-store_item.ensures.done; before = inv.clear }),
-      c.if-not-store_item.ensures.kept ∙ store_below size g.row.W c.args.first m index from lm li lf old i now (search rules) inv.written,
+          (record {
+            set = store_fault size g.row.W c.args.first m index from lm li lf old i now (search rules)
+                inv.written ∙ not_false _ c.if-not-store_item.ensures.done;
+            before = inv.clear;
+          }),
+      c.if-not-store_item.ensures.kept ∙
+          store_below size g.row.W c.args.first m index from lm li lf old i now (search rules) inv.written,
     )
 
 pub returns : goal.returns
@@ -56,6 +64,11 @@ returns g c =
     let lf : length from ≡ g.row.W = search rules in
     let past : g.row.W ≤ c.loop-i.i = search rules in
     let inv = c.loop-i.invariant in (
-      lowest_none (own_faults size m index (window [] old c.args.first g.row.W)) (none_anywhere (own_faults size m index (window [] old c.args.first g.row.W)) c.loop-i.i (omega (arith, length_faults g.row.W c.args.first m index lm li size old, past)) inv.clear),
+      lowest_none (own_faults size m index (window [] old c.args.first g.row.W))
+          (none_anywhere (own_faults size m index (window [] old c.args.first g.row.W)) c.loop-i.i (omega (
+            arith,
+            length_faults g.row.W c.args.first m index lm li size old,
+            past,
+          )) inv.clear),
       store_all size g.row.W c.args.first m index from lm li lf old c.loop-i.i now past inv.written,
     )

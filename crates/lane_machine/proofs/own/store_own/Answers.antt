@@ -14,5 +14,9 @@ returns g c =
     let first = c.args.first in
     let W = g.row.W in
     let xs = c.args.privates.now.items in
-    store_moves [] c.store_objects.result (map objects_in xs) c.args.array (objects_in c.index_mut.result.now) (objects_in c.store_objects.new.objects) _ (λ b. lowest (own_faults size m index (window [] b first W))) (λ b. with_window b first (own_stored size m index lanes (window [] b first W))) (λ k b. with_window b first (own_stored size (take k m) (take k index) (take k lanes) (window [] b first W)))
-    (read_array xs c.args.array c.index_mut.result.now c.requires.array c.index_mut.ensures.value) (map-set objects_in xs c.args.array _) c.store_objects.ensures
+    store_moves [] c.store_objects.result (map objects_in xs) c.args.array (objects_in c.index_mut.result.now)
+    (objects_in c.store_objects.new.objects) _ (λ b. lowest (own_faults size m index (window [] b first W)))
+    (λ b. with_window b first (own_stored size m index lanes (window [] b first W)))
+    (λ k b. with_window b first (own_stored size (take k m) (take k index) (take k lanes) (window [] b first W)))
+    (read_array xs c.args.array c.index_mut.result.now c.requires.array c.index_mut.ensures.value)
+    (map-set objects_in xs c.args.array _) c.store_objects.ensures

@@ -11,6 +11,10 @@ loop-i-preserved c =
     let old = c.args.bytes.now in
     record {
       long = length-set _ _ _ ∙ inv.long;
-      written = written_next c.loop-i.bytes (map (λ (b : ℕ). 0) old) i 0 0 inv.written (omega (arith, inv.long, c.loop-i-test.true)) (omega (arith, length_mapped {B = ℕ} (λ (b : ℕ). 0) old, c.loop-i-test.true))
+      written = written_next c.loop-i.bytes (map (λ (b : ℕ). 0) old) i 0 0 inv.written (omega (
+        arith,
+        inv.long,
+        c.loop-i-test.true,
+      )) (omega (arith, length_mapped {B = ℕ} (λ (b : ℕ). 0) old, c.loop-i-test.true))
           (sym (get_or-map {Y = ℕ} (λ (b : ℕ). 0) old i 0 0 (omega (arith, c.loop-i-test.true))));
     }

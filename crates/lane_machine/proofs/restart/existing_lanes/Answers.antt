@@ -12,7 +12,11 @@ loop-i-preserved g c =
     let inv = c.loop-i.invariant in
     record {
       long = length-set _ _ _ ∙ inv.long;
-      written = written_next c.loop-i.lanes (existing a.size g.row.W a.first) i _ false inv.written (omega (arith, inv.long, c.loop-i-test.true)) (omega (arith, length-existing a.size g.row.W a.first, c.loop-i-test.true))
+      written = written_next c.loop-i.lanes (existing a.size g.row.W a.first) i _ false inv.written (omega (
+        arith,
+        inv.long,
+        c.loop-i-test.true,
+      )) (omega (arith, length-existing a.size g.row.W a.first, c.loop-i-test.true))
           (sym (get_or-existing a.size g.row.W a.first i c.loop-i-test.true));
     }
 
@@ -20,4 +24,8 @@ pub returns : goal.returns
 returns g c =
     let a = c.args in
     let past : g.row.W ≤ c.loop-i.i = search rules in
-    written_all c.loop-i.lanes (existing a.size g.row.W a.first) c.loop-i.i c.loop-i.invariant.written (omega (arith, c.loop-i.invariant.long, past)) (omega (arith, length-existing a.size g.row.W a.first, past))
+    written_all c.loop-i.lanes (existing a.size g.row.W a.first) c.loop-i.i c.loop-i.invariant.written (omega (
+      arith,
+      c.loop-i.invariant.long,
+      past,
+    )) (omega (arith, length-existing a.size g.row.W a.first, past))

@@ -24,11 +24,17 @@ pub most_in_each-loop-one-preserved : goal.most_in_each-loop-one-preserved
 most_in_each-loop-one-preserved t c = λ room h.
     let one = c.most_in-so_far.ensures room h in
     let before = c.loop-one.invariant room one.0 in
-    let nodes = c.deref-one-items.result.now in
-    (before.0, λ rest. before.1 (each_next room nodes c.loop-one.one-index c.one-item.result c.loop-one-test.true c.one-item.is one.1 rest))
+    let nodes = c.deref-one-items.result.now in (
+      before.0,
+      λ rest. before.1 (each_next room nodes c.loop-one.one-index c.one-item.result c.loop-one-test.true
+          c.one-item.is one.1 rest),
+    )
 
 pub most_in_each-returns : goal.most_in_each-returns
 most_in_each-returns t c = λ room h.
     let all = c.loop-one.invariant room h in
-    let nodes = c.deref-one-items.result.now in
-    (all.0, subst (HasRoomForEach room) c.deref-one-items.ensures.value (all.1 (each_gone room nodes c.loop-one.one-index c.loop-one-test.false)))
+    let nodes = c.deref-one-items.result.now in (
+      all.0,
+      subst (HasRoomForEach room) c.deref-one-items.ensures.value
+          (all.1 (each_gone room nodes c.loop-one.one-index c.loop-one-test.false)),
+    )

@@ -6,4 +6,6 @@ use Rattle.lane_machine.proofs.shared.gather_narrow.Goals as goal
 
 pub returns : goal.returns
 returns g c =
-    gather_is (faults (size_of c.args.t) (length c.args.bytes.now) c.args.mask c.args.index) (λ v. v ≡ gathered 32 c.args.t c.args.bytes.now c.args.mask c.args.index) c.gather32.result c.gather32.ensures.cases
+    gather_is (faults (size_of c.args.t) (length c.args.bytes.now) c.args.mask c.args.index)
+    (λ v. v ≡ gathered 32 c.args.t c.args.bytes.now c.args.mask c.args.index) c.gather32.result
+    c.gather32.ensures.cases

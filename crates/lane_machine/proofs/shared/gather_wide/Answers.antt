@@ -6,4 +6,6 @@ use Rattle.lane_machine.proofs.shared.gather_wide.Goals as goal
 
 pub returns : goal.returns
 returns g c =
-    gather_is (faults (size_of c.args.t) (length c.args.bytes.now) c.args.mask c.args.index) (λ v. v ≡ gathered 64 c.args.t c.args.bytes.now c.args.mask c.args.index) c.gather64.result c.gather64.ensures.cases
+    gather_is (faults (size_of c.args.t) (length c.args.bytes.now) c.args.mask c.args.index)
+    (λ v. v ≡ gathered 64 c.args.t c.args.bytes.now c.args.mask c.args.index) c.gather64.result
+    c.gather64.ensures.cases

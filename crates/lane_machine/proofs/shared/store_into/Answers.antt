@@ -14,5 +14,6 @@ returns g c =
     let lists = map (λ (v : Vec ℕ Global). v.items) c.args.objects.now.items in
     let long = length_mapped (λ (v : Vec ℕ Global). v.items) c.args.objects.now.items in
     let l : length c.args.objects.now.items ≤ c.args.object = search rules in
-    store_past [] c.store_slice.result lists c.args.object _ (λ b. lowest (faults size (length b) m index)) (λ b. scattered size b m index lanes) (λ k b. scattered size b (take k m) (take k index) (take k lanes))
+    store_past [] c.store_slice.result lists c.args.object _ (λ b. lowest (faults size (length b) m index))
+    (λ b. scattered size b m index lanes) (λ k b. scattered size b (take k m) (take k index) (take k lanes))
     (rw long l) c.store_slice.ensures

@@ -12,5 +12,8 @@ returns g c =
     let lanes = lanes_of c.args.r.now.plain c.args.from in
     let size = size_of c.args.t in
     let xs = c.args.objects.now.items in
-    store_moves [] c.store_shared.result (map (λ (v : Vec ℕ Global). v.items) xs) c.args.object c.index_mut.result.now.items c.store_shared.new.bytes.items _ (λ b. lowest (faults size (length b) m index)) (λ b. scattered size b m index lanes) (λ k b. scattered size b (take k m) (take k index) (take k lanes))
-    (read_one xs c.args.object c.index_mut.result.now c.requires.object c.index_mut.ensures.value) (map-set (λ (v : Vec ℕ Global). v.items) xs c.args.object _) c.store_shared.ensures
+    store_moves [] c.store_shared.result (map (λ (v : Vec ℕ Global). v.items) xs) c.args.object
+    c.index_mut.result.now.items c.store_shared.new.bytes.items _ (λ b. lowest (faults size (length b) m index))
+    (λ b. scattered size b m index lanes) (λ k b. scattered size b (take k m) (take k index) (take k lanes))
+    (read_one xs c.args.object c.index_mut.result.now c.requires.object c.index_mut.ensures.value)
+    (map-set (λ (v : Vec ℕ Global). v.items) xs c.args.object _) c.store_shared.ensures

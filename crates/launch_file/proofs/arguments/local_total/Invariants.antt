@@ -4,6 +4,7 @@ use Rattle.launch_file.proofs.arguments.local_total.Given as goal
 
 abbrev pub invariant-loop-arg : goal.invariant-loop-arg
 invariant-loop-arg l = record {
-  same : min (l.declared + spec.total (λ a. spec.count_of (spec.local_bytes_of a)) l.args) (2 ^ 64 - 1) ≡ min (l.total + spec.total (λ a. spec.count_of (spec.local_bytes_of a)) (drop l.arg-index l.args)) (2 ^ 64 - 1);
+  same : min (l.declared + spec.total (λ a. spec.count_of (spec.local_bytes_of a)) l.args) (2 ^ 64 - 1) ≡
+      min (l.total + spec.total (λ a. spec.count_of (spec.local_bytes_of a)) (drop l.arg-index l.args)) (2 ^ 64 - 1);
   small : l.total ≤ 2 ^ 64 - 1;
 }

@@ -3,4 +3,5 @@ use Rattle.std.specs.List.{list_any}
 use Rattle.launch_file.proofs.keys.is_among.Given as goal
 
 abbrev pub invariant-loop-name : goal.invariant-loop-name
-invariant-loop-name l = list_any (λ name. bytes_eq name l.key) (map (λ name. name.now) l.names) ≡ list_any (λ name. bytes_eq name l.key) (map (λ name. name.now) (drop l.name-index l.names))
+invariant-loop-name l = list_any (λ name. bytes_eq name l.key) (map (λ name. name.now) l.names) ≡
+    list_any (λ name. bytes_eq name l.key) (map (λ name. name.now) (drop l.name-index l.names))

@@ -6,6 +6,7 @@ use Rattle.launch_file.proofs.parts.parts_of.Given as goal
 
 abbrev pub invariant-loop-value : goal.invariant-loop-value
 invariant-loop-value l = record {
-  same : parts_of (items_view l.items) ≡ option_map (λ more. map part_of l.list.items ++ more) (parts_of (items_view (drop l.value-index l.items)));
+  same : parts_of (items_view l.items) ≡ option_map (λ more. map part_of l.list.items ++ more)
+      (parts_of (items_view (drop l.value-index l.items)));
   lengths : All (λ p. HasOneLength (part_of p)) l.list.items;
 }

@@ -10,7 +10,8 @@ use Rattle.launch_file.proofs.values.defines_of.Goals as goal
 pub loop-key-preserved : goal.loop-key-preserved
 loop-key-preserved c =
     let e : c.loop-key.key-iterator ≡ (c.in-Some.key.now, c.in-Some.value.now) ∷ c.next.new.self = search rules in
-    let d : define_of (string_bytes c.in-Some.key.now) (view c.in-Some.value.now) ≡ Some c.in-Some-2.define = search rules in
+    let d : define_of (string_bytes c.in-Some.key.now) (view c.in-Some.value.now) ≡ Some c.in-Some-2.define =
+    search rules in
     let p : c.push.new.self.items ≡ c.loop-key.list.items ++ c.in-Some-2.define ∷ [] = search rules in
     let n : HasNumber c.in-Some-2.define = search rules in
     record {
@@ -18,5 +19,6 @@ loop-key-preserved c =
           ∙ (ap (λ ms. option_map (λ more. c.loop-key.list.items ++ more) (defines_of (members_view ms))) e
           ∙ (before-pushed _ _ c.loop-key.list.items (defines_of (members_view c.next.new.self)) d
           ∙ ap (λ xs. option_map (λ more. xs ++ more) (defines_of (members_view c.next.new.self))) (sym p)));
-      numbers = subst (λ (ds : List Define). All HasNumber ds) (sym p) (All-push HasNumber c.loop-key.list.items c.in-Some-2.define c.loop-key.invariant.numbers n);
+      numbers = subst (λ (ds : List Define). All HasNumber ds) (sym p)
+          (All-push HasNumber c.loop-key.list.items c.in-Some-2.define c.loop-key.invariant.numbers n);
     }

@@ -5,6 +5,7 @@ use Rattle.launch_file.proofs.values.defines_of.Given as goal
 
 abbrev pub invariant-loop-key : goal.invariant-loop-key
 invariant-loop-key l = record {
-  same : defines_of (members_view l.table.entries) ≡ option_map (λ more. l.list.items ++ more) (defines_of (members_view l.key-iterator));
+  same : defines_of (members_view l.table.entries) ≡ option_map (λ more. l.list.items ++ more)
+      (defines_of (members_view l.key-iterator));
   numbers : All HasNumber l.list.items;
 }

@@ -8,4 +8,6 @@ use Rattle.mask_lower.proofs.region.lower_region.Goals as goal
 
 pub returns-in-Some-clause-accesses : goal.returns-in-Some-clause-accesses
 returns-in-Some-clause-accesses c =
-    subst (SameAccesses (lines_of c.args.region.now.lines.items)) (sym (c.in-Some.ensures.steps ∙ c.in_ok-steps.ensures)) (same_accesses (kernel_of c.args.kernel.now) c.args.plan.now.homes.items (region_of c.args.region.now))
+    subst (SameAccesses (lines_of c.args.region.now.lines.items)) (sym (c.in-Some.ensures.steps ∙
+    c.in_ok-steps.ensures)) (same_accesses (kernel_of c.args.kernel.now) c.args.plan.now.homes.items
+    (region_of c.args.region.now))

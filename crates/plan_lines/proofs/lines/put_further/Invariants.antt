@@ -5,4 +5,5 @@ use Rattle.plan_lines.proofs.lines.put_further.Given as goal
 
 -- what is still to be put completes the places
 abbrev pub invariant-loop-place : goal.invariant-loop-place
-invariant-loop-place l = l.text.items ++ flat_map (λ p. codes "/" ++ place_text p) (drop l.place-index l.path) ≡ l.fn.text.items ++ flat_map (λ p. codes "/" ++ place_text p) l.path
+invariant-loop-place l = l.text.items ++ flat_map (λ p. codes "/" ++ place_text p) (drop l.place-index l.path) ≡
+    l.fn.text.items ++ flat_map (λ p. codes "/" ++ place_text p) l.path

@@ -8,5 +8,6 @@ use Rattle.plan_lines.proofs.lines.put_variable.Given as goal
 abbrev pub invariant-loop-n : goal.invariant-loop-n
 invariant-loop-n l = record {
   same : l.text.items ≡ l.fn.text.items;
-  left : line_among l.homes (variable_of l.variable) l.n (map cell_of (drop l.n l.cells)) ≡ line_among l.homes (variable_of l.variable) 0 (map cell_of l.cells);
+  left : line_among l.homes (variable_of l.variable) l.n (map cell_of (drop l.n l.cells)) ≡
+      line_among l.homes (variable_of l.variable) 0 (map cell_of l.cells);
 }

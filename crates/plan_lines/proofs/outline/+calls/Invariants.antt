@@ -7,7 +7,11 @@ use Rattle.plan_lines.proofs.outline.+calls.Given as goal
 
 -- what is still to be put completes the entries
 abbrev pub invariant-put_expressions-loop-e : goal.invariant-put_expressions-loop-e
-invariant-put_expressions-loop-e l = l.entries.items ++ call_entries (calls_among (listed_expressions (drop l.e-index l.list))) ≡ l.fn.entries.items ++ call_entries (calls_among (listed_expressions l.list))
+invariant-put_expressions-loop-e l =
+    l.entries.items ++ call_entries (calls_among (listed_expressions (drop l.e-index l.list))) ≡ l.fn.entries.items ++
+    call_entries (calls_among (listed_expressions l.list))
 
 abbrev pub invariant-put_arguments-loop-argument : goal.invariant-put_arguments-loop-argument
-invariant-put_arguments-loop-argument l = l.entries.items ++ call_entries (calls_among (listed_arguments (drop l.argument-index l.list))) ≡ l.fn.entries.items ++ call_entries (calls_among (listed_arguments l.list))
+invariant-put_arguments-loop-argument l =
+    l.entries.items ++ call_entries (calls_among (listed_arguments (drop l.argument-index l.list))) ≡
+    l.fn.entries.items ++ call_entries (calls_among (listed_arguments l.list))

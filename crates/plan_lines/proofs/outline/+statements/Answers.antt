@@ -11,5 +11,7 @@ put_statement-returns-in-Block t c =
 pub put_statement-returns-in_ok-put_expression-in-Switch : goal.put_statement-returns-in_ok-put_expression-in-Switch
 put_statement-returns-in_ok-put_expression-in-Switch t c =
     subst (λ z. OnOk c.put_arms.result (c.put_arms.new.entries.items ≡ z))
-    (switch_behind c.args.s.now c.in-Switch.site c.in-Switch.value c.in-Switch.arms c.deref-in-Switch.result.now c.args.entries.now.items c.put_expression-in-Switch.new.entries.items c.in-Switch.is c.deref-in-Switch.ensures.value c.in_ok-put_expression-in-Switch.ensures)
+    (switch_behind c.args.s.now c.in-Switch.site c.in-Switch.value c.in-Switch.arms c.deref-in-Switch.result.now
+    c.args.entries.now.items c.put_expression-in-Switch.new.entries.items c.in-Switch.is
+    c.deref-in-Switch.ensures.value c.in_ok-put_expression-in-Switch.ensures)
     c.put_arms.ensures

@@ -12,5 +12,9 @@ returns t c =
     let E = entry_variables program (c.args.depth - 1) c.args.calls.now c.args.function in
     let new = map variable_of c.loop-entry.list.items in
     let items = c.deref-entry-items.result.now in
-    function_behind program c.args.depth c.args.calls.now c.args.function items (map variable_of c.args.list.now.items) new c.if-depth-eq0.false (c.deref-entry-items.ensures.value ∙ c.in_ok-entries.ensures)
-    (sym (append-nil new) ∙ (sym (at_drop_all (λ l. new ++ flat_map E l) items c.loop-entry.entry-index c.loop-entry-test.false) ∙ c.loop-entry.invariant))
+    function_behind program c.args.depth c.args.calls.now c.args.function items
+    (map variable_of c.args.list.now.items) new c.if-depth-eq0.false (c.deref-entry-items.ensures.value ∙
+    c.in_ok-entries.ensures)
+    (sym (append-nil new) ∙
+    (sym (at_drop_all (λ l. new ++ flat_map E l) items c.loop-entry.entry-index c.loop-entry-test.false) ∙
+    c.loop-entry.invariant))

@@ -11,5 +11,7 @@ decreases-put_function l = l.depth
 -- what is still to be put completes the variables
 abbrev pub invariant-loop-entry : goal.invariant-loop-entry
 invariant-loop-entry l =
-    map variable_of l.list.items ++ flat_map (entry_variables (program_of l.program) (l.depth - 1) l.calls l.function) (drop l.entry-index l.entry-items)
-    ≡ map variable_of l.fn.list.items ++ flat_map (entry_variables (program_of l.program) (l.depth - 1) l.calls l.function) l.entry-items
+    map variable_of l.list.items ++ flat_map (entry_variables (program_of l.program) (l.depth - 1) l.calls l.function)
+    (drop l.entry-index l.entry-items)
+    ≡ map variable_of l.fn.list.items ++
+    flat_map (entry_variables (program_of l.program) (l.depth - 1) l.calls l.function) l.entry-items

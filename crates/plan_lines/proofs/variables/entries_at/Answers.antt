@@ -11,10 +11,15 @@ use Rattle.plan_lines.proofs.variables.entries_at.Goals as goal
 pub returns-in-Some : goal.returns-in-Some
 returns-in-Some c =
     let number = c.args.function in
-    let there : slice_get c.deref.result.now number ≡ Some c.in-Some.body.now = slice_get-get_or c.deref.result.now number c.in-Some.body.now c.in-Some.ensures.lookup.3.0 ∙ ap Some (sym (c.in-Some.ensures.lookup.3.1 c.in-Some.body.now)) in
-    let own : slice_get (map function_of c.args.program.now.functions.items) number ≡ Some (function_of c.in-Some.body.now) =
-    ap (λ gs. slice_get (map function_of gs) number) (sym c.deref.ensures.value) ∙ (slice_get-map function_of c.deref.result.now number ∙ ap (λ o. option_map function_of o) there) in
-    IfOk-weaker c.outline_of.result _ _ (λ v h. h ∙ ap (λ (o : Option Function). function_entries (unwrap_or o no_function)) (sym own)) c.outline_of.ensures
+    let there : slice_get c.deref.result.now number ≡ Some c.in-Some.body.now =
+    slice_get-get_or c.deref.result.now number c.in-Some.body.now c.in-Some.ensures.lookup.3.0 ∙
+    ap Some (sym (c.in-Some.ensures.lookup.3.1 c.in-Some.body.now)) in
+    let own : slice_get (map function_of c.args.program.now.functions.items) number ≡
+    Some (function_of c.in-Some.body.now) =
+    ap (λ gs. slice_get (map function_of gs) number) (sym c.deref.ensures.value) ∙
+    (slice_get-map function_of c.deref.result.now number ∙ ap (λ o. option_map function_of o) there) in
+    IfOk-weaker c.outline_of.result _ _ (λ v h. h ∙
+    ap (λ (o : Option Function). function_entries (unwrap_or o no_function)) (sym own)) c.outline_of.ensures
 
 pub returns-in-None : goal.returns-in-None
 returns-in-None c =
@@ -22,4 +27,6 @@ returns-in-None c =
     let no = c.in-None.ensures.lookup.0 in
     let past = slice_get_past c.deref.result.now number (grind (arith, nat_tests)) in
     c.new.ensures.items
-    ∙ ap (λ (o : Option Function). function_entries (unwrap_or o no_function)) (sym (ap (λ gs. slice_get (map function_of gs) number) (sym c.deref.ensures.value) ∙ (slice_get-map function_of c.deref.result.now number ∙ ap (λ o. option_map function_of o) past)))
+    ∙ ap (λ (o : Option Function). function_entries (unwrap_or o no_function))
+    (sym (ap (λ gs. slice_get (map function_of gs) number) (sym c.deref.ensures.value) ∙
+    (slice_get-map function_of c.deref.result.now number ∙ ap (λ o. option_map function_of o) past)))

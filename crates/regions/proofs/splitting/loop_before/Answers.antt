@@ -8,4 +8,5 @@ pub returns : goal.returns
 returns c =
     ap (λ xs. stacked xs NoRegion) c.in_ok-add_tree.ensures
     ∙ (stacked_push c.args.trees.items _ NoRegion
-    ∙ loop_tree c.args.round.test_first c.args.round.test c.args.round.body c.args.round.rest (stacked c.args.trees.items NoRegion))
+    ∙ loop_tree c.args.round.test_first c.args.round.test c.args.round.body c.args.round.rest
+    (stacked c.args.trees.items NoRegion))

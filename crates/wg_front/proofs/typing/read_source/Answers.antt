@@ -6,4 +6,5 @@ use Rattle.wg_front.proofs.typing.read_source.Goals as goal
 pub returns-in-Err-read_unit-clause-err : goal.returns-in-Err-read_unit-clause-err
 returns-in-Err-read_unit-clause-err c =
     c.in-Err-read_unit.ensures.err c.args.defines.now.list.items c.in-Ok.ensures.expanded.0
-    (subst (λ (ts : List Token). Reads c.args.source.now c.args.defines.now.list.items c.in-Ok.ensures.expanded.0 ts) (sym c.deref.ensures.value) c.in-Ok.ensures.expanded.1)
+    (subst (λ (ts : List Token). Reads c.args.source.now c.args.defines.now.list.items c.in-Ok.ensures.expanded.0 ts)
+    (sym c.deref.ensures.value) c.in-Ok.ensures.expanded.1)

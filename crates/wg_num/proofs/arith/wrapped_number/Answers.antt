@@ -12,10 +12,12 @@ number_within-requires c = record {
 }
 
 pub returns-then-v-eq0 : goal.returns-then-v-eq0
-returns-then-v-eq0 c = sym (wrap_bool c.args.t c.args.v (ap is_bool c.in-Bool.is) ∙ truth_zero c.args.v c.ranges.v c.if-v-eq0.true)
+returns-then-v-eq0 c =
+    sym (wrap_bool c.args.t c.args.v (ap is_bool c.in-Bool.is) ∙ truth_zero c.args.v c.ranges.v c.if-v-eq0.true)
 
 pub returns-else-v-eq0 : goal.returns-else-v-eq0
-returns-else-v-eq0 c = sym (wrap_bool c.args.t c.args.v (ap is_bool c.in-Bool.is) ∙ truth_other c.args.v c.if-v-eq0.false)
+returns-else-v-eq0 c =
+    sym (wrap_bool c.args.t c.args.v (ap is_bool c.in-Bool.is) ∙ truth_other c.args.v c.if-v-eq0.false)
 
 pub returns-in_default : goal.returns-in_default
 returns-in_default c =

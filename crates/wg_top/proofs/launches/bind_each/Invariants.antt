@@ -10,8 +10,11 @@ use Rattle.wg_top.proofs.launches.bind_each.Given as goal
 
 abbrev pub invariant-loop-which : goal.invariant-loop-which
 invariant-loop-which l = record {
-  launches : map launch_of l.list.items ≡ map (launch_in l.text.turns l.text.buffers.items) (take l.which (map part_of l.text.list.items));
+  launches : map launch_of l.list.items ≡ map (launch_in l.text.turns l.text.buffers.items)
+      (take l.which (map part_of l.text.list.items));
   ready : All (IsReady l.text.buffers.items) l.list.items;
   fit : AllFit (take l.which l.kernels) l.list.items;
-  accepted : first_refusal l.text.buffers.items (map part_of l.text.list.items) (map (λ c. unit_of c.program) l.kernels) ≡ first_refusal l.text.buffers.items (drop l.which (map part_of l.text.list.items)) (drop l.which (map (λ c. unit_of c.program) l.kernels));
+  accepted : first_refusal l.text.buffers.items (map part_of l.text.list.items)
+      (map (λ c. unit_of c.program) l.kernels) ≡ first_refusal l.text.buffers.items
+      (drop l.which (map part_of l.text.list.items)) (drop l.which (map (λ c. unit_of c.program) l.kernels));
 }

@@ -10,7 +10,9 @@ use Rattle.wg_top.proofs.launches.prepare_each.Given as goal
 abbrev pub invariant-loop-kernel : goal.invariant-loop-kernel
 invariant-loop-kernel l = record {
   fit : AllFit (drop l.kernel-index l.kernels) (into_iter_items l.rest);
-  programs : map (λ q. plain_of q.program) l.launchers.items ++ map (λ c. plain_of c.group) (drop l.kernel-index l.kernels) ≡ map (λ c. plain_of c.group) l.kernels;
-  prepared : All (λ q. LaunchFits (plain_of q.program).params (sum (plain_of q.program).locals) (launch_of q.launch)) l.launchers.items;
+  programs : map (λ q. plain_of q.program) l.launchers.items ++
+      map (λ c. plain_of c.group) (drop l.kernel-index l.kernels) ≡ map (λ c. plain_of c.group) l.kernels;
+  prepared : All (λ q. LaunchFits (plain_of q.program).params (sum (plain_of q.program).locals) (launch_of q.launch))
+      l.launchers.items;
   launches : map (λ q. q.launch) l.launchers.items ++ into_iter_items l.rest ≡ l.fn.launches.items;
 }

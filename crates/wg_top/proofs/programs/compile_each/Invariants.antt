@@ -12,8 +12,14 @@ use Rattle.wg_top.proofs.programs.compile_each.Given as goal
 
 abbrev pub invariant-loop-which : goal.invariant-loop-which
 invariant-loop-which l = record {
-  compiled : (bytes : List ℕ) (defines : List Define) → IsSource bytes defines l.source.tokens.items (view l.source.unit) → l.source.places.items ≡ places_of bytes l.source.tokens.items → AreCompiled bytes defines (map part_of (take l.which l.list)) (map (λ c. unit_of c.program) l.kernels.items);
-  each : (bytes : List ℕ) (defines : List Define) → IsSource bytes defines l.source.tokens.items (view l.source.unit) → l.source.places.items ≡ places_of bytes l.source.tokens.items → All (λ c. IsCompiled bytes defines c.group.kernel (unit_of c.program)) l.kernels.items;
+  compiled : (bytes : List ℕ) (defines : List Define) →
+      IsSource bytes defines l.source.tokens.items (view l.source.unit) →
+      l.source.places.items ≡ places_of bytes l.source.tokens.items →
+      AreCompiled bytes defines (map part_of (take l.which l.list)) (map (λ c. unit_of c.program) l.kernels.items);
+  each : (bytes : List ℕ) (defines : List Define) →
+      IsSource bytes defines l.source.tokens.items (view l.source.unit) →
+      l.source.places.items ≡ places_of bytes l.source.tokens.items →
+      All (λ c. IsCompiled bytes defines c.group.kernel (unit_of c.program)) l.kernels.items;
   passes : All (IsCompiledAt (lanes_of l.width)) l.kernels.items;
   names : map (λ c. c.group.kernel) l.kernels.items ≡ map (λ p. p.kernel) (take l.which l.list);
 }

@@ -11,7 +11,11 @@ returns-in-Ok-clause-compiled c = λ bytes defines is placed.
     let x : Compiled = c.other-item.result in
     let there : c.loop-other.other-index < length c.args.earlier.now = omega (arith, c.loop-other-test.true) in
     let one : IsCompiled bytes defines x.group.kernel (unit_of x.program) =
-    holds_at (λ (k : Compiled). IsCompiled bytes defines k.group.kernel (unit_of k.program)) c.args.earlier.now c.loop-other.other-index x there c.other-item.is (c.requires.compiled bytes defines is placed) in
+    holds_at (λ (k : Compiled). IsCompiled bytes defines k.group.kernel (unit_of k.program)) c.args.earlier.now
+    c.loop-other.other-index x there c.other-item.is (c.requires.compiled bytes defines is placed) in
     let name : x.group.kernel ≡ c.args.kernel.now =
-    ap (λ (k : Compiled). k.group.kernel) (sym c.compiled.ensures) ∙ (sym c.bytes.ensures ∙ (same_text c.bytes.result.now c.bytes-in-loop-other.result.now c.if-eq.ensures ∙ c.bytes-in-loop-other.ensures)) in
-    subst (λ (k : Compiled). IsCompiled bytes defines c.args.kernel.now (unit_of k.program)) (sym c.in-Ok.ensures) (subst (λ (n : List ℕ). IsCompiled bytes defines n (unit_of x.program)) name one)
+    ap (λ (k : Compiled). k.group.kernel) (sym c.compiled.ensures) ∙
+    (sym c.bytes.ensures ∙ (same_text c.bytes.result.now c.bytes-in-loop-other.result.now c.if-eq.ensures ∙
+    c.bytes-in-loop-other.ensures)) in
+    subst (λ (k : Compiled). IsCompiled bytes defines c.args.kernel.now (unit_of k.program)) (sym c.in-Ok.ensures)
+    (subst (λ (n : List ℕ). IsCompiled bytes defines n (unit_of x.program)) name one)

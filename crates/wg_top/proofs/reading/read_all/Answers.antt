@@ -11,14 +11,19 @@ returns-in-Err-clause-err g c =
     let old : Standing = standing g.S.Store.files g.S.Store.faults g.S.Store.misses c.args.store.now in
     let mid : Standing = standing g.S.Store.files g.S.Store.faults g.S.Store.misses c.load.new.self in
     let ask : Files = asked c.args.source.now c.args.launch.now c.args.options.lanes c.args.options.turns in
-    launch_cause old mid (standing g.S.Store.files g.S.Store.faults g.S.Store.misses c.load_launch.new.store) ask c.in-Ok.bytes.items c.in-Err.error c.in-Ok.ensures.content c.in-Ok.ensures.files_stay (record { faults = c.in-Ok.ensures.faults_stand; misses = c.in-Ok.ensures.misses_stand }) c.in-Err.ensures.stands c.in-Err.ensures.err
+    launch_cause old mid (standing g.S.Store.files g.S.Store.faults g.S.Store.misses c.load_launch.new.store) ask
+    c.in-Ok.bytes.items c.in-Err.error c.in-Ok.ensures.content c.in-Ok.ensures.files_stay
+    (record { faults = c.in-Ok.ensures.faults_stand; misses = c.in-Ok.ensures.misses_stand })
+    c.in-Err.ensures.stands c.in-Err.ensures.err
 
 pub returns-in-Ok-compile_all-clause-read : goal.returns-in-Ok-compile_all-clause-read
 returns-in-Ok-compile_all-clause-read g c =
     let old : Standing = standing g.S.Store.files g.S.Store.faults g.S.Store.misses c.args.store.now in
     let ask : Files = asked c.args.source.now c.args.launch.now c.args.options.lanes c.args.options.turns in
-    let text = text_before old.files (g.S.Store.files c.load.new.self) _ _ _ _ c.in-Ok.ensures.files_stay c.in-Ok-load_launch.ensures.ok in
-    run_read old.files ask c.in-Ok.bytes.items c.deref.result.now _ _ c.in-Ok.ensures.content c.deref.ensures.value text c.in-Ok-compile_all.ensures.unit c.in-Ok-compile_all.ensures.compiled
+    let text = text_before old.files (g.S.Store.files c.load.new.self) _ _ _ _ c.in-Ok.ensures.files_stay
+    c.in-Ok-load_launch.ensures.ok in
+    run_read old.files ask c.in-Ok.bytes.items c.deref.result.now _ _ c.in-Ok.ensures.content c.deref.ensures.value
+    text c.in-Ok-compile_all.ensures.unit c.in-Ok-compile_all.ensures.compiled
 
 pub returns-in-Ok-compile_all-clause-given : goal.returns-in-Ok-compile_all-clause-given
 returns-in-Ok-compile_all-clause-given g c =
@@ -26,7 +31,8 @@ returns-in-Ok-compile_all-clause-given g c =
     record {
       text = c.in-Ok-load_launch.ensures.is;
       passes = c.in-Ok-compile_all.ensures.passes;
-      valid = kernels_valid c.deref.result.now (text_of text).defines (text_of text).list c.in-Ok-compile_all.kernels.items c.in-Ok-load_launch.ensures.is.numbers c.in-Ok-compile_all.ensures.compiled;
+      valid = kernels_valid c.deref.result.now (text_of text).defines (text_of text).list
+          c.in-Ok-compile_all.kernels.items c.in-Ok-load_launch.ensures.is.numbers c.in-Ok-compile_all.ensures.compiled;
       names = c.in-Ok-compile_all.ensures.names;
     }
 
@@ -34,5 +40,8 @@ pub returns-clause-err : goal.returns-clause-err
 returns-clause-err g c =
     let old : Standing = standing g.S.Store.files g.S.Store.faults g.S.Store.misses c.args.store.now in
     let ask : Files = asked c.args.source.now c.args.launch.now c.args.options.lanes c.args.options.turns in
-    let read = text_before old.files (g.S.Store.files c.load.new.self) _ _ _ _ c.in-Ok.ensures.files_stay c.in-Ok-load_launch.ensures.ok in
-    program_cause old (standing g.S.Store.files g.S.Store.faults g.S.Store.misses c.load_launch.new.store) ask c.in-Ok.bytes.items _ _ read c.in-Ok.ensures.content (rw c.deref.ensures.value at c.in-Err-compile_all.ensures.err)
+    let read = text_before old.files (g.S.Store.files c.load.new.self) _ _ _ _ c.in-Ok.ensures.files_stay
+    c.in-Ok-load_launch.ensures.ok in
+    program_cause old (standing g.S.Store.files g.S.Store.faults g.S.Store.misses c.load_launch.new.store) ask
+    c.in-Ok.bytes.items _ _ read c.in-Ok.ensures.content
+    (rw c.deref.ensures.value at c.in-Err-compile_all.ensures.err)

@@ -1,4 +1,5 @@
-use Rattle.std.proofs.Common.{◌≡◌, ◌≤◌, ◌∙◌, Option, List, ℕ, Vec, Global, map, length, get_or, inr, sym, ap, subst, arith}
+use Rattle.std.proofs.Common.{◌≡◌, ◌≤◌, ◌∙◌, Option, List, ℕ, Vec, Global, map, length, get_or, inr, sym, ap, subst}
+use Rattle.std.proofs.Common.{arith}
 use Rattle.std.specs.Prelude.{All, IfSome, IsUtf8}
 use Rattle.buffer_io.specs.Saves.{AreApart}
 use Rattle.cl_model.specs.declared.launch.Launch.{Launch as Bindings}
@@ -17,7 +18,9 @@ use Rattle.wg_top.specs.Middle.{programs_in}
 use Rattle.wg_top.specs.Launches.{IsReady, launches_in}
 use Rattle.wg_top.proofs.MeaningLemmas.{AreLike}
 use Rattle.wg_top.proofs.LaunchLemmas.{lengths_twice}
-use Rattle.wg_top.proofs.RunLemmas.{ready_first, load_texts, save_texts, started_lengths, as_many, loaded_of, programs_are, is_stopped, stopped_leaves, has_run, save_stopped, is_run, apart, map_twice, ready_launcher, buffers_fit}
+use Rattle.wg_top.proofs.RunLemmas.{ready_first, load_texts, save_texts, started_lengths, as_many, loaded_of}
+use Rattle.wg_top.proofs.RunLemmas.{programs_are, is_stopped, stopped_leaves, has_run, save_stopped, is_run, apart}
+use Rattle.wg_top.proofs.RunLemmas.{map_twice, ready_launcher, buffers_fit}
 use Rattle.wg_top.proofs.OutcomeLemmas.{AllPrepared, all_made, all_compiled, prepared, ran_outcome, stop_outcome}
 use Rattle.wg_top.specs.Outcomes.{AreMade, AreCompiledTo}
 use Rattle.wg_top.proofs.run.run_bound.Goals as goal
@@ -27,76 +30,118 @@ load_all-requires-clause-texts g c =
     let text = text_of c.args.text.now in
     let buffers = c.args.text.now.buffers.items in
     let some : 1 ≤ length c.args.launches.items = omega (arith, c.requires.as_many, c.requires.text.some) in
-    let ready : IsReady buffers c.index.result.now = ready_first buffers c.args.launches.items c.index.result.now c.requires.ready some c.index.ensures in
-    subst (λ (ls : List (Option (List ℕ))). All (λ load. IfSome load IsUtf8) ls) (sym ready.loads) (load_texts buffers c.requires.text.texts)
+    let ready : IsReady buffers c.index.result.now =
+    ready_first buffers c.args.launches.items c.index.result.now c.requires.ready some c.index.ensures in
+    subst (λ (ls : List (Option (List ℕ))). All (λ load. IfSome load IsUtf8) ls) (sym ready.loads)
+    (load_texts buffers c.requires.text.texts)
 
 pub run_each-requires-clause-fit : goal.run_each-requires-clause-fit
 run_each-requires-clause-fit g c =
     let text = text_of c.args.text.now in
     let buffers = c.args.text.now.buffers.items in
     let some : 1 ≤ length c.args.launches.items = omega (arith, c.requires.as_many, c.requires.text.some) in
-    let ready : IsReady buffers c.index.result.now = ready_first buffers c.args.launches.items c.index.result.now c.requires.ready some c.index.ensures in
+    let ready : IsReady buffers c.index.result.now =
+    ready_first buffers c.args.launches.items c.index.result.now c.requires.ready some c.index.ensures in
     let items : Vec ℕ Global → List ℕ = λ v. v.items in
-    let sizes : map (λ (b : List ℕ). length b) (buffers_of c.in-Ok.buffers) ≡ lengths_of buffers = lengths_twice items c.in-Ok.buffers.list.items ∙ (started_lengths items (g.S.Store.files c.args.store.now) c.index.result.now.lengths.items c.index.result.now.loads.items c.in-Ok.buffers.list.items c.in-Ok.ensures.content ∙ ready.lengths) in
-    buffers_fit buffers c.in-Ok-prepare_each.launchers.items c.args.launches.items (buffers_of c.in-Ok.buffers) c.in-Ok-prepare_each.ensures.launches c.requires.ready sizes
+    let sizes : map (λ (b : List ℕ). length b) (buffers_of c.in-Ok.buffers) ≡ lengths_of buffers =
+    lengths_twice items c.in-Ok.buffers.list.items ∙
+    (started_lengths items (g.S.Store.files c.args.store.now) c.index.result.now.lengths.items
+    c.index.result.now.loads.items c.in-Ok.buffers.list.items c.in-Ok.ensures.content ∙ ready.lengths) in
+    buffers_fit buffers c.in-Ok-prepare_each.launchers.items c.args.launches.items (buffers_of c.in-Ok.buffers)
+    c.in-Ok-prepare_each.ensures.launches c.requires.ready sizes
 
 pub returns-in-Err-run_each-clause-err : goal.returns-in-Err-run_each-clause-err
 returns-in-Err-run_each-clause-err g c =
     let text = text_of c.args.text.now in
     let buffers = c.args.text.now.buffers.items in
     let some : 1 ≤ length c.args.launches.items = omega (arith, c.requires.as_many, c.requires.text.some) in
-    let ready : IsReady buffers c.index.result.now = ready_first buffers c.args.launches.items c.index.result.now c.requires.ready some c.index.ensures in
+    let ready : IsReady buffers c.index.result.now =
+    ready_first buffers c.args.launches.items c.index.result.now c.requires.ready some c.index.ensures in
     let all : List Launcher = c.in-Ok-prepare_each.launchers.items in
     let units : List Unit' = map (λ (k : Compiled). unit_of k.program) c.args.kernels.now in
     let programs : List Plain = map (λ (q : Launcher). plain_of q.program) all in
     let launches : List Launch = map (λ (q : Launcher). launch_of q.launch) all in
-    let like : AreLike (programs_in text units) programs = subst (λ (ps : List Plain). AreLike (programs_in text units) ps) (sym c.in-Ok-prepare_each.ensures.programs) (programs_are text.lanes c.args.kernels.now c.requires.passes) in
-    let are : launches ≡ launches_in text = map_twice launch_of (λ (q : Launcher). q.launch) all ∙ (ap (map launch_of) c.in-Ok-prepare_each.ensures.launches ∙ c.requires.launches) in
+    let like : AreLike (programs_in text units) programs =
+    subst (λ (ps : List Plain). AreLike (programs_in text units) ps) (sym c.in-Ok-prepare_each.ensures.programs)
+    (programs_are text.lanes c.args.kernels.now c.requires.passes) in
+    let are : launches ≡ launches_in text = map_twice launch_of (λ (q : Launcher). q.launch) all ∙
+    (ap (map launch_of) c.in-Ok-prepare_each.ensures.launches ∙ c.requires.launches) in
     let before : List (List ℕ) = buffers_of c.in-Ok.buffers in
-    let loaded : BuffersLoaded (g.S.Store.files c.args.store.now) text before = loaded_of (g.S.Store.files c.args.store.now) text c.index.result.now before ready c.in-Ok.ensures.content in
+    let loaded : BuffersLoaded (g.S.Store.files c.args.store.now) text before =
+    loaded_of (g.S.Store.files c.args.store.now) text c.index.result.now before ready c.in-Ok.ensures.content in
     let items : Vec ℕ Global → List ℕ = λ v. v.items in
-    let loaded_sizes : map (λ (b : List ℕ). length b) before ≡ lengths_of buffers = lengths_twice items c.in-Ok.buffers.list.items ∙ (started_lengths items (g.S.Store.files c.args.store.now) c.index.result.now.lengths.items c.index.result.now.loads.items c.in-Ok.buffers.list.items c.in-Ok.ensures.content ∙ ready.lengths) in
+    let loaded_sizes : map (λ (b : List ℕ). length b) before ≡ lengths_of buffers =
+    lengths_twice items c.in-Ok.buffers.list.items ∙
+    (started_lengths items (g.S.Store.files c.args.store.now) c.index.result.now.lengths.items
+    c.index.result.now.loads.items c.in-Ok.buffers.list.items c.in-Ok.ensures.content ∙ ready.lengths) in
     let groups : List Plain = map (λ (k : Compiled). plain_of k.group) c.args.kernels.now in
-    let fit : AllPrepared groups (launches_in text) = subst (λ (ls : List Launch). AllPrepared groups ls) are (subst (λ (ps : List Plain). AllPrepared ps launches) c.in-Ok-prepare_each.ensures.programs (prepared all c.in-Ok-prepare_each.ensures.fit)) in
+    let fit : AllPrepared groups (launches_in text) =
+    subst (λ (ls : List Launch). AllPrepared groups ls) are (subst (λ (ps : List Plain). AllPrepared ps launches)
+    c.in-Ok-prepare_each.ensures.programs (prepared all c.in-Ok-prepare_each.ensures.fit)) in
     let made : AreMade units = all_made text.lanes c.args.kernels.now c.requires.passes c.requires.valid in
-    let compiled : AreCompiledTo text.lanes text.list units = all_compiled text.lanes c.args.kernels.now text.list c.requires.passes c.requires.valid c.requires.names in
-    is_stopped (standing g.S.Store.files g.S.Store.faults g.S.Store.misses c.args.store.now) (standing g.S.Store.files g.S.Store.faults g.S.Store.misses c.load_all.new.store) text units before programs launches c.in-Err-run_each.error c.requires.accepted loaded like are c.in-Err-run_each.ensures.stops made compiled (stop_outcome text c.args.kernels.now c.requires.passes c.requires.valid fit before loaded_sizes)
+    let compiled : AreCompiledTo text.lanes text.list units =
+    all_compiled text.lanes c.args.kernels.now text.list c.requires.passes c.requires.valid c.requires.names in
+    is_stopped (standing g.S.Store.files g.S.Store.faults g.S.Store.misses c.args.store.now)
+    (standing g.S.Store.files g.S.Store.faults g.S.Store.misses c.load_all.new.store) text units before programs
+    launches c.in-Err-run_each.error c.requires.accepted loaded like are c.in-Err-run_each.ensures.stops made
+    compiled (stop_outcome text c.args.kernels.now c.requires.passes c.requires.valid fit before loaded_sizes)
 
 pub returns-in-Err-run_each-clause-left : goal.returns-in-Err-run_each-clause-left
 returns-in-Err-run_each-clause-left g c =
     let text = text_of c.args.text.now in
     let buffers = c.args.text.now.buffers.items in
     let some : 1 ≤ length c.args.launches.items = omega (arith, c.requires.as_many, c.requires.text.some) in
-    let ready : IsReady buffers c.index.result.now = ready_first buffers c.args.launches.items c.index.result.now c.requires.ready some c.index.ensures in
+    let ready : IsReady buffers c.index.result.now =
+    ready_first buffers c.args.launches.items c.index.result.now c.requires.ready some c.index.ensures in
     let all : List Launcher = c.in-Ok-prepare_each.launchers.items in
     let units : List Unit' = map (λ (k : Compiled). unit_of k.program) c.args.kernels.now in
     let programs : List Plain = map (λ (q : Launcher). plain_of q.program) all in
     let launches : List Launch = map (λ (q : Launcher). launch_of q.launch) all in
-    let like : AreLike (programs_in text units) programs = subst (λ (ps : List Plain). AreLike (programs_in text units) ps) (sym c.in-Ok-prepare_each.ensures.programs) (programs_are text.lanes c.args.kernels.now c.requires.passes) in
-    let are : launches ≡ launches_in text = map_twice launch_of (λ (q : Launcher). q.launch) all ∙ (ap (map launch_of) c.in-Ok-prepare_each.ensures.launches ∙ c.requires.launches) in
+    let like : AreLike (programs_in text units) programs =
+    subst (λ (ps : List Plain). AreLike (programs_in text units) ps) (sym c.in-Ok-prepare_each.ensures.programs)
+    (programs_are text.lanes c.args.kernels.now c.requires.passes) in
+    let are : launches ≡ launches_in text = map_twice launch_of (λ (q : Launcher). q.launch) all ∙
+    (ap (map launch_of) c.in-Ok-prepare_each.ensures.launches ∙ c.requires.launches) in
     let before : List (List ℕ) = buffers_of c.in-Ok.buffers in
-    let loaded : BuffersLoaded (g.S.Store.files c.args.store.now) text before = loaded_of (g.S.Store.files c.args.store.now) text c.index.result.now before ready c.in-Ok.ensures.content in
-    stopped_leaves (standing g.S.Store.files g.S.Store.faults g.S.Store.misses c.args.store.now) (standing g.S.Store.files g.S.Store.faults g.S.Store.misses c.load_all.new.store) text units text.several before programs launches c.in-Err-run_each.error c.load_all.ensures.files_stay c.in-Err-run_each.ensures.stops
+    let loaded : BuffersLoaded (g.S.Store.files c.args.store.now) text before =
+    loaded_of (g.S.Store.files c.args.store.now) text c.index.result.now before ready c.in-Ok.ensures.content in
+    stopped_leaves (standing g.S.Store.files g.S.Store.faults g.S.Store.misses c.args.store.now)
+    (standing g.S.Store.files g.S.Store.faults g.S.Store.misses c.load_all.new.store) text units text.several
+    before programs launches c.in-Err-run_each.error c.load_all.ensures.files_stay c.in-Err-run_each.ensures.stops
 
 pub save_all-requires-clause-same : goal.save_all-requires-clause-same
 save_all-requires-clause-same g c =
     let text = text_of c.args.text.now in
     let buffers = c.args.text.now.buffers.items in
     let some : 1 ≤ length c.args.launches.items = omega (arith, c.requires.as_many, c.requires.text.some) in
-    let ready : IsReady buffers c.index.result.now = ready_first buffers c.args.launches.items c.index.result.now c.requires.ready some c.index.ensures in
+    let ready : IsReady buffers c.index.result.now =
+    ready_first buffers c.args.launches.items c.index.result.now c.requires.ready some c.index.ensures in
     let all : List Launcher = c.in-Ok-prepare_each.launchers.items in
     let units : List Unit' = map (λ (k : Compiled). unit_of k.program) c.args.kernels.now in
     let programs : List Plain = map (λ (q : Launcher). plain_of q.program) all in
     let launches : List Launch = map (λ (q : Launcher). launch_of q.launch) all in
-    let like : AreLike (programs_in text units) programs = subst (λ (ps : List Plain). AreLike (programs_in text units) ps) (sym c.in-Ok-prepare_each.ensures.programs) (programs_are text.lanes c.args.kernels.now c.requires.passes) in
-    let are : launches ≡ launches_in text = map_twice launch_of (λ (q : Launcher). q.launch) all ∙ (ap (map launch_of) c.in-Ok-prepare_each.ensures.launches ∙ c.requires.launches) in
+    let like : AreLike (programs_in text units) programs =
+    subst (λ (ps : List Plain). AreLike (programs_in text units) ps) (sym c.in-Ok-prepare_each.ensures.programs)
+    (programs_are text.lanes c.args.kernels.now c.requires.passes) in
+    let are : launches ≡ launches_in text = map_twice launch_of (λ (q : Launcher). q.launch) all ∙
+    (ap (map launch_of) c.in-Ok-prepare_each.ensures.launches ∙ c.requires.launches) in
     let before : List (List ℕ) = buffers_of c.in-Ok.buffers in
-    let loaded : BuffersLoaded (g.S.Store.files c.args.store.now) text before = loaded_of (g.S.Store.files c.args.store.now) text c.index.result.now before ready c.in-Ok.ensures.content in
-    let is : c.index-2.result.now ≡ get_or all 0 c.index-2.result.now = subst (λ (qs : List Launcher). c.index-2.result.now ≡ get_or qs 0 c.index-2.result.now) c.run_each.ensures.launchers c.index-2.ensures in
-    let there : IsReady buffers c.launch.result.now = subst (λ (l : Bindings). IsReady buffers l) (sym c.launch.ensures) (ready_launcher buffers all c.args.launches.items c.index-2.result.now c.in-Ok-prepare_each.ensures.launches c.requires.ready some is) in
+    let loaded : BuffersLoaded (g.S.Store.files c.args.store.now) text before =
+    loaded_of (g.S.Store.files c.args.store.now) text c.index.result.now before ready c.in-Ok.ensures.content in
+    let is : c.index-2.result.now ≡ get_or all 0 c.index-2.result.now =
+    subst (λ (qs : List Launcher). c.index-2.result.now ≡ get_or qs 0 c.index-2.result.now)
+    c.run_each.ensures.launchers c.index-2.ensures in
+    let there : IsReady buffers c.launch.result.now =
+    subst (λ (l : Bindings). IsReady buffers l) (sym c.launch.ensures)
+    (ready_launcher buffers all c.args.launches.items c.index-2.result.now c.in-Ok-prepare_each.ensures.launches
+    c.requires.ready some is) in
     let items : Vec ℕ Global → List ℕ = λ v. v.items in
-    let sizes = started_lengths items (g.S.Store.files c.args.store.now) c.index.result.now.lengths.items c.index.result.now.loads.items c.in-Ok.buffers.list.items c.in-Ok.ensures.content ∙ (ready.lengths ∙ sym there.lengths) in
-    let many : length c.run_each.new.buffers.list.items ≡ length c.launch.result.now.saves.items = as_many items c.run_each.new.buffers.list.items c.in-Ok.buffers.list.items buffers c.launch.result.now there c.run_each.ensures.lengths sizes in
+    let sizes = started_lengths items (g.S.Store.files c.args.store.now) c.index.result.now.lengths.items
+    c.index.result.now.loads.items c.in-Ok.buffers.list.items c.in-Ok.ensures.content ∙
+    (ready.lengths ∙ sym there.lengths) in
+    let many : length c.run_each.new.buffers.list.items ≡ length c.launch.result.now.saves.items =
+    as_many items c.run_each.new.buffers.list.items c.in-Ok.buffers.list.items buffers c.launch.result.now there
+    c.run_each.ensures.lengths sizes in
     omega (arith, many, c.run_each.new.buffers.list.ok.0, c.launch.result.now.saves.ok.0)
 
 pub save_all-requires-clause-texts : goal.save_all-requires-clause-texts
@@ -104,35 +149,56 @@ save_all-requires-clause-texts g c =
     let text = text_of c.args.text.now in
     let buffers = c.args.text.now.buffers.items in
     let some : 1 ≤ length c.args.launches.items = omega (arith, c.requires.as_many, c.requires.text.some) in
-    let ready : IsReady buffers c.index.result.now = ready_first buffers c.args.launches.items c.index.result.now c.requires.ready some c.index.ensures in
+    let ready : IsReady buffers c.index.result.now =
+    ready_first buffers c.args.launches.items c.index.result.now c.requires.ready some c.index.ensures in
     let all : List Launcher = c.in-Ok-prepare_each.launchers.items in
     let units : List Unit' = map (λ (k : Compiled). unit_of k.program) c.args.kernels.now in
     let programs : List Plain = map (λ (q : Launcher). plain_of q.program) all in
     let launches : List Launch = map (λ (q : Launcher). launch_of q.launch) all in
-    let like : AreLike (programs_in text units) programs = subst (λ (ps : List Plain). AreLike (programs_in text units) ps) (sym c.in-Ok-prepare_each.ensures.programs) (programs_are text.lanes c.args.kernels.now c.requires.passes) in
-    let are : launches ≡ launches_in text = map_twice launch_of (λ (q : Launcher). q.launch) all ∙ (ap (map launch_of) c.in-Ok-prepare_each.ensures.launches ∙ c.requires.launches) in
+    let like : AreLike (programs_in text units) programs =
+    subst (λ (ps : List Plain). AreLike (programs_in text units) ps) (sym c.in-Ok-prepare_each.ensures.programs)
+    (programs_are text.lanes c.args.kernels.now c.requires.passes) in
+    let are : launches ≡ launches_in text = map_twice launch_of (λ (q : Launcher). q.launch) all ∙
+    (ap (map launch_of) c.in-Ok-prepare_each.ensures.launches ∙ c.requires.launches) in
     let before : List (List ℕ) = buffers_of c.in-Ok.buffers in
-    let loaded : BuffersLoaded (g.S.Store.files c.args.store.now) text before = loaded_of (g.S.Store.files c.args.store.now) text c.index.result.now before ready c.in-Ok.ensures.content in
-    let is : c.index-2.result.now ≡ get_or all 0 c.index-2.result.now = subst (λ (qs : List Launcher). c.index-2.result.now ≡ get_or qs 0 c.index-2.result.now) c.run_each.ensures.launchers c.index-2.ensures in
-    let there : IsReady buffers c.launch.result.now = subst (λ (l : Bindings). IsReady buffers l) (sym c.launch.ensures) (ready_launcher buffers all c.args.launches.items c.index-2.result.now c.in-Ok-prepare_each.ensures.launches c.requires.ready some is) in
-    subst (λ (ls : List (Option (List ℕ))). All (λ save. IfSome save IsUtf8) ls) (sym there.saves) (save_texts buffers c.requires.text.texts)
+    let loaded : BuffersLoaded (g.S.Store.files c.args.store.now) text before =
+    loaded_of (g.S.Store.files c.args.store.now) text c.index.result.now before ready c.in-Ok.ensures.content in
+    let is : c.index-2.result.now ≡ get_or all 0 c.index-2.result.now =
+    subst (λ (qs : List Launcher). c.index-2.result.now ≡ get_or qs 0 c.index-2.result.now)
+    c.run_each.ensures.launchers c.index-2.ensures in
+    let there : IsReady buffers c.launch.result.now =
+    subst (λ (l : Bindings). IsReady buffers l) (sym c.launch.ensures)
+    (ready_launcher buffers all c.args.launches.items c.index-2.result.now c.in-Ok-prepare_each.ensures.launches
+    c.requires.ready some is) in
+    subst (λ (ls : List (Option (List ℕ))). All (λ save. IfSome save IsUtf8) ls) (sym there.saves)
+    (save_texts buffers c.requires.text.texts)
 
 pub save_all-requires-clause-apart : goal.save_all-requires-clause-apart
 save_all-requires-clause-apart g c =
     let text = text_of c.args.text.now in
     let buffers = c.args.text.now.buffers.items in
     let some : 1 ≤ length c.args.launches.items = omega (arith, c.requires.as_many, c.requires.text.some) in
-    let ready : IsReady buffers c.index.result.now = ready_first buffers c.args.launches.items c.index.result.now c.requires.ready some c.index.ensures in
+    let ready : IsReady buffers c.index.result.now =
+    ready_first buffers c.args.launches.items c.index.result.now c.requires.ready some c.index.ensures in
     let all : List Launcher = c.in-Ok-prepare_each.launchers.items in
     let units : List Unit' = map (λ (k : Compiled). unit_of k.program) c.args.kernels.now in
     let programs : List Plain = map (λ (q : Launcher). plain_of q.program) all in
     let launches : List Launch = map (λ (q : Launcher). launch_of q.launch) all in
-    let like : AreLike (programs_in text units) programs = subst (λ (ps : List Plain). AreLike (programs_in text units) ps) (sym c.in-Ok-prepare_each.ensures.programs) (programs_are text.lanes c.args.kernels.now c.requires.passes) in
-    let are : launches ≡ launches_in text = map_twice launch_of (λ (q : Launcher). q.launch) all ∙ (ap (map launch_of) c.in-Ok-prepare_each.ensures.launches ∙ c.requires.launches) in
+    let like : AreLike (programs_in text units) programs =
+    subst (λ (ps : List Plain). AreLike (programs_in text units) ps) (sym c.in-Ok-prepare_each.ensures.programs)
+    (programs_are text.lanes c.args.kernels.now c.requires.passes) in
+    let are : launches ≡ launches_in text = map_twice launch_of (λ (q : Launcher). q.launch) all ∙
+    (ap (map launch_of) c.in-Ok-prepare_each.ensures.launches ∙ c.requires.launches) in
     let before : List (List ℕ) = buffers_of c.in-Ok.buffers in
-    let loaded : BuffersLoaded (g.S.Store.files c.args.store.now) text before = loaded_of (g.S.Store.files c.args.store.now) text c.index.result.now before ready c.in-Ok.ensures.content in
-    let is : c.index-2.result.now ≡ get_or all 0 c.index-2.result.now = subst (λ (qs : List Launcher). c.index-2.result.now ≡ get_or qs 0 c.index-2.result.now) c.run_each.ensures.launchers c.index-2.ensures in
-    let there : IsReady buffers c.launch.result.now = subst (λ (l : Bindings). IsReady buffers l) (sym c.launch.ensures) (ready_launcher buffers all c.args.launches.items c.index-2.result.now c.in-Ok-prepare_each.ensures.launches c.requires.ready some is) in
+    let loaded : BuffersLoaded (g.S.Store.files c.args.store.now) text before =
+    loaded_of (g.S.Store.files c.args.store.now) text c.index.result.now before ready c.in-Ok.ensures.content in
+    let is : c.index-2.result.now ≡ get_or all 0 c.index-2.result.now =
+    subst (λ (qs : List Launcher). c.index-2.result.now ≡ get_or qs 0 c.index-2.result.now)
+    c.run_each.ensures.launchers c.index-2.ensures in
+    let there : IsReady buffers c.launch.result.now =
+    subst (λ (l : Bindings). IsReady buffers l) (sym c.launch.ensures)
+    (ready_launcher buffers all c.args.launches.items c.index-2.result.now c.in-Ok-prepare_each.ensures.launches
+    c.requires.ready some is) in
     subst (λ (ls : List (Option (List ℕ))). AreApart ls) (sym there.saves) (apart buffers c.requires.text.apart)
 
 pub returns-in-Ok-save_all-clause-ok : goal.returns-in-Ok-save_all-clause-ok
@@ -140,49 +206,93 @@ returns-in-Ok-save_all-clause-ok g c =
     let text = text_of c.args.text.now in
     let buffers = c.args.text.now.buffers.items in
     let some : 1 ≤ length c.args.launches.items = omega (arith, c.requires.as_many, c.requires.text.some) in
-    let ready : IsReady buffers c.index.result.now = ready_first buffers c.args.launches.items c.index.result.now c.requires.ready some c.index.ensures in
+    let ready : IsReady buffers c.index.result.now =
+    ready_first buffers c.args.launches.items c.index.result.now c.requires.ready some c.index.ensures in
     let all : List Launcher = c.in-Ok-prepare_each.launchers.items in
     let units : List Unit' = map (λ (k : Compiled). unit_of k.program) c.args.kernels.now in
     let programs : List Plain = map (λ (q : Launcher). plain_of q.program) all in
     let launches : List Launch = map (λ (q : Launcher). launch_of q.launch) all in
-    let like : AreLike (programs_in text units) programs = subst (λ (ps : List Plain). AreLike (programs_in text units) ps) (sym c.in-Ok-prepare_each.ensures.programs) (programs_are text.lanes c.args.kernels.now c.requires.passes) in
-    let are : launches ≡ launches_in text = map_twice launch_of (λ (q : Launcher). q.launch) all ∙ (ap (map launch_of) c.in-Ok-prepare_each.ensures.launches ∙ c.requires.launches) in
+    let like : AreLike (programs_in text units) programs =
+    subst (λ (ps : List Plain). AreLike (programs_in text units) ps) (sym c.in-Ok-prepare_each.ensures.programs)
+    (programs_are text.lanes c.args.kernels.now c.requires.passes) in
+    let are : launches ≡ launches_in text = map_twice launch_of (λ (q : Launcher). q.launch) all ∙
+    (ap (map launch_of) c.in-Ok-prepare_each.ensures.launches ∙ c.requires.launches) in
     let before : List (List ℕ) = buffers_of c.in-Ok.buffers in
-    let loaded : BuffersLoaded (g.S.Store.files c.args.store.now) text before = loaded_of (g.S.Store.files c.args.store.now) text c.index.result.now before ready c.in-Ok.ensures.content in
-    let is : c.index-2.result.now ≡ get_or all 0 c.index-2.result.now = subst (λ (qs : List Launcher). c.index-2.result.now ≡ get_or qs 0 c.index-2.result.now) c.run_each.ensures.launchers c.index-2.ensures in
-    let there : IsReady buffers c.launch.result.now = subst (λ (l : Bindings). IsReady buffers l) (sym c.launch.ensures) (ready_launcher buffers all c.args.launches.items c.index-2.result.now c.in-Ok-prepare_each.ensures.launches c.requires.ready some is) in
+    let loaded : BuffersLoaded (g.S.Store.files c.args.store.now) text before =
+    loaded_of (g.S.Store.files c.args.store.now) text c.index.result.now before ready c.in-Ok.ensures.content in
+    let is : c.index-2.result.now ≡ get_or all 0 c.index-2.result.now =
+    subst (λ (qs : List Launcher). c.index-2.result.now ≡ get_or qs 0 c.index-2.result.now)
+    c.run_each.ensures.launchers c.index-2.ensures in
+    let there : IsReady buffers c.launch.result.now =
+    subst (λ (l : Bindings). IsReady buffers l) (sym c.launch.ensures)
+    (ready_launcher buffers all c.args.launches.items c.index-2.result.now c.in-Ok-prepare_each.ensures.launches
+    c.requires.ready some is) in
     let after : List (List ℕ) = buffers_of c.run_each.new.buffers in
     let items : Vec ℕ Global → List ℕ = λ v. v.items in
-    let loaded_sizes : map (λ (b : List ℕ). length b) before ≡ lengths_of buffers = lengths_twice items c.in-Ok.buffers.list.items ∙ (started_lengths items (g.S.Store.files c.args.store.now) c.index.result.now.lengths.items c.index.result.now.loads.items c.in-Ok.buffers.list.items c.in-Ok.ensures.content ∙ ready.lengths) in
+    let loaded_sizes : map (λ (b : List ℕ). length b) before ≡ lengths_of buffers =
+    lengths_twice items c.in-Ok.buffers.list.items ∙
+    (started_lengths items (g.S.Store.files c.args.store.now) c.index.result.now.lengths.items
+    c.index.result.now.loads.items c.in-Ok.buffers.list.items c.in-Ok.ensures.content ∙ ready.lengths) in
     let groups : List Plain = map (λ (k : Compiled). plain_of k.group) c.args.kernels.now in
-    let fit : AllPrepared groups (launches_in text) = subst (λ (ls : List Launch). AllPrepared groups ls) are (subst (λ (ps : List Plain). AllPrepared ps launches) c.in-Ok-prepare_each.ensures.programs (prepared all c.in-Ok-prepare_each.ensures.fit)) in
+    let fit : AllPrepared groups (launches_in text) =
+    subst (λ (ls : List Launch). AllPrepared groups ls) are (subst (λ (ps : List Plain). AllPrepared ps launches)
+    c.in-Ok-prepare_each.ensures.programs (prepared all c.in-Ok-prepare_each.ensures.fit)) in
     let made : AreMade units = all_made text.lanes c.args.kernels.now c.requires.passes c.requires.valid in
-    let compiled : AreCompiledTo text.lanes text.list units = all_compiled text.lanes c.args.kernels.now text.list c.requires.passes c.requires.valid c.requires.names in
-    let run : HasRun (g.S.Store.files c.args.store.now) text units after = has_run (g.S.Store.files c.args.store.now) text units before after programs launches loaded like are c.in-Ok-run_each.ensures.ran made compiled (ran_outcome text c.args.kernels.now c.requires.passes c.requires.valid fit before loaded_sizes after) in
-    is_run (g.S.Store.files c.args.store.now) (g.S.Store.files c.load_all.new.store) _ text units c.launch.result.now.saves.items after c.count_all-summary.result (map launch_of c.deref.result.now) c.requires.accepted c.load_all.ensures.files_stay there.saves run c.in-Ok-save_all.ensures.saved c.in-Ok-save_all.ensures.others (ap (map launch_of) c.deref.ensures.value ∙ c.requires.launches) c.count_all-summary.ensures.groups c.count_all-summary.ensures.items
+    let compiled : AreCompiledTo text.lanes text.list units =
+    all_compiled text.lanes c.args.kernels.now text.list c.requires.passes c.requires.valid c.requires.names in
+    let run : HasRun (g.S.Store.files c.args.store.now) text units after =
+    has_run (g.S.Store.files c.args.store.now) text units before after programs launches loaded like are
+    c.in-Ok-run_each.ensures.ran made compiled (ran_outcome text c.args.kernels.now c.requires.passes
+    c.requires.valid fit before loaded_sizes after) in
+    is_run (g.S.Store.files c.args.store.now) (g.S.Store.files c.load_all.new.store) _ text units
+    c.launch.result.now.saves.items after c.count_all-summary.result (map launch_of c.deref.result.now)
+    c.requires.accepted c.load_all.ensures.files_stay there.saves run c.in-Ok-save_all.ensures.saved
+    c.in-Ok-save_all.ensures.others (ap (map launch_of) c.deref.ensures.value ∙
+    c.requires.launches) c.count_all-summary.ensures.groups c.count_all-summary.ensures.items
 
 pub returns-clause-left : goal.returns-clause-left
 returns-clause-left g c =
     let text = text_of c.args.text.now in
     let buffers = c.args.text.now.buffers.items in
     let some : 1 ≤ length c.args.launches.items = omega (arith, c.requires.as_many, c.requires.text.some) in
-    let ready : IsReady buffers c.index.result.now = ready_first buffers c.args.launches.items c.index.result.now c.requires.ready some c.index.ensures in
+    let ready : IsReady buffers c.index.result.now =
+    ready_first buffers c.args.launches.items c.index.result.now c.requires.ready some c.index.ensures in
     let all : List Launcher = c.in-Ok-prepare_each.launchers.items in
     let units : List Unit' = map (λ (k : Compiled). unit_of k.program) c.args.kernels.now in
     let programs : List Plain = map (λ (q : Launcher). plain_of q.program) all in
     let launches : List Launch = map (λ (q : Launcher). launch_of q.launch) all in
-    let like : AreLike (programs_in text units) programs = subst (λ (ps : List Plain). AreLike (programs_in text units) ps) (sym c.in-Ok-prepare_each.ensures.programs) (programs_are text.lanes c.args.kernels.now c.requires.passes) in
-    let are : launches ≡ launches_in text = map_twice launch_of (λ (q : Launcher). q.launch) all ∙ (ap (map launch_of) c.in-Ok-prepare_each.ensures.launches ∙ c.requires.launches) in
+    let like : AreLike (programs_in text units) programs =
+    subst (λ (ps : List Plain). AreLike (programs_in text units) ps) (sym c.in-Ok-prepare_each.ensures.programs)
+    (programs_are text.lanes c.args.kernels.now c.requires.passes) in
+    let are : launches ≡ launches_in text = map_twice launch_of (λ (q : Launcher). q.launch) all ∙
+    (ap (map launch_of) c.in-Ok-prepare_each.ensures.launches ∙ c.requires.launches) in
     let before : List (List ℕ) = buffers_of c.in-Ok.buffers in
-    let loaded : BuffersLoaded (g.S.Store.files c.args.store.now) text before = loaded_of (g.S.Store.files c.args.store.now) text c.index.result.now before ready c.in-Ok.ensures.content in
-    let is : c.index-2.result.now ≡ get_or all 0 c.index-2.result.now = subst (λ (qs : List Launcher). c.index-2.result.now ≡ get_or qs 0 c.index-2.result.now) c.run_each.ensures.launchers c.index-2.ensures in
-    let there : IsReady buffers c.launch.result.now = subst (λ (l : Bindings). IsReady buffers l) (sym c.launch.ensures) (ready_launcher buffers all c.args.launches.items c.index-2.result.now c.in-Ok-prepare_each.ensures.launches c.requires.ready some is) in
+    let loaded : BuffersLoaded (g.S.Store.files c.args.store.now) text before =
+    loaded_of (g.S.Store.files c.args.store.now) text c.index.result.now before ready c.in-Ok.ensures.content in
+    let is : c.index-2.result.now ≡ get_or all 0 c.index-2.result.now =
+    subst (λ (qs : List Launcher). c.index-2.result.now ≡ get_or qs 0 c.index-2.result.now)
+    c.run_each.ensures.launchers c.index-2.ensures in
+    let there : IsReady buffers c.launch.result.now =
+    subst (λ (l : Bindings). IsReady buffers l) (sym c.launch.ensures)
+    (ready_launcher buffers all c.args.launches.items c.index-2.result.now c.in-Ok-prepare_each.ensures.launches
+    c.requires.ready some is) in
     let after : List (List ℕ) = buffers_of c.run_each.new.buffers in
     let items : Vec ℕ Global → List ℕ = λ v. v.items in
-    let loaded_sizes : map (λ (b : List ℕ). length b) before ≡ lengths_of buffers = lengths_twice items c.in-Ok.buffers.list.items ∙ (started_lengths items (g.S.Store.files c.args.store.now) c.index.result.now.lengths.items c.index.result.now.loads.items c.in-Ok.buffers.list.items c.in-Ok.ensures.content ∙ ready.lengths) in
+    let loaded_sizes : map (λ (b : List ℕ). length b) before ≡ lengths_of buffers =
+    lengths_twice items c.in-Ok.buffers.list.items ∙
+    (started_lengths items (g.S.Store.files c.args.store.now) c.index.result.now.lengths.items
+    c.index.result.now.loads.items c.in-Ok.buffers.list.items c.in-Ok.ensures.content ∙ ready.lengths) in
     let groups : List Plain = map (λ (k : Compiled). plain_of k.group) c.args.kernels.now in
-    let fit : AllPrepared groups (launches_in text) = subst (λ (ls : List Launch). AllPrepared groups ls) are (subst (λ (ps : List Plain). AllPrepared ps launches) c.in-Ok-prepare_each.ensures.programs (prepared all c.in-Ok-prepare_each.ensures.fit)) in
+    let fit : AllPrepared groups (launches_in text) =
+    subst (λ (ls : List Launch). AllPrepared groups ls) are (subst (λ (ps : List Plain). AllPrepared ps launches)
+    c.in-Ok-prepare_each.ensures.programs (prepared all c.in-Ok-prepare_each.ensures.fit)) in
     let made : AreMade units = all_made text.lanes c.args.kernels.now c.requires.passes c.requires.valid in
-    let compiled : AreCompiledTo text.lanes text.list units = all_compiled text.lanes c.args.kernels.now text.list c.requires.passes c.requires.valid c.requires.names in
-    let run : HasRun (g.S.Store.files c.args.store.now) text units after = has_run (g.S.Store.files c.args.store.now) text units before after programs launches loaded like are c.in-Ok-run_each.ensures.ran made compiled (ran_outcome text c.args.kernels.now c.requires.passes c.requires.valid fit before loaded_sizes after) in
-    inr (save_stopped (g.S.Store.files c.args.store.now) (g.S.Store.files c.load_all.new.store) _ text units c.launch.result.now.saves.items after c.requires.accepted c.load_all.ensures.files_stay there.saves run c.in-Err-save_all.ensures.stops c.in-Err-save_all.ensures.others)
+    let compiled : AreCompiledTo text.lanes text.list units =
+    all_compiled text.lanes c.args.kernels.now text.list c.requires.passes c.requires.valid c.requires.names in
+    let run : HasRun (g.S.Store.files c.args.store.now) text units after =
+    has_run (g.S.Store.files c.args.store.now) text units before after programs launches loaded like are
+    c.in-Ok-run_each.ensures.ran made compiled (ran_outcome text c.args.kernels.now c.requires.passes
+    c.requires.valid fit before loaded_sizes after) in
+    inr (save_stopped (g.S.Store.files c.args.store.now) (g.S.Store.files c.load_all.new.store) _ text units
+    c.launch.result.now.saves.items after c.requires.accepted c.load_all.ensures.files_stay there.saves run
+    c.in-Err-save_all.ensures.stops c.in-Err-save_all.ensures.others)

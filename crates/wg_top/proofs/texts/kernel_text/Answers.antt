@@ -14,7 +14,8 @@ returns-in-Plan c =
     let k = c.args.kernel.now in
     IfOk-weaker c.plan_text.result _ _
     (λ t e width passed valid.
-    subst (λ (s : Shown). showing s width k.group.kernel (unit_of k.program) t.items) (sym c.in-Plan.is) (plan_text_of k.program (kernel_of k.kernel) (planned_of k.plan) t.items valid passed.kernel passed.plan e))
+    subst (λ (s : Shown). showing s width k.group.kernel (unit_of k.program) t.items) (sym c.in-Plan.is)
+    (plan_text_of k.program (kernel_of k.kernel) (planned_of k.plan) t.items valid passed.kernel passed.plan e))
     c.plan_text.ensures.lines
 
 pub returns-in-Code : goal.returns-in-Code
@@ -22,5 +23,6 @@ returns-in-Code c =
     let k = c.args.kernel.now in
     IfOk-weaker c.listing.result _ _
     (λ t e width passed valid.
-    subst (λ (s : Shown). showing s width k.group.kernel (unit_of k.program) t.items) (sym c.in-Code.is) (code_text_of width k t.items passed valid e))
+    subst (λ (s : Shown). showing s width k.group.kernel (unit_of k.program) t.items) (sym c.in-Code.is)
+    (code_text_of width k t.items passed valid e))
     c.listing.ensures

@@ -17,5 +17,6 @@ returns-in-Ok-texts_of-clause-ok g c =
       read = c.in-Ok.ensures.read;
       shows = c.in-Ok-texts_of.ensures;
       made = all_made text.lanes kernels c.in-Ok.ensures.given.passes c.in-Ok.ensures.given.valid;
-      compiled = all_compiled text.lanes kernels text.list c.in-Ok.ensures.given.passes c.in-Ok.ensures.given.valid c.in-Ok.ensures.given.names;
+      compiled = all_compiled text.lanes kernels text.list c.in-Ok.ensures.given.passes c.in-Ok.ensures.given.valid
+          c.in-Ok.ensures.given.names;
     }

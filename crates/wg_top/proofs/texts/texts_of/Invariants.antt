@@ -6,5 +6,8 @@ use Rattle.wg_top.proofs.texts.texts_of.Given as goal
 
 abbrev pub invariant-loop-k : goal.invariant-loop-k
 invariant-loop-k l =
-    (later : List ℕ) → AreTexts (showing l.shown) (text_of l.given.text).lanes (text_of l.given.text).several (suc l.k) (drop l.k (text_of l.given.text).list) (drop l.k (map (λ c. unit_of c.program) l.given.kernels.items)) later
-    → AreTexts (showing l.shown) (text_of l.given.text).lanes (text_of l.given.text).several 1 (text_of l.given.text).list (map (λ c. unit_of c.program) l.given.kernels.items) (l.text.items ++ later)
+    (later : List ℕ) → AreTexts (showing l.shown) (text_of l.given.text).lanes (text_of l.given.text).several
+    (suc l.k) (drop l.k (text_of l.given.text).list)
+    (drop l.k (map (λ c. unit_of c.program) l.given.kernels.items)) later
+    → AreTexts (showing l.shown) (text_of l.given.text).lanes (text_of l.given.text).several 1
+    (text_of l.given.text).list (map (λ c. unit_of c.program) l.given.kernels.items) (l.text.items ++ later)

@@ -4,4 +4,10 @@ use Rattle.cl_prep.proofs.scope.Scope.open.Goals as goal
 
 pub overflow_add-self : goal.overflow_add-self
 overflow_add-self c =
-    omega (arith, c.args.self.now.counted, idle_within c.args.self.now.conditionals.items, c.args.self.now.conditionals.ok, c.args.self.now.conditionals.small)
+    omega (
+      arith,
+      c.args.self.now.counted,
+      idle_within c.args.self.now.conditionals.items,
+      c.args.self.now.conditionals.ok,
+      c.args.self.now.conditionals.small,
+    )

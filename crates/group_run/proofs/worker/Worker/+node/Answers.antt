@@ -12,10 +12,13 @@ use Rattle.lane_machine.specs.Votes.{said}
 use Rattle.group_run.specs.Ends.{is_done, Stands}
 use Rattle.group_run.specs.Nodes.{nodes_end, turn_end}
 use Rattle.group_run.proofs.Laws.{stops, goes_on, no_less_same, no_less_then}
-use Rattle.group_run.proofs.NodeLaws.{vote_fits, loop_fits, fits_here, room_here, drop_one, each_room, seq_does, first_fits, rest_fits, list_weight, asked, rounds_ask, asked_no, asked_mixed, asked_yes, loop_first, loop_later, node_weight, seq_weight, weight_at}
+use Rattle.group_run.proofs.NodeLaws.{vote_fits, loop_fits, fits_here, room_here, drop_one, each_room, seq_does}
+use Rattle.group_run.proofs.NodeLaws.{first_fits, rest_fits, list_weight, asked, rounds_ask, asked_no, asked_mixed}
+use Rattle.group_run.proofs.NodeLaws.{asked_yes, loop_first, loop_later, node_weight, seq_weight, weight_at}
 use Rattle.cl_model.specs.declared.launch.Buffers.{Buffers}
 use Rattle.group_run.specs.declared.worker.Worker.{Worker}
-use Rattle.group_run.proofs.worker.Worker.+node.Goals.{rounds-then-not-test_first+else-not-has_done, rounds-else-not-test_first}
+use Rattle.group_run.proofs.worker.Worker.+node.Goals.{rounds-then-not-test_first+else-not-has_done}
+use Rattle.group_run.proofs.worker.Worker.+node.Goals.{rounds-else-not-test_first}
 use Rattle.group_run.proofs.worker.Worker.+node.Goals as goal
 
 pub node-nodes-requires : goal.node-nodes-requires
@@ -35,7 +38,8 @@ node-nodes-requires t c =
 pub node-returns-in-Seq-clause-end : goal.node-returns-in-Seq-clause-end
 node-returns-in-Seq-clause-end t c =
     let a = c.args in
-    seq_does (plain_of a.program.now) (launch_of a.launch.now) a.number a.node.now c.in-Seq.nodes a.self.now.turns a.self.now.group.kept (buffers_of a.buffers.now) c.in-Seq.is
+    seq_does (plain_of a.program.now) (launch_of a.launch.now) a.number a.node.now c.in-Seq.nodes a.self.now.turns
+    a.self.now.group.kept (buffers_of a.buffers.now) c.in-Seq.is
     ∙ c.nodes.ensures.end
 
 pub node-node-requires : goal.node-node-requires
@@ -44,7 +48,8 @@ node-node-requires t c =
     let v = c.in-Vote in
     let before = room_at c.args.program.now.width c.args.self.now.machine in
     let after = room_at c.args.program.now.width c.items-end.new.self.machine in
-    let fits = vote_fits names (code_of v.test) (work_of v.yes.value) (work_of v.no.value) (code_of v.mixed) (subst (λ (n : Node). work_fits names (work_of n) ≡ true) v.is c.requires.fits) in
+    let fits = vote_fits names (code_of v.test) (work_of v.yes.value) (work_of v.no.value) (code_of v.mixed)
+    (subst (λ (n : Node). work_fits names (work_of n) ≡ true) v.is c.requires.fits) in
     let room = subst (λ (n : Node). HasRoomFor before (work_of n)) v.is c.requires.room in (
       omega (arith, ap node_weight v.is, ap node_weight c.deref.ensures),
       (
@@ -62,14 +67,16 @@ node-node-requires-in-No t c =
     let v = c.in-Vote in
     let before = room_at c.args.program.now.width c.args.self.now.machine in
     let after = room_at c.args.program.now.width c.items-end.new.self.machine in
-    let fits = vote_fits names (code_of v.test) (work_of v.yes.value) (work_of v.no.value) (code_of v.mixed) (subst (λ (n : Node). work_fits names (work_of n) ≡ true) v.is c.requires.fits) in
+    let fits = vote_fits names (code_of v.test) (work_of v.yes.value) (work_of v.no.value) (code_of v.mixed)
+    (subst (λ (n : Node). work_fits names (work_of n) ≡ true) v.is c.requires.fits) in
     let room = subst (λ (n : Node). HasRoomFor before (work_of n)) v.is c.requires.room in (
       omega (arith, ap node_weight v.is, ap node_weight c.deref-in-No.ensures),
       (
         c.items-end.ensures.stands,
         (
           fits_here names v.no.value c.deref-in-No.result.now c.deref-in-No.ensures fits.1,
-          room_here before after v.no.value c.deref-in-No.result.now c.deref-in-No.ensures c.items-end.ensures.room room.2,
+          room_here before after v.no.value c.deref-in-No.result.now c.deref-in-No.ensures c.items-end.ensures.room
+              room.2,
         ),
       ),
     )
@@ -85,7 +92,11 @@ nodes-node-end-requires t c =
     let here = drop_one nodes i one c.loop-one-test.true c.one-item.is in
     let fits = subst (λ (ns : List Node). nodes_fit names ns ≡ true) here c.loop-one.invariant.fits in
     let each = subst (λ (ns : List Node). HasRoomForEach before ns) here c.loop-one.invariant.each in (
-      omega (arith, weight_at nodes i one c.loop-one-test.true c.one-item.is, ap list_weight c.deref-one-items.ensures.value),
+      omega (
+        arith,
+        weight_at nodes i one c.loop-one-test.true c.one-item.is,
+        ap list_weight c.deref-one-items.ensures.value,
+      ),
       (
         c.loop-one.invariant.stands,
         (
@@ -111,13 +122,18 @@ nodes-loop-one-preserved t c =
     let done : is_done c.node-end.result ≡ true = cc (c.has_done.ensures) in
     record {
       same =
-          sym (goes_on (work_end p l n (work_of one) now.turns now.group.kept (buffers_of c.loop-one.buffers)) c.node-end.result new.self.turns new.self.group.kept (buffers_of new.buffers) (nodes_end p l n (drop (i + 1) nodes)) c.node-end.ensures.end done)
-          ∙ sym (ap (λ (ns : List Node). nodes_end p l n ns now.turns now.group.kept (buffers_of c.loop-one.buffers)) here)
+          sym (goes_on (work_end p l n (work_of one) now.turns now.group.kept (buffers_of c.loop-one.buffers))
+          c.node-end.result new.self.turns new.self.group.kept (buffers_of new.buffers)
+          (nodes_end p l n (drop (i + 1) nodes)) c.node-end.ensures.end done)
+          ∙ sym (ap (λ (ns : List Node). nodes_end p l n ns now.turns now.group.kept (buffers_of c.loop-one.buffers))
+          here)
           ∙ c.loop-one.invariant.same;
-      fits = rest_fits (names_of p) one (drop (i + 1) nodes) (subst (λ (ns : List Node). nodes_fit (names_of p) ns ≡ true) here c.loop-one.invariant.fits);
+      fits = rest_fits (names_of p) one (drop (i + 1) nodes)
+          (subst (λ (ns : List Node). nodes_fit (names_of p) ns ≡ true) here c.loop-one.invariant.fits);
       each = let each = subst (λ (ns : List Node). HasRoomForEach first ns) here c.loop-one.invariant.each in each.1;
       stands = c.node-end.ensures.stands;
-      room = no_less_then first (room_at width now.machine) (room_at width new.self.machine) c.loop-one.invariant.room c.node-end.ensures.room;
+      room = no_less_then first (room_at width now.machine) (room_at width new.self.machine) c.loop-one.invariant.room
+          c.node-end.ensures.room;
     }
 
 pub rounds-loop-test-init : goal.rounds-loop-test-init
@@ -137,27 +153,36 @@ rounds-loop-test-init t c =
     elim c.if-not-test_first.branch [
       | rounds-then-not-test_first+else-not-has_done w ↦
           let new = w.iteration-end.new in
-          let ran = ap (λ (m : Node). turn_end (work_end p l n (work_of m)) first.turns first.group.kept (buffers_of b0)) (sym w.deref.ensures) ∙ w.iteration-end.ensures.end in
+          let ran = ap (λ (m : Node). turn_end (work_end p l n (work_of m)) first.turns first.group.kept
+          (buffers_of b0)) (sym w.deref.ensures) ∙ w.iteration-end.ensures.end in
           let done : is_done w.iteration-end.result ≡ true = cc (w.has_done.ensures) in
           record {
             same =
                 ap (λ (s : Worker). rounds test body rest first.turns s.turns s.group.kept (buffers_of b1)) w.self-is
-                ∙ ap (λ (b : Buffers). rounds test body rest first.turns new.self.turns new.self.group.kept (buffers_of b)) w.buffers-is
-                ∙ sym (goes_on (turn_end body first.turns first.group.kept (buffers_of b0)) w.iteration-end.result new.self.turns new.self.group.kept (buffers_of new.buffers) (rounds test body rest first.turns) ran done)
-                ∙ sym (loop_later v.test_first test body rest first.turns first.group.kept (buffers_of b0) w.if-not-test_first.true)
+                ∙ ap (λ (b : Buffers). rounds test body rest first.turns new.self.turns new.self.group.kept
+                (buffers_of b)) w.buffers-is
+                ∙ sym (goes_on (turn_end body first.turns first.group.kept (buffers_of b0)) w.iteration-end.result
+                new.self.turns new.self.group.kept (buffers_of new.buffers) (rounds test body rest first.turns)
+                ran done)
+                ∙ sym (loop_later v.test_first test body rest first.turns first.group.kept (buffers_of b0)
+                w.if-not-test_first.true)
                 ∙ sym whole;
             stands = subst (λ (s : Worker). Stands p l n s.group) (sym w.self-is) w.iteration-end.ensures.stands;
-            room = subst (λ (s : Worker). IsNoLess (room_at width first.machine) (room_at width s.machine)) (sym w.self-is) w.iteration-end.ensures.room;
+            room = subst (λ (s : Worker). IsNoLess (room_at width first.machine) (room_at width s.machine))
+                (sym w.self-is) w.iteration-end.ensures.room;
           }
       | rounds-else-not-test_first w ↦
           record {
             same =
                 ap (λ (s : Worker). rounds test body rest first.turns s.turns s.group.kept (buffers_of b1)) w.self-is
-                ∙ ap (λ (b : Buffers). rounds test body rest first.turns first.turns first.group.kept (buffers_of b)) w.buffers-is
-                ∙ sym (loop_first v.test_first test body rest first.turns first.group.kept (buffers_of b0) w.if-not-test_first.false)
+                ∙ ap (λ (b : Buffers). rounds test body rest first.turns first.turns first.group.kept (buffers_of b))
+                w.buffers-is
+                ∙ sym (loop_first v.test_first test body rest first.turns first.group.kept (buffers_of b0)
+                w.if-not-test_first.false)
                 ∙ sym whole;
             stands = subst (λ (s : Worker). Stands p l n s.group) (sym w.self-is) c.requires.stands;
-            room = subst (λ (s : Worker). IsNoLess (room_at width first.machine) (room_at width s.machine)) (sym w.self-is) (no_less_same (room_at width first.machine));
+            room = subst (λ (s : Worker). IsNoLess (room_at width first.machine) (room_at width s.machine))
+                (sym w.self-is) (no_less_same (room_at width first.machine));
           }
     ]
 
@@ -167,7 +192,8 @@ rounds-node-end-requires t c =
     let v = c.in-Loop in
     let before = room_at c.args.program.now.width c.args.self.now.machine in
     let after = room_at c.args.program.now.width c.loop-test.self.machine in
-    let fits = loop_fits names v.test_first (work_of v.test.value) (work_of v.body.value) (code_of v.rest) (subst (λ (n : Node). work_fits names (work_of n) ≡ true) v.is c.requires.fits) in
+    let fits = loop_fits names v.test_first (work_of v.test.value) (work_of v.body.value) (code_of v.rest)
+    (subst (λ (n : Node). work_fits names (work_of n) ≡ true) v.is c.requires.fits) in
     let room = subst (λ (n : Node). HasRoomFor before (work_of n)) v.is c.requires.room in
     let here = c.deref-in-loop-test in (
       omega (arith, ap node_weight v.is, ap node_weight here.ensures),
@@ -194,10 +220,13 @@ rounds-returns-then-not-has_done-2-clause-end t c =
     let old = c.loop-test.buffers in
     let tested = c.node-end.new in
     let asks : Doing = asked test body rest most in
-    let ran = ap (λ (m : Node). work_end p l n (work_of m) now.turns now.group.kept (buffers_of old)) (sym c.deref-in-loop-test.ensures) ∙ c.node-end.ensures.end in
-    let from = sym c.loop-test.invariant.same ∙ rounds_ask test body rest most now.turns now.group.kept (buffers_of old) in
+    let ran = ap (λ (m : Node). work_end p l n (work_of m) now.turns now.group.kept (buffers_of old))
+    (sym c.deref-in-loop-test.ensures) ∙ c.node-end.ensures.end in
+    let from =
+    sym c.loop-test.invariant.same ∙ rounds_ask test body rest most now.turns now.group.kept (buffers_of old) in
     let stopped : is_done c.node-end.result ≡ false = cc (c.has_done-in-loop-test.ensures) in
-    from ∙ stops (test now.turns now.group.kept (buffers_of old)) c.node-end.result tested.self.turns tested.self.group.kept (buffers_of tested.buffers) asks ran stopped
+    from ∙ stops (test now.turns now.group.kept (buffers_of old)) c.node-end.result tested.self.turns
+    tested.self.group.kept (buffers_of tested.buffers) asks ran stopped
 
 pub rounds-returns-in-No-clause-end : goal.rounds-returns-in-No-clause-end
 rounds-returns-in-No-clause-end t c =
@@ -213,10 +242,13 @@ rounds-returns-in-No-clause-end t c =
     let old = c.loop-test.buffers in
     let tested = c.node-end.new in
     let asks : Doing = asked test body rest most in
-    let ran = ap (λ (m : Node). work_end p l n (work_of m) now.turns now.group.kept (buffers_of old)) (sym c.deref-in-loop-test.ensures) ∙ c.node-end.ensures.end in
-    let from = sym c.loop-test.invariant.same ∙ rounds_ask test body rest most now.turns now.group.kept (buffers_of old) in
+    let ran = ap (λ (m : Node). work_end p l n (work_of m) now.turns now.group.kept (buffers_of old))
+    (sym c.deref-in-loop-test.ensures) ∙ c.node-end.ensures.end in
+    let from =
+    sym c.loop-test.invariant.same ∙ rounds_ask test body rest most now.turns now.group.kept (buffers_of old) in
     let done : is_done c.node-end.result ≡ true = cc (c.has_done-in-loop-test.ensures) in
-    let went = from ∙ goes_on (test now.turns now.group.kept (buffers_of old)) c.node-end.result tested.self.turns tested.self.group.kept (buffers_of tested.buffers) asks ran done in
+    let went = from ∙ goes_on (test now.turns now.group.kept (buffers_of old)) c.node-end.result tested.self.turns
+    tested.self.group.kept (buffers_of tested.buffers) asks ran done in
     let said_no : verdict tested.self.group.kept.votes ≡ Refused = sym c.answers.ensures ∙ ap said c.in-No.is in
     went ∙ asked_no test body rest most tested.self.turns tested.self.group.kept (buffers_of tested.buffers) said_no
 
@@ -234,12 +266,16 @@ rounds-returns-in-Mixed-clause-end t c =
     let old = c.loop-test.buffers in
     let tested = c.node-end.new in
     let asks : Doing = asked test body rest most in
-    let ran = ap (λ (m : Node). work_end p l n (work_of m) now.turns now.group.kept (buffers_of old)) (sym c.deref-in-loop-test.ensures) ∙ c.node-end.ensures.end in
-    let from = sym c.loop-test.invariant.same ∙ rounds_ask test body rest most now.turns now.group.kept (buffers_of old) in
+    let ran = ap (λ (m : Node). work_end p l n (work_of m) now.turns now.group.kept (buffers_of old))
+    (sym c.deref-in-loop-test.ensures) ∙ c.node-end.ensures.end in
+    let from =
+    sym c.loop-test.invariant.same ∙ rounds_ask test body rest most now.turns now.group.kept (buffers_of old) in
     let done : is_done c.node-end.result ≡ true = cc (c.has_done-in-loop-test.ensures) in
-    let went = from ∙ goes_on (test now.turns now.group.kept (buffers_of old)) c.node-end.result tested.self.turns tested.self.group.kept (buffers_of tested.buffers) asks ran done in
+    let went = from ∙ goes_on (test now.turns now.group.kept (buffers_of old)) c.node-end.result tested.self.turns
+    tested.self.group.kept (buffers_of tested.buffers) asks ran done in
     let said_both : verdict tested.self.group.kept.votes ≡ Mixed = sym c.answers.ensures ∙ ap said c.in-Mixed.is in
-    went ∙ asked_mixed test body rest most tested.self.turns tested.self.group.kept (buffers_of tested.buffers) said_both ∙ c.items.ensures.end
+    went ∙ asked_mixed test body rest most tested.self.turns tested.self.group.kept (buffers_of tested.buffers)
+    said_both ∙ c.items.ensures.end
 
 pub rounds-iteration-end-requires-in-loop-test : goal.rounds-iteration-end-requires-in-loop-test
 rounds-iteration-end-requires-in-loop-test t c =
@@ -248,7 +284,8 @@ rounds-iteration-end-requires-in-loop-test t c =
     let before = room_at c.args.program.now.width c.args.self.now.machine in
     let between = room_at c.args.program.now.width c.loop-test.self.machine in
     let after = room_at c.args.program.now.width c.node-end.new.self.machine in
-    let fits = loop_fits names v.test_first (work_of v.test.value) (work_of v.body.value) (code_of v.rest) (subst (λ (n : Node). work_fits names (work_of n) ≡ true) v.is c.requires.fits) in
+    let fits = loop_fits names v.test_first (work_of v.test.value) (work_of v.body.value) (code_of v.rest)
+    (subst (λ (n : Node). work_fits names (work_of n) ≡ true) v.is c.requires.fits) in
     let room = subst (λ (n : Node). HasRoomFor before (work_of n)) v.is c.requires.room in
     let here = c.deref-in-loop-test-2 in (
       omega (arith, ap node_weight v.is, ap node_weight here.ensures),
@@ -256,7 +293,8 @@ rounds-iteration-end-requires-in-loop-test t c =
         c.node-end.ensures.stands,
         (
           fits_here names v.body.value here.result.now here.ensures fits.1,
-          room_here before after v.body.value here.result.now here.ensures (no_less_then before between after c.loop-test.invariant.room c.node-end.ensures.room) room.1,
+          room_here before after v.body.value here.result.now here.ensures
+              (no_less_then before between after c.loop-test.invariant.room c.node-end.ensures.room) room.1,
         ),
       ),
     )
@@ -275,18 +313,26 @@ rounds-returns-then-not-has_done-3-clause-end t c =
     let old = c.loop-test.buffers in
     let tested = c.node-end.new in
     let asks : Doing = asked test body rest most in
-    let ran = ap (λ (m : Node). work_end p l n (work_of m) now.turns now.group.kept (buffers_of old)) (sym c.deref-in-loop-test.ensures) ∙ c.node-end.ensures.end in
-    let from = sym c.loop-test.invariant.same ∙ rounds_ask test body rest most now.turns now.group.kept (buffers_of old) in
+    let ran = ap (λ (m : Node). work_end p l n (work_of m) now.turns now.group.kept (buffers_of old))
+    (sym c.deref-in-loop-test.ensures) ∙ c.node-end.ensures.end in
+    let from =
+    sym c.loop-test.invariant.same ∙ rounds_ask test body rest most now.turns now.group.kept (buffers_of old) in
     let done : is_done c.node-end.result ≡ true = cc (c.has_done-in-loop-test.ensures) in
-    let went = from ∙ goes_on (test now.turns now.group.kept (buffers_of old)) c.node-end.result tested.self.turns tested.self.group.kept (buffers_of tested.buffers) asks ran done in
+    let went = from ∙ goes_on (test now.turns now.group.kept (buffers_of old)) c.node-end.result tested.self.turns
+    tested.self.group.kept (buffers_of tested.buffers) asks ran done in
     let said_yes : verdict tested.self.group.kept.votes ≡ Agreed = sym c.answers.ensures ∙ ap said c.in-Yes.is in
     let some : 0 < most = omega arith in
-    let begun = went ∙ asked_yes test body rest most tested.self.turns tested.self.group.kept (buffers_of tested.buffers) said_yes some in
+    let begun = went ∙ asked_yes test body rest most tested.self.turns tested.self.group.kept
+    (buffers_of tested.buffers) said_yes some in
     let new = c.iteration-end-in-loop-test.new in
-    let turned = ap (λ (m : Node). turn_end (work_end p l n (work_of m)) tested.self.turns tested.self.group.kept (buffers_of tested.buffers)) (sym c.deref-in-loop-test-2.ensures) ∙ c.iteration-end-in-loop-test.ensures.end in
+    let turned = ap (λ (m : Node). turn_end (work_end p l n (work_of m)) tested.self.turns tested.self.group.kept
+    (buffers_of tested.buffers)) (sym c.deref-in-loop-test-2.ensures) ∙
+    c.iteration-end-in-loop-test.ensures.end in
     let next : Doing = rounds test body rest (most - 1) in
     let stopped : is_done c.iteration-end-in-loop-test.result ≡ false = cc (c.has_done-in-loop-test-2.ensures) in
-    begun ∙ stops (turn_end body tested.self.turns tested.self.group.kept (buffers_of tested.buffers)) c.iteration-end-in-loop-test.result new.self.turns new.self.group.kept (buffers_of new.buffers) next turned stopped
+    begun ∙ stops (turn_end body tested.self.turns tested.self.group.kept (buffers_of tested.buffers))
+    c.iteration-end-in-loop-test.result new.self.turns new.self.group.kept (buffers_of new.buffers) next turned
+    stopped
 
 pub rounds-loop-test-preserved : goal.rounds-loop-test-preserved
 rounds-loop-test-preserved t c =
@@ -302,22 +348,32 @@ rounds-loop-test-preserved t c =
     let old = c.loop-test.buffers in
     let tested = c.node-end.new in
     let asks : Doing = asked test body rest most in
-    let ran = ap (λ (m : Node). work_end p l n (work_of m) now.turns now.group.kept (buffers_of old)) (sym c.deref-in-loop-test.ensures) ∙ c.node-end.ensures.end in
-    let from = sym c.loop-test.invariant.same ∙ rounds_ask test body rest most now.turns now.group.kept (buffers_of old) in
+    let ran = ap (λ (m : Node). work_end p l n (work_of m) now.turns now.group.kept (buffers_of old))
+    (sym c.deref-in-loop-test.ensures) ∙ c.node-end.ensures.end in
+    let from =
+    sym c.loop-test.invariant.same ∙ rounds_ask test body rest most now.turns now.group.kept (buffers_of old) in
     let done : is_done c.node-end.result ≡ true = cc (c.has_done-in-loop-test.ensures) in
-    let went = from ∙ goes_on (test now.turns now.group.kept (buffers_of old)) c.node-end.result tested.self.turns tested.self.group.kept (buffers_of tested.buffers) asks ran done in
+    let went = from ∙ goes_on (test now.turns now.group.kept (buffers_of old)) c.node-end.result tested.self.turns
+    tested.self.group.kept (buffers_of tested.buffers) asks ran done in
     let said_yes : verdict tested.self.group.kept.votes ≡ Agreed = sym c.answers.ensures ∙ ap said c.in-Yes.is in
     let some : 0 < most = omega arith in
-    let begun = went ∙ asked_yes test body rest most tested.self.turns tested.self.group.kept (buffers_of tested.buffers) said_yes some in
+    let begun = went ∙ asked_yes test body rest most tested.self.turns tested.self.group.kept
+    (buffers_of tested.buffers) said_yes some in
     let new = c.iteration-end-in-loop-test.new in
-    let turned = ap (λ (m : Node). turn_end (work_end p l n (work_of m)) tested.self.turns tested.self.group.kept (buffers_of tested.buffers)) (sym c.deref-in-loop-test-2.ensures) ∙ c.iteration-end-in-loop-test.ensures.end in
+    let turned = ap (λ (m : Node). turn_end (work_end p l n (work_of m)) tested.self.turns tested.self.group.kept
+    (buffers_of tested.buffers)) (sym c.deref-in-loop-test-2.ensures) ∙
+    c.iteration-end-in-loop-test.ensures.end in
     let next : Doing = rounds test body rest (most - 1) in
     let width = c.args.program.now.width in
     let first = room_at width c.args.self.now.machine in
     let again : is_done c.iteration-end-in-loop-test.result ≡ true = cc (c.has_done-in-loop-test-2.ensures) in
-    let led = begun ∙ goes_on (turn_end body tested.self.turns tested.self.group.kept (buffers_of tested.buffers)) c.iteration-end-in-loop-test.result new.self.turns new.self.group.kept (buffers_of new.buffers) next turned again in
+    let led = begun ∙ goes_on (turn_end body tested.self.turns tested.self.group.kept (buffers_of tested.buffers))
+    c.iteration-end-in-loop-test.result new.self.turns new.self.group.kept (buffers_of new.buffers) next turned
+    again in
     record {
       same = sym led;
       stands = c.iteration-end-in-loop-test.ensures.stands;
-      room = no_less_then first (room_at width tested.self.machine) (room_at width new.self.machine) (no_less_then first (room_at width now.machine) (room_at width tested.self.machine) c.loop-test.invariant.room c.node-end.ensures.room) c.iteration-end-in-loop-test.ensures.room;
+      room = no_less_then first (room_at width tested.self.machine) (room_at width new.self.machine)
+          (no_less_then first (room_at width now.machine) (room_at width tested.self.machine)
+          c.loop-test.invariant.room c.node-end.ensures.room) c.iteration-end-in-loop-test.ensures.room;
     }

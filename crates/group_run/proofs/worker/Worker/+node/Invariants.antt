@@ -14,8 +14,10 @@ use Rattle.group_run.proofs.worker.Worker.+node.Given as goal
 -- the nodes still to be done lead to the end of all
 abbrev pub invariant-nodes-loop-one : goal.invariant-nodes-loop-one
 invariant-nodes-loop-one l = record {
-  same : nodes_end (plain_of l.program) (launch_of l.launch) l.number (drop l.one-index l.one-items) l.self.turns l.self.group.kept (buffers_of l.buffers)
-      ≡ nodes_end (plain_of l.program) (launch_of l.launch) l.number l.one-items l.fn.self.turns l.fn.self.group.kept (buffers_of l.fn.buffers);
+  same : nodes_end (plain_of l.program) (launch_of l.launch) l.number (drop l.one-index l.one-items) l.self.turns
+      l.self.group.kept (buffers_of l.buffers)
+      ≡ nodes_end (plain_of l.program) (launch_of l.launch) l.number l.one-items l.fn.self.turns l.fn.self.group.kept
+      (buffers_of l.fn.buffers);
   fits : nodes_fit (names_of (plain_of l.program)) (drop l.one-index l.one-items) ≡ true;
   each : HasRoomForEach (room_at l.program.width l.fn.self.machine) (drop l.one-index l.one-items);
   stands : Stands (plain_of l.program) (launch_of l.launch) l.number l.self.group;
@@ -25,9 +27,12 @@ invariant-nodes-loop-one l = record {
 -- the rounds from here on lead to the end of the loop
 abbrev pub invariant-rounds-loop-test : goal.invariant-rounds-loop-test
 invariant-rounds-loop-test l = record {
-  same : rounds (work_end (plain_of l.program) (launch_of l.launch) l.number (work_of l.test.value)) (work_end (plain_of l.program) (launch_of l.launch) l.number (work_of l.body.value))
-      (items_end (plain_of l.program) (launch_of l.launch) l.number (code_of l.rest)) l.most l.self.turns l.self.group.kept (buffers_of l.buffers)
-      ≡ work_end (plain_of l.program) (launch_of l.launch) l.number (work_of l.node) l.fn.self.turns l.fn.self.group.kept (buffers_of l.fn.buffers);
+  same : rounds (work_end (plain_of l.program) (launch_of l.launch) l.number (work_of l.test.value))
+      (work_end (plain_of l.program) (launch_of l.launch) l.number (work_of l.body.value))
+      (items_end (plain_of l.program) (launch_of l.launch) l.number (code_of l.rest)) l.most l.self.turns
+      l.self.group.kept (buffers_of l.buffers)
+      ≡ work_end (plain_of l.program) (launch_of l.launch) l.number (work_of l.node) l.fn.self.turns
+      l.fn.self.group.kept (buffers_of l.fn.buffers);
   stands : Stands (plain_of l.program) (launch_of l.launch) l.number l.self.group;
   room : IsNoLess (room_at l.program.width l.fn.self.machine) (room_at l.program.width l.self.machine);
 }

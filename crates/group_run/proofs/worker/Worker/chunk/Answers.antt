@@ -5,7 +5,8 @@ use Rattle.group_run.proofs.Laws.{number_small}
 use Rattle.group_run.proofs.worker.Worker.chunk.Goals as goal
 
 pub launch_end-requires-clause-sizes : goal.launch_end-requires-clause-sizes
-launch_end-requires-clause-sizes c = let p = plain_of c.args.program.now in sizes_fit p.params (sum p.locals) c.args.launch.now c.requires.stands.fits
+launch_end-requires-clause-sizes c = let p =
+    plain_of c.args.program.now in sizes_fit p.params (sum p.locals) c.args.launch.now c.requires.stands.fits
 
 pub launch_end-requires-clause-number : goal.launch_end-requires-clause-number
 launch_end-requires-clause-number c =

@@ -11,8 +11,10 @@ use Rattle.group_run.proofs.worker.Worker.chunks.Given as goal
 -- the chunks still to be done lead to the end of all
 abbrev pub invariant-loop-chunk : goal.invariant-loop-chunk
 invariant-loop-chunk l = record {
-  same : chunks_end (plain_of l.program) (launch_of l.launch) l.number (code_of l.code) l.chunk (l.count - l.chunk) l.self.turns l.self.group.kept (buffers_of l.buffers)
-      ≡ chunks_end (plain_of l.program) (launch_of l.launch) l.number (code_of l.code) 0 l.count l.fn.self.turns l.fn.self.group.kept (buffers_of l.fn.buffers);
+  same : chunks_end (plain_of l.program) (launch_of l.launch) l.number (code_of l.code) l.chunk (l.count - l.chunk)
+      l.self.turns l.self.group.kept (buffers_of l.buffers)
+      ≡ chunks_end (plain_of l.program) (launch_of l.launch) l.number (code_of l.code) 0 l.count l.fn.self.turns
+      l.fn.self.group.kept (buffers_of l.fn.buffers);
   stands : Stands (plain_of l.program) (launch_of l.launch) l.number l.self.group;
   room : IsNoLess (room_at l.program.width l.fn.self.machine) (room_at l.program.width l.self.machine);
 }
