@@ -1,11 +1,10 @@
 //! Pieces of typed programs: an exit, and a function with its block.
 
-use cl_model::Stmt;
+use cl_model::{Stmt, statement};
 use cl_piece::make::make;
 use cl_piece::{Piece, What};
 use cl_scope::{Body, start};
 use cl_tree::{Form, Tree};
-use program_build::statement;
 use std::alloc::Global;
 use std::test::Fail;
 use wg_num::{Place, Word};

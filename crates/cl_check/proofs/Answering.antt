@@ -14,7 +14,7 @@ use Rattle.cl_meaning.specs.Typed.{Piece, Made, Function, Unit'}
 use Rattle.cl_meaning.specs.Meant.{meant, start_of, kernel_from, all_functions, unit_meant}
 use Rattle.cl_check.specs.Walk.{Walked, Faulted}
 use Rattle.cl_check.specs.Gather.{Gathered, own_calls, own_missing, given_in}
-use Rattle.cl_check.specs.Checked.{nodes_of, asked_in}
+use Rattle.cl_limits.specs.Judged.{nodes_of, asked_in}
 use Rattle.cl_check.proofs.Gathering.{calls_are, missing_are}
 
 -- what is gathered is what the nodes are judged by

@@ -17,7 +17,8 @@ use Rattle.cl_meaning.specs.Meant.{unit_meant}
 use Rattle.cl_limits.specs.Heights.{functions_in}
 use Rattle.cl_limits.specs.Kernel.{weights_of, limit_of, sized_of}
 use Rattle.cl_piece.specs.View.{unit_of}
-use Rattle.cl_check.specs.Checked.{nodes_of, asked_in, starts_in, limit_in, IsAccepted, IsRefused}
+use Rattle.cl_limits.specs.Judged.{nodes_of, asked_in, limit_in, IsAccepted}
+use Rattle.cl_check.specs.Checked.{starts_in, IsRefused}
 
 clash : {A : Type 0} (b : Bool) → b ≡ true → b ≡ false → A
 clash b t f = absurd (false≢true (sym f ∙ t))

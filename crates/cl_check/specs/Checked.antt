@@ -4,50 +4,16 @@ use Rattle.std.specs.Prelude.{◌≡◌, ℕ, List, [], ◌∷◌, length, slice
 use Rattle.wg_num.specs.declared.types.Place.{Place}
 use Rattle.cl_tree.specs.Syntax.{Syntax, node, Forest, none, more}
 use Rattle.cl_meaning.specs.declared.fault.Fault.{Fault}
-use Rattle.cl_meaning.specs.declared.kind.Role.TheVariants as roles
 use Rattle.cl_meaning.specs.Declarations.{parts_of}
-use Rattle.cl_meaning.specs.Visible.{Node, in_order}
-use Rattle.cl_meaning.specs.Faults.{Asked, AllSound, FirstFault, calls_of, missing_of}
-use Rattle.cl_meaning.specs.Meant.{start_of, unit_meant}
-use Rattle.cl_limits.specs.Heights.{is_function, functions_in}
-use Rattle.cl_limits.specs.Kernel.{Sized, weights_of, limit_of}
-
--- the nodes of a unit in order, parts before the whole
-abbrev pub nodes_of : List Place → Syntax → List Node
-nodes_of places unit = in_order (start_of places unit) roles.Other unit []
-
--- what they are judged by
-abbrev pub asked_in : List Place → (kernel : List ℕ) → Syntax → Asked
-asked_in places kernel unit =
-    record { kernel = kernel; calls = calls_of (nodes_of places unit); missing = missing_of (nodes_of places unit) }
-
--- no node is at fault
-abbrev pub IsSound : List Place → (kernel : List ℕ) → Syntax → Type 0
-IsSound places kernel unit = AllSound (asked_in places kernel unit) (nodes_of places unit)
-
--- what the limits look at
-abbrev pub sized_in : List Place → (kernel : List ℕ) → Syntax → Sized
-sized_in places kernel unit = record {
-  weights = weights_of unit;
-  trees = functions_in unit;
-  calls = calls_of (nodes_of places unit);
-  functions = (unit_meant places kernel unit).functions;
-  kernel = (unit_meant places kernel unit).kernel;
-}
-
--- the first limit that the kernel is above, with all that it calls
-abbrev pub limit_in : List Place → (kernel : List ℕ) → Syntax → Option Fault
-limit_in places kernel unit = limit_of (sized_in places kernel unit)
+use Rattle.cl_meaning.specs.Faults.{FirstFault}
+use Rattle.cl_meaning.specs.Meant.{unit_meant}
+use Rattle.cl_limits.specs.Heights.{is_function}
+use Rattle.cl_limits.specs.Judged.{nodes_of, asked_in, IsSound, limit_in}
 
 -- the first token of each function that some trees define, in order
 abbrev pub starts_in : Forest → List ℕ
 starts_in none = []
 starts_in (more (node form word first last parts) ts) = if is_function form then first ∷ starts_in ts else starts_in ts
-
--- no node is at fault, and the kernel is within the limits
-pub record IsAccepted (places : List Place) (kernel : List ℕ) (unit : Syntax) : Type 0 where
-  pub sound : IsSound places kernel unit
-  pub within : limit_in places kernel unit ≡ None
 
 -- no node is at fault, and this is the first limit that the kernel is above; the token is the first of the kernel
 pub record IsOver (places : List Place) (kernel : List ℕ) (unit : Syntax) (k : Fault) (token : ℕ) : Type 0 where

@@ -1,18 +1,7 @@
 //! The calls of a unit, by the names that are visible, before any node is judged.
 
-ghost use Rattle.std.specs.Prelude.{
-  ◌≡◌,
-  ◌++◌,
-  ◌∷◌,
-  [],
-  List,
-  IfOk,
-  OnOk,
-  map,
-  true,
-  false,
-  Bool as TestOf,
-};
+ghost use Rattle.std.specs.Prelude.{◌≡◌, ◌++◌, ◌∷◌, [], List, IfOk, OnOk, map, true, false};
+ghost use Rattle.std.specs.Prelude.{Bool as TestOf};
 ghost use Rattle.cl_meaning.specs.declared.kind.Role.TheVariants as roles;
 ghost use Rattle.wg_num.specs.declared.types.Place.{Place as PlaceOf};
 ghost use Rattle.cl_tree.specs.Syntax.{view, views, none};
@@ -30,22 +19,13 @@ use cl_meaning::{Call, Kind, Role, name_of};
 use cl_scope::{Callee, Environment, callee_of, enter, later, leave, restore};
 use cl_tree::{Form, Tree};
 use std::alloc::Global;
-use wg_num::{Memory, Place, Word};
+use wg_num::{Memory, Place, Word, push};
 
 /// The calls so far: those of functions that the unit defines, and the names that are called of others.
 #[derive(Drop)]
 pub(crate) struct Calls {
     pub(crate) calls: Vec<Call>,
     pub(crate) missing: Vec<Word>,
-}
-
-fn push<T: Drop>(list: &mut Vec<T>, item: T) -> Result<(), Memory>
-    ensures { OnOk result (list.new.items ≡ list.old.items ++ item ∷ []) }
-{
-    match list.push(item) {
-        Ok(()) => Ok(()),
-        Err(_) => Err(Memory),
-    }
 }
 
 /// The call of a node, if it is one of a function.

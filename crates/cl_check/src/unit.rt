@@ -10,7 +10,8 @@ ghost use Rattle.cl_faults.specs.View.{asked_of};
 ghost use Rattle.cl_piece.specs.View.{function_of, what_of, unit_of};
 ghost use Rattle.cl_limits.specs.Heights as limits;
 ghost use Rattle.cl_check.specs.Walk.{IfFault};
-ghost use Rattle.cl_check.specs.Checked.{nodes_of, asked_in, starts_in, IsAccepted, IsRefused};
+ghost use Rattle.cl_limits.specs.Judged.{nodes_of, asked_in, IsAccepted};
+ghost use Rattle.cl_check.specs.Checked.{starts_in, IsRefused};
 
 use crate::error::CheckError;
 use crate::gather::{Calls, gather_tree};

@@ -1,21 +1,7 @@
 //! The walk through a tree: parts in order, then the node itself.
 
-ghost use Rattle.std.specs.Prelude.{
-  ◌≡◌,
-  ◌++◌,
-  ◌∷◌,
-  [],
-  ℕ,
-  suc,
-  nat_eq,
-  if◌then◌else◌,
-  Some,
-  List,
-  IfOk,
-  OnOk,
-  map,
-  length,
-};
+ghost use Rattle.std.specs.Prelude.{◌≡◌, ◌++◌, ◌∷◌, [], ℕ, suc, nat_eq, if◌then◌else◌, Some};
+ghost use Rattle.std.specs.Prelude.{List, IfOk, OnOk, map, length};
 ghost use Rattle.cl_meaning.specs.declared.kind.Role.TheVariants as roles;
 ghost use Rattle.wg_num.specs.declared.types.Place.{Place as PlaceOf};
 ghost use Rattle.cl_tree.specs.Syntax.{view, views, first_of, last_of};
@@ -28,18 +14,8 @@ ghost use Rattle.cl_meaning.specs.Environment.{Env};
 ghost use Rattle.cl_meaning.specs.Declarations.{form_of};
 ghost use Rattle.cl_scope.specs.Walk.{inner_of, inner_at};
 ghost use Rattle.cl_faults.specs.View.{looked_in};
-ghost use Rattle.cl_check.specs.Walk.{
-  Walked,
-  Faulted,
-  IfFault,
-  IfReported,
-  PartsWalked,
-  PartsFaulted,
-  IsJudged,
-  IsBuilt,
-  IsAtFault,
-  kind_at,
-};
+ghost use Rattle.cl_check.specs.Walk.{Walked, Faulted, IfFault, IfReported, PartsWalked, PartsFaulted, IsJudged};
+ghost use Rattle.cl_check.specs.Walk.{IsBuilt, IsAtFault, kind_at};
 ghost use Rattle.cl_faults.specs.Least.{IsLeast};
 
 use crate::error::CheckError;

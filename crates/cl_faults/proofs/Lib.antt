@@ -1,3 +1,6 @@
+pub mod Known
+pub mod Counts
+pub mod Signatures
 pub mod Reaching
 pub mod LeastFaults
 pub mod PlacesAside

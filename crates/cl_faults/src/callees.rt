@@ -3,10 +3,10 @@
 ghost use Rattle.std.specs.Prelude.{◌≡◌};
 ghost use Rattle.cl_meaning.specs.Kinds as spec;
 ghost use Rattle.cl_meaning.specs.Faults as faults;
-ghost use Rattle.cl_kinds.specs.Known.{known};
+ghost use Rattle.cl_faults.specs.Known.{known};
 ghost use Rattle.cl_scope.specs.Callees.{callee_view};
 
-use cl_kinds::{
+use crate::arguments::{
     all_numbers, are_known, arguments_fit, intrinsic_arity, intrinsic_result, is_fence, result_kind,
 };
 use cl_meaning::{Kind, Yield};
@@ -46,7 +46,7 @@ pub fn call_result(callee: Callee, kinds: &[Option<Kind>]) -> Option<Kind>
 }
 
 /// The kind of a call, from the kinds of its arguments; `None` where it is at fault or an argument is.
-#[tactic(auto, using(cl_kinds::proofs::Known::all_are_known))]
+#[tactic(auto, using(crate::proofs::Known::all_are_known))]
 pub fn call_kind(callee: Callee, kinds: &[Option<Kind>]) -> Option<Kind>
     ensures { result ≡ spec.on_one (spec.all_known kinds.now) (spec.call_kind (callee_view callee.entry)) }
 {

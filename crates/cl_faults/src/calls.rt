@@ -6,9 +6,10 @@ ghost use Rattle.cl_scope.specs.Callees.{callee_view};
 ghost use Rattle.cl_faults.specs.Called.{called_in};
 ghost use Rattle.cl_faults.specs.View.{looked_of};
 
+use crate::arguments::are_known;
 use crate::callees::{arity_fits, call_fits, is_fence_call};
+use crate::flags::are_flags_alone;
 use crate::looked::Looked;
-use cl_kinds::{are_flags_alone, are_known};
 use cl_meaning::name_of;
 use cl_scope::{Callee, callee_of};
 use cl_tree::Form;
@@ -36,7 +37,7 @@ pub(crate) fn is_miscounted(node: Looked) -> bool
 }
 
 /// Whether a call has as many arguments as are taken, and they do not fit.
-#[tactic(auto, using(cl_meaning::proofs::Views::view_out, cl_kinds::proofs::Known::all_are_known))]
+#[tactic(auto, using(cl_meaning::proofs::Views::view_out, crate::proofs::Known::all_are_known))]
 pub(crate) fn is_mispassed(node: Looked) -> bool
     ensures { result ≡ spec.mispassed (looked_of node.entry) (looked_of node.entry).form }
 {

@@ -9,9 +9,9 @@ ghost use Rattle.cl_meaning.specs.Faults as spec;
 ghost use Rattle.cl_scope.specs.Declarators.{declarator_view};
 ghost use Rattle.cl_faults.specs.View.{looked_of};
 
+use crate::kinds::is_number;
 use crate::looked::Looked;
 use crate::targets::changes_root;
-use cl_kinds::is_number;
 use cl_meaning::{Declared, Each, Kind, constant_of, same_space, same_type};
 use cl_model::Space;
 use cl_scope::{

@@ -8,8 +8,8 @@ ghost use Rattle.cl_scope.specs.View.{labels_of, signature_of};
 ghost use Rattle.cl_meaning.specs.Faults as spec;
 ghost use Rattle.cl_faults.specs.View.{asked_of, looked_of};
 
+use crate::fitting::return_misfits;
 use crate::looked::{Asked, Looked};
-use cl_kinds::return_misfits;
 use cl_meaning::{Base, Constant, base_of, constant_of};
 use cl_scope::{Labels, Signature};
 use cl_tree::{Form, Tree};

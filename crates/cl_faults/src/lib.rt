@@ -1,17 +1,24 @@
-//! The faults of a node of a unit: which of them stands, from what is visible at the node and the kinds of its
-//! parts.
+//! The kinds of expressions from the kinds of their parts, which kinds fit where, and the faults of a node of a unit:
+//! which of them stands, from what is visible at the node and the kinds of its parts.
 #![tactic(auto)]
 
+pub mod arguments;
 pub mod callees;
 mod calls;
 mod declarators;
 pub mod fault;
+pub mod fitting;
+pub mod flags;
+pub mod kinds;
 mod labels;
 pub mod looked;
 mod misfits;
 mod names;
 mod operands;
+pub mod operators;
+pub mod parts;
 pub mod reach;
+pub mod settings;
 mod signatures;
 pub mod spread;
 mod targets;

@@ -7,14 +7,16 @@ ghost use Rattle.cl_meaning.specs.Faults as spec;
 ghost use Rattle.cl_tree.specs.Syntax.{views};
 ghost use Rattle.cl_faults.specs.View.{looked_of};
 
+use crate::arguments::are_known;
 use crate::callees::{arity_fits, yields_nothing};
 use crate::declarators::{declarator_misfits, declarator_of};
+use crate::fitting::{
+    binary_misfits, choice_misfits, comma_misfits, logic_misfits, postfix_misfits, prefix_misfits,
+    setting_misfits,
+};
+use crate::kinds::{cast_kind, is_number};
 use crate::looked::Looked;
 use crate::operands::kind_of;
-use cl_kinds::{
-    are_known, binary_misfits, cast_kind, choice_misfits, comma_misfits, is_number, logic_misfits,
-    postfix_misfits, prefix_misfits, setting_misfits,
-};
 use cl_meaning::{Kind, Role, binary_of, declared_of, name_of, postfix_of, prefix_of, setting_of};
 use cl_scope::{callee_of, last_kind};
 use cl_tree::{Form, Tree};
@@ -33,7 +35,7 @@ fn cast_misfits(parts: &[Tree], kinds: &[Option<Kind>]) -> bool
 }
 
 /// Whether the node is a call without a value that stands elsewhere than as the whole of a statement.
-#[tactic(auto, using(cl_meaning::proofs::Views::view_out, cl_kinds::proofs::Known::all_are_known))]
+#[tactic(auto, using(cl_meaning::proofs::Views::view_out, crate::proofs::Known::all_are_known))]
 fn is_valueless(node: Looked) -> bool
     ensures { result ≡ spec.valueless (looked_of node.entry) (kind_spec.callee_of (looked_of node.entry).env
         (name_in (looked_of node.entry).word)) }

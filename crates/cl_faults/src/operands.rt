@@ -8,12 +8,12 @@ ghost use Rattle.cl_meaning.specs.Spelling.{literal_in};
 ghost use Rattle.cl_scope.specs.View.{visible_in};
 ghost use Rattle.cl_faults.specs.View.{looked_of};
 
+use crate::arguments::list_kind;
 use crate::callees::call_kind;
+use crate::kinds::{cast_kind, is_number, number};
 use crate::looked::Looked;
-use cl_kinds::{
-    binary_of, cast_kind, choice_of, comma_of, is_number, list_kind, logic_of, number, only_of,
-    postfix_kind, prefix_kind, set_of,
-};
+use crate::operators::{postfix_kind, prefix_kind};
+use crate::parts::{binary_of, choice_of, comma_of, logic_of, only_of, set_of};
 use cl_meaning::{Kind, declared_of, literal, name_of, postfix_of, prefix_of, setting_of};
 use cl_scope::{callee_of, name_kind};
 use cl_tree::{Form, Tree};

@@ -8,10 +8,10 @@ ghost use Rattle.cl_scope.specs.View.{signature_of};
 ghost use Rattle.cl_meaning.specs.Calls.{call_of};
 ghost use Rattle.cl_faults.specs.View.{asked_of, looked_of};
 
+use crate::fitting::{same_parameters, same_yield};
 use crate::looked::{Asked, Looked};
 use crate::reach::leads_back;
 use crate::spread::Rows;
-use cl_kinds::{same_parameters, same_yield};
 use cl_meaning::{Call, Declared, Yield, name_of};
 use cl_model::Space;
 use cl_scope::{

@@ -7,8 +7,9 @@ ghost use Rattle.cl_meaning.specs.Kinds as kind_spec;
 ghost use Rattle.cl_meaning.specs.Faults as spec;
 ghost use Rattle.cl_faults.specs.View.{looked_of};
 
+use crate::fitting::setting_changes_root;
 use crate::looked::Looked;
-use cl_kinds::{is_constant_memory, setting_changes_root, unassignable};
+use crate::settings::{is_constant_memory, unassignable};
 use cl_meaning::{Kind, Postfix, Prefix, postfix_of, prefix_of, setting_of};
 use cl_tree::Form;
 

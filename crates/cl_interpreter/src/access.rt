@@ -1,18 +1,7 @@
 //! What the step of an item does to the memory of a launch: loads and stores of whole elements.
 
-ghost use Rattle.std.specs.Prelude.{
-  ◌≡◌,
-  ◌+◌,
-  ◌≤◌,
-  IfOk,
-  IfErr,
-  MatchOption,
-  length,
-  take,
-  drop,
-  true,
-  false,
-};
+ghost use Rattle.std.specs.Prelude.{◌≡◌, ◌+◌, ◌≤◌, IfOk, IfErr, MatchOption, length, take, drop, true};
+ghost use Rattle.std.specs.Prelude.{false};
 ghost use Rattle.wg_num.specs.Bytes as values;
 ghost use Rattle.work_items.specs.Memory as cells;
 ghost use Rattle.cl_interpreter.specs.Nexts.{next_of};

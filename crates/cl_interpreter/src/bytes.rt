@@ -1,19 +1,7 @@
 //! Values in memory, and loads and stores of whole elements.
 
-ghost use Rattle.std.specs.Prelude.{
-  ◌≡◌,
-  ◌<◌,
-  ◌+◌,
-  ◌≤◌,
-  IfOk,
-  MatchOption,
-  length,
-  replicate,
-  true,
-  false,
-  ◌^◌,
-  ◌*◌,
-};
+ghost use Rattle.std.specs.Prelude.{◌≡◌, ◌<◌, ◌+◌, ◌≤◌, IfOk, MatchOption, length, replicate, true};
+ghost use Rattle.std.specs.Prelude.{false, ◌^◌, ◌*◌};
 ghost use Rattle.std.specs.Simd.Lanes.{number_l};
 ghost use Rattle.wg_num.specs.Wrap.{bits_of};
 ghost use Rattle.wg_num.specs.Bytes as values;

@@ -1,14 +1,8 @@
 //! Copies of plain trees. Each function fails for want of memory alone.
 
 ghost use Rattle.std.specs.Prelude.{◌≡◌, IfOk};
-ghost use Rattle.cl_interpreter.specs.Trees.{
-  expression_of,
-  expressions_of,
-  optional_of,
-  statement_of,
-  statements_of,
-  arms_of,
-};
+ghost use Rattle.cl_interpreter.specs.Trees.{expression_of, expressions_of, optional_of, statement_of, statements_of};
+ghost use Rattle.cl_interpreter.specs.Trees.{arms_of};
 ghost use Rattle.cl_interpreter.specs.Tasks.{path_of, task_of, tasks_of, frame_of, frames_of, item_of};
 
 use crate::making::{also, arm, labels_of, more};

@@ -5,19 +5,8 @@ ghost use Rattle.cl_model.specs.Tree as model;
 ghost use Rattle.cl_model.specs.Sizes as sizes;
 ghost use Rattle.cl_model.specs.View as typed;
 ghost use Rattle.cl_interpreter.specs.Lists.{listed_roots, listed_arguments, listed_arms};
-ghost use Rattle.cl_interpreter.specs.Trees.{
-  action_of,
-  expression_of,
-  expressions_of,
-  optional_of,
-  statement_of,
-  statements_of,
-  arms_of,
-  array_of,
-  table_of,
-  function_of,
-  program_of,
-};
+ghost use Rattle.cl_interpreter.specs.Trees.{action_of, expression_of, expressions_of, optional_of, statement_of};
+ghost use Rattle.cl_interpreter.specs.Trees.{statements_of, arms_of, array_of, table_of, function_of, program_of};
 
 use crate::queue::{beside, boxed_value};
 use crate::tree::{

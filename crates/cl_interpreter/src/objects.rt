@@ -1,44 +1,17 @@
 //! The objects of a launch and their numbers: each buffer; each constant table; per group, one for each local array and
 //! each argument of local memory; per item and path of calls, one for each private array (OpenCL 1.2, section 3.3).
 
-ghost use Rattle.std.specs.Prelude.{
-  ◌≡◌,
-  ◌<◌,
-  ◌+◌,
-  ◌++◌,
-  ◌∷◌,
-  [],
-  ℕ,
-  IfOk,
-  OnOk,
-  length,
-  map,
-  slice_get,
-  vec_len,
-};
+ghost use Rattle.std.specs.Prelude.{◌≡◌, ◌<◌, ◌+◌, ◌++◌, ◌∷◌, [], ℕ, IfOk, OnOk, length, map};
+ghost use Rattle.std.specs.Prelude.{slice_get, vec_len};
 ghost use Rattle.cl_model.specs.Calls as called;
 ghost use Rattle.cl_model.specs.Objects as model;
 ghost use Rattle.cl_model.specs.Steps as steps;
 ghost use Rattle.cl_model.specs.Steps.{object_at as object_at_of};
 ghost use Rattle.cl_model.specs.View.{launch_of};
-ghost use Rattle.cl_interpreter.specs.Trees.{
-  expression_of,
-  expressions_of,
-  optional_of,
-  statement_of,
-  statements_of,
-  arms_of,
-  array_of,
-  program_of,
-};
-ghost use Rattle.cl_interpreter.specs.Objects.{
-  call_of,
-  instance_of,
-  placed_of,
-  is_chosen as is_chosen_of,
-  chosen_of,
-  placed_at,
-};
+ghost use Rattle.cl_interpreter.specs.Trees.{expression_of, expressions_of, optional_of, statement_of, statements_of};
+ghost use Rattle.cl_interpreter.specs.Trees.{arms_of, array_of, program_of};
+ghost use Rattle.cl_interpreter.specs.Objects.{call_of, instance_of, placed_of, is_chosen as is_chosen_of, chosen_of};
+ghost use Rattle.cl_interpreter.specs.Objects.{placed_at};
 ghost use Rattle.cl_interpreter.specs.Tasks.{item_of, nth_object};
 
 use crate::bytes::size_of;

@@ -3,14 +3,8 @@
 ghost use Rattle.std.specs.Prelude.{◌≡◌, ◌∷◌, [], ◌++◌, suc, IfOk, OnOk};
 ghost use Rattle.cl_model.specs.Task as model;
 ghost use Rattle.cl_model.specs.Steps as steps;
-ghost use Rattle.cl_interpreter.specs.Trees.{
-  expression_of,
-  expressions_of,
-  optional_of,
-  statement_of,
-  statements_of,
-  arms_of,
-};
+ghost use Rattle.cl_interpreter.specs.Trees.{expression_of, expressions_of, optional_of, statement_of, statements_of};
+ghost use Rattle.cl_interpreter.specs.Trees.{arms_of};
 ghost use Rattle.cl_interpreter.specs.Tasks.{leg_of, path_of, task_of, tasks_of};
 
 use crate::copying;

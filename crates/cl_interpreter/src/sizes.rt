@@ -1,22 +1,7 @@
 //! The sizes of a launch, and what the work-item functions give (OpenCL 1.2, sections 3.2 and 6.12.1).
 
-ghost use Rattle.std.specs.Prelude.{
-  ◌≡◌,
-  ◌*◌,
-  ◌/◌,
-  ◌%◌,
-  ◌^◌,
-  ◌<◌,
-  ◌≤◌,
-  ◌∷◌,
-  [],
-  ℕ,
-  pos,
-  ◌≤ℤ◌,
-  IfOk,
-  IfErr,
-  take,
-};
+ghost use Rattle.std.specs.Prelude.{◌≡◌, ◌*◌, ◌/◌, ◌%◌, ◌^◌, ◌<◌, ◌≤◌, ◌∷◌, []};
+ghost use Rattle.std.specs.Prelude.{ℕ, pos, ◌≤ℤ◌, IfOk, IfErr, take};
 ghost use Rattle.cl_model.specs.Sizes as model;
 ghost use Rattle.cl_model.specs.View.{launch_of, three_of};
 ghost use Rattle.cl_interpreter.specs.Reasons.{IsReason};

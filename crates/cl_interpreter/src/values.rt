@@ -1,16 +1,7 @@
 //! The values of a work-item, the last first, and its variables.
 
-ghost use Rattle.std.specs.Prelude.{
-  ◌≡◌,
-  ◌∷◌,
-  ◌<◌,
-  ℕ,
-  IfOk,
-  OnOk,
-  length,
-  nat_eq,
-  if◌then◌else◌,
-};
+ghost use Rattle.std.specs.Prelude.{◌≡◌, ◌∷◌, ◌<◌, ℕ, IfOk, OnOk, length, nat_eq};
+ghost use Rattle.std.specs.Prelude.{if◌then◌else◌};
 ghost use Rattle.cl_model.specs.Steps as model;
 ghost use Rattle.cl_interpreter.specs.Tasks.{frames_of};
 

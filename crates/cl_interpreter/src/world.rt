@@ -1,23 +1,7 @@
 //! A launch under given moves: its memory, its work-items and its fault, if there is one.
 
-ghost use Rattle.std.specs.Prelude.{
-  ◌≡◌,
-  ◌<◌,
-  ◌/◌,
-  ◌⊎◌,
-  ℕ,
-  IfOk,
-  IfErr,
-  MatchOption,
-  Option,
-  map,
-  length,
-  vec_len,
-  slice_get,
-  nat_eq,
-  true,
-  false,
-};
+ghost use Rattle.std.specs.Prelude.{◌≡◌, ◌<◌, ◌/◌, ◌⊎◌, ℕ, IfOk, IfErr, MatchOption, Option, map};
+ghost use Rattle.std.specs.Prelude.{length, vec_len, slice_get, nat_eq, true, false};
 ghost use Rattle.work_items.specs.Items as acts;
 ghost use Rattle.cl_model.specs.Meaning as meaning;
 ghost use Rattle.cl_model.specs.Task as way;
@@ -26,16 +10,8 @@ ghost use Rattle.cl_model.specs.View as typed;
 ghost use Rattle.cl_interpreter.specs.Trees.{program_of};
 ghost use Rattle.cl_interpreter.specs.Tasks.{item_of, path_of};
 ghost use Rattle.cl_interpreter.specs.Nexts.{next_of};
-ghost use Rattle.cl_interpreter.specs.Worlds.{
-  move_of,
-  world_of,
-  barrier_of as barrier_at,
-  StandTogether,
-  gone,
-  gone_from,
-  IsMade,
-  IsPlayed,
-};
+ghost use Rattle.cl_interpreter.specs.Worlds.{move_of, world_of, barrier_of as barrier_at, StandTogether, gone};
+ghost use Rattle.cl_interpreter.specs.Worlds.{gone_from, IsMade, IsPlayed};
 ghost use Rattle.cl_interpreter.specs.Reasons.{IsReasonOfMove, IsReasonOfMoves};
 
 use crate::access::{Stepped, outcome};

@@ -6,3 +6,4 @@ pub mod Tops
 pub mod Climbing
 pub mod Over
 pub mod Chosen
+pub mod Within

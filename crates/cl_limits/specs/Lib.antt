@@ -4,3 +4,4 @@ pub mod View
 pub mod Rounds
 pub mod Points
 pub mod Kernel
+pub mod Judged

@@ -1,18 +1,7 @@
 //! What functions count with all that they call.
 
-ghost use Rattle.std.specs.Prelude.{
-  ◌≡◌,
-  ◌+◌,
-  ℕ,
-  ◌↔◌,
-  IsTrue,
-  IfOk,
-  min,
-  map,
-  length,
-  slice_index,
-  replicate,
-};
+ghost use Rattle.std.specs.Prelude.{◌≡◌, ◌+◌, ℕ, ◌↔◌, IsTrue, IfOk, min, map, length, slice_index};
+ghost use Rattle.std.specs.Prelude.{replicate};
 ghost use Rattle.cl_limits.specs.Limits.{whole};
 ghost use Rattle.cl_limits.specs.Rounds as rounds;
 ghost use Rattle.cl_meaning.specs.Calls.{call_of};

@@ -19,8 +19,7 @@ use Rattle.cl_meaning.specs.declared.operators.Prefix.TheVariants as prefixes
 use Rattle.cl_meaning.specs.declared.operators.Postfix.{Postfix}
 use Rattle.cl_meaning.specs.declared.operators.Postfix.TheVariants as postfixes
 use Rattle.cl_meaning.specs.declared.operators.Setting.{Setting}
-use Rattle.cl_meaning.specs.declared.types.Base.{Base}
-use Rattle.cl_meaning.specs.declared.types.Base.TheVariants as bases
+use Rattle.cl_meaning.specs.Types.{is_outside_base}
 use Rattle.cl_meaning.specs.Spelling.{name_in, base_in, binary_in, setting_in, prefix_in, postfix_in, intrinsic_in}
 use Rattle.cl_meaning.specs.declared.constant.Constant.{Constant}
 use Rattle.cl_meaning.specs.Constants.{constant_of}
@@ -261,10 +260,6 @@ of_target n test forms.PostfixNode = given (postfix_in n.word) postfix_assigns &
 of_target n test form = false
 
 -- ---- E408: a type outside the profile
-
-abbrev pub is_outside_base : Option Base → Bool
-is_outside_base (Some bases.Outside) = true
-is_outside_base b = false
 
 abbrev pub outside_type : Looked → Form → Bool
 outside_type n forms.TypeNode = is_outside_base (base_in n.word)

@@ -1,6 +1,7 @@
 pub mod Lists
 pub mod Tree
 pub mod View
+pub mod Listed
 pub mod Heads
 pub mod Sizes
 pub mod Values

@@ -1,11 +1,14 @@
 //! The typed program, launches and buffers: what a launch of a kernel is about.
 #![tactic(auto)]
 
+mod boxes;
 mod build;
+pub mod expression;
 pub mod launch;
 mod law_programs;
 pub mod laws;
 pub mod program;
+pub mod statement;
 
 pub use launch::{Bound, Buffers, Launch};
 pub use program::{

@@ -5,19 +5,8 @@ ghost use Rattle.cl_tree.specs.Syntax.{view, views};
 ghost use Rattle.cl_tree.specs.declared.terminal.Terminal.TheVariants as terminals;
 ghost use Rattle.cl_read.specs.Gives.{Gives, spot_of};
 ghost use Rattle.cl_read.specs.Members.{members};
-ghost use Rattle.cl_read.specs.Reading.{
-  is,
-  readers,
-  all_of,
-  behind_comma,
-  if_begun,
-  unless,
-  dimension_of,
-  init_of,
-  declared,
-  declare_rest,
-  element_of,
-};
+ghost use Rattle.cl_read.specs.Reading.{is, readers, all_of, behind_comma, if_begun, unless, dimension_of, init_of};
+ghost use Rattle.cl_read.specs.Reading.{declared, declare_rest, element_of};
 
 use crate::expression::{assignment, conditional};
 use crate::types::{star, type_name};

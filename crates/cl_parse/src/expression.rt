@@ -8,23 +8,8 @@ ghost use Rattle.cl_tree.specs.declared.terminal.Terminal.TheVariants as termina
 ghost use Rattle.cl_read.specs.Starts.{postfixes};
 ghost use Rattle.cl_read.specs.Gives.{Gives, spot_of};
 ghost use Rattle.cl_read.specs.Members.{members};
-ghost use Rattle.cl_read.specs.Reading.{
-  is,
-  readers,
-  chain,
-  all_of,
-  behind_comma,
-  level_step,
-  expr_step,
-  postfix_step,
-  postfixed,
-  paren_of,
-  opened,
-  sizeof_of,
-  operand_of,
-  primary_of,
-  call_of,
-};
+ghost use Rattle.cl_read.specs.Reading.{is, readers, chain, all_of, behind_comma, level_step, expr_step, postfix_step};
+ghost use Rattle.cl_read.specs.Reading.{postfixed, paren_of, opened, sizeof_of, operand_of, primary_of, call_of};
 
 use crate::types::type_name;
 use cl_read::cursor::{Fail, next_in, next_is, no_tree, take, take_in};

@@ -6,28 +6,9 @@ ghost use Rattle.cl_tree.specs.declared.terminal.Terminal.TheVariants as termina
 ghost use Rattle.cl_read.specs.Starts.{same};
 ghost use Rattle.cl_read.specs.Gives.{Gives};
 ghost use Rattle.cl_read.specs.Members.{members};
-ghost use Rattle.cl_read.specs.Reading.{
-  is,
-  readers,
-  all_of,
-  each,
-  unless,
-  line_of,
-  block_of,
-  if_of,
-  while_of,
-  do_of,
-  start_of,
-  for_of,
-  switch_of,
-  case_of,
-  default_of,
-  leave_of,
-  return_of,
-  leaving,
-  labelled,
-  simple_of,
-};
+ghost use Rattle.cl_read.specs.Reading.{is, readers, all_of, each, unless, line_of, block_of, if_of, while_of, do_of};
+ghost use Rattle.cl_read.specs.Reading.{start_of, for_of, switch_of, case_of, default_of, leave_of, return_of, leaving};
+ghost use Rattle.cl_read.specs.Reading.{labelled, simple_of};
 
 use crate::declaration::declaration;
 use crate::expression::{conditional, expression};

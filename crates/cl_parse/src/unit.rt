@@ -7,25 +7,9 @@ ghost use Rattle.cl_tree.specs.Nodes.{alone_node, params_node};
 ghost use Rattle.cl_read.specs.Starts.{starts_head};
 ghost use Rattle.cl_read.specs.Gives.{Gives, spots, spot_of};
 ghost use Rattle.cl_read.specs.Members.{members};
-ghost use Rattle.cl_read.specs.Reading.{
-  begins,
-  is,
-  readers,
-  all_of,
-  each,
-  behind_comma,
-  attribute_of,
-  head_of,
-  param_of,
-  params_of,
-  callable,
-  named,
-  result_of,
-  typed,
-  headed,
-  item_of,
-  unit_of,
-};
+ghost use Rattle.cl_read.specs.Reading.{begins, is, readers, all_of, each, behind_comma, attribute_of, head_of};
+ghost use Rattle.cl_read.specs.Reading.{param_of, params_of, callable, named, result_of, typed, headed, item_of};
+ghost use Rattle.cl_read.specs.Reading.{unit_of};
 
 use crate::declaration::{declaration_behind, declarator, declared, stars};
 use crate::expression::conditional;

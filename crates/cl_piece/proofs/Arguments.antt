@@ -5,7 +5,7 @@ use Rattle.cl_model.specs.declared.program.Root.{Root}
 use Rattle.cl_model.specs.declared.program.Arg.{Arg}
 use Rattle.cl_model.specs.Tree as tree
 use Rattle.cl_model.specs.View.{root_of, argument_of}
-use Rattle.program_build.specs.Lists.{listed_roots, listed_arguments}
+use Rattle.cl_model.specs.Listed.{listed_roots, listed_arguments}
 use Rattle.cl_meaning.specs.declared.kind.Parameter.{Parameter}
 use Rattle.cl_meaning.specs.Expressions.{root_in, roots_passed, passed, all_passed}
 use Rattle.cl_piece.specs.declared.piece.Piece as rust

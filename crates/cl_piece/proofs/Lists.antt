@@ -10,7 +10,7 @@ use Rattle.cl_model.specs.Tree as tree
 use Rattle.cl_model.specs.Tree.{Statements, empty, also, Arms}
 use Rattle.cl_model.specs.View.{expression_of, root_of, argument_of, statement_of, listed_expressions}
 use Rattle.cl_model.specs.View.{listed_statements}
-use Rattle.program_build.specs.Lists.{listed_roots, listed_arguments, listed_arms}
+use Rattle.cl_model.specs.Listed.{listed_roots, listed_arguments, listed_arms}
 use Rattle.cl_meaning.specs.Typed.{Function}
 use Rattle.cl_meaning.specs.declared.kind.Parameter.{Parameter}
 use Rattle.cl_meaning.specs.Expressions.{expressions, roots_passed, all_passed}

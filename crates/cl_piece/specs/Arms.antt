@@ -3,7 +3,7 @@ use Rattle.std.specs.Prelude.{ℤ, Bool, false, List, []}
 use Rattle.cl_model.specs.declared.program.SwitchArm as rust
 use Rattle.cl_model.specs.Tree.{Statements, Arms, no_arm, arm}
 use Rattle.cl_model.specs.View.{listed_statements}
-use Rattle.program_build.specs.Lists.{listed_arms}
+use Rattle.cl_model.specs.Listed.{listed_arms}
 use Rattle.cl_meaning.specs.Typed.{What, labelled, Piece}
 use Rattle.cl_meaning.specs.Statements.{alone, body_of, arms_from}
 

@@ -14,8 +14,7 @@ use crate::piece::{Piece, What};
 use crate::types::type_in;
 use crate::values::{literal, read};
 use cl_meaning::{Kind, Setting, operand_type, right_type};
-use cl_model::Expr;
-use program_build::expression;
+use cl_model::{Expr, expression};
 use std::alloc::Global;
 use wg_num::{Bin, IntType, Memory};
 

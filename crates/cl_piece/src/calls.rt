@@ -4,24 +4,22 @@ ghost use Rattle.std.specs.Prelude.{◌≡◌, IfOk, map};
 ghost use Rattle.cl_model.specs.View.{expression_of, root_of, argument_of};
 ghost use Rattle.cl_model.specs.Tree as tree;
 ghost use Rattle.cl_model.specs.Tree.{Apply, single};
-ghost use Rattle.program_build.specs.Lists.{listed_roots, listed_arguments};
+ghost use Rattle.cl_model.specs.Listed.{listed_roots, listed_arguments};
 ghost use Rattle.cl_meaning.specs.Typed as typed;
 ghost use Rattle.cl_meaning.specs.Kinds as kinds;
 ghost use Rattle.cl_meaning.specs.Expressions as meaning;
 ghost use Rattle.cl_piece.specs.View.{piece_of, what_of, built_of};
 
 use crate::boxes::as_value;
-use crate::growth::push;
 use crate::parts::next;
 use crate::piece::{Piece, What};
 use crate::sites::take_site;
 use crate::types::type_in;
 use crate::values::{literal, operand, read};
 use cl_meaning::{Intrinsic, Kind, Parameter, common, same_type};
-use cl_model::{Arg, Expr, Query};
-use program_build::expression;
+use cl_model::{Arg, Expr, Query, expression};
 use std::alloc::Global;
-use wg_num::{Fun, IntType, Memory, Place};
+use wg_num::{Fun, IntType, Memory, Place, push};
 
 /// An argument for a parameter: a number converted to its type, or the offset of a pointer.
 fn passed(alloc: Global, parameter: Parameter, a: Piece) -> Result<Arg, Memory>

@@ -20,8 +20,7 @@ use crate::sites::element;
 use crate::types::type_in;
 use crate::values::{literal, logical, moved, read, way};
 use cl_meaning::{Declared, Each, Kind, Postfix, Prefix, promoted, size_of};
-use cl_model::{Expr, Root, Target};
-use program_build::expression;
+use cl_model::{Expr, Root, Target, expression};
 use std::alloc::Global;
 use wg_num::{Bin, IntType, Memory, Place, Un};
 

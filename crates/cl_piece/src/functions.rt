@@ -8,13 +8,12 @@ ghost use Rattle.cl_meaning.specs.Statements as meaning;
 ghost use Rattle.cl_piece.specs.View.{piece_of, what_of, function_of};
 
 use crate::declarators::number;
-use crate::growth::push;
 use crate::lines::last;
 use crate::piece::{Piece, What};
 use cl_meaning::Yield;
 use cl_model::{Array, Function, Stmt, Var};
 use std::alloc::Global;
-use wg_num::{IntType, Memory, Word};
+use wg_num::{IntType, Memory, Word, push};
 
 /// What is known at the end of the block of a function: its variables and arrays, and the work-group size
 /// that it requires (OpenCL 1.2, section 6.7.2).

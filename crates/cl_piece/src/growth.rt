@@ -1,18 +1,8 @@
 //! Lists that grow.
 
-ghost use Rattle.std.specs.Prelude.{◌≡◌, ◌∷◌, ◌++◌, [], OnOk};
+ghost use Rattle.std.specs.Prelude.{◌≡◌, ◌++◌, OnOk};
 
 use wg_num::Memory;
-
-/// One item more.
-pub(crate) fn push<T: Drop>(list: &mut Vec<T>, item: T) -> Result<(), Memory>
-    ensures { OnOk result (list.new.items ≡ list.old.items ++ item ∷ []) }
-{
-    match list.push(item) {
-        Ok(()) => Ok(()),
-        Err(_) => Err(Memory),
-    }
-}
 
 /// The items of another list behind those of a list.
 pub(crate) fn append<T: Drop>(list: &mut Vec<T>, mut later: Vec<T>) -> Result<(), Memory>

@@ -10,15 +10,14 @@ ghost use Rattle.cl_piece.specs.View.{piece_of, what_of, built_of};
 
 use crate::boxes::as_statement;
 use crate::calls::operands;
-use crate::growth::{append, push};
+use crate::growth::append;
 use crate::parts::next;
 use crate::piece::{Piece, What};
 use crate::values::read;
 use cl_meaning::Declared;
-use cl_model::Stmt;
-use program_build::statement;
+use cl_model::{Stmt, statement};
 use std::alloc::Global;
-use wg_num::Memory;
+use wg_num::{Memory, push};
 
 /// A statement behind others.
 #[tactic(auto, using(crate::proofs::Lists::listed_followed))]

@@ -6,18 +6,8 @@ ghost use Rattle.cl_scope.specs.View.{env_of};
 ghost use Rattle.cl_scope.specs.Walk.{inner_at, body_view};
 ghost use Rattle.cl_meaning.specs.Environment.{Env};
 ghost use Rattle.cl_meaning.specs.Declarations.{form_of};
-ghost use Rattle.cl_piece.specs.Making.{
-  make_at,
-  made_at,
-  form_at,
-  first_place,
-  is_primary,
-  is_joined,
-  is_fixed,
-  is_line,
-  is_test,
-  is_jump,
-};
+ghost use Rattle.cl_piece.specs.Making.{make_at, made_at, form_at, first_place, is_primary, is_joined, is_fixed};
+ghost use Rattle.cl_piece.specs.Making.{is_line, is_test, is_jump};
 ghost use Rattle.cl_piece.specs.View.{piece_of, what_of, built_of};
 
 use crate::boxes::as_statement;

@@ -14,7 +14,7 @@ use crate::piece::{Piece, What};
 use crate::types::type_in;
 use crate::values::{moved, moved_by, operand, read, way};
 use cl_meaning::{Declared, Kind, common, operand_type, right_type};
-use program_build::expression;
+use cl_model::expression;
 use std::alloc::Global;
 use wg_num::{Bin, IntType, Memory, Place};
 

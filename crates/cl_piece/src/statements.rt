@@ -18,9 +18,8 @@ use crate::piece::{Piece, What};
 use crate::sites::take_site;
 use crate::values::{operand, read};
 use cl_meaning::Yield;
-use cl_model::{Expr, Stmt};
+use cl_model::{Expr, Stmt, statement};
 use cl_tree::Tree;
-use program_build::statement;
 use std::alloc::Global;
 use wg_num::{Memory, Place};
 

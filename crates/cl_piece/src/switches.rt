@@ -1,7 +1,7 @@
 //! `switch` and its labels.
 
 ghost use Rattle.std.specs.Prelude.{◌≡◌, ◌∷◌, List, Option, IfOk, map, option_map, [], false, true};
-ghost use Rattle.program_build.specs.Lists.{listed_arms};
+ghost use Rattle.cl_model.specs.Listed.{listed_arms};
 ghost use Rattle.cl_meaning.specs.Environment as visible;
 ghost use Rattle.cl_meaning.specs.Kinds.{first_part};
 ghost use Rattle.cl_meaning.specs.Constants as constants;
@@ -14,17 +14,16 @@ ghost use Rattle.cl_piece.specs.View.{piece_of, what_of, built_of};
 
 use crate::beside::beside;
 use crate::boxes::{as_statement, boxed};
-use crate::growth::{append, push};
+use crate::growth::append;
 use crate::lines::{body, put};
 use crate::parts::{Two, next, only, pair};
 use crate::piece::{Piece, What};
 use crate::sites::take_site;
 use crate::values::read;
 use cl_meaning::Constant;
-use cl_model::SwitchArm;
-use program_build::statement;
+use cl_model::{SwitchArm, statement};
 use std::alloc::Global;
-use wg_num::{IntType, Memory, Place, wrap};
+use wg_num::{IntType, Memory, Place, push, wrap};
 
 /// The arm that a statement begins.
 fn new_arm(alloc: Global, what: What) -> Result<SwitchArm, Memory>

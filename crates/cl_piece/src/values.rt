@@ -8,8 +8,7 @@ ghost use Rattle.cl_piece.specs.View.{piece_of, what_of, target_of};
 use crate::piece::{Piece, What};
 use crate::types::type_in;
 use cl_meaning::{promoted, same_type};
-use cl_model::{Expr, Target};
-use program_build::expression;
+use cl_model::{Expr, Target, expression};
 use std::alloc::Global;
 use wg_num::{Bin, IntType, Memory};
 

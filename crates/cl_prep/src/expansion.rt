@@ -1,19 +1,6 @@
 //! The expansion of tokens.
-ghost use Rattle.std.specs.Prelude.{
-  ◌≡◌,
-  ◌+◌,
-  ◌<◌,
-  ◌≤◌,
-  ◌^◌,
-  [],
-  ℕ,
-  List,
-  length,
-  drop,
-  All,
-  IfOk,
-  IfErr,
-};
+ghost use Rattle.std.specs.Prelude.{◌≡◌, ◌+◌, ◌<◌, ◌≤◌, ◌^◌, [], ℕ, List, length, drop, All};
+ghost use Rattle.std.specs.Prelude.{IfOk, IfErr};
 ghost use Rattle.cl_token.specs.declared.token.Token.{Token as AnyToken};
 ghost use Rattle.cl_prep.specs.declared.prep.PrepError.{PrepError as AnyError};
 ghost use Rattle.cl_prep.specs.Expands.{Expands, IsRefused, start_state, token_limit};

@@ -1,21 +1,6 @@
 //! The table of names.
-ghost use Rattle.std.specs.Prelude.{
-  ◌≡◌,
-  ◌++◌,
-  ◌∷◌,
-  [],
-  ℕ,
-  Some,
-  None,
-  OnOk,
-  IfOk,
-  IfSome,
-  option_map,
-  length,
-  slice_get,
-  map,
-  is_some,
-};
+ghost use Rattle.std.specs.Prelude.{◌≡◌, ◌++◌, ◌∷◌, [], ℕ, Some, None, OnOk, IfOk, IfSome};
+ghost use Rattle.std.specs.Prelude.{option_map, length, slice_get, map, is_some};
 ghost use Rattle.std.specs.Str.{bytes_eq};
 ghost use Rattle.indexmap.specs.IndexMap.{IsUnchanged};
 ghost use Rattle.cl_token.specs.Lexeme.{lexeme_of, lexemes_of};
@@ -26,7 +11,7 @@ ghost use Rattle.cl_prep.specs.Table.{names_of};
 use cl_token::{Kind, Token};
 use indexmap::IndexMap;
 use std::alloc::Global;
-use wg_num::{Memory, Word};
+use wg_num::{Memory, Word, push};
 
 /// From each name in force to the tokens that replace it.
 pub(crate) type Names = IndexMap<Vec<u8>, Vec<Token>>;
@@ -95,15 +80,6 @@ pub(crate) fn placed(alloc: Global, at: &Token, from: &Token) -> Result<Token, M
         end: at.end,
         first: false,
     })
-}
-
-pub(crate) fn push(tokens: &mut Vec<Token>, token: Token) -> Result<(), Memory>
-    ensures { OnOk result (tokens.new.items ≡ tokens.old.items ++ token ∷ []) }
-{
-    match tokens.push(token) {
-        Ok(()) => Ok(()),
-        Err(_) => Err(Memory),
-    }
 }
 
 /// Tokens like these.

@@ -1,43 +1,18 @@
 //! The replacement of a name.
-ghost use Rattle.std.specs.Prelude.{
-  ◌≡◌,
-  ◌++◌,
-  ◌+◌,
-  ◌<◌,
-  ◌≤◌,
-  ◌∷◌,
-  [],
-  ℕ,
-  Some,
-  None,
-  Ok,
-  Err,
-  OnOk,
-  IfOk,
-  IfErr,
-  IfSome,
-  IfNone,
-  MatchOption,
-  MatchResult,
-  option_map,
-  length,
-  set,
-  true,
-  false,
-  get_or,
-  option_to_list,
-};
+ghost use Rattle.std.specs.Prelude.{◌≡◌, ◌++◌, ◌+◌, ◌<◌, ◌≤◌, ◌∷◌, [], ℕ, Some, None};
+ghost use Rattle.std.specs.Prelude.{Ok, Err, OnOk, IfOk, IfErr, IfSome, IfNone, MatchOption, MatchResult, option_map};
+ghost use Rattle.std.specs.Prelude.{length, set, true, false, get_or, option_to_list};
 ghost use Rattle.cl_token.specs.Lexeme.{lexeme_of, lexemes_of};
 ghost use Rattle.cl_prep.specs.Names.{replacement};
 ghost use Rattle.cl_prep.specs.Expands.{placed as placed_at, token_limit, replacement_limit};
 ghost use Rattle.cl_prep.specs.Table.{names_of};
 ghost use Rattle.cl_prep.specs.Frames.{IsNumber, IsNotFree, AreClear, Replaces, Exceeds, StopsBy, IsRead, IsTooMuch};
 
-use crate::names::{Names, copy, placed, push};
+use crate::names::{Names, copy, placed};
 use cl_token::{Kind, Token};
 use std::alloc::Global;
 use std::collections::VecDeque;
-use wg_num::Memory;
+use wg_num::{Memory, push};
 
 /// The most tokens that may be given.
 pub(crate) const TOKEN_LIMIT: usize = 65_536;

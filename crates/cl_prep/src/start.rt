@@ -1,19 +1,6 @@
 //! The names that are in force from the start, and those that are given.
-ghost use Rattle.std.specs.Prelude.{
-  ◌≡◌,
-  ◌++◌,
-  ◌∷◌,
-  [],
-  ℕ,
-  Some,
-  None,
-  OnOk,
-  IfOk,
-  MatchResult,
-  option_map,
-  codes,
-  string_bytes,
-};
+ghost use Rattle.std.specs.Prelude.{◌≡◌, ◌++◌, ◌∷◌, [], ℕ, Some, None, OnOk, IfOk, MatchResult};
+ghost use Rattle.std.specs.Prelude.{option_map, codes, string_bytes};
 ghost use Rattle.std.specs.Fmt.{decimal as decimal_text};
 ghost use Rattle.cl_token.specs.Lexeme.{lexeme_of, lexemes_of};
 ghost use Rattle.cl_prep.specs.Names as spec;
@@ -21,12 +8,12 @@ ghost use Rattle.cl_prep.specs.Start as begin;
 ghost use Rattle.cl_prep.specs.Table.{names_of};
 ghost use Rattle.cl_prep.specs.Scopes.{Adds};
 
-use crate::names::{Names, find, push, same_words, set};
+use crate::names::{Names, find, same_words, set};
 use crate::prep::{Define, PrepError};
 use cl_token::{Kind, Token};
 use indexmap::IndexMap;
 use std::alloc::Global;
-use wg_num::{Memory, Word};
+use wg_num::{Memory, Word, push};
 
 /// A token that stands in no source.
 fn push_word(alloc: Global, tokens: &mut Vec<Token>, kind: Kind, word: &[u8]) -> Result<(), Memory>

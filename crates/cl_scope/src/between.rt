@@ -1,18 +1,6 @@
 //! From part to part: what a part of a node adds for the parts behind it, beside the names that it declares.
-ghost use Rattle.std.specs.Prelude.{
-  ◌≡◌,
-  ◌||◌,
-  List,
-  ◌∷◌,
-  [],
-  ◌++◌,
-  Some,
-  map,
-  option_map,
-  slice_get,
-  OnOk,
-  IfOk,
-};
+ghost use Rattle.std.specs.Prelude.{◌≡◌, ◌||◌, List, ◌∷◌, [], ◌++◌, Some, map, option_map};
+ghost use Rattle.std.specs.Prelude.{slice_get, OnOk, IfOk};
 ghost use Rattle.wg_num.specs.declared.types.Place.{Place};
 ghost use Rattle.cl_meaning.specs.Constants as constants;
 ghost use Rattle.cl_tree.specs.Syntax.{view};

@@ -1,19 +1,6 @@
 //! Declarators, and the lengths of arrays.
-ghost use Rattle.std.specs.Prelude.{
-  ◌≡◌,
-  ◌≤◌,
-  ◌&&◌,
-  ◌++◌,
-  ◌∷◌,
-  [],
-  map,
-  option_map,
-  nat_le,
-  length,
-  IfOk,
-  IfSome,
-  OnOk,
-};
+ghost use Rattle.std.specs.Prelude.{◌≡◌, ◌≤◌, ◌&&◌, ◌++◌, ◌∷◌, [], map, option_map, nat_le};
+ghost use Rattle.std.specs.Prelude.{length, IfOk, IfSome, OnOk};
 ghost use Rattle.std.specs.List.{All};
 ghost use Rattle.cl_tree.specs.Syntax.{view, views};
 ghost use Rattle.cl_meaning.specs.Declarations as spec;

@@ -5,17 +5,9 @@ ghost use Rattle.cl_tree.specs.Syntax.{views};
 ghost use Rattle.cl_meaning.specs.Environment as environments;
 ghost use Rattle.cl_meaning.specs.Declarations as spec;
 ghost use Rattle.cl_scope.specs.View.{env_of, visible_in, variable_of, array_of, table_of};
-ghost use Rattle.cl_scope.specs.Declarators.{
-  declarator_view,
-  kept_variable,
-  with_variable_at,
-  scalar_at,
-  pointer_parameter_at,
-  with_object,
-  with_array_kept,
-  with_table_kept,
-  kept_array,
-};
+ghost use Rattle.cl_scope.specs.Declarators.{declarator_view, kept_variable, with_variable_at, scalar_at};
+ghost use Rattle.cl_scope.specs.Declarators.{pointer_parameter_at, with_object, with_array_kept, with_table_kept};
+ghost use Rattle.cl_scope.specs.Declarators.{kept_array};
 ghost use Rattle.cl_scope.specs.declared.environment.Environment as rust;
 
 use crate::declarator::{Declarator, dims_of, each_of, first_type, one_length, second_star};

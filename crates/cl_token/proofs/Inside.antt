@@ -3,7 +3,7 @@ use Rattle.std.proofs.Common.{ℕ, List, [], ◌∷◌, ◌++◌, length, Bool, 
 use Rattle.std.proofs.Common.{Result, Ok, Err}
 use Rattle.std.specs.Prelude.{IfOk}
 use Rattle.cl_token.specs.declared.token.LexError.{LexError}
-use Rattle.cl_token.specs.Answers.{Stands}
+use Rattle.cl_token.specs.Answers.{IsCutOrRefused}
 use Rattle.cl_token.proofs.Words.{within}
 use Rattle.std.proofs.lemmas.List.{length_push}
 use Rattle.std.specs.List.{All}
@@ -48,7 +48,7 @@ inside source ts h =
       size_is source h.at h.first [] ts h.whole,
     ))
 
-pub all_inside : (source : List ℕ) (r : Result (Vec Token Global) LexError) → Stands source r →
+pub all_inside : (source : List ℕ) (r : Result (Vec Token Global) LexError) → IsCutOrRefused source r →
     IfOk r (λ ts. All (λ t. t.start ≤ length source) ts.items)
 all_inside source (Ok v) h = inside source v.items h
 all_inside source (Err e) h = tt
@@ -68,7 +68,7 @@ fewer source at first rest ts (token {at = b} {first = f} {ts = us} kind word af
 pub few : (source : List ℕ) (ts : List Token) → Cuts source ts → length ts ≤ length source
 few source ts h = omega (arith, fewer source h.at h.first [] ts h.whole, size_is source h.at h.first [] ts h.whole)
 
-pub all_few : (source : List ℕ) (r : Result (Vec Token Global) LexError) → Stands source r →
+pub all_few : (source : List ℕ) (r : Result (Vec Token Global) LexError) → IsCutOrRefused source r →
     IfOk r (λ ts. length ts.items ≤ length source)
 all_few source (Ok v) h = few source v.items h
 all_few source (Err e) h = tt

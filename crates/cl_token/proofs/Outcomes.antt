@@ -7,7 +7,7 @@ use Rattle.cl_token.specs.declared.token.LexError.TheVariants as errors
 use Rattle.cl_token.specs.declared.piece.Fault.{Fault}
 use Rattle.cl_token.specs.declared.piece.Fault.TheVariants as faults
 use Rattle.cl_token.specs.Cuts.{Cuts, FailsAt, IsRefused, limit}
-use Rattle.cl_token.specs.Answers.{IsTokens, IsFault, IsRefusedOrMemory, Stands, error_at}
+use Rattle.cl_token.specs.Answers.{IsTokens, IsFault, IsRefusedOrMemory, IsCutOrRefused, error_at}
 use Rattle.cl_token.proofs.Pieces.{Faulty}
 use Rattle.cl_token.proofs.Unique.{one_cut, cut_or_fault, one_fault}
 
@@ -48,7 +48,7 @@ fails_tokens : (source : List ℕ) (f : LexError) (ts : List Token) → Located 
 fails_tokens source f ts h k = absurd (cut_or_fault source ts h.fault h.at k h.fails)
 
 pub all_tokens : (source : List ℕ) (r : Result (Vec Token Global) LexError) → length source ≤ limit →
-    Stands source r → (ts : List Token) → Cuts source ts → IsTokens r ts
+    IsCutOrRefused source r → (ts : List Token) → Cuts source ts → IsTokens r ts
 all_tokens source (Ok v) l h ts k = one_cut source v.items ts h k
 all_tokens source (Err f) l h ts k = elim (memory_or source f h) [
   | inl e ↦ subst (λ (x : LexError). IsTokens (Err x) ts) (sym e) tt
@@ -56,7 +56,7 @@ all_tokens source (Err f) l h ts k = elim (memory_or source f h) [
 ]
 
 pub all_faults : (source : List ℕ) (r : Result (Vec Token Global) LexError) → length source ≤ limit →
-    Stands source r → (e : LexError) → IsRefused source e → IsFault r e
+    IsCutOrRefused source r → (e : LexError) → IsRefused source e → IsFault r e
 all_faults source (Ok v) l h e k = let g = located source e l k in cut_or_fault source v.items g.fault g.at h g.fails
 all_faults source (Err f) l h e k = elim (memory_or source f h) [
   | inl m ↦ subst (λ (x : LexError). IsFault (Err x) e) (sym m) tt

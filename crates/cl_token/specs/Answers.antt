@@ -33,6 +33,6 @@ error_at faults.BadNumber at = errors.BadNumber at
 error_at faults.LargeNumber at = errors.LargeNumber at
 
 -- the source is cut into what is answered, or refused with it
-abbrev pub Stands : List ℕ → Result (Vec Token Global) LexError → Type 0
-Stands source (Ok v) = Cuts source v.items
-Stands source (Err e) = IsRefusedOrMemory source e
+abbrev pub IsCutOrRefused : List ℕ → Result (Vec Token Global) LexError → Type 0
+IsCutOrRefused source (Ok v) = Cuts source v.items
+IsCutOrRefused source (Err e) = IsRefusedOrMemory source e

@@ -1,29 +1,11 @@
 //! The cutting of a source into tokens.
-ghost use Rattle.std.specs.Prelude.{
-  ◌≡◌,
-  ◌↔◌,
-  ℕ,
-  List,
-  ◌<◌,
-  ◌≤◌,
-  length,
-  All,
-  IfOk,
-  IfErr,
-  OnOk,
-  MatchResult,
-  ◌++◌,
-  ◌∷◌,
-  [],
-  Err,
-  slice_range,
-  drop,
-};
+ghost use Rattle.std.specs.Prelude.{◌≡◌, ◌↔◌, ℕ, List, ◌<◌, ◌≤◌, length, All, IfOk, IfErr};
+ghost use Rattle.std.specs.Prelude.{OnOk, MatchResult, ◌++◌, ◌∷◌, [], Err, slice_range, drop};
 ghost use Rattle.cl_token.specs.declared.token.Token.{Token as AnyToken};
 ghost use Rattle.cl_token.specs.declared.token.LexError.{LexError as AnyError};
 ghost use Rattle.cl_token.specs.Cuts.{Cuts, IsRefused, limit};
 ghost use Rattle.cl_token.specs.Reading as reading;
-ghost use Rattle.cl_token.specs.Answers.{IsTokens, IsFault, IsRefusedOrMemory, Stands, error_at};
+ghost use Rattle.cl_token.specs.Answers.{IsTokens, IsFault, IsRefusedOrMemory, IsCutOrRefused, error_at};
 
 use crate::piece::{Fault, Piece, piece_of};
 use crate::token::{Kind, LexError, Token};
@@ -95,7 +77,7 @@ fn piece_at(source: &[u8], at: usize) -> Result<Piece, Fault>
 /// The tokens of a source that is not too long.
 fn cut(alloc: Global, source: &[u8]) -> Result<Vec<Token>, LexError>
     requires { length source.now ≤ limit }
-    ensures { Stands source.now result }
+    ensures { IsCutOrRefused source.now result }
 {
     let mut tokens = Vec::new(alloc);
     let mut at = 0usize;

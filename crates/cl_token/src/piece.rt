@@ -1,20 +1,6 @@
 //! What stands at the head of the rest of a source.
-ghost use Rattle.std.specs.Prelude.{
-  ◌≡◌,
-  ◌≢◌,
-  ◌↔◌,
-  ℕ,
-  ◌+◌,
-  ◌<◌,
-  ◌≤◌,
-  length,
-  MatchOption,
-  IfSome,
-  slice_index,
-  drop,
-  Ok,
-  Err,
-};
+ghost use Rattle.std.specs.Prelude.{◌≡◌, ◌≢◌, ◌↔◌, ℕ, ◌+◌, ◌<◌, ◌≤◌, length};
+ghost use Rattle.std.specs.Prelude.{MatchOption, IfSome, slice_index, drop, Ok, Err};
 ghost use Rattle.std.specs.List.{prefix_len};
 ghost use Rattle.cl_token.specs.Spelling.{ClosesAt};
 ghost use Rattle.cl_token.specs.Reading as reading;

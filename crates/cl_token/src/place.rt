@@ -1,24 +1,11 @@
 //! The places of tokens, as lines and columns.
-ghost use Rattle.std.specs.Prelude.{
-  ◌≡◌,
-  ◌<◌,
-  ◌≤◌,
-  ◌++◌,
-  ◌∷◌,
-  [],
-  length,
-  map,
-  All,
-  IfOk,
-  OnOk,
-  OnErr,
-  slice_index,
-};
+ghost use Rattle.std.specs.Prelude.{◌≡◌, ◌<◌, ◌≤◌, ◌++◌, ◌∷◌, [], length, map, All, IfOk};
+ghost use Rattle.std.specs.Prelude.{OnOk, OnErr, slice_index};
 ghost use Rattle.cl_token.specs.Places.{place_at, place_behind};
 
 use crate::token::Token;
 use std::alloc::Global;
-use wg_num::{Memory, Place};
+use wg_num::{Memory, Place, push};
 
 const START: Place = Place { line: 1, column: 1 };
 
@@ -61,12 +48,6 @@ pub fn place_of(source: &[u8], at: u32) -> Place
     ensures { result ≡ place_at source.now at }
 {
     advance(source, START, 0, at as usize)
-}
-
-fn push(places: &mut Vec<Place>, place: Place) -> Result<(), Memory>
-    ensures { OnOk result (places.new.items ≡ places.old.items ++ place ∷ []) }
-{
-    places.push(place).map_err(|_| Memory)
 }
 
 /// The places of the tokens' first bytes, in order.

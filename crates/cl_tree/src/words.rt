@@ -1,18 +1,8 @@
 //! The words of the grammar.
 
 ghost use Rattle.std.specs.Prelude.{◌≡◌, map};
-ghost use Rattle.cl_tree.specs.Words.{
-  is_among,
-  control_word_of,
-  declaration_word_of,
-  space_word_of,
-  base_word_of,
-  outside_word_of,
-  vector_word_of,
-  bracket_of,
-  operator_of,
-  assignment_of,
-};
+ghost use Rattle.cl_tree.specs.Words.{is_among, control_word_of, declaration_word_of, space_word_of, base_word_of};
+ghost use Rattle.cl_tree.specs.Words.{outside_word_of, vector_word_of, bracket_of, operator_of, assignment_of};
 
 use crate::terminal::Terminal;
 

@@ -32,7 +32,9 @@ use Rattle.cl_valid.specs.Shape.{AreItems}
 use Rattle.cl_valid.specs.Sound.{SoundTree, SoundParts}
 use Rattle.cl_valid.specs.Erased.{table_of, function_of, program_of}
 use Rattle.cl_valid.specs.Fits.{CalledFits}
-use Rattle.cl_valid.specs.Law.{nodes_of, asked_of, Accepted, UnitsValid}
+use Rattle.cl_valid.specs.Law.{UnitsValid}
+use Rattle.cl_limits.specs.Judged.{nodes_of, asked_in, IsAccepted}
+use Rattle.cl_limits.proofs.Within.{each_kept}
 use Rattle.cl_valid.proofs.Small.{held}
 use Rattle.cl_valid.proofs.Plain.{sound_tree}
 use Rattle.cl_valid.proofs.Holding.{extra, extras}
@@ -190,7 +192,7 @@ not_is true h = refl
 not_is false h = absurd (false≢true (sym h))
 
 module _ (places : List Place) (kernel : List ℕ) (w : List ℕ) (f l : ℕ) (items : Forest) (h : AreItems items)
-    (acc : Accepted places kernel (node forms.UnitNode w f l items)) where
+    (acc : IsAccepted places kernel (node forms.UnitNode w f l items)) where
   abbrev unit : Syntax
   unit = node forms.UnitNode w f l items
 
@@ -201,7 +203,7 @@ module _ (places : List Place) (kernel : List ℕ) (w : List ℕ) (f l : ℕ) (i
   start = at_start places gs
 
   abbrev asked : Asked
-  asked = asked_of places kernel unit
+  asked = asked_in places kernel unit
 
   sound : SoundTree asked start roles.Other unit
   sound = (sound_tree asked start roles.Other unit [] (all_good asked (nodes_of places unit) acc.sound (λ q k. k))).0
@@ -351,7 +353,7 @@ module _ (places : List Place) (kernel : List ℕ) (w : List ℕ) (f l : ℕ) (i
         (λ s k. (let a = site_once s in (below_once s (length ms.sites)).1 (omega arith)));
     size =
         (let a = instances_counted P ws asked.calls counted (length P.functions) [] P.kernel in
-        let b = not_over (whole ws asked.calls P.kernel) (acc.within faults.KernelTooLarge) in
+        let b = not_over (whole ws asked.calls P.kernel) (each_kept _ acc.within faults.KernelTooLarge) in
         let m = many in
         let lw = (facts_lengths top 0 gs Fs ws facts.facts).1 in
         let e : length ws ≡ length P.functions = omega arith in

@@ -1,5 +1,5 @@
 -- One unit, `kernel void k(global int *a) { a[0] = 1; }`, for which all that the laws ask holds.
-use Rattle.std.proofs.Common.{◌≡◌, ℕ, zero, suc, List, [], ◌∷◌, Bool, true, false, not, ◌&&◌, refl}
+use Rattle.std.proofs.Common.{◌≡◌, ℕ, zero, suc, List, [], ◌∷◌, Bool, true, false, not, ◌&&◌, None, refl}
 use Rattle.std.specs.Prelude.{codes}
 use Rattle.cl_tree.specs.declared.terminal.Terminal.TheVariants as terminals
 use Rattle.cl_tree.specs.declared.terminal.Leaf.{Leaf}
@@ -26,13 +26,12 @@ use Rattle.cl_meaning.specs.declared.fault.Fault.TheVariants as faults
 use Rattle.cl_meaning.specs.Visible.{Node}
 use Rattle.cl_meaning.specs.Faults.{Asked, AllSound, at_fault, looked}
 use Rattle.cl_meaning.specs.Meant.{unit_meant}
-use Rattle.cl_limits.specs.Kernel.{at_limit}
 use Rattle.cl_limits.specs.Limits as limits
 use Rattle.cl_limits.specs.Heights as heights
 use Rattle.cl_meaning.specs.Meant as meanings
 use Rattle.cl_valid.specs.Shape.{IsUnit}
 use Rattle.cl_valid.specs.Erased.{program_of}
-use Rattle.cl_valid.specs.Law.{nodes_of, asked_of, sized_of, Accepted}
+use Rattle.cl_limits.specs.Judged.{nodes_of, asked_in, limit_in, IsAccepted}
 use Rattle.cl_valid.proofs.Assigning.{both_true, is_not}
 use Rattle.cl_valid.proofs.Grammatical.{AllWords}
 use Rattle.cl_valid.proofs.Spelled.{shape}
@@ -223,14 +222,14 @@ spelling =
 shaped : IsUnit unit
 shaped = shape spelling words
 
-quiet_everywhere : all_quiet (asked_of [] (codes "k") unit) (nodes_of [] unit) ≡ true
+quiet_everywhere : all_quiet (asked_in [] (codes "k") unit) (nodes_of [] unit) ≡ true
 unfolding visible.in_order judged.misfits types.base_in types.names_outside visible.restored visible.inside
     visible.later visible.behind visible.left types.space_in postfix_in kinds.kind_step literal_in reading.outcome_of
     reading.parts_of wraps.modulus wraps.half visible.kind_of literals.truth_in names.flag_in names.intrinsic_in
     binary_in prefix_in setting_in operators.binary_of operators.unary_of wraps.bits_of wraps.wrap_of
 quiet_everywhere = refl
 
-within_limits : quiet (at_limit (sized_of [] (codes "k") unit)) ≡ true
+within_limits : limit_in [] (codes "k") unit ≡ None
 unfolding visible.in_order judged.misfits types.base_in types.names_outside visible.restored visible.inside
     visible.later visible.behind visible.left types.space_in postfix_in kinds.kind_step literal_in reading.outcome_of
     reading.parts_of wraps.modulus wraps.half visible.kind_of literals.truth_in names.flag_in names.intrinsic_in
@@ -238,10 +237,10 @@ unfolding visible.in_order judged.misfits types.base_in types.names_outside visi
     meanings.meant meanings.make heights.height
 within_limits = refl
 
-accepted : Accepted [] (codes "k") unit
+accepted : IsAccepted [] (codes "k") unit
 accepted = record {
-  sound = all_sound (asked_of [] (codes "k") unit) (nodes_of [] unit) quiet_everywhere;
-  within = none_of (at_limit (sized_of [] (codes "k") unit)) within_limits;
+  sound = all_sound (asked_in [] (codes "k") unit) (nodes_of [] unit) quiet_everywhere;
+  within = within_limits;
 }
 
 -- the unit stands for a valid program

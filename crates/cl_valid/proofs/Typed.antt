@@ -31,7 +31,6 @@ use Rattle.cl_meaning.specs.Kinds.{cast_kind, prefix_kind, postfix_kind, is_cons
 use Rattle.cl_meaning.specs.Faults.{Asked, Sound, Looked, at_fault, misfits, tested_misfits, unknown_name, given}
 use Rattle.cl_meaning.specs.Faults.{given_pair, given_first, lacks, lacks_pair, prefix_misfits, postfix_misfits}
 use Rattle.cl_meaning.specs.Faults.{prefix_assigns, postfix_assigns, unassignable, of_target}
-use Rattle.cl_meaning.specs.Faults as fault_specs
 use Rattle.cl_meaning.specs.Types as types_specs
 use Rattle.cl_meaning.specs.Typed.{value, Piece}
 use Rattle.cl_meaning.specs.Expressions.{cast_made, literal, number_what, truth_what, flagged_made, name_made}
@@ -169,7 +168,7 @@ indexed_piece P f (Some (postfixes.Step op)) place sites a b i x y m = absurd (f
 
 -- a type that is not outside the profile declares something
 declared_by : (o : Option Base) (constant : Bool) (space : _) → is_some o ≡ true →
-    fault_specs.is_outside_base o ≡ false → (d : Declared) × (types_specs.declared_as o constant space ≡ Some d)
+    types_specs.is_outside_base o ≡ false → (d : Declared) × (types_specs.declared_as o constant space ≡ Some d)
 declared_by None constant space s h = absurd (false≢true s)
 declared_by (Some bases.Outside) constant space s h = absurd (false≢true (sym h))
 declared_by (Some (bases.Integer of size)) constant space s h =

@@ -1,5 +1,5 @@
 -- The laws: on expressions, on units, and on what the grammar spells.
-use Rattle.std.specs.Prelude.{◌≡◌, ◌<◌, ◌^◌, ℕ, false, List, []}
+use Rattle.std.specs.Prelude.{◌<◌, ◌^◌, ℕ, List}
 use Rattle.wg_num.specs.declared.types.Place.{Place}
 use Rattle.cl_token.specs.declared.token.Token.{Token}
 use Rattle.cl_token.specs.Spelling.{HasValue}
@@ -11,15 +11,11 @@ use Rattle.cl_model.specs.Lists.{Each}
 use Rattle.cl_model.specs.Valid.{IsValid}
 use Rattle.cl_tree.specs.Syntax.{Syntax}
 use Rattle.cl_tree.specs.Grammar.{SpellsUnit}
-use Rattle.cl_limits.specs.Heights.{functions_in}
-use Rattle.cl_limits.specs.Kernel.{Sized, weights_of, at_limit}
-use Rattle.cl_meaning.specs.declared.fault.Fault.{Fault}
+use Rattle.cl_limits.specs.Judged.{IsAccepted}
 use Rattle.cl_meaning.specs.declared.kind.Role.{Role}
-use Rattle.cl_meaning.specs.declared.kind.Role.TheVariants as roles
 use Rattle.cl_meaning.specs.Environment.{Env}
-use Rattle.cl_meaning.specs.Visible.{Node, in_order}
-use Rattle.cl_meaning.specs.Faults.{Asked, AllSound, calls_of, missing_of}
-use Rattle.cl_meaning.specs.Meant.{meant, start_of, unit_meant}
+use Rattle.cl_meaning.specs.Faults.{Asked}
+use Rattle.cl_meaning.specs.Meant.{meant, unit_meant}
 use Rattle.cl_valid.specs.Erased.{program_of}
 use Rattle.cl_valid.specs.Shape.{IsExpression, IsUnit}
 use Rattle.cl_valid.specs.Sound.{SoundTree}
@@ -35,32 +31,9 @@ ExpressionsFit =
 
 -- ---- units
 
--- the nodes of a unit, and what they are judged by: the kernel that is asked for, and the calls of the unit itself
-abbrev pub nodes_of : List Place → Syntax → List Node
-nodes_of places unit = in_order (start_of places unit) roles.Other unit []
-
-abbrev pub asked_of : List Place → List ℕ → Syntax → Asked
-asked_of places kernel unit =
-    record { kernel = kernel; calls = calls_of (nodes_of places unit); missing = missing_of (nodes_of places unit) }
-
--- what the limits look at
-abbrev pub sized_of : List Place → List ℕ → Syntax → Sized
-sized_of places kernel unit = record {
-  weights = weights_of unit;
-  trees = functions_in unit;
-  calls = calls_of (nodes_of places unit);
-  functions = (unit_meant places kernel unit).functions;
-  kernel = (unit_meant places kernel unit).kernel;
-}
-
--- No node of the unit is at fault, and the kernel keeps all limits.
-pub record Accepted (places : List Place) (kernel : List ℕ) (unit : Syntax) : Type 0 where
-  pub sound : AllSound (asked_of places kernel unit) (nodes_of places unit)
-  pub within : (k : Fault) → at_limit (sized_of places kernel unit) k ≡ false
-
 -- The typed unit for which an accepted unit stands is a valid program.
 abbrev pub UnitsValid : Type 0
-UnitsValid = (places : List Place) (kernel : List ℕ) (unit : Syntax) → IsUnit unit → Accepted places kernel unit →
+UnitsValid = (places : List Place) (kernel : List ℕ) (unit : Syntax) → IsUnit unit → IsAccepted places kernel unit →
     IsValid (program_of (unit_meant places kernel unit))
 
 -- ---- what the grammar spells

@@ -1,44 +1,12 @@
 //! The command line: the words that the program takes, as `clap` reads them, and what they say.
 #![tactic(auto)]
 
-ghost use Rattle.std.specs.Prelude.{
-  ◌≡◌,
-  ◌∷◌,
-  [],
-  ℕ,
-  List,
-  map,
-  codes,
-  false,
-  string_bytes,
-  Err,
-  Some,
-  IfOk,
-  IfSome,
-  option_map,
-};
+ghost use Rattle.std.specs.Prelude.{◌≡◌, ◌∷◌, [], ℕ, List, map, codes, false, string_bytes, Err, Some};
+ghost use Rattle.std.specs.Prelude.{IfOk, IfSome, option_map};
 ghost use Rattle.clap.specs.Words.{rule_of, subcommand_of, subcommand_rows_of, first_of, rows_of, found_of};
-ghost use Rattle.command_words.specs.Command.{
-  argument,
-  option,
-  number,
-  run_app,
-  plan_app,
-  code_app,
-  sample_app,
-  bare_app,
-  wgcc_app,
-  IsCommandOf,
-  TakesWords,
-  IsNumberFound,
-  IsNumberAt,
-  NamesFiles,
-  IsAsked,
-  Asks,
-  AskFor,
-  files_of,
-  request_of,
-};
+ghost use Rattle.command_words.specs.Command.{argument, option, number, run_app, plan_app, code_app, sample_app};
+ghost use Rattle.command_words.specs.Command.{bare_app, wgcc_app, IsCommandOf, TakesWords, IsNumberFound, IsNumberAt};
+ghost use Rattle.command_words.specs.Command.{NamesFiles, IsAsked, Asks, AskFor, files_of, request_of};
 
 use clap::error::ErrorKind;
 use clap::{Arg, ArgAction, ArgMatches, Command, value_parser};

@@ -1,18 +1,7 @@
 //! Which functions, statements and lines hold a barrier after inlining.
 
-ghost use Rattle.std.specs.Prelude.{
-  ◌≡◌,
-  ◌∷◌,
-  [],
-  ◌++◌,
-  false,
-  length,
-  map,
-  replicate,
-  IsTrue,
-  IfOk,
-  OnOk,
-};
+ghost use Rattle.std.specs.Prelude.{◌≡◌, ◌∷◌, [], ◌++◌, false, length, map, replicate, IsTrue, IfOk};
+ghost use Rattle.std.specs.Prelude.{OnOk};
 ghost use Rattle.cl_model.specs.View.{statement_of, listed_statements, function_of};
 ghost use Rattle.kir.specs.Inlined.{holds, some_holds};
 ghost use Rattle.ctx_plan.specs.Points.{points_onto, all_onto, arms_onto, listed_arms, entry, point_holds, points_hold};

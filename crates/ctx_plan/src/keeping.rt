@@ -1,18 +1,7 @@
 //! Which cells the text of a kernel names on both sides of a cut.
 
-ghost use Rattle.std.specs.Prelude.{
-  ◌≡◌,
-  ◌∷◌,
-  [],
-  ◌++◌,
-  ◌||◌,
-  List,
-  length,
-  replicate,
-  None,
-  IfOk,
-  OnOk,
-};
+ghost use Rattle.std.specs.Prelude.{◌≡◌, ◌∷◌, [], ◌++◌, ◌||◌, List, length, replicate, None, IfOk};
+ghost use Rattle.std.specs.Prelude.{OnOk};
 ghost use Rattle.kir.specs.Tree.{NoLine};
 ghost use Rattle.kir.specs.Listed.{line_before, lines_of, work_of};
 ghost use Rattle.kir.specs.Cuts.{holds_barrier};

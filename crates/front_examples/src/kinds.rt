@@ -1,6 +1,7 @@
-use cl_kinds::{
-    binary_kind, builtin_type, comma_kind, number, root_changes, set_kind, value_fits, value_kind,
-};
+use cl_faults::arguments::builtin_type;
+use cl_faults::kinds::{comma_kind, number, value_kind};
+use cl_faults::operators::binary_kind;
+use cl_faults::settings::{root_changes, set_kind, value_fits};
 use cl_meaning::{Each, Kind, Reach, Setting};
 use cl_model::{Root, Space};
 use wg_num::{Bin, IntType};

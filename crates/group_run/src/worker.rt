@@ -11,7 +11,7 @@ ghost use Rattle.lane_code.specs.Run.{chunk_at, chunk_count, chunk_ended, chunks
 ghost use Rattle.lane_machine.specs.Room.{HasRoom, HasRoomFor, HasRoomForEach, IsNoLess};
 ghost use Rattle.lane_machine.specs.Zeroed.{IsGroupOf};
 ghost use Rattle.lane_machine.specs.Machinery.{room_at};
-ghost use Rattle.group_run.specs.Ends.{ended, run_end, is_loop, Stands};
+ghost use Rattle.group_run.specs.Ends.{ended, run_end, is_loop, IsHeldFor};
 ghost use Rattle.group_run.specs.Nodes.{nodes_end, turn_end};
 
 use crate::ends::{chunks_in_group, has_done, launch_end};
@@ -39,7 +39,7 @@ impl Worker {
         chunk: u32,
         buffers: &mut Buffers,
     ) -> RunEnd
-        requires stands { Stands (plain_of program.now) (launch_of launch.now) number self.old.group }
+        requires stands { IsHeldFor (plain_of program.now) (launch_of launch.now) number self.old.group }
         requires fits { code_fits (names_of (plain_of program.now)) code.now.counts code.now.steps.items ≡ true }
         requires room { HasRoom code.now.counts (room_at program.now.width self.old.machine) }
         requires chunk { chunk < chunk_count (plain_of program.now) (launch_of launch.now) }
@@ -47,7 +47,7 @@ impl Worker {
             (region_end (chunk_at (plain_of program.now) (launch_of launch.now) number chunk) code.now.steps.items
             code.now.counts self.old.turns self.old.group.kept (buffers_of buffers.old)) ≡
             ended result self.new.turns self.new.group.kept (buffers_of buffers.new) }
-        ensures stands { Stands (plain_of program.now) (launch_of launch.now) number self.new.group }
+        ensures stands { IsHeldFor (plain_of program.now) (launch_of launch.now) number self.new.group }
         ensures room { IsNoLess (room_at program.now.width self.old.machine)
             (room_at program.now.width self.new.machine) }
     {
@@ -72,13 +72,13 @@ impl Worker {
         code: &Code,
         buffers: &mut Buffers,
     ) -> RunEnd
-        requires stands { Stands (plain_of program.now) (launch_of launch.now) number self.old.group }
+        requires stands { IsHeldFor (plain_of program.now) (launch_of launch.now) number self.old.group }
         requires fits { code_fits (names_of (plain_of program.now)) code.now.counts code.now.steps.items ≡ true }
         requires room { HasRoom code.now.counts (room_at program.now.width self.old.machine) }
         ensures end { chunks_end (plain_of program.now) (launch_of launch.now) number (code_of code.now) 0
             (chunk_count (plain_of program.now) (launch_of launch.now)) self.old.turns self.old.group.kept
             (buffers_of buffers.old) ≡ ended result self.new.turns self.new.group.kept (buffers_of buffers.new) }
-        ensures stands { Stands (plain_of program.now) (launch_of launch.now) number self.new.group }
+        ensures stands { IsHeldFor (plain_of program.now) (launch_of launch.now) number self.new.group }
         ensures room { IsNoLess (room_at program.now.width self.old.machine)
             (room_at program.now.width self.new.machine) }
     {
@@ -101,13 +101,13 @@ impl Worker {
         code: &Code,
         buffers: &mut Buffers,
     ) -> RunEnd
-        requires stands { Stands (plain_of program.now) (launch_of launch.now) number self.old.group }
+        requires stands { IsHeldFor (plain_of program.now) (launch_of launch.now) number self.old.group }
         requires fits { code_fits (names_of (plain_of program.now)) code.now.counts code.now.steps.items ≡ true }
         requires room { HasRoom code.now.counts (room_at program.now.width self.old.machine) }
         ensures end { items_end (plain_of program.now) (launch_of launch.now) number (code_of code.now) self.old.turns
             self.old.group.kept (buffers_of buffers.old) ≡ ended result self.new.turns self.new.group.kept
             (buffers_of buffers.new) }
-        ensures stands { Stands (plain_of program.now) (launch_of launch.now) number self.new.group }
+        ensures stands { IsHeldFor (plain_of program.now) (launch_of launch.now) number self.new.group }
         ensures room { IsNoLess (room_at program.now.width self.old.machine)
             (room_at program.now.width self.new.machine) }
     {
@@ -129,13 +129,13 @@ impl Worker {
         nodes: &Vec<Node>,
         buffers: &mut Buffers,
     ) -> RunEnd
-        requires stands { Stands (plain_of program.now) (launch_of launch.now) number self.old.group }
+        requires stands { IsHeldFor (plain_of program.now) (launch_of launch.now) number self.old.group }
         requires fits { nodes_fit (names_of (plain_of program.now)) nodes.now.items ≡ true }
         requires room { HasRoomForEach (room_at program.now.width self.old.machine) nodes.now.items }
         ensures end { nodes_end (plain_of program.now) (launch_of launch.now) number nodes.now.items self.old.turns
             self.old.group.kept (buffers_of buffers.old) ≡ ended result self.new.turns self.new.group.kept
             (buffers_of buffers.new) }
-        ensures stands { Stands (plain_of program.now) (launch_of launch.now) number self.new.group }
+        ensures stands { IsHeldFor (plain_of program.now) (launch_of launch.now) number self.new.group }
         ensures room { IsNoLess (room_at program.now.width self.old.machine)
             (room_at program.now.width self.new.machine) }
     {
@@ -158,13 +158,13 @@ impl Worker {
         body: &Node,
         buffers: &mut Buffers,
     ) -> RunEnd
-        requires stands { Stands (plain_of program.now) (launch_of launch.now) number self.old.group }
+        requires stands { IsHeldFor (plain_of program.now) (launch_of launch.now) number self.old.group }
         requires fits { work_fits (names_of (plain_of program.now)) (work_of body.now) ≡ true }
         requires room { HasRoomFor (room_at program.now.width self.old.machine) (work_of body.now) }
         ensures end { turn_end (work_end (plain_of program.now) (launch_of launch.now) number (work_of body.now))
             self.old.turns self.old.group.kept (buffers_of buffers.old) ≡
             ended result self.new.turns self.new.group.kept (buffers_of buffers.new) }
-        ensures stands { Stands (plain_of program.now) (launch_of launch.now) number self.new.group }
+        ensures stands { IsHeldFor (plain_of program.now) (launch_of launch.now) number self.new.group }
         ensures room { IsNoLess (room_at program.now.width self.old.machine)
             (room_at program.now.width self.new.machine) }
     {
@@ -186,13 +186,13 @@ impl Worker {
         buffers: &mut Buffers,
     ) -> RunEnd
         requires repeats { is_loop (work_of node.now) ≡ true }
-        requires stands { Stands (plain_of program.now) (launch_of launch.now) number self.old.group }
+        requires stands { IsHeldFor (plain_of program.now) (launch_of launch.now) number self.old.group }
         requires fits { work_fits (names_of (plain_of program.now)) (work_of node.now) ≡ true }
         requires room { HasRoomFor (room_at program.now.width self.old.machine) (work_of node.now) }
         ensures end { work_end (plain_of program.now) (launch_of launch.now) number (work_of node.now) self.old.turns
             self.old.group.kept (buffers_of buffers.old) ≡ ended result self.new.turns self.new.group.kept
             (buffers_of buffers.new) }
-        ensures stands { Stands (plain_of program.now) (launch_of launch.now) number self.new.group }
+        ensures stands { IsHeldFor (plain_of program.now) (launch_of launch.now) number self.new.group }
         ensures room { IsNoLess (room_at program.now.width self.old.machine)
             (room_at program.now.width self.new.machine) }
     {
@@ -243,13 +243,13 @@ impl Worker {
         node: &Node,
         buffers: &mut Buffers,
     ) -> RunEnd
-        requires stands { Stands (plain_of program.now) (launch_of launch.now) number self.old.group }
+        requires stands { IsHeldFor (plain_of program.now) (launch_of launch.now) number self.old.group }
         requires fits { work_fits (names_of (plain_of program.now)) (work_of node.now) ≡ true }
         requires room { HasRoomFor (room_at program.now.width self.old.machine) (work_of node.now) }
         ensures end { work_end (plain_of program.now) (launch_of launch.now) number (work_of node.now) self.old.turns
             self.old.group.kept (buffers_of buffers.old) ≡ ended result self.new.turns self.new.group.kept
             (buffers_of buffers.new) }
-        ensures stands { Stands (plain_of program.now) (launch_of launch.now) number self.new.group }
+        ensures stands { IsHeldFor (plain_of program.now) (launch_of launch.now) number self.new.group }
         ensures room { IsNoLess (room_at program.now.width self.old.machine)
             (room_at program.now.width self.new.machine) }
     {

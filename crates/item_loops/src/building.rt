@@ -22,7 +22,7 @@ use lane_code::{GroupParts, GroupProgram, Node};
 use mask_lower::lower_region;
 use regions::RegionTree;
 use std::alloc::Global;
-use wg_num::{Memory, Place, Width, Word};
+use wg_num::{Memory, Place, Width, Word, push};
 
 /// A node behind a box.
 fn boxed(alloc: Global, node: Node) -> Result<Box<Node>, Memory>
@@ -30,16 +30,6 @@ fn boxed(alloc: Global, node: Node) -> Result<Box<Node>, Memory>
 {
     match Box::new(alloc, node) {
         Ok(kept) => Ok(kept),
-        Err(_) => Err(Memory),
-    }
-}
-
-/// Adds a node.
-fn add(nodes: &mut Vec<Node>, node: Node) -> Result<(), Memory>
-    ensures { OnOk result (nodes.new.items ≡ nodes.old.items ++ node ∷ []) }
-{
-    match nodes.push(node) {
-        Ok(()) => Ok(()),
         Err(_) => Err(Memory),
     }
 }
@@ -58,7 +48,7 @@ fn build_nodes(
     let mut nodes = Vec::new(alloc);
     for tree in trees {
         let node = build_node(alloc, tree, plan, kernel)?;
-        add(&mut nodes, node)?;
+        push(&mut nodes, node)?;
     }
     Ok(nodes)
 }

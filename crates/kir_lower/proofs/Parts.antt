@@ -16,8 +16,8 @@ use Rattle.cl_model.specs.declared.program.Root.{Root}
 use Rattle.cl_model.specs.Calls.{function_at}
 use Rattle.kir.specs.Lowering.{Named}
 use Rattle.kir.specs.Tree.{Lines, joined_to}
-use Rattle.program_build.specs.Lists.{listed_roots, listed_arguments, listed_arms}
-use Rattle.program_build.proofs.Rows.{builtin_listed, call_listed, block_listed, switch_listed}
+use Rattle.cl_model.specs.Listed.{listed_roots, listed_arguments, listed_arms}
+use Rattle.cl_model.proofs.Rows.{builtin_listed, call_listed, block_listed, switch_listed}
 use Rattle.kir_lower.specs.declared.places.Value.{Value}
 use Rattle.kir_lower.specs.Made.{Made, Instance, next_cell}
 use Rattle.kir_lower.specs.Actions.{Steps, behind}

@@ -16,7 +16,7 @@ use cl_model::Root;
 use kir::types::{binary_type, query_type, result_type, unary_type};
 use kir::{Atom, Line, Work};
 use std::alloc::Global;
-use wg_num::{Bin, Fun, IntType, Memory, Un};
+use wg_num::{Bin, Fun, IntType, Memory, Un, push};
 
 /// A compound assignment, `++` or `--`: it computes in `of` and converts to `back`, and gives the
 /// old value where `old` is set.
@@ -129,7 +129,7 @@ fn atoms_of(alloc: Global, values: &[Value]) -> Result<Vec<Atom>, Memory>
 {
     let mut atoms = Vec::new(alloc);
     for value in values {
-        crate::places::add(&mut atoms, value.atom)?;
+        push(&mut atoms, value.atom)?;
     }
     Ok(atoms)
 }

@@ -3,7 +3,7 @@
 ghost use Rattle.std.specs.Prelude.{◌≡◌, pos, IfOk, OnOk};
 ghost use Rattle.kir.specs.Listed.{lines_of};
 ghost use Rattle.kir.specs.Tree.{joined_to};
-ghost use Rattle.program_build.specs.Lists.{listed_arms};
+ghost use Rattle.cl_model.specs.Listed.{listed_arms};
 ghost use Rattle.kir_lower.specs.Actions as spec;
 ghost use Rattle.kir_lower.specs.View.{made_of};
 

@@ -6,10 +6,10 @@ ghost use Rattle.kir.specs.Tree.{NoLine, SetThen, IfThen, BarrierThen, joined_to
 ghost use Rattle.kir_lower.specs.Actions as spec;
 ghost use Rattle.kir_lower.specs.View.{made_of};
 
-use crate::places::{Made, Value, add, add_value};
+use crate::places::{Made, Value, add_value};
 use kir::{Atom, Line, Work};
 use std::alloc::Global;
-use wg_num::{IntType, Memory};
+use wg_num::{IntType, Memory, push};
 
 /// One more line.
 #[tactic(auto, using(crate::proofs::Lists::lines_put))]
@@ -18,7 +18,7 @@ pub fn put(lines: &mut Vec<Line>, line: Line) -> Result<(), Memory>
     ensures { OnOk result (lines_of lines.new.items ≡ joined_to (lines_of lines.old.items)
         (line_before line NoLine)) }
 {
-    add(lines, line)
+    push(lines, line)
 }
 
 /// One more line, which sets a cell.

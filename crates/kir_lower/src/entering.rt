@@ -7,7 +7,7 @@ ghost use Rattle.cl_model.specs.View.{function_of, program_of, root_of};
 ghost use Rattle.kir.specs.Listed.{lines_of, cell_of};
 ghost use Rattle.kir.specs.Lowering.{names_of};
 ghost use Rattle.kir.specs.Tree.{OfVariable, joined_to};
-ghost use Rattle.program_build.specs.Lists.{listed_roots};
+ghost use Rattle.cl_model.specs.Listed.{listed_roots};
 ghost use Rattle.kir_lower.specs.Made as spec;
 ghost use Rattle.kir_lower.specs.Code as code;
 ghost use Rattle.kir_lower.specs.Whole as whole;
@@ -15,14 +15,14 @@ ghost use Rattle.kir_lower.specs.View.{made_of, instance_of, names_in, names_lis
 
 use crate::emit::{put_copy, put_set};
 use crate::places::{
-    Callee, Instance, Made, Value, add, add_arrays, add_value, behind, constant, elements_of, int,
+    Callee, Instance, Made, Value, add_arrays, add_value, behind, constant, elements_of, int,
     longer_calls, longer_places, number, place_at, root_in, types_of,
 };
 use cl_model::{Arg, Function, Program, Root, Var, VarKind};
 use kir::types::kind_type;
 use kir::{Atom, Cell, CellKind, Line, Work};
 use std::alloc::Global;
-use wg_num::{IntType, Memory, Place};
+use wg_num::{IntType, Memory, Place, push};
 
 /// The kernel's root that an argument names; that of a number does not matter.
 fn argument_root(here: &Instance<'_>, argument: &Arg) -> Result<Root, Memory>
@@ -43,7 +43,7 @@ pub fn roots_in(alloc: Global, here: &Instance<'_>, args: &[Arg]) -> Result<Vec<
     let mut rest = args;
     while let Some((argument, others)) = rest.split_first() {
         let root = argument_root(here, argument)?;
-        add(&mut roots, root)?;
+        push(&mut roots, root)?;
         rest = others;
     }
     Ok(roots)
@@ -99,7 +99,7 @@ fn add_variables(
     let mut var = 0u32;
     while let Some((declared, others)) = rest.split_first() {
         let cell = variable_cell(alloc, calls, places, function, var, declared)?;
-        add(&mut made.cells, cell)?;
+        push(&mut made.cells, cell)?;
         var = behind(var, 1)?;
         rest = others;
     }

@@ -2,7 +2,7 @@
 
 ghost use Rattle.std.specs.Prelude.{◌≡◌};
 ghost use Rattle.cl_model.specs.View.{statement_of, listed_statements};
-ghost use Rattle.program_build.specs.Lists.{listed_arms};
+ghost use Rattle.cl_model.specs.Listed.{listed_arms};
 ghost use Rattle.kir_lower.specs.Ways as spec;
 
 use cl_model::{Stmt, SwitchArm};

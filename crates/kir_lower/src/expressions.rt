@@ -5,13 +5,13 @@ ghost use Rattle.std.specs.Prelude.{◌≡◌, true, IfOk, OnOk};
 ghost use Rattle.cl_model.specs.View.{expression_of, assigned, listed_expressions, argument_of};
 ghost use Rattle.kir.specs.Listed.{lines_of};
 ghost use Rattle.kir.specs.Tree.{joined_to};
-ghost use Rattle.program_build.specs.Lists.{listed_arguments};
+ghost use Rattle.cl_model.specs.Listed.{listed_arguments};
 ghost use Rattle.kir_lower.specs.Code.{expression_code, operands_code, part_code};
 ghost use Rattle.kir_lower.specs.View.{made_of, instance_of, calls_in};
 
 use crate::actions::{Change, Element, Part, put_assigned, put_stored};
 use crate::entering::{enter, put_parameters, roots_in};
-use crate::places::{Callee, Instance, Made, Value, add, constant, function_at, root_in};
+use crate::places::{Callee, Instance, Made, Value, constant, function_at, root_in};
 use crate::statements::put_body;
 use crate::steps::{
     step_answer, step_binary, step_both, step_builtin, step_changed, step_changed_element,
@@ -20,7 +20,7 @@ use crate::steps::{
 use cl_model::{Arg, Expr, Target};
 use kir::Line;
 use std::alloc::Global;
-use wg_num::Memory;
+use wg_num::{Memory, push};
 
 /// The lines of an expression, whose value takes the place of the value before.
 #[cycle(lowering)]
@@ -445,7 +445,7 @@ pub fn put_expressions(
     let mut rest = list;
     while let Some((e, others)) = rest.split_first() {
         put_expression(alloc, here, made, lines, e, value)?;
-        add(&mut values, *value)?;
+        push(&mut values, *value)?;
         rest = others;
     }
     Ok(values)
@@ -505,7 +505,7 @@ fn put_arguments(
     let mut rest = list;
     while let Some((argument, others)) = rest.split_first() {
         put_argument(alloc, here, made, lines, argument, value)?;
-        add(&mut values, *value)?;
+        push(&mut values, *value)?;
         rest = others;
     }
     Ok(values)

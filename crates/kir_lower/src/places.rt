@@ -15,7 +15,7 @@ use cl_model::{Array, Function, Program, Root, Var};
 use kir::types::kind_type;
 use kir::{Atom, Cell, CellKind};
 use std::alloc::Global;
-use wg_num::{IntType, Memory, Place};
+use wg_num::{IntType, Memory, Place, push};
 
 /// What an expression gives: an atom, and the type of its value.
 #[derive(Clone, Copy)]
@@ -55,16 +55,6 @@ pub struct Callee {
     pub site: u32,
     pub function: u32,
     pub roots: Vec<Root>,
-}
-
-/// One more item, or want of memory.
-pub fn add<T: Drop>(list: &mut Vec<T>, item: T) -> Result<(), Memory>
-    ensures { OnOk result (list.new.items ≡ list.old.items ++ item ∷ []) }
-{
-    match list.push(item) {
-        Ok(()) => Ok(()),
-        Err(_) => Err(Memory),
-    }
 }
 
 /// A number as the kernel has them.
@@ -114,7 +104,7 @@ pub fn add_value(made: &mut Made, of: IntType) -> Result<u32, Memory>
 {
     let cell = number(made.cells.len())?;
     let kind = CellKind::Value;
-    add(&mut made.cells, Cell { kind, of })?;
+    push(&mut made.cells, Cell { kind, of })?;
     Ok(cell)
 }
 
@@ -126,7 +116,7 @@ pub fn add_flag(made: &mut Made) -> Result<u32, Memory>
     let cell = number(made.cells.len())?;
     let kind = CellKind::Flag;
     let of = IntType::Int;
-    add(&mut made.cells, Cell { kind, of })?;
+    push(&mut made.cells, Cell { kind, of })?;
     Ok(cell)
 }
 
@@ -225,7 +215,7 @@ pub fn types_of(alloc: Global, vars: &[Var]) -> Result<Vec<IntType>, Memory>
 {
     let mut types = Vec::new(alloc);
     for var in vars {
-        add(&mut types, kind_type(var.kind))?;
+        push(&mut types, kind_type(var.kind))?;
     }
     Ok(types)
 }
@@ -236,7 +226,7 @@ pub fn elements_of(alloc: Global, arrays: &[Array]) -> Result<Vec<IntType>, Memo
 {
     let mut types = Vec::new(alloc);
     for array in arrays {
-        add(&mut types, array.element)?;
+        push(&mut types, array.element)?;
     }
     Ok(types)
 }
@@ -266,7 +256,7 @@ pub fn add_arrays(alloc: Global, made: &mut Made, arrays: &[Array]) -> Result<()
 {
     for array in arrays {
         let array = copy_array(alloc, array)?;
-        add(&mut made.arrays, array)?;
+        push(&mut made.arrays, array)?;
     }
     Ok(())
 }

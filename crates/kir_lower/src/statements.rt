@@ -6,17 +6,9 @@ ghost use Rattle.cl_model.specs.Tree.{Declare, Return};
 ghost use Rattle.cl_model.specs.View.{optional_expression, statement_of, listed_statements, function_of};
 ghost use Rattle.kir.specs.Listed.{lines_of};
 ghost use Rattle.kir.specs.Tree.{joined_to};
-ghost use Rattle.program_build.specs.Lists.{listed_arms};
-ghost use Rattle.kir_lower.specs.Code.{
-  optional_code,
-  statement_code,
-  list_code,
-  in_order,
-  arm_code,
-  arms_code,
-  cases_code,
-  body_code,
-};
+ghost use Rattle.cl_model.specs.Listed.{listed_arms};
+ghost use Rattle.kir_lower.specs.Code.{optional_code, statement_code, list_code, in_order, arm_code, arms_code};
+ghost use Rattle.kir_lower.specs.Code.{cases_code, body_code};
 ghost use Rattle.kir_lower.specs.View.{made_of, instance_of, calls_in, optional_listed};
 
 use crate::actions::{Part, put_assigned, put_exit, put_filled};

@@ -11,12 +11,12 @@ ghost use Rattle.kir_lower.specs.Whole as whole;
 ghost use Rattle.kir_lower.specs.View.{made_of};
 
 use crate::entering::{Way, placed, put_bound};
-use crate::places::{Made, add, behind, constant, copy_array, function_at};
+use crate::places::{Made, behind, constant, copy_array, function_at};
 use crate::statements::put_body;
 use cl_model::{Function, Program, Root, Table, VarKind};
 use kir::{Kernel, KernelParts, Line};
 use std::alloc::Global;
-use wg_num::{IntType, Memory, Place};
+use wg_num::{IntType, Memory, Place, push};
 
 /// The kinds of a function's parameters.
 fn kinds_of(alloc: Global, function: &Function) -> Result<Vec<VarKind>, Memory>
@@ -28,7 +28,7 @@ fn kinds_of(alloc: Global, function: &Function) -> Result<Vec<VarKind>, Memory>
         return Err(Memory);
     }
     for var in &function.vars[..params] {
-        add(&mut kinds, var.kind)?;
+        push(&mut kinds, var.kind)?;
     }
     Ok(kinds)
 }
@@ -41,7 +41,7 @@ fn own_roots(alloc: Global, kinds: &[VarKind]) -> Result<Vec<Root>, Memory>
     let mut rest = kinds;
     let mut n = 0u32;
     while let Some((_, others)) = rest.split_first() {
-        add(&mut roots, Root::Param(n))?;
+        push(&mut roots, Root::Param(n))?;
         n = behind(n, 1)?;
         rest = others;
     }
@@ -65,7 +65,7 @@ fn copy_tables(alloc: Global, tables: &[Table]) -> Result<Vec<Table>, Memory>
     let mut copies = Vec::new(alloc);
     for table in tables {
         let table = copy_table(alloc, table)?;
-        add(&mut copies, table)?;
+        push(&mut copies, table)?;
     }
     Ok(copies)
 }

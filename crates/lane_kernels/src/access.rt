@@ -1,23 +1,6 @@
 //! One element of an object: where it stands, its bytes read and written; and lanes of elements.
-ghost use Rattle.std.specs.Prelude.{
-  ◌≡◌,
-  ◌+◌,
-  ◌*◌,
-  ◌/◌,
-  ◌<◌,
-  ◌≤◌,
-  ◌^◌,
-  ◌⊎◌,
-  length,
-  take,
-  MatchResult,
-  MatchOption,
-  IfErr,
-  OnOk,
-  not,
-  true,
-  false,
-};
+ghost use Rattle.std.specs.Prelude.{◌≡◌, ◌+◌, ◌*◌, ◌/◌, ◌<◌, ◌≤◌, ◌^◌, ◌⊎◌};
+ghost use Rattle.std.specs.Prelude.{length, take, MatchResult, MatchOption, IfErr, OnOk, not, true, false};
 ghost use Rattle.std.specs.Bool.{OnTrue, OnFalse};
 ghost use Rattle.std.specs.Simd.Lanes.{number_l, digits_l, chunk, put_chunk, zip2};
 ghost use Rattle.wg_num.specs.Bytes.{size_of};

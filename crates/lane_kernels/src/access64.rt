@@ -1,23 +1,6 @@
 //! Loads and stores of wide lanes.
-ghost use Rattle.std.specs.Prelude.{
-  ◌≡◌,
-  ◌+◌,
-  ◌-◌,
-  ◌*◌,
-  ◌<◌,
-  ◌≤◌,
-  ◌^◌,
-  min,
-  length,
-  take,
-  MatchResult,
-  MatchOption,
-  IfErr,
-  OnOk,
-  not,
-  true,
-  false,
-};
+ghost use Rattle.std.specs.Prelude.{◌≡◌, ◌+◌, ◌-◌, ◌*◌, ◌<◌, ◌≤◌, ◌^◌, min, length};
+ghost use Rattle.std.specs.Prelude.{take, MatchResult, MatchOption, IfErr, OnOk, not, true, false};
 ghost use Rattle.std.specs.Bool.{OnTrue, OnFalse};
 ghost use Rattle.wg_num.specs.Bytes.{size_of};
 ghost use Rattle.lane_values.specs.Lanes.{FitsLane};

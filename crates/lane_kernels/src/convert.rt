@@ -1,17 +1,6 @@
 //! Conversions of lanes from one type to another.
-ghost use Rattle.std.specs.Prelude.{
-  ◌≡◌,
-  ◌≤◌,
-  ◌+◌,
-  ◌-◌,
-  ◌%◌,
-  ◌^◌,
-  min,
-  map,
-  not,
-  nat_eq,
-  if◌then◌else◌,
-};
+ghost use Rattle.std.specs.Prelude.{◌≡◌, ◌≤◌, ◌+◌, ◌-◌, ◌%◌, ◌^◌, min, map, not, nat_eq};
+ghost use Rattle.std.specs.Prelude.{if◌then◌else◌};
 ghost use Rattle.std.specs.Int.{from_bool};
 ghost use Rattle.wg_num.specs.Wrap.{width_bits, is_bool};
 ghost use Rattle.lane_values.specs.Lanes.{FitsLane, convert_lane};

@@ -1,41 +1,15 @@
 //! Wide lanes: values of types up to 64 bits, extended to 64 bits.
-ghost use Rattle.std.specs.Prelude.{
-  ◌≡◌,
-  ◌≤◌,
-  ◌+◌,
-  ◌-◌,
-  ◌%◌,
-  ◌^◌,
-  min,
-  map,
-  false,
-  not,
-  nat_eq,
-  if◌then◌else◌,
-};
+ghost use Rattle.std.specs.Prelude.{◌≡◌, ◌≤◌, ◌+◌, ◌-◌, ◌%◌, ◌^◌, min, map, false, not};
+ghost use Rattle.std.specs.Prelude.{nat_eq, if◌then◌else◌};
 ghost use Rattle.std.specs.Bool.{OnTrue};
 ghost use Rattle.std.specs.Int.{from_bool};
 ghost use Rattle.std.specs.Simd.Lanes.{zip2, Each1};
 ghost use Rattle.wg_num.specs.Wrap.{half, modulus, width_bits, value_of, is_bool};
 ghost use Rattle.wg_num.specs.Operators.{is_shift};
-ghost use Rattle.lane_values.specs.Lanes.{
-  FitsLane,
-  IsLane,
-  binary_value,
-  binary_lane,
-  unary_value,
-  unary_lane,
-  extended,
-};
-ghost use Rattle.lane_kernels.specs.Vectors.{
-  bias_of,
-  signed_by,
-  divisor_of,
-  quotient_lane,
-  rest_lane,
-  shl_lane,
-  shr_lane,
-};
+ghost use Rattle.lane_values.specs.Lanes.{FitsLane, IsLane, binary_value, binary_lane, unary_value, unary_lane};
+ghost use Rattle.lane_values.specs.Lanes.{extended};
+ghost use Rattle.lane_kernels.specs.Vectors.{bias_of, signed_by, divisor_of, quotient_lane, rest_lane, shl_lane};
+ghost use Rattle.lane_kernels.specs.Vectors.{shr_lane};
 
 use crate::tally::Tally;
 use std::simd::prelude::*;

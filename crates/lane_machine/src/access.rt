@@ -1,16 +1,6 @@
 //! The steps that load and store.
-ghost use Rattle.std.specs.Prelude.{
-  ◌≡◌,
-  ◌≢◌,
-  ◌<◌,
-  ◌≤◌,
-  ◌^◌,
-  ℕ,
-  [],
-  length,
-  map,
-  slice_index_or,
-};
+ghost use Rattle.std.specs.Prelude.{◌≡◌, ◌≢◌, ◌<◌, ◌≤◌, ◌^◌, ℕ, [], length, map};
+ghost use Rattle.std.specs.Prelude.{slice_index_or};
 ghost use Rattle.cl_model.specs.Sizes.{Launch as PlainLaunch};
 ghost use Rattle.cl_model.specs.View.{buffers_of, launch_of};
 ghost use Rattle.lane_code.specs.Groups.{reached};

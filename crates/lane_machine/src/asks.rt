@@ -1,17 +1,6 @@
 //! Work-item functions and kernel arguments, in lanes.
-ghost use Rattle.std.specs.Prelude.{
-  ◌≡◌,
-  ◌≢◌,
-  ◌<◌,
-  ◌≤◌,
-  ◌+◌,
-  ◌^◌,
-  length,
-  replicate,
-  slice_get,
-  IfSome,
-  if◌then◌else◌,
-};
+ghost use Rattle.std.specs.Prelude.{◌≡◌, ◌≢◌, ◌<◌, ◌≤◌, ◌+◌, ◌^◌, length, replicate};
+ghost use Rattle.std.specs.Prelude.{slice_get, IfSome, if◌then◌else◌};
 ghost use Rattle.wg_num.specs.declared.types.IntType.TheVariants.{Uint};
 ghost use Rattle.wg_num.specs.Wrap.{value_of};
 ghost use Rattle.cl_model.specs.Sizes.{answer_of, local_id, size_at};

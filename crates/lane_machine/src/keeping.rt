@@ -1,18 +1,6 @@
 //! Columns, once slots and votes.
-ghost use Rattle.std.specs.Prelude.{
-  ◌≡◌,
-  ◌≢◌,
-  ◌<◌,
-  ◌≤◌,
-  ◌%◌,
-  ◌^◌,
-  [],
-  false,
-  map,
-  length,
-  slice_index_or,
-  slice_set,
-};
+ghost use Rattle.std.specs.Prelude.{◌≡◌, ◌≢◌, ◌<◌, ◌≤◌, ◌%◌, ◌^◌, [], false, map, length};
+ghost use Rattle.std.specs.Prelude.{slice_index_or, slice_set};
 ghost use Rattle.std.specs.Simd.Lanes.{sel_l};
 ghost use Rattle.lane_values.specs.Lanes.{zip3};
 ghost use Rattle.lane_code.specs.Registers.{with_lanes, with_mask, with_scalar, lanes_of, mask_of, scalar_of, bits_in};

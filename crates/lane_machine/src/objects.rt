@@ -1,17 +1,6 @@
 //! The object that an access reaches.
-ghost use Rattle.std.specs.Prelude.{
-  ◌≡◌,
-  ◌<◌,
-  ◌≤◌,
-  ◌^◌,
-  [],
-  ◌∷◌,
-  length,
-  take,
-  map,
-  slice_get,
-  slice_index_or,
-};
+ghost use Rattle.std.specs.Prelude.{◌≡◌, ◌<◌, ◌≤◌, ◌^◌, [], ◌∷◌, length, take, map};
+ghost use Rattle.std.specs.Prelude.{slice_get, slice_index_or};
 ghost use Rattle.cl_model.specs.Objects.{local_arguments};
 ghost use Rattle.cl_model.specs.View.{launch_of};
 ghost use Rattle.lane_code.specs.Groups.{reached, reached_by};

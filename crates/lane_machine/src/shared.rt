@@ -1,20 +1,6 @@
 //! Loads and stores at which all lanes share one object.
-ghost use Rattle.std.specs.Prelude.{
-  ◌≡◌,
-  ◌≢◌,
-  ◌<◌,
-  ◌≤◌,
-  None,
-  Some,
-  [],
-  length,
-  take,
-  map,
-  slice_index_or,
-  slice_set,
-  MatchOption,
-  MatchResult,
-};
+ghost use Rattle.std.specs.Prelude.{◌≡◌, ◌≢◌, ◌<◌, ◌≤◌, None, Some, [], length, take, map};
+ghost use Rattle.std.specs.Prelude.{slice_index_or, slice_set, MatchOption, MatchResult};
 ghost use Rattle.wg_num.specs.Bytes.{size_of};
 ghost use Rattle.lane_values.specs.Access.{faults, gathered, scattered};
 ghost use Rattle.lane_values.specs.Lanes.{FitsLane};

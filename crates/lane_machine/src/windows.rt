@@ -1,16 +1,6 @@
 //! A chunk's part of a list that has an entry for each item of the group.
-ghost use Rattle.std.specs.Prelude.{
-  ◌≡◌,
-  ◌<◌,
-  ◌≤◌,
-  ◌%◌,
-  ◌^◌,
-  false,
-  length,
-  map,
-  slice_index_or,
-  slice_set,
-};
+ghost use Rattle.std.specs.Prelude.{◌≡◌, ◌<◌, ◌≤◌, ◌%◌, ◌^◌, false, length, map};
+ghost use Rattle.std.specs.Prelude.{slice_index_or, slice_set};
 ghost use Rattle.std.specs.Simd.Lanes.{sel_l};
 ghost use Rattle.lane_values.specs.Lanes.{zip3};
 ghost use Rattle.lane_code.specs.Groups.{window, with_window};

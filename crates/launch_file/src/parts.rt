@@ -1,17 +1,6 @@
 //! The launches of a launch file, and all of its values.
-ghost use Rattle.std.specs.Prelude.{
-  ◌≡◌,
-  IfOk,
-  IfSome,
-  All,
-  option_map,
-  codes,
-  replicate,
-  pos,
-  map,
-  ◌∷◌,
-  [],
-};
+ghost use Rattle.std.specs.Prelude.{◌≡◌, IfOk, IfSome, All, option_map, codes, replicate, pos, map, ◌∷◌};
+ghost use Rattle.std.specs.Prelude.{[]};
 ghost use Rattle.toml.specs.View.{view, table_view, items_view};
 ghost use Rattle.toml.specs.Data.{as_table, get_member};
 ghost use Rattle.launch_file.specs.Keys.{given};

@@ -1,18 +1,6 @@
 //! The conditions on the values of a launch file, and its text.
-ghost use Rattle.std.specs.Prelude.{
-  ◌≡◌,
-  ◌≤◌,
-  All,
-  length,
-  IfOk,
-  IfErr,
-  None,
-  Some,
-  MatchOption,
-  true,
-  false,
-  pos,
-};
+ghost use Rattle.std.specs.Prelude.{◌≡◌, ◌≤◌, All, length, IfOk, IfErr, None, Some, MatchOption, true};
+ghost use Rattle.std.specs.Prelude.{false, pos};
 ghost use Rattle.std.specs.List.{list_any};
 ghost use Rattle.wg_num.specs.Operators.{lanes_of};
 ghost use Rattle.launch_file.specs.Refusals as spec;

@@ -1,15 +1,6 @@
 //! The values of a launch file: the parts that stand alone.
-ghost use Rattle.std.specs.Prelude.{
-  ◌≡◌,
-  ◌≤◌,
-  IfOk,
-  IfSome,
-  IsUtf8,
-  All,
-  option_map,
-  option_and_then,
-  codes,
-};
+ghost use Rattle.std.specs.Prelude.{◌≡◌, ◌≤◌, IfOk, IfSome, IsUtf8, All, option_map, option_and_then};
+ghost use Rattle.std.specs.Prelude.{codes};
 ghost use Rattle.std.specs.List.{list_all};
 ghost use Rattle.cl_token.specs.Bytes as class;
 ghost use Rattle.toml.specs.View.{view, table_view, items_view};

@@ -1,17 +1,7 @@
 //! Steps on masks, and the jumps that look at them.
 
-ghost use Rattle.std.specs.Prelude.{
-  ◌≡◌,
-  ◌+◌,
-  ◌++◌,
-  ◌∷◌,
-  ◌<◌,
-  [],
-  length,
-  slice_set,
-  IfOk,
-  OnOk,
-};
+ghost use Rattle.std.specs.Prelude.{◌≡◌, ◌+◌, ◌++◌, ◌∷◌, ◌<◌, [], length, slice_set, IfOk};
+ghost use Rattle.std.specs.Prelude.{OnOk};
 ghost use Rattle.lane_code.specs.declared.step.Step.TheVariants as step;
 ghost use Rattle.mask_lower.specs.Banks.{mask_reg as mask_at};
 ghost use Rattle.mask_lower.specs.Registers.{frame_of, past_atom};

@@ -1,18 +1,7 @@
 //! The registers of the cells and constants that a region names, and the numbers of its arrays.
 
-ghost use Rattle.std.specs.Prelude.{
-  ◌≡◌,
-  ◌++◌,
-  ◌∷◌,
-  List,
-  false,
-  length,
-  map,
-  replicate,
-  slice_index_or,
-  IfOk,
-  OnOk,
-};
+ghost use Rattle.std.specs.Prelude.{◌≡◌, ◌++◌, ◌∷◌, List, false, length, map, replicate};
+ghost use Rattle.std.specs.Prelude.{slice_index_or, IfOk, OnOk};
 ghost use Rattle.kir.specs.declared.line.Atom.{Atom};
 ghost use Rattle.kir.specs.Listed.{cell_of};
 ghost use Rattle.kir.specs.View.{kernel_of};

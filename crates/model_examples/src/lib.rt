@@ -2,46 +2,12 @@
 //! computing it: no test runs, and an example that does not hold is a failed proof.
 #![tactic(auto)]
 
-ghost use Rattle.model_examples.specs.Straight.{
-  Increments,
-  Wraps,
-  Faults,
-  FaultsBefore,
-  Squares,
-  Switches,
-  Shares,
-  SomeCleared,
-  Calls,
-  TableSum,
-  Indices,
-  ColumnWide,
-  ColumnHigh,
-};
-ghost use Rattle.model_examples.specs.Barriers.{
-  Reverses,
-  IsFresh,
-  IsPassed,
-  Parts,
-  IterationsPart,
-  Lengths,
-  Meets,
-  Scans,
-  FallsThrough,
-  ScansBack,
-  MeetsBack,
-  RaceOneWay,
-  RaceOtherWay,
-};
-ghost use Rattle.model_examples.specs.Outcomes.{
-  FinishedIsDone,
-  FaultedIsRange,
-  IsParting,
-  IsNeverReleased,
-  BothWait,
-  IterationsAreApart,
-  NothingFollowsAFault,
-  RaceIsNotClean,
-};
+ghost use Rattle.model_examples.specs.Straight.{Increments, Wraps, Faults, FaultsBefore, Squares, Switches, Shares};
+ghost use Rattle.model_examples.specs.Straight.{SomeCleared, Calls, TableSum, Indices, ColumnWide, ColumnHigh};
+ghost use Rattle.model_examples.specs.Barriers.{Reverses, IsFresh, IsPassed, Parts, IterationsPart, Lengths, Meets};
+ghost use Rattle.model_examples.specs.Barriers.{Scans, FallsThrough, ScansBack, MeetsBack, RaceOneWay, RaceOtherWay};
+ghost use Rattle.model_examples.specs.Outcomes.{FinishedIsDone, FaultedIsRange, IsParting, IsNeverReleased, BothWait};
+ghost use Rattle.model_examples.specs.Outcomes.{IterationsAreApart, NothingFollowsAFault, RaceIsNotClean};
 
 /// Kernels without barriers end with the buffers, or the fault, that a reader of them expects.
 pub fn straight_kernels()

@@ -1,22 +1,7 @@
 //! Which cells are live before lines, for all cells at once.
 
-ghost use Rattle.std.specs.Prelude.{
-  ◌≡◌,
-  ◌∷◌,
-  [],
-  ◌++◌,
-  ◌||◌,
-  ◌&&◌,
-  not,
-  nat_eq,
-  true,
-  false,
-  IfOk,
-  OnOk,
-  replicate,
-  length,
-  slice_index_or,
-};
+ghost use Rattle.std.specs.Prelude.{◌≡◌, ◌∷◌, [], ◌++◌, ◌||◌, ◌&&◌, not, nat_eq, true, false};
+ghost use Rattle.std.specs.Prelude.{IfOk, OnOk, replicate, length, slice_index_or};
 ghost use Rattle.kir.specs.Tree.{Lines, NoLine};
 ghost use Rattle.kir.specs.Listed.{line_before, lines_of, work_of};
 ghost use Rattle.kir.specs.Live.{reads, some_reads, work_reads};

@@ -1,27 +1,7 @@
 //! The cutting of a kernel into its regions.
 
-ghost use Rattle.std.specs.Prelude.{
-  ◌≡◌,
-  ℕ,
-  ◌+◌,
-  ◌-◌,
-  ◌≤◌,
-  ◌<◌,
-  ◌∷◌,
-  [],
-  ◌++◌,
-  ◌||◌,
-  true,
-  false,
-  List,
-  Option,
-  None,
-  IfOk,
-  OnOk,
-  length,
-  take,
-  drop,
-};
+ghost use Rattle.std.specs.Prelude.{◌≡◌, ℕ, ◌+◌, ◌-◌, ◌≤◌, ◌<◌, ◌∷◌, [], ◌++◌};
+ghost use Rattle.std.specs.Prelude.{◌||◌, true, false, List, Option, None, IfOk, OnOk, length, take, drop};
 ghost use Rattle.std.specs.Prelude.{Bool as Test};
 ghost use Rattle.kir.specs.Tree.{Lines, NoLine};
 ghost use Rattle.kir.specs.Places.{Behind, Place, Tasks, LinesAt};

@@ -10,7 +10,8 @@ use Rattle.cl_meaning.specs.declared.fault.Fault.{Fault}
 use Rattle.cl_meaning.specs.Numbers.{number_of}
 use Rattle.cl_meaning.specs.Typed.{Unit'}
 use Rattle.cl_meaning.specs.Meant.{unit_meant}
-use Rattle.cl_check.specs.Checked.{IsAccepted, IsRefused}
+use Rattle.cl_limits.specs.Judged.{IsAccepted}
+use Rattle.cl_check.specs.Checked.{IsRefused}
 use Rattle.wg_front.specs.declared.front.SourceError.{SourceError}
 use Rattle.wg_front.specs.declared.front.SourceError.TheVariants as errors
 use Rattle.wg_front.specs.Front.{AreExpanded, StandsAt, place_of_token}

@@ -8,16 +8,8 @@ ghost use Rattle.cl_prep.specs.Expands.{token_limit};
 ghost use Rattle.cl_prep.specs.Progress.{IsRefusedOrMemory as IsUnexpandedOrMemory};
 ghost use Rattle.cl_tree.specs.Syntax.{view, nesting};
 ghost use Rattle.cl_tree.specs.Grammar.{SpellsUnit};
-ghost use Rattle.wg_front.specs.Front.{
-  Reads,
-  AreExpanded,
-  IsRefusal,
-  place_of_token,
-  number_of_lexical,
-  offset_of_lexical,
-  number_of_expansion,
-  token_of_expansion,
-};
+ghost use Rattle.wg_front.specs.Front.{Reads, AreExpanded, IsRefusal, place_of_token, number_of_lexical};
+ghost use Rattle.wg_front.specs.Front.{offset_of_lexical, number_of_expansion, token_of_expansion};
 
 use cl_parse::{ParseError, parse};
 use cl_prep::{Defines, PrepError, expand};

@@ -1,20 +1,9 @@
 //! The laws of values, each as the contract of a call that does nothing.
 
 ghost use Rattle.std.specs.Prelude.{◌+ℤ◌, ◌-ℤ◌, ◌*ℤ◌};
-ghost use Rattle.wg_num.specs.Laws.{
-  WrapIsTheValue,
-  WrapIsAValue,
-  WrapKeepsValues,
-  WrapsLate,
-  UnaryGivesValues,
-  BinaryGivesValues,
-  BuiltinGivesValues,
-  PatternGivesValue,
-  ValueGivesPattern,
-  BytesGiveValue,
-  BytesAreSize,
-  LowHalfDecides,
-};
+ghost use Rattle.wg_num.specs.Laws.{WrapIsTheValue, WrapIsAValue, WrapKeepsValues, WrapsLate, UnaryGivesValues};
+ghost use Rattle.wg_num.specs.Laws.{BinaryGivesValues, BuiltinGivesValues, PatternGivesValue, ValueGivesPattern};
+ghost use Rattle.wg_num.specs.Laws.{BytesGiveValue, BytesAreSize, LowHalfDecides};
 
 /// `wrap` gives the one value of the type that is congruent to the number.
 pub fn wrap_law()

@@ -1,22 +1,8 @@
 //! The outside: stores of files and sinks of bytes.
 #![tactic(auto)]
 
-ghost use Rattle.std.specs.Prelude.{
-  ◌≡◌,
-  ℕ,
-  ◌≤◌,
-  ◌<◌,
-  ◌+◌,
-  length,
-  List,
-  Option,
-  IfOk,
-  OnOk,
-  OnErr,
-  Err,
-  is_some,
-  vec_len,
-};
+ghost use Rattle.std.specs.Prelude.{◌≡◌, ℕ, ◌≤◌, ◌<◌, ◌+◌, length, List, Option, IfOk, OnOk};
+ghost use Rattle.std.specs.Prelude.{OnErr, Err, is_some, vec_len};
 ghost use Rattle.std.specs.Io.KnownBytes.{Appends};
 ghost use Rattle.wg_outside.specs.Counts.{Rose};
 ghost use Rattle.wg_outside.specs.Files.{FileMap, HasFileStart, LacksFile, HasSaved, KeepsOthers};

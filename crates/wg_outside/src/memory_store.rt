@@ -1,29 +1,7 @@
 // A store in memory.
-ghost use Rattle.std.specs.Prelude.{
-  ◌≡◌,
-  ◌↔◌,
-  ◌≤◌,
-  ◌<◌,
-  ◌+◌,
-  ◌++◌,
-  ◌∷◌,
-  [],
-  Some,
-  None,
-  Err,
-  IfOk,
-  OnErr,
-  OnOk,
-  length,
-  option_map,
-  take,
-  Contains,
-  true,
-  false,
-  ℕ,
-  vec_len,
-  is_some,
-};
+ghost use Rattle.std.specs.Prelude.{◌≡◌, ◌↔◌, ◌≤◌, ◌<◌, ◌+◌, ◌++◌, ◌∷◌, [], Some};
+ghost use Rattle.std.specs.Prelude.{None, Err, IfOk, OnErr, OnOk, length, option_map, take, Contains, true, false, ℕ};
+ghost use Rattle.std.specs.Prelude.{vec_len, is_some};
 ghost use Rattle.wg_outside.specs.Counts.{Rose, next_count};
 ghost use Rattle.wg_outside.specs.Files.{file_in, HasFileStart, LacksFile, HasSaved, KeepsOthers};
 ghost use Rattle.wg_outside.specs.MemoryStore.{HasRoomFor, new_store};

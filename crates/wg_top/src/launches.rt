@@ -1,26 +1,6 @@
 // The launches of a launch file, one after the other, over its buffers.
-ghost use Rattle.std.specs.Prelude.{
-  ◌≡◌,
-  ◌<◌,
-  ◌≤◌,
-  ◌+◌,
-  ℕ,
-  All,
-  List,
-  None,
-  IfOk,
-  IfErr,
-  OnOk,
-  length,
-  map,
-  IsTrue,
-  ◌↔◌,
-  ◌∷◌,
-  [],
-  sum,
-  min,
-  slice_index_or,
-};
+ghost use Rattle.std.specs.Prelude.{◌≡◌, ◌<◌, ◌≤◌, ◌+◌, ℕ, All, List, None, IfOk, IfErr, OnOk};
+ghost use Rattle.std.specs.Prelude.{length, map, IsTrue, ◌↔◌, ◌∷◌, [], sum, min, slice_index_or};
 ghost use Rattle.cl_model.specs.View.{launch_of, buffers_of};
 ghost use Rattle.cl_model.specs.Sizes.{group_count, item_count};
 ghost use Rattle.cl_model.specs.Fitting.{FitBuffers};
@@ -33,18 +13,8 @@ ghost use Rattle.wg_top.specs.Described.{IsCompiledAt};
 ghost use Rattle.wg_top.specs.Units.{bind_refusal};
 ghost use Rattle.wg_top.specs.Given.{IsText};
 ghost use Rattle.wg_top.specs.Stages.{BindCause};
-ghost use Rattle.wg_top.specs.Launches.{
-  launches_in,
-  HasLimits,
-  IsReady,
-  AllFit,
-  LaunchesRan,
-  EndsSo,
-  refusal_of,
-  start_place,
-  all_groups,
-  all_items,
-};
+ghost use Rattle.wg_top.specs.Launches.{launches_in, HasLimits, IsReady, AllFit, LaunchesRan, EndsSo, refusal_of};
+ghost use Rattle.wg_top.specs.Launches.{start_place, all_groups, all_items};
 
 use crate::compile::Compiled;
 use crate::shared::SharedKernel;

@@ -8,23 +8,9 @@ ghost use Rattle.wg_outside.specs.Counts.{Rose};
 ghost use Rattle.wg_top.specs.Causes.{AcceptedClean, HasLoops};
 ghost use Rattle.wg_top.specs.declared.RunError.{RunError};
 ghost use Rattle.cl_meaning.specs.Typed.{Unit'};
-ghost use Rattle.wg_top.specs.Ends.{
-  sink_standing,
-  outside,
-  AreWords,
-  Ends,
-  EndsShowing,
-  EndsSample,
-  EndsClean,
-  EndsAsked,
-  AcceptedFor,
-  FindsFor,
-  NoStoreFault,
-  EndsSaying,
-  KeepsOut,
-  SaysLine,
-  usage_line,
-};
+ghost use Rattle.wg_top.specs.Ends.{sink_standing, outside, AreWords, Ends, EndsShowing, EndsSample, EndsClean};
+ghost use Rattle.wg_top.specs.Ends.{EndsAsked, AcceptedFor, FindsFor, NoStoreFault, EndsSaying, KeepsOut, SaysLine};
+ghost use Rattle.wg_top.specs.Ends.{usage_line};
 ghost use Rattle.wg_top.specs.Shown.{showing};
 ghost use Rattle.wg_top.specs.Lines.{status_of};
 

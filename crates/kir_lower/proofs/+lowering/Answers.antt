@@ -4,7 +4,7 @@ use Rattle.cl_model.specs.Tree as tree
 use Rattle.cl_model.specs.View.{expression_of, argument_of, listed_expressions, statement_of, listed_statements}
 use Rattle.kir.specs.Listed.{lines_of}
 use Rattle.kir.specs.Tree.{NoLine, joined_to}
-use Rattle.program_build.specs.Lists.{listed_roots, listed_arguments, listed_arms}
+use Rattle.cl_model.specs.Listed.{listed_roots, listed_arguments, listed_arms}
 use Rattle.kir_lower.specs.Actions.{closed}
 use Rattle.kir_lower.specs.Code.{expression_code, Guarded, operands_code, statement_code, list_code, arms_code}
 use Rattle.kir_lower.specs.View.{made_of, instance_of, calls_in}
@@ -39,9 +39,9 @@ expressions::put_expressions-loop-e-preserved t c =
           (made_of c.put_expression.new.made)
           rest c.loop-e.invariant.0 c.in_ok-put_expression.ensures.lines c.in_ok-put_expression.ensures.made,
       operand_values (calls_in c.args.here.now) (instance_of c.args.here.now) (listed_expressions c.loop-e.rest.now)
-          first others _ c.loop-e.values.items c.add.new.list.items c.put_expression.new.value made
+          first others _ c.loop-e.values.items c.push.new.list.items c.put_expression.new.value made
           (made_of c.put_expression.new.made)
-          rest c.loop-e.invariant.1 c.in_ok-add.ensures c.in_ok-put_expression.ensures.value
+          rest c.loop-e.invariant.1 c.in_ok-push.ensures c.in_ok-put_expression.ensures.value
           c.in_ok-put_expression.ensures.made,
       operand_made (calls_in c.args.here.now) (instance_of c.args.here.now) (listed_expressions c.loop-e.rest.now)
           first others _ made (made_of c.put_expression.new.made) rest c.loop-e.invariant.2
@@ -69,9 +69,9 @@ expressions::put_arguments-loop-argument-preserved t c =
           (lines_of c.put_argument.new.lines.items) made (made_of c.put_argument.new.made)
           rest c.loop-argument.invariant.0 c.in_ok-put_argument.ensures.lines c.in_ok-put_argument.ensures.made,
       operand_values (calls_in c.args.here.now) (instance_of c.args.here.now)
-          (listed_arguments c.loop-argument.rest.now) first others _ c.loop-argument.values.items c.add.new.list.items
+          (listed_arguments c.loop-argument.rest.now) first others _ c.loop-argument.values.items c.push.new.list.items
           c.put_argument.new.value made (made_of c.put_argument.new.made)
-          rest c.loop-argument.invariant.1 c.in_ok-add.ensures c.in_ok-put_argument.ensures.value
+          rest c.loop-argument.invariant.1 c.in_ok-push.ensures c.in_ok-put_argument.ensures.value
           c.in_ok-put_argument.ensures.made,
       operand_made (calls_in c.args.here.now) (instance_of c.args.here.now)
           (listed_arguments c.loop-argument.rest.now) first others _ made (made_of c.put_argument.new.made) rest

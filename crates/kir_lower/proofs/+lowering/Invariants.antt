@@ -3,7 +3,7 @@ use Rattle.kir.specs.Listed.{lines_of}
 use Rattle.kir.specs.Tree.{joined_to}
 use Rattle.cl_model.specs.View.{program_of, function_of, expression_of, argument_of, assigned, optional_expression}
 use Rattle.cl_model.specs.View.{listed_expressions, statement_of, listed_statements}
-use Rattle.program_build.specs.Lists.{listed_arguments, listed_arms}
+use Rattle.cl_model.specs.Listed.{listed_arguments, listed_arms}
 use Rattle.kir_lower.specs.Actions.{closed}
 use Rattle.kir_lower.specs.Code.{operands_code, list_code, in_order, arms_code}
 use Rattle.kir_lower.specs.View.{made_of, instance_of, calls_in, optional_listed}

@@ -1,7 +1,7 @@
 use Rattle.std.proofs.Common.{◌≡◌, ◌++◌, drop, map}
 use Rattle.std.specs.Vec.Iter.{into_iter_items}
 use Rattle.cl_meaning.specs.Expressions.{roots_passed, all_passed}
-use Rattle.program_build.specs.Lists.{listed_roots, listed_arguments}
+use Rattle.cl_model.specs.Listed.{listed_roots, listed_arguments}
 use Rattle.cl_piece.specs.View.{piece_of}
 use Rattle.cl_piece.proofs.Lists.{arguments_then}
 use Rattle.cl_piece.proofs.calls.all_passed.Given as goal

@@ -2,7 +2,7 @@ use Rattle.std.proofs.Common.{sym, ap, ◌∙◌}
 use Rattle.cl_model.specs.declared.program.Stmt.{Stmt}
 use Rattle.cl_model.specs.Tree.{Statement}
 use Rattle.cl_model.specs.View.{statement_of}
-use Rattle.program_build.proofs.Rows.{block_listed}
+use Rattle.cl_model.proofs.Rows.{block_listed}
 use Rattle.cl_meaning.specs.Typed.{statement}
 use Rattle.cl_meaning.specs.Statements.{block_of}
 use Rattle.cl_piece.proofs.functions.statements_in.Goals as goal

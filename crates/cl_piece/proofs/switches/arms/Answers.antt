@@ -1,7 +1,7 @@
 use Rattle.std.proofs.Common.{◌≡◌, [], map, sym, ap, ◌∙◌, arith}
 use Rattle.std.proofs.lemmas.Grind.{common_steps}
 use Rattle.std.specs.Vec.Iter.{into_iter_items}
-use Rattle.program_build.specs.Lists.{listed_arms}
+use Rattle.cl_model.specs.Listed.{listed_arms}
 use Rattle.cl_meaning.specs.Statements.{arms_from}
 use Rattle.cl_piece.specs.View.{piece_of}
 use Rattle.cl_piece.specs.Arms.{arms_with}

@@ -1,5 +1,5 @@
 use Rattle.std.proofs.Common.{◌≡◌, drop}
-use Rattle.program_build.specs.Lists.{listed_arms}
+use Rattle.cl_model.specs.Listed.{listed_arms}
 use Rattle.kir_lower.specs.Actions.{default_number}
 use Rattle.kir_lower.proofs.arms.default_number.Given as goal
 

@@ -1,7 +1,7 @@
 use Rattle.std.proofs.Common.{sym, ap, ◌∙◌}
 use Rattle.kir.specs.Listed.{lines_of}
 use Rattle.kir.specs.Tree.{joined_to}
-use Rattle.program_build.specs.Lists.{listed_arms}
+use Rattle.cl_model.specs.Listed.{listed_arms}
 use Rattle.kir_lower.specs.Actions.{all_labels_code}
 use Rattle.kir_lower.specs.View.{made_of}
 use Rattle.kir_lower.proofs.Lists.{empty_list, join_none}

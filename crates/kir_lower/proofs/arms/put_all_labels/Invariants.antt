@@ -3,7 +3,7 @@ use Rattle.kir.specs.Listed.{lines_of}
 use Rattle.kir.specs.Tree.{joined_to}
 use Rattle.kir_lower.specs.Actions.{all_labels_code}
 use Rattle.kir_lower.specs.View.{made_of}
-use Rattle.program_build.specs.Lists.{listed_arms}
+use Rattle.cl_model.specs.Listed.{listed_arms}
 use Rattle.kir_lower.proofs.arms.put_all_labels.Given as goal
 
 abbrev pub invariant-loop-arm : goal.invariant-loop-arm

@@ -1,7 +1,7 @@
 use Rattle.std.proofs.Common.{◌≡◌, ◌++◌, length}
 use Rattle.kir_lower.specs.Made.{argument_roots}
 use Rattle.kir_lower.specs.View.{instance_of}
-use Rattle.program_build.specs.Lists.{listed_roots}
+use Rattle.cl_model.specs.Listed.{listed_roots}
 use Rattle.kir_lower.proofs.entering.roots_in.Given as goal
 
 abbrev pub invariant-loop-argument : goal.invariant-loop-argument

@@ -1,7 +1,7 @@
 use Rattle.std.proofs.Common.{false, sym, ap, ◌∙◌}
 use Rattle.cl_model.specs.View.{statement_of, listed_statements}
-use Rattle.program_build.specs.Lists.{listed_arms}
-use Rattle.program_build.proofs.Rows.{block_listed, switch_listed}
+use Rattle.cl_model.specs.Listed.{listed_arms}
+use Rattle.cl_model.proofs.Rows.{block_listed, switch_listed}
 use Rattle.kir_lower.specs.Ways.{way_out, way_out_of_all, way_out_of_arms}
 use Rattle.kir_lower.proofs.exits.+leaving.Goals as goal
 

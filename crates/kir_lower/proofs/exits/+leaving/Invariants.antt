@@ -1,6 +1,6 @@
 use Rattle.std.proofs.Common.{◌≡◌, drop}
 use Rattle.cl_model.specs.View.{listed_statements}
-use Rattle.program_build.specs.Lists.{listed_arms}
+use Rattle.cl_model.specs.Listed.{listed_arms}
 use Rattle.kir_lower.specs.Ways.{way_out_of_all, way_out_of_arms}
 use Rattle.kir_lower.proofs.exits.+leaving.Given as goal
 

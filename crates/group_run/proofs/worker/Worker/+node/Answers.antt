@@ -9,7 +9,7 @@ use Rattle.lane_code.proofs.NodeRows.{node_seq_fits}
 use Rattle.lane_machine.specs.Machinery.{room_at}
 use Rattle.lane_machine.specs.Room.{HasRoomFor, HasRoomForEach, IsNoLess}
 use Rattle.lane_machine.specs.Votes.{said}
-use Rattle.group_run.specs.Ends.{is_done, Stands}
+use Rattle.group_run.specs.Ends.{is_done, IsHeldFor}
 use Rattle.group_run.specs.Nodes.{nodes_end, turn_end}
 use Rattle.group_run.proofs.Laws.{stops, goes_on, no_less_same, no_less_then}
 use Rattle.group_run.proofs.NodeLaws.{vote_fits, loop_fits, fits_here, room_here, drop_one, each_room, seq_does}
@@ -167,7 +167,7 @@ rounds-loop-test-init t c =
                 ∙ sym (loop_later v.test_first test body rest first.turns first.group.kept (buffers_of b0)
                 w.if-not-test_first.true)
                 ∙ sym whole;
-            stands = subst (λ (s : Worker). Stands p l n s.group) (sym w.self-is) w.iteration-end.ensures.stands;
+            stands = subst (λ (s : Worker). IsHeldFor p l n s.group) (sym w.self-is) w.iteration-end.ensures.stands;
             room = subst (λ (s : Worker). IsNoLess (room_at width first.machine) (room_at width s.machine))
                 (sym w.self-is) w.iteration-end.ensures.room;
           }
@@ -180,7 +180,7 @@ rounds-loop-test-init t c =
                 ∙ sym (loop_first v.test_first test body rest first.turns first.group.kept (buffers_of b0)
                 w.if-not-test_first.false)
                 ∙ sym whole;
-            stands = subst (λ (s : Worker). Stands p l n s.group) (sym w.self-is) c.requires.stands;
+            stands = subst (λ (s : Worker). IsHeldFor p l n s.group) (sym w.self-is) c.requires.stands;
             room = subst (λ (s : Worker). IsNoLess (room_at width first.machine) (room_at width s.machine))
                 (sym w.self-is) (no_less_same (room_at width first.machine));
           }

@@ -6,7 +6,7 @@ use Rattle.lane_code.specs.Parts.{nodes_fit}
 use Rattle.lane_code.specs.Run.{items_end, work_end, rounds}
 use Rattle.lane_machine.specs.Room.{HasRoomForEach, IsNoLess}
 use Rattle.lane_machine.specs.Machinery.{room_at}
-use Rattle.group_run.specs.Ends.{Stands}
+use Rattle.group_run.specs.Ends.{IsHeldFor}
 use Rattle.group_run.specs.Nodes.{nodes_end}
 use Rattle.group_run.proofs.NodeLaws.{node_weight, list_weight}
 use Rattle.group_run.proofs.worker.Worker.+node.Given as goal
@@ -20,7 +20,7 @@ invariant-nodes-loop-one l = record {
       (buffers_of l.fn.buffers);
   fits : nodes_fit (names_of (plain_of l.program)) (drop l.one-index l.one-items) ≡ true;
   each : HasRoomForEach (room_at l.program.width l.fn.self.machine) (drop l.one-index l.one-items);
-  stands : Stands (plain_of l.program) (launch_of l.launch) l.number l.self.group;
+  stands : IsHeldFor (plain_of l.program) (launch_of l.launch) l.number l.self.group;
   room : IsNoLess (room_at l.program.width l.fn.self.machine) (room_at l.program.width l.self.machine);
 }
 
@@ -33,7 +33,7 @@ invariant-rounds-loop-test l = record {
       l.self.group.kept (buffers_of l.buffers)
       ≡ work_end (plain_of l.program) (launch_of l.launch) l.number (work_of l.node) l.fn.self.turns
       l.fn.self.group.kept (buffers_of l.fn.buffers);
-  stands : Stands (plain_of l.program) (launch_of l.launch) l.number l.self.group;
+  stands : IsHeldFor (plain_of l.program) (launch_of l.launch) l.number l.self.group;
   room : IsNoLess (room_at l.program.width l.fn.self.machine) (room_at l.program.width l.self.machine);
 }
 

@@ -5,7 +5,7 @@ use Rattle.lane_code.specs.Program.{code_of}
 use Rattle.lane_code.specs.Run.{chunks_end}
 use Rattle.lane_machine.specs.Room.{IsNoLess}
 use Rattle.lane_machine.specs.Machinery.{room_at}
-use Rattle.group_run.specs.Ends.{Stands}
+use Rattle.group_run.specs.Ends.{IsHeldFor}
 use Rattle.group_run.proofs.worker.Worker.chunks.Given as goal
 
 -- the chunks still to be done lead to the end of all
@@ -15,6 +15,6 @@ invariant-loop-chunk l = record {
       l.self.turns l.self.group.kept (buffers_of l.buffers)
       ≡ chunks_end (plain_of l.program) (launch_of l.launch) l.number (code_of l.code) 0 l.count l.fn.self.turns
       l.fn.self.group.kept (buffers_of l.fn.buffers);
-  stands : Stands (plain_of l.program) (launch_of l.launch) l.number l.self.group;
+  stands : IsHeldFor (plain_of l.program) (launch_of l.launch) l.number l.self.group;
   room : IsNoLess (room_at l.program.width l.fn.self.machine) (room_at l.program.width l.self.machine);
 }

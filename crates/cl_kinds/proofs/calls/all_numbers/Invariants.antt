@@ -1,7 +1,0 @@
-use Rattle.std.proofs.Common.{◌≡◌, drop}
-use Rattle.cl_meaning.specs.Kinds as spec
-use Rattle.cl_kinds.specs.Known.{known}
-use Rattle.cl_kinds.proofs.calls.all_numbers.Given as goal
-
-abbrev pub invariant-loop-kind : goal.invariant-loop-kind
-invariant-loop-kind l = spec.all_numbers (known (drop l.kind-index l.kinds)) ≡ spec.all_numbers (known l.kinds)

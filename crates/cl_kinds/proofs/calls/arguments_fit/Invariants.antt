@@ -1,8 +1,0 @@
-use Rattle.std.proofs.Common.{◌≡◌, drop}
-use Rattle.cl_meaning.specs.Kinds as spec
-use Rattle.cl_kinds.specs.Known.{known}
-use Rattle.cl_kinds.proofs.calls.arguments_fit.Given as goal
-
-abbrev pub invariant-loop-kind : goal.invariant-loop-kind
-invariant-loop-kind l =
-    spec.arguments_fit l.left (known (drop l.kind-index l.kinds)) ≡ spec.arguments_fit l.parameters (known l.kinds)

@@ -1,8 +1,0 @@
-use Rattle.std.proofs.Common.{◌≡◌, drop}
-use Rattle.cl_meaning.specs.Kinds as spec
-use Rattle.cl_kinds.specs.Known.{known}
-use Rattle.cl_kinds.proofs.calls.common_of.Given as goal
-
-abbrev pub invariant-loop-kind : goal.invariant-loop-kind
-invariant-loop-kind l = spec.common_of l.all (spec.counted_types (known (drop l.kind-index l.kinds))) ≡
-    spec.common_of l.fn.of (spec.counted_types (known l.kinds))

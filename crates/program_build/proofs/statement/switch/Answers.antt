@@ -1,5 +1,0 @@
-use Rattle.program_build.proofs.Rows.{switch_listed}
-use Rattle.program_build.proofs.statement.switch.Goals as goal
-
-pub returns : goal.returns
-returns c = switch_listed c.args.site c.args.value c.args.arms
