@@ -15,7 +15,7 @@ ghost use Rattle.cl_check.specs.Checked.{starts_in, IsRefused};
 
 use crate::error::CheckError;
 use crate::gather::{Calls, gather_tree};
-use crate::walk::check_tree;
+use crate::walk::{Walk, check_tree};
 use cl_faults::{Asked, rows_of};
 use cl_limits::limit_of;
 use cl_meaning::Role;
@@ -130,15 +130,12 @@ fn typed(alloc: Global, unit: &Tree, places: &[Place], asked: &Asked) -> Result<
         Err(_) => return Err(CheckError::Memory),
     };
     let mut sites = Vec::new(alloc);
-    match check_tree(
+    let walk = Walk {
         alloc,
         asked,
         places,
-        &mut environment,
-        &mut sites,
-        Role::Other,
-        unit,
-    ) {
+    };
+    match check_tree(walk, &mut environment, &mut sites, Role::Other, unit) {
         Err(e) => Err(e),
         Ok(piece) => Ok(Program {
             tables: tables_of(environment),

@@ -28,6 +28,14 @@ use cl_tree::{Form, Tree};
 use std::alloc::Global;
 use wg_num::{Memory, Place};
 
+/// What a walk goes by: what nodes are judged by, and the places of the tokens.
+#[derive(Clone, Copy)]
+pub(crate) struct Walk<'a> {
+    pub(crate) alloc: Global,
+    pub(crate) asked: &'a Asked,
+    pub(crate) places: &'a [Place],
+}
+
 /// The place of a part of a node; `last` is the last token of the part before, if there is one (C99, section 6.8).
 pub(crate) fn role_of(form: Form, last: Option<u32>, part: &Tree) -> Role
     ensures { result ≡ visible.role_of form last (view part.now) }
@@ -159,31 +167,39 @@ fn look(
 
 /// What a node stands for, and what it leaves.
 fn build(
-    alloc: Global,
-    places: &[Place],
+    walk: Walk,
     environment: &mut Environment,
     sites: &mut Vec<Place>,
     tree: &Tree,
     inner: Inner,
-    pieces: Vec<Piece>,
-    kinds: &[Option<Kind>],
+    parts: Parts,
     kind: Option<Kind>,
 ) -> Result<Piece, Memory>
     ensures { IfOk result (λ p. (end : Env) → inner_of inner ≡ inner_at (form_of (view tree.now)) end →
-        IsBuilt (env_of places.now environment.old) end sites.old.items (view tree.now) (map piece_of pieces.items)
-        kinds.now kind (env_of places.now environment.new) sites.new.items (piece_of p)) }
+        IsBuilt (env_of walk.places.now environment.old) end sites.old.items (view tree.now)
+        (map piece_of parts.pieces.items) parts.kinds.items kind (env_of walk.places.now environment.new)
+        sites.new.items (piece_of p)) }
 {
+    let pieces = parts.pieces;
+    let kinds = parts.kinds;
     let what = make(
-        alloc,
+        walk.alloc,
         environment,
         inner.body,
         inner.sizes,
         tree,
-        places,
+        walk.places,
         sites,
         pieces,
     )?;
-    leave(alloc, environment, inner.labels, tree, kinds, places)?;
+    leave(
+        walk.alloc,
+        environment,
+        inner.labels,
+        tree,
+        kinds.as_slice(),
+        walk.places,
+    )?;
     Ok(Piece { kind, what })
 }
 
@@ -203,9 +219,7 @@ fn fault_of(places: &[Place], fault: Fault, first: u32) -> CheckError
 
 /// A node whose parts are walked through: its own fault, or what it stands for.
 fn judge(
-    alloc: Global,
-    asked: &Asked,
-    places: &[Place],
+    walk: Walk,
     environment: &mut Environment,
     sites: &mut Vec<Place>,
     role: Role,
@@ -214,32 +228,22 @@ fn judge(
     parts: Parts,
 ) -> Result<Piece, CheckError>
     ensures made { IfOk result (λ p. (end : Env) → inner_of inner ≡ inner_at (form_of (view tree.now)) end →
-        IsJudged (asked_of asked.now) (env_of places.now environment.old) end sites.old.items role (view tree.now)
-        (map piece_of parts.pieces.items) parts.kinds.items (env_of places.now environment.new) sites.new.items
+        IsJudged (asked_of walk.asked.now) (env_of walk.places.now environment.old) end sites.old.items role
+        (view tree.now)
+        (map piece_of parts.pieces.items) parts.kinds.items (env_of walk.places.now environment.new) sites.new.items
         (piece_of p)) }
-    ensures faulted { IfFault result (λ k token. IsAtFault (asked_of asked.now) (length places.now)
-        (looked_in (env_of places.now environment.old) role (view tree.now) parts.kinds.items)
+    ensures faulted { IfFault result (λ k token. IsAtFault (asked_of walk.asked.now) (length walk.places.now)
+        (looked_in (env_of walk.places.now environment.old) role (view tree.now) parts.kinds.items)
         (first_of (view tree.now)) k token) }
 {
-    let pieces = parts.pieces;
-    let kinds = parts.kinds;
-    match look(alloc, asked, environment, role, tree, kinds.as_slice()) {
+    let kinds = parts.kinds.as_slice();
+    match look(walk.alloc, walk.asked, environment, role, tree, kinds) {
         Err(_) => Err(CheckError::Memory),
         Ok(judgement) => match judgement.fault {
-            Some(fault) => Err(fault_of(places, fault, tree.first)),
+            Some(fault) => Err(fault_of(walk.places, fault, tree.first)),
             None => {
                 let kind = judgement.kind;
-                match build(
-                    alloc,
-                    places,
-                    environment,
-                    sites,
-                    tree,
-                    inner,
-                    pieces,
-                    kinds.as_slice(),
-                    kind,
-                ) {
+                match build(walk, environment, sites, tree, inner, parts, kind) {
                     Err(_) => Err(CheckError::Memory),
                     Ok(piece) => Ok(piece),
                 }
@@ -251,30 +255,29 @@ fn judge(
 /// Walks through the parts of a node, in order.
 #[cycle(tree)]
 fn check_parts(
-    alloc: Global,
-    asked: &Asked,
-    places: &[Place],
+    walk: Walk,
     environment: &mut Environment,
     sites: &mut Vec<Place>,
     form: Form,
     trees: &[Tree],
 ) -> Result<Parts, CheckError>
-    ensures done { IfOk result (λ d. PartsWalked (asked_of asked.now) (length places.now) form
-        (env_of places.now environment.old) sites.old.items (views trees.now) (env_of places.now environment.new)
+    ensures done { IfOk result (λ d. PartsWalked (asked_of walk.asked.now) (length walk.places.now) form
+        (env_of walk.places.now environment.old) sites.old.items (views trees.now)
+        (env_of walk.places.now environment.new)
         sites.new.items d.last (map piece_of d.pieces.items) d.kinds.items) }
-    ensures faulted { IfFault result (PartsFaulted (asked_of asked.now) (length places.now) form
-        (env_of places.now environment.old) (views trees.now)) }
+    ensures faulted { IfFault result (PartsFaulted (asked_of walk.asked.now) (length walk.places.now) form
+        (env_of walk.places.now environment.old) (views trees.now)) }
 {
     let mut parts = Parts {
-        pieces: Vec::new(alloc),
-        kinds: Vec::new(alloc),
+        pieces: Vec::new(walk.alloc),
+        kinds: Vec::new(walk.alloc),
         last: None,
     };
     for part in trees {
         let role = role_of(form, parts.last, part);
-        match check_tree(alloc, asked, places, environment, sites, role, part) {
+        match check_tree(walk, environment, sites, role, part) {
             Err(e) => return Err(e),
-            Ok(piece) => match go_behind(alloc, environment, form, part, &mut parts, piece) {
+            Ok(piece) => match go_behind(walk.alloc, environment, form, part, &mut parts, piece) {
                 Err(_) => return Err(CheckError::Memory),
                 Ok(()) => {}
             },
@@ -286,45 +289,26 @@ fn check_parts(
 /// Walks through a tree: what it stands for, or its first node at fault.
 #[cycle(tree)]
 pub(crate) fn check_tree(
-    alloc: Global,
-    asked: &Asked,
-    places: &[Place],
+    walk: Walk,
     environment: &mut Environment,
     sites: &mut Vec<Place>,
     role: Role,
     tree: &Tree,
 ) -> Result<Piece, CheckError>
-    ensures walked { IfOk result (λ p. Walked (asked_of asked.now) (length places.now)
-        (env_of places.now environment.old) sites.old.items role (view tree.now) (env_of places.now environment.new)
+    ensures walked { IfOk result (λ p. Walked (asked_of walk.asked.now) (length walk.places.now)
+        (env_of walk.places.now environment.old) sites.old.items role (view tree.now)
+        (env_of walk.places.now environment.new)
         sites.new.items (piece_of p)) }
-    ensures faulted { IfFault result (Faulted (asked_of asked.now) (length places.now)
-        (env_of places.now environment.old) role (view tree.now)) }
+    ensures faulted { IfFault result (Faulted (asked_of walk.asked.now) (length walk.places.now)
+        (env_of walk.places.now environment.old) role (view tree.now)) }
 {
-    match enter(alloc, environment, tree) {
+    match enter(walk.alloc, environment, tree) {
         Err(_) => Err(CheckError::Memory),
-        Ok(saved) => match check_parts(
-            alloc,
-            asked,
-            places,
-            environment,
-            sites,
-            tree.form,
-            tree.parts.as_slice(),
-        ) {
+        Ok(saved) => match check_parts(walk, environment, sites, tree.form, tree.parts.as_slice()) {
             Err(e) => Err(e),
             Ok(parts) => {
                 let inner = restore(environment, saved);
-                judge(
-                    alloc,
-                    asked,
-                    places,
-                    environment,
-                    sites,
-                    role,
-                    tree,
-                    inner,
-                    parts,
-                )
+                judge(walk, environment, sites, role, tree, inner, parts)
             }
         },
     }

@@ -15,67 +15,70 @@ use Rattle.cl_check.proofs.walk.+tree.Goals as goal
 pub check_parts-returns-in-Err-clause-faulted : goal.check_parts-returns-in-Err-clause-faulted
 check_parts-returns-in-Err-clause-faulted t c =
     fault_then Piece Parts c.in-Err.e _ _ c.in-Err.ensures.faulted
-    (λ k token x. along_stopped (asked_of c.args.asked.now) (length c.args.places.now) c.args.form
-    (env_of c.args.places.now c.args.environment.now) c.args.sites.now.items c.args.trees.now
-    (env_of c.args.places.now c.loop-part.environment) c.loop-part.sites.items c.loop-part.parts.last
+    (λ k token x. along_stopped (asked_of c.args.walk.asked.now) (length c.args.walk.places.now) c.args.form
+    (env_of c.args.walk.places.now c.args.environment.now) c.args.sites.now.items c.args.trees.now
+    (env_of c.args.walk.places.now c.loop-part.environment) c.loop-part.sites.items c.loop-part.parts.last
     (map piece_of c.loop-part.parts.pieces.items) c.loop-part.parts.kinds.items c.loop-part.part-index
     c.part-item.result c.role_of-role.result k token
     c.loop-part.invariant c.loop-part-test.true c.part-item.is c.role_of-role.ensures x)
 
 pub check_parts-loop-part-preserved : goal.check_parts-loop-part-preserved
 check_parts-loop-part-preserved t c =
-    along_more (asked_of c.args.asked.now) (length c.args.places.now) c.args.form
-    (env_of c.args.places.now c.args.environment.now) c.args.sites.now.items c.args.trees.now
-    (env_of c.args.places.now c.loop-part.environment) c.loop-part.sites.items c.loop-part.parts.last
+    along_more (asked_of c.args.walk.asked.now) (length c.args.walk.places.now) c.args.form
+    (env_of c.args.walk.places.now c.args.environment.now) c.args.sites.now.items c.args.trees.now
+    (env_of c.args.walk.places.now c.loop-part.environment) c.loop-part.sites.items c.loop-part.parts.last
     (map piece_of c.loop-part.parts.pieces.items) c.loop-part.parts.kinds.items c.loop-part.part-index
     c.part-item.result
-    (env_of c.args.places.now c.check_tree.new.environment) c.check_tree.new.sites.items (piece_of c.in-Ok.piece)
-    (env_of c.args.places.now c.go_behind.new.environment) c.go_behind.new.parts.last
+    (env_of c.args.walk.places.now c.check_tree.new.environment) c.check_tree.new.sites.items (piece_of c.in-Ok.piece)
+    (env_of c.args.walk.places.now c.go_behind.new.environment) c.go_behind.new.parts.last
     (map piece_of c.go_behind.new.parts.pieces.items) c.go_behind.new.parts.kinds.items c.role_of-role.result
     c.loop-part.invariant c.loop-part-test.true c.part-item.is c.role_of-role.ensures c.in-Ok.ensures.walked
-    (c.in-Ok-go_behind.ensures.environment c.args.places.now) c.in-Ok-go_behind.ensures.last
+    (c.in-Ok-go_behind.ensures.environment c.args.walk.places.now) c.in-Ok-go_behind.ensures.last
     c.in-Ok-go_behind.ensures.pieces c.in-Ok-go_behind.ensures.kinds
 
 pub check_tree-returns-in-Err-check_parts-clause-faulted : goal.check_tree-returns-in-Err-check_parts-clause-faulted
 check_tree-returns-in-Err-check_parts-clause-faulted t c =
     fault_then Parts Piece c.in-Err-check_parts.e _ _ c.in-Err-check_parts.ensures.faulted
-    (λ k token x. tree_in_parts (asked_of c.args.asked.now) (length c.args.places.now)
-    (env_of c.args.places.now c.args.environment.now) c.args.role (view c.args.tree.now)
+    (λ k token x. tree_in_parts (asked_of c.args.walk.asked.now) (length c.args.walk.places.now)
+    (env_of c.args.walk.places.now c.args.environment.now) c.args.role (view c.args.tree.now)
     (out-Tree c.args.tree.now).form
-    (env_of c.args.places.now c.enter.new.environment) (views c.as_slice.result.now) k token
-    (form_is c.args.tree.now) (c.in-Ok.ensures.inside c.args.places.now) (ap views c.as_slice.ensures.value ∙
+    (env_of c.args.walk.places.now c.enter.new.environment) (views c.as_slice.result.now) k token
+    (form_is c.args.tree.now) (c.in-Ok.ensures.inside c.args.walk.places.now) (ap views c.as_slice.ensures.value ∙
     parts_is c.args.tree.now) x)
 
 pub check_tree-returns-in-Ok-check_parts-clause-walked : goal.check_tree-returns-in-Ok-check_parts-clause-walked
 check_tree-returns-in-Ok-check_parts-clause-walked t c =
     let form = form_of (view c.args.tree.now) in
-    let before = env_of c.args.places.now c.args.environment.now in
+    let before = env_of c.args.walk.places.now c.args.environment.now in
     ok_onto c.judge.result _ _ c.judge.ensures.made
-    (λ p j. tree_done (asked_of c.args.asked.now) (length c.args.places.now) before c.args.sites.now.items c.args.role
+    (λ p j. tree_done (asked_of c.args.walk.asked.now) (length c.args.walk.places.now) before c.args.sites.now.items
+    c.args.role
     (view c.args.tree.now) (out-Tree c.args.tree.now).form
-    (env_of c.args.places.now c.enter.new.environment) (views c.as_slice.result.now)
-    (env_of c.args.places.now c.check_parts.new.environment) c.check_parts.new.sites.items
+    (env_of c.args.walk.places.now c.enter.new.environment) (views c.as_slice.result.now)
+    (env_of c.args.walk.places.now c.check_parts.new.environment) c.check_parts.new.sites.items
     c.in-Ok-check_parts.parts.last (map piece_of c.in-Ok-check_parts.parts.pieces.items)
     c.in-Ok-check_parts.parts.kinds.items
-    (env_of c.args.places.now c.restore-inner.new.environment) (inner_of c.restore-inner.result)
-    (env_of c.args.places.now c.judge.new.environment) c.judge.new.sites.items (piece_of p)
-    (form_is c.args.tree.now) (c.in-Ok.ensures.inside c.args.places.now) (ap views c.as_slice.ensures.value ∙
+    (env_of c.args.walk.places.now c.restore-inner.new.environment) (inner_of c.restore-inner.result)
+    (env_of c.args.walk.places.now c.judge.new.environment) c.judge.new.sites.items (piece_of p)
+    (form_is c.args.tree.now) (c.in-Ok.ensures.inside c.args.walk.places.now) (ap views c.as_slice.ensures.value ∙
     parts_is c.args.tree.now) c.in-Ok-check_parts.ensures.done
-    (c.restore-inner.ensures.restored c.args.places.now form before (c.in-Ok.ensures.saved c.args.places.now))
-    (c.restore-inner.ensures.inner c.args.places.now form before (c.in-Ok.ensures.saved c.args.places.now)) j)
+    (c.restore-inner.ensures.restored c.args.walk.places.now form before (c.in-Ok.ensures.saved c.args.walk.places.now))
+    (c.restore-inner.ensures.inner c.args.walk.places.now form before (c.in-Ok.ensures.saved c.args.walk.places.now)) j)
 
 pub check_tree-returns-in-Ok-check_parts-clause-faulted : goal.check_tree-returns-in-Ok-check_parts-clause-faulted
 check_tree-returns-in-Ok-check_parts-clause-faulted t c =
     let form = form_of (view c.args.tree.now) in
-    let before = env_of c.args.places.now c.args.environment.now in
+    let before = env_of c.args.walk.places.now c.args.environment.now in
     fault_onto c.judge.result _ _ c.judge.ensures.faulted
-    (λ k token x. tree_at_fault (asked_of c.args.asked.now) (length c.args.places.now) before c.args.sites.now.items
+    (λ k token x. tree_at_fault (asked_of c.args.walk.asked.now) (length c.args.walk.places.now) before
+    c.args.sites.now.items
     c.args.role (view c.args.tree.now) (out-Tree c.args.tree.now).form
-    (env_of c.args.places.now c.enter.new.environment) (views c.as_slice.result.now)
-    (env_of c.args.places.now c.check_parts.new.environment) c.check_parts.new.sites.items
+    (env_of c.args.walk.places.now c.enter.new.environment) (views c.as_slice.result.now)
+    (env_of c.args.walk.places.now c.check_parts.new.environment) c.check_parts.new.sites.items
     c.in-Ok-check_parts.parts.last (map piece_of c.in-Ok-check_parts.parts.pieces.items)
     c.in-Ok-check_parts.parts.kinds.items
-    (env_of c.args.places.now c.restore-inner.new.environment) k token
-    (form_is c.args.tree.now) (c.in-Ok.ensures.inside c.args.places.now) (ap views c.as_slice.ensures.value ∙
+    (env_of c.args.walk.places.now c.restore-inner.new.environment) k token
+    (form_is c.args.tree.now) (c.in-Ok.ensures.inside c.args.walk.places.now) (ap views c.as_slice.ensures.value ∙
     parts_is c.args.tree.now) c.in-Ok-check_parts.ensures.done
-    (c.restore-inner.ensures.restored c.args.places.now form before (c.in-Ok.ensures.saved c.args.places.now)) x)
+    (c.restore-inner.ensures.restored c.args.walk.places.now form before
+    (c.in-Ok.ensures.saved c.args.walk.places.now)) x)

@@ -1,5 +1,5 @@
 use Rattle.cl_piece.specs.declared.piece.Piece.{Piece}
-use Rattle.std.proofs.Common.{map, length}
+use Rattle.std.proofs.Common.{map, length, refl}
 use Rattle.cl_tree.specs.Syntax.{view}
 use Rattle.cl_faults.specs.View.{asked_of}
 use Rattle.cl_piece.specs.View.{piece_of}
@@ -9,15 +9,17 @@ use Rattle.cl_check.proofs.walk.judge.Goals as goal
 pub returns-in-Some-clause-faulted : goal.returns-in-Some-clause-faulted
 returns-in-Some-clause-faulted c =
     fault_reported Piece c.fault_of.result _ _ c.fault_of.ensures
-    (λ k token q. at_fault_reported (asked_of c.args.asked.now) (length c.args.places.now) c.args.places.now
+    (λ k token q. at_fault_reported (asked_of c.args.walk.asked.now) (length c.args.walk.places.now)
+    c.args.walk.places.now
     c.args.environment.now c.args.role (view c.args.tree.now) c.args.parts.kinds.items c.as_slice.result.now
     c.in-Ok.judgement.fault c.in-Some.fault k _ token c.as_slice.ensures.value c.in-Ok.ensures.fault c.in-Some.is q.0
     q.1 (first_is c.args.tree.now))
 
 pub returns-clause-made : goal.returns-clause-made
 returns-clause-made c = λ end h.
-    judged (asked_of c.args.asked.now) c.args.places.now c.args.environment.now end c.args.sites.now.items c.args.role
+    judged (asked_of c.args.walk.asked.now) c.args.walk.places.now c.args.environment.now end c.args.sites.now.items
+    c.args.role
     (view c.args.tree.now) (map piece_of c.args.parts.pieces.items) c.args.parts.kinds.items c.as_slice.result.now
-    c.as_slice-in-None.result.now
-    c.in-Ok.judgement.fault c.in-Ok.judgement.kind _ _ _ c.as_slice.ensures.value c.as_slice-in-None.ensures.value
+    c.args.parts.kinds.items
+    c.in-Ok.judgement.fault c.in-Ok.judgement.kind _ _ _ c.as_slice.ensures.value refl
     c.in-Ok.ensures.fault c.in-None.is c.in-Ok.ensures.kind (c.in-Ok-build.ensures end h)
