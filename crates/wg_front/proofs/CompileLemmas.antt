@@ -13,10 +13,10 @@ use Rattle.cl_check.specs.Checked.{IsRefused}
 use Rattle.cl_check.proofs.Deciding.{accepted_or_not}
 use Rattle.wg_front.specs.declared.front.SourceError.{SourceError}
 use Rattle.wg_front.specs.declared.front.SourceError.TheVariants as errors
-use Rattle.wg_front.specs.Front.{HasUnit, IsRefusal, place_of_token}
-use Rattle.wg_front.specs.Compiled.{places_of, IsSource, IsCompiled, IsFaulty, IsNotCompiled, IsKernelRefusal}
+use Rattle.wg_front.specs.Front.{HasUnit, IsSource, IsRefusal, place_of_token}
+use Rattle.wg_front.specs.Compiled.{places_of, IsCompiled, IsFaulty, IsNotCompiled, IsKernelRefusal}
 use Rattle.wg_front.specs.Compiled.{IsUnitRefusal}
-use Rattle.wg_front.proofs.FrontLemmas.{one_reading, unit_read, refused_or_unit}
+use Rattle.wg_front.proofs.FrontLemmas.{one_reading, refused_or_unit}
 
 -- the place of a token that is there, and of the end where there is none
 pub place_there : (bytes : List ℕ) (tokens : List Token) (n : ℕ) (place : Place) →
@@ -49,7 +49,7 @@ one_unit bytes defines a b u v x y =
 pub has_unit : (bytes : List ℕ) (defines : List Define) (expanded : List Token) (unit : Syntax) →
     IsSource bytes defines expanded unit → HasUnit bytes defines
 has_unit bytes defines expanded unit is =
-    (unit, unit_read bytes defines is.read.0 expanded unit is.read.1 is.spelled is.nests)
+    (unit, (expanded, is))
 
 faulty_or_compiled : (bytes : List ℕ) (defines : List Define) (kernel : List ℕ) (number : ℕ) (place : Place)
     (typed : Unit') → IsFaulty bytes defines kernel number place → IsCompiled bytes defines kernel typed → ⊥

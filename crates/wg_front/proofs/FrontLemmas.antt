@@ -25,7 +25,7 @@ use Rattle.cl_prep.proofs.Unique.{one_out, ends_or_fails}
 use Rattle.cl_tree.specs.Syntax.{Syntax, nesting}
 use Rattle.cl_tree.specs.Grammar.{SpellsUnit}
 use Rattle.cl_tree.specs.Places.{Continues, NoUnit, NoUnitWithin, SomeUnit, DeeperUnit}
-use Rattle.wg_front.specs.Front.{Reads, IsUnitOf, HasUnit, place_of_token, number_of_lexical, offset_of_lexical}
+use Rattle.wg_front.specs.Front.{Reads, HasUnit, place_of_token, number_of_lexical, offset_of_lexical}
 use Rattle.wg_front.specs.Front.{number_of_expansion, token_of_expansion, StandsAt, uncut, unexpanded, no_unit}
 use Rattle.wg_front.specs.Front.{too_deep}
 
@@ -124,11 +124,6 @@ pub too_deep_stands : (source : List ℕ) (expanded : List Token) (at : ℕ) (pl
 too_deep_stands source expanded at place none deeper placed =
     λ defines tokens reads. too_deep tokens expanded at reads none deeper refl placed
 
-pub unit_read : (source : List ℕ) (defines : List Define) (tokens expanded : List Token) (unit : Syntax) →
-    Reads source defines tokens expanded → SpellsUnit unit expanded → nesting unit ≤ 256 → IsUnitOf source defines unit
-unit_read source defines tokens expanded unit reads spelled nests =
-    record { tokens = tokens; expanded = expanded; reads = reads; spelled = spelled; nests = nests }
-
 -- ---- nothing is both
 
 uncut_or_cut : (source : List ℕ) (e : LexError) (ts : List Token) → length source ≤ limit → Cuts source ts →
@@ -178,13 +173,13 @@ continues_itself tokens at = elim (cases_lt at (length tokens)) [
 pub refused_or_unit : (source : List ℕ) (defines : List Define) (number : ℕ) (place : Place) →
     StandsAt source defines number place → HasUnit source defines → ⊥
 refused_or_unit source defines number place (uncut e h is placed) u =
-    uncut_or_cut source e u.1.tokens u.1.reads.short u.1.reads.cuts h
+    uncut_or_cut source e u.1.1.read.0 u.1.1.read.1.short u.1.1.read.1.cuts h
 refused_or_unit source defines number place (unexpanded tokens e short cuts h is placed) u =
-    unexpanded_or_expanded tokens defines e u.1.expanded (subst (λ (ts : List Token). Expands ts defines u.1.expanded)
-    (one_cut source u.1.tokens tokens u.1.reads.cuts cuts) u.1.reads.expands) h
+    unexpanded_or_expanded tokens defines e u.1.0 (subst (λ (ts : List Token). Expands ts defines u.1.0)
+    (one_cut source u.1.1.read.0 tokens u.1.1.read.1.cuts cuts) u.1.1.read.1.expands) h
 refused_or_unit source defines number place (no_unit tokens expanded at reads none least is placed) u =
     none expanded u.0 (continues_itself expanded at) (subst (λ (ts : List Token). SpellsUnit u.0 ts)
-    (one_reading source defines u.1.tokens tokens u.1.expanded expanded u.1.reads reads) u.1.spelled)
+    (one_reading source defines u.1.1.read.0 tokens u.1.0 expanded u.1.1.read.1 reads) u.1.1.spelled)
 refused_or_unit source defines number place (too_deep tokens expanded at reads none deeper is placed) u =
     none expanded u.0 (continues_itself expanded at) (subst (λ (ts : List Token). SpellsUnit u.0 ts)
-    (one_reading source defines u.1.tokens tokens u.1.expanded expanded u.1.reads reads) u.1.spelled) u.1.nests
+    (one_reading source defines u.1.1.read.0 tokens u.1.0 expanded u.1.1.read.1 reads) u.1.1.spelled) u.1.1.nests

@@ -1,11 +1,10 @@
 -- What a source means for the name of a kernel: its typed unit, or the first fault of its unit.
-use Rattle.std.specs.Prelude.{◌≡◌, ◌≤◌, ◌⊎◌, ⊤, ℕ, List, map}
+use Rattle.std.specs.Prelude.{◌≡◌, ◌⊎◌, ⊤, ℕ, List, map}
 use Rattle.wg_num.specs.declared.types.Place.{Place}
 use Rattle.cl_token.specs.declared.token.Token.{Token}
 use Rattle.cl_token.specs.Places.{place_at}
 use Rattle.cl_prep.specs.declared.prep.Define.{Define}
-use Rattle.cl_tree.specs.Syntax.{Syntax, nesting}
-use Rattle.cl_tree.specs.Grammar.{SpellsUnit}
+use Rattle.cl_tree.specs.Syntax.{Syntax}
 use Rattle.cl_meaning.specs.declared.fault.Fault.{Fault}
 use Rattle.cl_meaning.specs.Numbers.{number_of}
 use Rattle.cl_meaning.specs.Typed.{Unit'}
@@ -14,17 +13,11 @@ use Rattle.cl_limits.specs.Judged.{IsAccepted}
 use Rattle.cl_check.specs.Checked.{IsRefused}
 use Rattle.wg_front.specs.declared.front.SourceError.{SourceError}
 use Rattle.wg_front.specs.declared.front.SourceError.TheVariants as errors
-use Rattle.wg_front.specs.Front.{AreExpanded, StandsAt, place_of_token}
+use Rattle.wg_front.specs.Front.{IsSource, StandsAt, place_of_token}
 
 -- the place of each token
 abbrev pub places_of : List ℕ → List Token → List Place
 places_of source tokens = map (λ t. place_at source t.start) tokens
-
--- these are the expanded tokens of a source, and this is the unit that they spell
-pub record IsSource (source : List ℕ) (defines : List Define) (expanded : List Token) (unit : Syntax) : Type 0 where
-  pub read : AreExpanded source defines expanded
-  pub spelled : SpellsUnit unit expanded
-  pub nests : nesting unit ≤ 256
 
 -- no node of the unit is at fault, the kernel is within the limits, and this is the typed unit
 pub record IsCompiled (source : List ℕ) (defines : List Define) (kernel : List ℕ) (typed : Unit') : Type 0 where

@@ -26,17 +26,15 @@ pub record Reads (source : List ℕ) (defines : List Define) (tokens expanded : 
 abbrev pub AreExpanded : List ℕ → List Define → List Token → Type 0
 AreExpanded source defines expanded = (tokens : List Token) × Reads source defines tokens expanded
 
--- The unit of a source: what its expanded tokens spell.
-pub record IsUnitOf (source : List ℕ) (defines : List Define) (unit : Syntax) : Type 0 where
-  pub tokens : List Token
-  pub expanded : List Token
-  pub reads : Reads source defines tokens expanded
+-- these are the expanded tokens of a source, and this is the unit that they spell
+pub record IsSource (source : List ℕ) (defines : List Define) (expanded : List Token) (unit : Syntax) : Type 0 where
+  pub read : AreExpanded source defines expanded
   pub spelled : SpellsUnit unit expanded
   pub nests : nesting unit ≤ 256
 
 -- A source has a unit.
 abbrev pub HasUnit : List ℕ → List Define → Type 0
-HasUnit source defines = (unit : Syntax) × IsUnitOf source defines unit
+HasUnit source defines = (unit : Syntax) × (expanded : List Token) × IsSource source defines expanded unit
 
 -- the offset of the first of these tokens, and of the end of the source where there is none
 abbrev pub start_of_first : ℕ → List Token → ℕ

@@ -5,8 +5,8 @@ ghost use Rattle.cl_token.specs.Cuts.{limit};
 ghost use Rattle.cl_prep.specs.declared.prep.Define.{Define};
 ghost use Rattle.cl_tree.specs.Syntax.{view};
 ghost use Rattle.cl_piece.specs.View.{unit_of};
-ghost use Rattle.wg_front.specs.Front.{IsRefusal, place_of_token};
-ghost use Rattle.wg_front.specs.Compiled.{IsSource, IsCompiled, IsKernelRefusal, IsUnitRefusal, places_of};
+ghost use Rattle.wg_front.specs.Front.{IsRefusal, IsSource, place_of_token};
+ghost use Rattle.wg_front.specs.Compiled.{IsCompiled, IsKernelRefusal, IsUnitRefusal, places_of};
 ghost use Rattle.wg_front.specs.declared.front.SourceError.TheVariants as errors;
 
 use crate::front::{SourceError, read_tokens, read_unit};

@@ -4,19 +4,18 @@ use Rattle.std.proofs.lemmas.Bool.{cases_lt}
 use Rattle.wg_outside.specs.Files.{FileMap, HasFileStart, LacksFile}
 use Rattle.wg_outside.specs.Counts.{Rose, last_count}
 use Rattle.buffer_io.specs.Loads.{LacksOneFile}
-use Rattle.buffer_io.specs.Saves.{AllSavedAs, KeepsAllBut, StopsAt}
 use Rattle.command_words.specs.Command.{Files}
-use Rattle.launch_file.specs.Binding.{loads_of, saves_of}
+use Rattle.launch_file.specs.Binding.{loads_of}
 use Rattle.launch_file.specs.Texts.{Text}
 use Rattle.wg_top.specs.declared.RunError.{RunError}
 use Rattle.wg_top.specs.declared.RunError.TheVariants.{Failed, Absent, Source, Launch, Range, Parted, Turns, Memory}
 use Rattle.wg_top.specs.declared.Summary.{Summary}
 use Rattle.cl_meaning.specs.Typed.{Unit'}
 use Rattle.wg_front.specs.Front.{HasUnit}
-use Rattle.wg_top.specs.Causes.{Standing, Stands, SourceLoaded, RunRead, StopsIn, RunStops, HasRun, Cause}
-use Rattle.wg_top.specs.Causes.{ReadingCause, LeavesFiles, IsDone}
+use Rattle.wg_top.specs.Causes.{Standing, Stands, SourceLoaded, RunRead, StopsIn, RunStops, Cause}
+use Rattle.wg_top.specs.Causes.{ReadingCause, LeavesFiles, SaveStopped, IsRun, IsDone}
 use Rattle.wg_top.specs.Units.{AreCompiled}
-use Rattle.wg_top.specs.Stages.{TextRead, LaunchCause, ProgramCause, BackCause, LeavesOthers, IsRun}
+use Rattle.wg_top.specs.Stages.{TextRead, LaunchCause, ProgramCause, BackCause, LeavesOthers}
 
 -- counts that stand over two calls
 pub stands_over : (old new : Standing) (faults misses : ℕ) → old.faults ≤ faults → old.misses ≤ misses →
@@ -127,11 +126,6 @@ back_cause old mid new ask text s (Turns number several) read same before after 
 back_cause old mid new ask text s Memory read same before after c = tt
 back_cause old mid new ask text s _ read same before after c = absurd c
 
--- the launches ran on the files of before
-ran_before : (files later : Option FileMap) (text : Text) (s : List Unit') (after : List (List ℕ)) → later ≡ files →
-    HasRun later text s after → HasRun files text s after
-ran_before files later text s after same run = subst (λ (f : Option FileMap). HasRun f text s after) same run
-
 -- which files a refusal leaves once all is read
 pub leaves_files : (old mid new : Standing) (ask : Files) (text : Text) (s : List Unit') (e : RunError) →
     RunRead old.files ask text s → mid.files ≡ old.files → LeavesOthers mid new text s e → LeavesFiles old new ask e
@@ -140,12 +134,8 @@ leaves_files old mid new ask text s Failed read same left = elim left [
   | inr stopped ↦ inr (record {
     text = text;
     units = s;
-    read = record { read = read; accepted = stopped.accepted };
-    after = stopped.after;
-    run = ran_before old.files mid.files text s stopped.after same stopped.run;
-    stops =
-        subst (λ (f : Option FileMap). StopsAt f new.files (saves_of text.buffers) stopped.after) same stopped.stops;
-    others = subst (λ (f : Option FileMap). KeepsAllBut f new.files (saves_of text.buffers)) same stopped.others;
+    read = read;
+    stopped = subst (λ (f : Option FileMap). SaveStopped f new.files text s) same stopped;
   })
 ]
 leaves_files old mid new ask text s Absent read same left = left ∙ same
@@ -162,13 +152,8 @@ pub is_done : (old mid new : Option FileMap) (ask : Files) (text : Text) (s : Li
 is_done old mid new ask text s summary read same run = record {
   text = text;
   units = s;
-  read = record { read = read; accepted = run.accepted };
-  after = run.after;
-  run = ran_before old mid text s run.after same run.run;
-  saved = subst (λ (f : Option FileMap). AllSavedAs f new (saves_of text.buffers) run.after) same run.saved;
-  others = subst (λ (f : Option FileMap). KeepsAllBut f new (saves_of text.buffers)) same run.others;
-  groups = run.groups;
-  items = run.items;
+  read = read;
+  run = subst (λ (f : Option FileMap). IsRun f new text s summary) same run;
 }
 
 -- a command that runs nothing leaves the files

@@ -20,9 +20,9 @@ use Rattle.lane_code.specs.Program.{Plain}
 use Rattle.wg_top.specs.Middle.{programs_in}
 use Rattle.wg_top.specs.Units.{AreCompiled, bind_refusal}
 use Rattle.wg_top.specs.Launches.{launches_in, LaunchesRan, EndsSo}
-use Rattle.wg_top.specs.Stages.{BackCause, IsRun}
+use Rattle.wg_top.specs.Stages.{BackCause}
 use Rattle.wg_top.specs.Causes.{Standing, Stands, ReadingFinds, Cause, BuffersLoaded, RunRead, RunStopped, RunStops}
-use Rattle.wg_top.specs.Causes.{IsDone, IsReadable, IsTaken, Accepted, AcceptedClean, AcceptedRun, LeavesClean}
+use Rattle.wg_top.specs.Causes.{IsRun, IsDone, IsReadable, IsTaken, Accepted, AcceptedClean, AcceptedRun, LeavesClean}
 use Rattle.wg_top.specs.Causes.{HasLoops, LacksText, LacksName, IsSourceFault}
 use Rattle.wg_top.specs.Outcomes.{AreMade, models_in, AreDone, IsOutcomeOf}
 use Rattle.wg_top.specs.Lines.{status_of}
@@ -233,22 +233,22 @@ ends_complete old new ask n ends all quiet out_quiet = elim ends [
 done_clean : (old new : Option FileMap) (ask : Files) (text : Text) (s : List Unit') (summary : Summary) →
     AcceptedClean old ask text s → IsDone old new ask summary → LeavesClean old new text s
 done_clean old new ask text s summary all done =
-    let same = same_read old ask text done.text s done.units all.taken.readable done.read.read in
-    let before = done.run.before in
+    let same = same_read old ask text done.text s done.units all.taken.readable done.read in
+    let before = done.run.run.before in
     let loaded : BuffersLoaded old text before =
-    subst (λ (t : Text). BuffersLoaded old t before) same.0 done.run.loaded in
-    let ran : AreDone (models_in s) (launches_in text) before done.after =
-    subst (λ (us : List Unit'). AreDone (models_in us) (launches_in text) before done.after) same.1
-    (subst (λ (t : Text). AreDone (models_in done.units) (launches_in t) before done.after) same.0
-    done.run.outcome) in
+    subst (λ (t : Text). BuffersLoaded old t before) same.0 done.run.run.loaded in
+    let ran : AreDone (models_in s) (launches_in text) before done.run.after =
+    subst (λ (us : List Unit'). AreDone (models_in us) (launches_in text) before done.run.after) same.1
+    (subst (λ (t : Text). AreDone (models_in done.units) (launches_in t) before done.run.after) same.0
+    done.run.run.outcome) in
     record {
       before = before;
       loaded = loaded;
-      after = done.after;
-      leaves = leaves_clean s (launches_in text) before done.after (subst (λ (us : List Unit'). AreMade us) same.1
-          done.run.made) (all.clean before loaded) ran;
-      saved = subst (λ (t : Text). AllSavedAs old new (saves_of t.buffers) done.after) same.0 done.saved;
-      others = subst (λ (t : Text). KeepsAllBut old new (saves_of t.buffers)) same.0 done.others;
+      after = done.run.after;
+      leaves = leaves_clean s (launches_in text) before done.run.after (subst (λ (us : List Unit'). AreMade us) same.1
+          done.run.run.made) (all.clean before loaded) ran;
+      saved = subst (λ (t : Text). AllSavedAs old new (saves_of t.buffers) done.run.after) same.0 done.run.saved;
+      others = subst (λ (t : Text). KeepsAllBut old new (saves_of t.buffers)) same.0 done.run.others;
     }
 
 -- a refusal of clean launches is want of memory

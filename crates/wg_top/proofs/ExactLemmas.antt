@@ -357,8 +357,11 @@ found files ask Memory finds = absurd finds
 found_done : (files new : Option FileMap) (ask : Files) (summary : Summary) → IsDone files new ask summary →
     (f : Found files ask) × (status_at files ask f ≡ 0)
 unfolding status_at
-found_done files new ask summary done =
-    (fits done.text done.units done.read done.run.before done.after done.run.loaded done.run.ran, refl)
+found_done files new ask summary done = (
+  fits done.text done.units (record { read = done.read; accepted = done.run.accepted }) done.run.run.before
+      done.run.after done.run.run.loaded done.run.run.ran,
+  refl,
+)
 
 -- two findings have one status
 one_status : (fs : FileMap) (ask : Files) (e d : RunError) → Finds (Some fs) ask e → Finds (Some fs) ask d →

@@ -40,7 +40,8 @@ use Rattle.wg_top.specs.Described.{IsCompiledAt}
 use Rattle.wg_top.specs.Units.{AreCompiled, bind_refusal}
 use Rattle.wg_top.specs.Causes.{Standing, BuffersLoaded, StopsIn, HasRun}
 use Rattle.wg_top.specs.Outcomes.{AreMade, AreCompiledTo, models_in, AreDone, IsOutcomeOf}
-use Rattle.wg_top.specs.Stages.{BackCause, LeavesOthers, SaveStopped, IsRun}
+use Rattle.wg_top.specs.Causes.{SaveStopped, IsRun}
+use Rattle.wg_top.specs.Stages.{BackCause, LeavesOthers}
 use Rattle.wg_top.proofs.MeaningLemmas.{AreLike, ran_like, so_like}
 use Rattle.wg_top.specs.Launches.{IsReady, HasLimits, launches_in, LaunchesRan, EndsSo, all_groups, all_items}
 

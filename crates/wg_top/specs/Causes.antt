@@ -189,31 +189,41 @@ pub record HasRun (files : Option FileMap) (text : Text) (units : List Unit') (a
 
 -- saving had begun: the launches ran, the buffers before one are saved, and those behind it and all other names are
 -- as before
-pub record SaveFailed (old new : Option FileMap) (ask : Files) : Type 0 where
-  pub text : Text
-  pub units : List Unit'
-  pub read : RunBound old ask text units
+pub record SaveStopped (old new : Option FileMap) (text : Text) (units : List Unit') : Type 0 where
+  pub accepted : bind_refusal text units ≡ None
   pub after : List (List ℕ)
   pub run : HasRun old text units after
   pub stops : StopsAt old new (saves_of text.buffers) after
   pub others : KeepsAllBut old new (saves_of text.buffers)
+
+-- the same of a command, which first reads what it asks for
+pub record SaveFailed (old new : Option FileMap) (ask : Files) : Type 0 where
+  pub text : Text
+  pub units : List Unit'
+  pub read : RunRead old ask text units
+  pub stopped : SaveStopped old new text units
 
 -- which files a refusal leaves: all, but for those that the launch file saves where saving failed
 abbrev pub LeavesFiles : Standing → Standing → Files → RunError → Type 0
 LeavesFiles old new ask Failed = (new.files ≡ old.files) ⊎ SaveFailed old.files new.files ask
 LeavesFiles old new ask _ = new.files ≡ old.files
 
--- a run that is done: the launches ran, and the buffers were saved
-pub record IsDone (old new : Option FileMap) (ask : Files) (summary : Summary) : Type 0 where
-  pub text : Text
-  pub units : List Unit'
-  pub read : RunBound old ask text units
+-- the launches ran and the buffers were saved
+pub record IsRun (old new : Option FileMap) (text : Text) (units : List Unit') (summary : Summary) : Type 0 where
+  pub accepted : bind_refusal text units ≡ None
   pub after : List (List ℕ)
   pub run : HasRun old text units after
   pub saved : AllSavedAs old new (saves_of text.buffers) after
   pub others : KeepsAllBut old new (saves_of text.buffers)
   pub groups : summary.groups ≡ all_groups (launches_in text)
   pub items : summary.items ≡ all_items (launches_in text)
+
+-- a run that is done: what it asks for is read, the launches ran, and the buffers were saved
+pub record IsDone (old new : Option FileMap) (ask : Files) (summary : Summary) : Type 0 where
+  pub text : Text
+  pub units : List Unit'
+  pub read : RunRead old ask text units
+  pub run : IsRun old new text units summary
 
 -- the store tells its files, has the source and the launch file, no condition stands on what the launch file says,
 -- and the source has a unit and the launches' kernels

@@ -3,19 +3,16 @@ use Rattle.std.specs.Prelude.{◌≡◌, ◌⊎◌, ⊤, ℕ, List, Option, Some
 use Rattle.wg_outside.specs.Counts.{Rose}
 use Rattle.wg_outside.specs.Files.{FileMap, LacksFile}
 use Rattle.buffer_io.specs.Loads.{LacksOneFile}
-use Rattle.buffer_io.specs.Saves.{AllSavedAs, KeepsAllBut, StopsAt}
 use Rattle.launch_file.specs.Refusals.{Reads, IsRefused}
-use Rattle.launch_file.specs.Binding.{loads_of, saves_of}
+use Rattle.launch_file.specs.Binding.{loads_of}
 use Rattle.cl_prep.specs.declared.prep.Define.{Define}
 use Rattle.wg_front.specs.Compiled.{IsFaulty}
 use Rattle.launch_file.specs.Texts.{Text, Part}
 use Rattle.wg_top.specs.declared.RunError.{RunError}
 use Rattle.wg_top.specs.declared.RunError.TheVariants.{Failed, Absent, Source, Launch, Range, Parted, Turns, Memory}
-use Rattle.wg_top.specs.declared.Summary.{Summary}
 use Rattle.cl_meaning.specs.Typed.{Unit'}
 use Rattle.wg_top.specs.Units.{IsFirstRefused, bind_refusal}
-use Rattle.wg_top.specs.Launches.{launches_in, all_groups, all_items}
-use Rattle.wg_top.specs.Causes.{Standing, LaunchLoaded, IsSourceFault, StopsIn, HasRun}
+use Rattle.wg_top.specs.Causes.{Standing, LaunchLoaded, IsSourceFault, StopsIn, SaveStopped}
 
 -- the launch file was loaded, and says this with the options
 pub record TextRead (files : Option FileMap) (launch : List ℕ) (lanes turns : Option ℕ) (text : Text) : Type 0 where
@@ -75,25 +72,7 @@ BackCause old new text units (Turns launch several) = StopsIn old.files text uni
 BackCause old new text units Memory = ⊤
 BackCause old new text units _ = ⊥
 
--- saving had begun
-pub record SaveStopped (old new : Option FileMap) (text : Text) (units : List Unit') : Type 0 where
-  pub accepted : bind_refusal text units ≡ None
-  pub after : List (List ℕ)
-  pub run : HasRun old text units after
-  pub stops : StopsAt old new (saves_of text.buffers) after
-  pub others : KeepsAllBut old new (saves_of text.buffers)
-
 -- which files it leaves
 abbrev pub LeavesOthers : Standing → Standing → Text → List Unit' → RunError → Type 0
 LeavesOthers old new text units Failed = (new.files ≡ old.files) ⊎ SaveStopped old.files new.files text units
 LeavesOthers old new text units _ = new.files ≡ old.files
-
--- the launches ran and the buffers were saved
-pub record IsRun (old new : Option FileMap) (text : Text) (units : List Unit') (summary : Summary) : Type 0 where
-  pub accepted : bind_refusal text units ≡ None
-  pub after : List (List ℕ)
-  pub run : HasRun old text units after
-  pub saved : AllSavedAs old new (saves_of text.buffers) after
-  pub others : KeepsAllBut old new (saves_of text.buffers)
-  pub groups : summary.groups ≡ all_groups (launches_in text)
-  pub items : summary.items ≡ all_items (launches_in text)
