@@ -1,6 +1,6 @@
 -- What the check of a unit answers: its typed program exactly where no node is at fault and the kernel is within the
 -- limits, and else the first fault.
-use Rattle.std.specs.Prelude.{◌≡◌, ℕ, List, [], ◌∷◌, length, slice_index, Option, None, Some, ◌⊎◌, if◌then◌else◌}
+use Rattle.std.specs.Prelude.{◌≡◌, ℕ, List, [], ◌∷◌, length, slice_index, Some, ◌⊎◌, if◌then◌else◌}
 use Rattle.wg_num.specs.declared.types.Place.{Place}
 use Rattle.cl_tree.specs.Syntax.{Syntax, node, Forest, none, more}
 use Rattle.cl_meaning.specs.declared.fault.Fault.{Fault}

@@ -5,7 +5,7 @@ ghost use Rattle.cl_tree.specs.Syntax.{view, views};
 ghost use Rattle.cl_meaning.specs.declared.fault.Fault.{Fault as FaultOf};
 ghost use Rattle.cl_meaning.specs.Faults as faults;
 ghost use Rattle.cl_meaning.specs.Meant as meant;
-ghost use Rattle.cl_scope.specs.View.{signature_of, table_of};
+ghost use Rattle.cl_scope.specs.View.{signature_of};
 ghost use Rattle.cl_faults.specs.View.{asked_of};
 ghost use Rattle.cl_piece.specs.View.{function_of, what_of, unit_of};
 ghost use Rattle.cl_limits.specs.Heights as limits;

@@ -1,6 +1,6 @@
 //! The walk through a tree: parts in order, then the node itself.
 
-ghost use Rattle.std.specs.Prelude.{◌≡◌, ◌++◌, ◌∷◌, [], ℕ, suc, nat_eq, if◌then◌else◌, Some};
+ghost use Rattle.std.specs.Prelude.{◌≡◌, ◌++◌, ◌∷◌, [], suc, nat_eq, if◌then◌else◌, Some};
 ghost use Rattle.std.specs.Prelude.{List, IfOk, OnOk, map, length};
 ghost use Rattle.cl_meaning.specs.declared.kind.Role.TheVariants as roles;
 ghost use Rattle.wg_num.specs.declared.types.Place.{Place as PlaceOf};

@@ -16,7 +16,7 @@ use Rattle.cl_model.specs.declared.program.Root.{Root}
 use Rattle.cl_model.specs.declared.program.VarKind.{VarKind}
 use Rattle.cl_model.specs.declared.program.VarKind.TheVariants as var_kinds
 use Rattle.cl_model.specs.Tree as tree
-use Rattle.cl_model.specs.Tree.{Expression, Expressions, Function, Program, Apply, single}
+use Rattle.cl_model.specs.Tree.{Expressions, Function, Program, Apply}
 use Rattle.cl_model.specs.Calls.{function_at}
 use Rattle.cl_model.specs.Valid.{RootIs, HasType, HaveTypes, ArgumentsFit, CanBeCalled, arity_of, parameter_kinds}
 use Rattle.cl_meaning.specs.declared.names.Intrinsic.{Intrinsic}

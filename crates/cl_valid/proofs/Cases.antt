@@ -5,7 +5,7 @@ use Rattle.std.proofs.lemmas.Bool.{false≢true}
 use Rattle.wg_num.specs.declared.types.Place.{Place}
 use Rattle.wg_num.specs.declared.types.Bin.{Bin}
 use Rattle.cl_model.specs.Tree as tree
-use Rattle.cl_model.specs.Tree.{Function, Program, Apply, single, pair, truth_of, decided}
+use Rattle.cl_model.specs.Tree.{Function, Program, Apply, single}
 use Rattle.cl_meaning.specs.declared.types.Declared.{Declared}
 use Rattle.cl_meaning.specs.declared.operators.Setting.{Setting}
 use Rattle.cl_meaning.specs.Conversions.{promoted, common}

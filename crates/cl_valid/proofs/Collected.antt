@@ -28,7 +28,7 @@ use Rattle.cl_meaning.specs.Declarations.{form_of, word_of}
 use Rattle.cl_meaning.specs.Visible.{Node, Before, is_front, role_of, inside, later, behind, kind_of, visible_at}
 use Rattle.cl_meaning.specs.Visible.{in_order, parts_in_order}
 use Rattle.cl_meaning.specs.Faults as faults_specs
-use Rattle.cl_meaning.specs.Faults.{Asked, Sound, AllSound, at_fault, given, leads_back, leads_from, recursion}
+use Rattle.cl_meaning.specs.Faults.{Asked, Sound, AllSound, given, leads_back, leads_from}
 use Rattle.cl_meaning.specs.Faults.{call_in, call_at, calls_of, missing_in, missing_at, missing_of, is_called}
 use Rattle.cl_valid.specs.Sound.{ListedAt, AllGood}
 use Rattle.cl_valid.proofs.Grown.{each_append}

@@ -32,8 +32,8 @@ use Rattle.cl_meaning.specs.declared.kind.Meaning.TheVariants as meanings
 use Rattle.cl_meaning.specs.declared.kind.Role.{Role}
 use Rattle.cl_meaning.specs.declared.kind.Role.TheVariants as roles
 use Rattle.cl_meaning.specs.Environment as environment
-use Rattle.cl_meaning.specs.Environment.{Env, Array, Table, Signature, at_unit, found_in, in_last, into_last, or_else}
-use Rattle.cl_meaning.specs.Environment.{meaning_in, meaning_of, is_firm, is_declared, with_entry}
+use Rattle.cl_meaning.specs.Environment.{Env, Array, Table, at_unit, found_in, in_last, into_last}
+use Rattle.cl_meaning.specs.Environment.{meaning_in, is_firm, is_declared, with_entry}
 use Rattle.cl_meaning.specs.Kinds.{is_some, is_number}
 use Rattle.cl_meaning.specs.Declarations.{Declarator, declarator_in, is_list, initialisers, initial_values, listed}
 use Rattle.cl_meaning.specs.Declarations.{parts_of, product, kept_in, array_in, with_array, with_scalar}

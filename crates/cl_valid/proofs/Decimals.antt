@@ -14,7 +14,7 @@ use Rattle.cl_token.specs.Bytes.{is_digit}
 use Rattle.cl_token.specs.declared.number.Base.TheVariants as bases
 use Rattle.cl_token.specs.declared.token.Kind.TheVariants as kinds
 use Rattle.cl_token.specs.Number as numbers
-use Rattle.cl_token.specs.Number.{IsLiteral, digit_value, number_in, holds, type_of}
+use Rattle.cl_token.specs.Number.{number_in, type_of}
 use Rattle.cl_token.specs.Spelling.{HasValue}
 use Rattle.cl_valid.proofs.Assigning.{both_true}
 

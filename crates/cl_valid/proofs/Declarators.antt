@@ -29,7 +29,7 @@ use Rattle.cl_meaning.specs.declared.kind.Kind.TheVariants as kinds
 use Rattle.cl_meaning.specs.Statements as statements
 use Rattle.cl_meaning.specs.Typed.{What, values, Piece, Built}
 use Rattle.cl_meaning.specs.Expressions.{operand, expressions}
-use Rattle.cl_meaning.specs.Statements.{initial, last_piece, lines_of, all_lines, declarator_made, followed}
+use Rattle.cl_meaning.specs.Statements.{initial, last_piece, lines_of, all_lines, declarator_made}
 use Rattle.cl_meaning.specs.Meant.{MadeParts, with_piece, meant, parts_meant, make}
 use Rattle.cl_valid.specs.Shape.{IsExpression, AreExpressions, IsList, AreLengths, IsDeclarator, AreDeclarators}
 use Rattle.cl_valid.specs.Shape.{IsDeclaration}

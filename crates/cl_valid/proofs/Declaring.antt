@@ -14,7 +14,7 @@ use Rattle.cl_model.specs.declared.program.VarKind.{VarKind}
 use Rattle.cl_model.specs.declared.program.VarKind.TheVariants as var_kinds
 use Rattle.cl_model.specs.Lists.{Each}
 use Rattle.cl_model.specs.Tree as tree
-use Rattle.cl_model.specs.Tree.{Function, Program, Expression, Expressions, Statements, empty, also}
+use Rattle.cl_model.specs.Tree.{Function, Program, Expression, Expressions, Statements, empty}
 use Rattle.cl_model.specs.Valid.{Scope, RootIs, HasType, NamesIn, NamesAmong, NamesInOptional, DeclaredFits}
 use Rattle.cl_model.specs.Valid.{AllHaveType, number_of_values, IsScopedList, AllFit, AllExitsFit, all_declarations}
 use Rattle.cl_tree.specs.Syntax.{Syntax}

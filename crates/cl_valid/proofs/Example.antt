@@ -7,7 +7,7 @@ use Rattle.cl_tree.specs.declared.tree.Form.TheVariants as forms
 use Rattle.cl_tree.specs.Syntax.{Syntax, none, more}
 use Rattle.cl_tree.specs.Nodes.{Spot, tok, unit_node, function_node, word_node, params_node, param_node}
 use Rattle.cl_tree.specs.Nodes.{type_front_node, star_node, block_node, simple_node, pair_node, index_node}
-use Rattle.cl_tree.specs.Grammar.{Sort, Source, Cond, Assign, Expr, Postfix, Cast, one, Spells}
+use Rattle.cl_tree.specs.Grammar.{Source, Cond, one, Spells}
 use Rattle.cl_tree.specs.Grammar as grammar
 use Rattle.cl_meaning.specs.Operators.{prefix_in, binary_in, setting_in, postfix_in}
 use Rattle.cl_meaning.specs.Literals.{literal_in}

@@ -37,7 +37,7 @@ use Rattle.cl_prep.specs.declared.prep.PrepError.{PrepError}
 use Rattle.cl_prep.specs.declared.prep.PrepError.TheVariants as errors
 use Rattle.std.proofs.lemmas.Bool.{false≢true}
 use Rattle.cl_prep.specs.Expands as expanding
-use Rattle.cl_prep.specs.Expands.{placed, State, Step, Leads, Ends, start_state, Expands}
+use Rattle.cl_prep.specs.Expands.{placed, State, Step, Leads, Ends, start_state}
 use Rattle.cl_valid.specs.Law.{NumbersRead, DefinesFit, NumbersKept}
 use Rattle.cl_valid.proofs.Grown.{each_append}
 use Rattle.cl_valid.proofs.Decimals.{decimal_read}

@@ -13,7 +13,7 @@ use Rattle.cl_meaning.specs.declared.kind.Entry.{Entry}
 use Rattle.cl_meaning.specs.declared.kind.Meaning.{Meaning}
 use Rattle.cl_meaning.specs.declared.kind.Meaning.TheVariants as meanings
 use Rattle.cl_meaning.specs.Environment as environment
-use Rattle.cl_meaning.specs.Environment.{Env, Variable, Array, Signature, found_in, or_else, into_last, with_entry}
+use Rattle.cl_meaning.specs.Environment.{Env, Variable, Array, found_in, or_else, into_last}
 use Rattle.cl_meaning.specs.Environment.{empty_scope, meaning_in, meaning_of}
 use Rattle.cl_meaning.specs.Declarations.{with_variable, firm}
 use Rattle.cl_valid.specs.Erased.{array_of}

@@ -16,8 +16,7 @@ use Rattle.cl_model.specs.Objects.{is_local}
 use Rattle.cl_model.specs.Tree as tree
 use Rattle.cl_model.specs.Tree.{Function, Program, Statements}
 use Rattle.cl_model.specs.Calls.{function_at}
-use Rattle.cl_model.specs.Valid.{Scope, RootIs, CanBeCalled, parameter_kinds, numbers_below, IsValidFunction}
-use Rattle.cl_model.specs.Valid.{all_declarations}
+use Rattle.cl_model.specs.Valid.{Scope, RootIs, parameter_kinds, numbers_below, IsValidFunction}
 use Rattle.cl_model.specs.Valid as valid
 use Rattle.cl_tree.specs.declared.tree.Form.TheVariants as forms
 use Rattle.cl_tree.specs.Syntax.{Syntax, node, Forest}
@@ -27,13 +26,13 @@ use Rattle.cl_meaning.specs.declared.kind.Parameter.TheVariants as parameters
 use Rattle.cl_meaning.specs.declared.kind.Role.TheVariants as roles
 use Rattle.cl_meaning.specs.declared.kind.Yield.TheVariants as yields
 use Rattle.cl_meaning.specs.Environment as environment
-use Rattle.cl_meaning.specs.Environment.{Env, Variable, Array, Signature, meaning_of, meaning_in, found_in, empty_scope}
+use Rattle.cl_meaning.specs.Environment.{Env, Variable, Array, Signature, empty_scope}
 use Rattle.cl_meaning.specs.Declarations.{signature_in}
 use Rattle.cl_meaning.specs.Visible.{inside, restored, left, before_labels, behind, behind_parts, in_block}
 use Rattle.cl_meaning.specs.Visible.{in_definition, opened, apart, definition_of, defined_meaning}
 use Rattle.cl_meaning.specs.Faults.{Asked}
 use Rattle.cl_meaning.specs.Typed as typed_specs
-use Rattle.cl_meaning.specs.Typed.{What, function, statement, Piece, Built}
+use Rattle.cl_meaning.specs.Typed.{function, statement, Piece, Built}
 use Rattle.cl_meaning.specs.Statements.{all_lines, last_piece, function_made, result_of, body_in, block_of}
 use Rattle.cl_meaning.specs.Meant.{MadeParts, meant, parts_meant, make}
 use Rattle.cl_valid.specs.Shape.{IsBlock, AreLines}

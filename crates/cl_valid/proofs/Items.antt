@@ -15,8 +15,7 @@ use Rattle.cl_meaning.specs.declared.fault.Fault.TheVariants as faults
 use Rattle.cl_meaning.specs.declared.kind.Entry.{Entry}
 use Rattle.cl_meaning.specs.declared.kind.Role.{Role}
 use Rattle.cl_meaning.specs.Environment as environment
-use Rattle.cl_meaning.specs.Environment.{Env, Signature, empty_scope, into_last, in_last, is_firm, is_declared}
-use Rattle.cl_meaning.specs.Environment.{found_in}
+use Rattle.cl_meaning.specs.Environment.{Env, Signature, into_last, in_last, is_firm, is_declared}
 use Rattle.cl_meaning.specs.Declarations.{signature_in, with_part, with_parts, form_of, firm}
 use Rattle.cl_meaning.specs.Visible.{inside, restored, left, before_labels, without_variables, behind, visible_at}
 use Rattle.cl_meaning.specs.Visible.{in_definition, in_prototype, with_function, with_prototype, announced}

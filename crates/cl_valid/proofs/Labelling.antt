@@ -21,7 +21,7 @@ use Rattle.cl_meaning.specs.Visible.{in_loop, opened, visible_at}
 use Rattle.cl_meaning.specs.Faults.{Asked, given, is_among, is_repeated}
 use Rattle.cl_meaning.specs.Typed.{What, nothing, value, target, offset, values, barrier, fence, lines, statement}
 use Rattle.cl_meaning.specs.Typed.{labelled, function, functions, Piece, Built}
-use Rattle.cl_meaning.specs.Statements.{alone, body_of, followed, arms_by, arms_from, arms_of, label_of, labelled_by}
+use Rattle.cl_meaning.specs.Statements.{body_of, label_of, labelled_by}
 use Rattle.cl_meaning.specs.Statements as statements
 use Rattle.cl_meaning.specs.Statements.{second_is_test}
 use Rattle.cl_meaning.specs.Expressions.{read}

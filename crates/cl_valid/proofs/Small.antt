@@ -7,8 +7,8 @@ use Rattle.wg_num.specs.declared.types.Place.{Place}
 use Rattle.wg_num.specs.declared.types.Bin.{Bin}
 use Rattle.wg_num.specs.declared.types.Bin.TheVariants as bins
 use Rattle.cl_model.specs.Tree as tree
-use Rattle.cl_model.specs.Tree.{Expression, Expressions, Apply, none, more, single}
-use Rattle.cl_tree.specs.Syntax.{Syntax, Forest}
+use Rattle.cl_model.specs.Tree.{Apply, none, more, single}
+use Rattle.cl_tree.specs.Syntax.{Syntax}
 use Rattle.cl_tree.specs.Syntax as trees
 use Rattle.cl_meaning.specs.declared.types.Declared.{Declared}
 use Rattle.cl_meaning.specs.declared.operators.Prefix.{Prefix}

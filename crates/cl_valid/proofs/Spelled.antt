@@ -9,7 +9,7 @@ use Rattle.cl_tree.specs.declared.terminal.Terminal.TheVariants as terminals
 use Rattle.cl_tree.specs.declared.terminal.Leaf.{Leaf}
 use Rattle.cl_tree.specs.Leaves.{leaves_of}
 use Rattle.cl_tree.specs.Nodes.{tok}
-use Rattle.cl_tree.specs.Grammar.{Sort, Value, one, list, Spells, SpellsUnit}
+use Rattle.cl_tree.specs.Grammar.{Sort, Value, Spells}
 use Rattle.cl_tree.specs.Grammar as grammar
 use Rattle.cl_meaning.specs.Literals.{literal_in}
 use Rattle.cl_meaning.specs.Operators.{prefix_in}

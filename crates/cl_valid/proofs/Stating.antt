@@ -6,7 +6,7 @@ use Rattle.std.proofs.lemmas.Bool.{false≢true}
 use Rattle.wg_num.specs.declared.types.IntType.TheVariants as types
 use Rattle.wg_num.specs.declared.types.Place.{Place}
 use Rattle.cl_model.specs.Tree as tree
-use Rattle.cl_model.specs.Tree.{Function, Program, Expression, Statement, Statements, empty, also}
+use Rattle.cl_model.specs.Tree.{Function, Program, Expression, Statement, Statements}
 use Rattle.cl_model.specs.Valid.{Scope, HasValue, IsPlainCall, StatementFits, NamesIn, IsScoped, ExitsFit, declarations}
 use Rattle.cl_tree.specs.declared.tree.Form.TheVariants as forms
 use Rattle.cl_tree.specs.Syntax.{Syntax, node, none, more}
@@ -17,7 +17,7 @@ use Rattle.cl_meaning.specs.declared.kind.Role.TheVariants as roles
 use Rattle.cl_meaning.specs.Environment.{Env, Variable, Array}
 use Rattle.cl_meaning.specs.Kinds.{is_number}
 use Rattle.cl_meaning.specs.Visible.{behind, opened, apart, in_loop}
-use Rattle.cl_meaning.specs.Faults.{Asked, at_fault, given, return_misfits}
+use Rattle.cl_meaning.specs.Faults.{Asked, given}
 use Rattle.cl_meaning.specs.Faults as faults_specs
 use Rattle.cl_meaning.specs.Typed.{What, nothing, value, target, offset, values, barrier, fence, lines, statement}
 use Rattle.cl_meaning.specs.Typed.{labelled, function, functions, Piece, Built}

@@ -3,7 +3,7 @@ use Rattle.std.proofs.Common.{◌≡◌, ℕ, ◌+◌, ◌*◌, ◌≤◌, List,
 use Rattle.std.proofs.Common.{if◌then◌else◌, refl, ap, sym, ◌∙◌, subst, inl, inr, arith}
 use Rattle.wg_num.specs.declared.types.Place.{Place}
 use Rattle.cl_model.specs.Tree as tree
-use Rattle.cl_model.specs.Tree.{Expression, Statement, Statements, empty, also}
+use Rattle.cl_model.specs.Tree.{Expression}
 use Rattle.cl_tree.specs.declared.tree.Form.TheVariants as forms
 use Rattle.cl_tree.specs.Syntax.{Syntax, node, Forest, none, more}
 use Rattle.cl_meaning.specs.declared.kind.Kind.{Kind}

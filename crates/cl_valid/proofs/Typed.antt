@@ -28,9 +28,9 @@ use Rattle.cl_meaning.specs.declared.kind.Role.{Role}
 use Rattle.cl_meaning.specs.Environment.{Env, meaning_of}
 use Rattle.cl_meaning.specs.Kinds.{is_some, number, literal_kind, name_kind, is_flag, on_one, kind_of_meaning}
 use Rattle.cl_meaning.specs.Kinds.{cast_kind, prefix_kind, postfix_kind, is_constant_memory}
-use Rattle.cl_meaning.specs.Faults.{Asked, Sound, Looked, at_fault, misfits, tested_misfits, unknown_name, given}
-use Rattle.cl_meaning.specs.Faults.{given_pair, given_first, lacks, lacks_pair, prefix_misfits, postfix_misfits}
-use Rattle.cl_meaning.specs.Faults.{prefix_assigns, postfix_assigns, unassignable, of_target}
+use Rattle.cl_meaning.specs.Faults.{Asked, Looked, at_fault, misfits, tested_misfits, given}
+use Rattle.cl_meaning.specs.Faults.{given_first, lacks, prefix_misfits, postfix_misfits}
+use Rattle.cl_meaning.specs.Faults.{prefix_assigns, postfix_assigns, unassignable}
 use Rattle.cl_meaning.specs.Types as types_specs
 use Rattle.cl_meaning.specs.Typed.{value, Piece}
 use Rattle.cl_meaning.specs.Expressions.{cast_made, literal, number_what, truth_what, flagged_made, name_made}

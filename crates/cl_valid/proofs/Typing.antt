@@ -11,7 +11,7 @@ use Rattle.std.proofs.lemmas.Int.{ints}
 use Rattle.wg_num.specs.Wrap.{IsValue, half, modulus}
 use Rattle.wg_num.specs.Operators.{is_shift}
 use Rattle.cl_model.specs.Tree as tree
-use Rattle.cl_model.specs.Tree.{Expression, Function, Program, Apply, single, pair}
+use Rattle.cl_model.specs.Tree.{Expression, Function, Program, Apply, single}
 use Rattle.cl_model.specs.Valid.{HasType, RightFits, binary_type}
 use Rattle.cl_meaning.specs.Conversions.{promoted, common, operand_type, right_type}
 use Rattle.cl_meaning.specs.declared.kind.Each.TheVariants as each

@@ -22,7 +22,7 @@ use Rattle.cl_meaning.specs.Visible.{with_function, with_prototype, definition_f
 use Rattle.cl_meaning.specs.Visible.{number_in}
 use Rattle.cl_meaning.specs.Faults.{Asked}
 use Rattle.cl_meaning.specs.Typed as typed_specs
-use Rattle.cl_meaning.specs.Typed.{What, nothing, lines, function, Piece, Built}
+use Rattle.cl_meaning.specs.Typed.{nothing, Built}
 use Rattle.cl_meaning.specs.Statements.{functions_in, function_before}
 use Rattle.cl_meaning.specs.Meant.{MadeParts, with_piece, meant, parts_meant, make}
 use Rattle.cl_valid.specs.Shape.{IsDefinition, IsAnnouncement, BehindHeads, IsDeclaration, AreDeclarators, AreItems}

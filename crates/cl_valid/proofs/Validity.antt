@@ -8,10 +8,10 @@ use Rattle.wg_num.specs.declared.types.Place.{Place}
 use Rattle.wg_num.specs.Wrap.{IsValue}
 use Rattle.cl_model.specs.Lists.{Each, AllDiffer}
 use Rattle.cl_model.specs.Tree as tree
-use Rattle.cl_model.specs.Tree.{Function, Program, Expression, Statement, Statements, empty, also}
-use Rattle.cl_model.specs.Valid.{Scope, HasType, HasValue, OptionalFits, ReturnFits, StatementFits, AllFit, NamesIn}
+use Rattle.cl_model.specs.Tree.{Function, Program, Expression, Statement, Statements, empty}
+use Rattle.cl_model.specs.Valid.{Scope, OptionalFits, ReturnFits, StatementFits, AllFit, NamesIn}
 use Rattle.cl_model.specs.Valid.{NamesInOptional, IsScoped, IsScopedList, AreScoped, ExitsFit, AllExitsFit}
-use Rattle.cl_model.specs.Valid.{declarations, all_declarations, labels_of, defaults_of}
+use Rattle.cl_model.specs.Valid.{declarations, all_declarations, labels_of}
 use Rattle.cl_model.specs.Valid as valid
 use Rattle.cl_meaning.specs.Conversions.{promoted}
 use Rattle.cl_tree.specs.declared.tree.Form.TheVariants as forms

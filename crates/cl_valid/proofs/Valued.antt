@@ -40,7 +40,7 @@ use Rattle.cl_meaning.specs.Kinds.{all_known, result_kind, intrinsic_result, Cal
 use Rattle.cl_meaning.specs.Kinds.{callee_of, arity_fits, call_fits, call_kind, pair_kind, cast_part_kind}
 use Rattle.cl_meaning.specs.Kinds.{choice_part_kind, kind_step, first_part}
 use Rattle.cl_meaning.specs.Visible.{inside, restored, behind_parts, kind_of, kinds_of, visible_at}
-use Rattle.cl_meaning.specs.Faults.{Asked, at_fault, misfits, tested_misfits, given, valueless, yields_nothing}
+use Rattle.cl_meaning.specs.Faults.{Asked, misfits, tested_misfits, given, valueless, yields_nothing}
 use Rattle.cl_meaning.specs.Faults.{is_whole, is_tested}
 use Rattle.cl_meaning.specs.Faults as faults_specs
 use Rattle.cl_meaning.specs.declared.kind.Reach.{Reach}

@@ -1,5 +1,5 @@
 //! The chunks of a group, and their ends as ends of a launch.
-ghost use Rattle.std.specs.Prelude.{◌≡◌, ◌<◌, ◌≤◌, ◌+◌, ◌-◌, ◌*◌, ◌/◌, ◌^◌};
+ghost use Rattle.std.specs.Prelude.{◌≡◌, ◌<◌, ◌+◌, ◌-◌, ◌*◌, ◌/◌, ◌^◌};
 ghost use Rattle.wg_num.specs.Operators.{lanes_of};
 ghost use Rattle.cl_model.specs.Sizes.{group_size};
 ghost use Rattle.cl_model.specs.View.{launch_of};

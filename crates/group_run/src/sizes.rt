@@ -1,5 +1,5 @@
 //! How many items a group of a launch has, and how many groups there are.
-ghost use Rattle.std.specs.Prelude.{◌≡◌, ◌<◌, ◌≤◌, ◌^◌};
+ghost use Rattle.std.specs.Prelude.{◌≡◌, ◌≤◌, ◌^◌};
 ghost use Rattle.cl_model.specs.Sizes.{product, groups_of, group_size, group_count};
 ghost use Rattle.cl_model.specs.View.{launch_of, three_of};
 ghost use Rattle.lane_machine.specs.Sizes.{HasSizes, AreSizes};

@@ -1,5 +1,5 @@
 //! Does what a group does.
-ghost use Rattle.std.specs.Prelude.{◌≡◌, ◌<◌, true, List, sum};
+ghost use Rattle.std.specs.Prelude.{◌≡◌, ◌<◌, true, sum};
 ghost use Rattle.cl_model.specs.Sizes.{group_count};
 ghost use Rattle.cl_model.specs.View.{buffers_of, launch_of};
 ghost use Rattle.lane_code.specs.View.{plain_of};

@@ -2,7 +2,7 @@
 //! word, if there is one, is how many iterations; the times go to the standard error stream.
 #![tactic(auto)]
 
-ghost use Rattle.std.specs.Prelude.{◌≡◌, IfOk};
+ghost use Rattle.std.specs.Prelude.{IfOk};
 ghost use Rattle.machine_examples.specs.Examples.{IsReady};
 
 use cl_model::{Buffers, Query, Root};

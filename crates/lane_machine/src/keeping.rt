@@ -3,7 +3,7 @@ ghost use Rattle.std.specs.Prelude.{◌≡◌, ◌≢◌, ◌<◌, ◌≤◌, �
 ghost use Rattle.std.specs.Prelude.{slice_index_or, slice_set};
 ghost use Rattle.std.specs.Simd.Lanes.{sel_l};
 ghost use Rattle.lane_values.specs.Lanes.{zip3};
-ghost use Rattle.lane_code.specs.Registers.{with_lanes, with_mask, with_scalar, lanes_of, mask_of, scalar_of, bits_in};
+ghost use Rattle.lane_code.specs.Registers.{with_lanes, with_mask, with_scalar, lanes_of, mask_of, scalar_of};
 ghost use Rattle.lane_code.specs.Groups.{window, with_window};
 ghost use Rattle.lane_code.specs.Acts.{column_lanes, column_stored, voted, chosen};
 ghost use Rattle.lane_code.specs.declared.step.Bank.TheVariants.{Mask, Scalar};

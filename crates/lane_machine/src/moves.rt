@@ -1,13 +1,13 @@
 //! Constants, copies and conversions of registers, and scalars to lanes and back.
 ghost use Rattle.std.specs.Prelude.{◌≡◌, ◌≢◌, ◌<◌, ◌≤◌, ◌%◌, ◌^◌, map, length, replicate};
-ghost use Rattle.std.specs.Prelude.{true, IfSome};
-ghost use Rattle.wg_num.specs.Wrap.{bits_of, value_of, width_bits};
+ghost use Rattle.std.specs.Prelude.{IfSome};
+ghost use Rattle.wg_num.specs.Wrap.{bits_of, value_of};
 ghost use Rattle.lane_values.specs.Lanes.{FitsLane, lane, convert_lane};
 ghost use Rattle.lane_code.specs.Registers.{written, with_lanes, lanes_of, bits_in, lane_count, scalar_of, mask_of};
 ghost use Rattle.lane_code.specs.Registers.{lowest};
 ghost use Rattle.lane_code.specs.Acts.{first_of};
 ghost use Rattle.lane_code.specs.declared.step.Bank.TheVariants.{Narrow, Wide, Mask, Scalar};
-ghost use Rattle.lane_machine.specs.State.{IsIn, FitsBank, FitsConvert};
+ghost use Rattle.lane_machine.specs.State.{IsIn, FitsConvert};
 
 use crate::registers::Registers;
 use lane_code::{Bank, Reg};

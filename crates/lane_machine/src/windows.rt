@@ -1,10 +1,7 @@
 //! A chunk's part of a list that has an entry for each item of the group.
-ghost use Rattle.std.specs.Prelude.{◌≡◌, ◌<◌, ◌≤◌, ◌%◌, ◌^◌, false, length, map};
+ghost use Rattle.std.specs.Prelude.{◌≡◌, ◌<◌, ◌≤◌, ◌^◌, false};
 ghost use Rattle.std.specs.Prelude.{slice_index_or, slice_set};
-ghost use Rattle.std.specs.Simd.Lanes.{sel_l};
-ghost use Rattle.lane_values.specs.Lanes.{zip3};
 ghost use Rattle.lane_code.specs.Groups.{window, with_window};
-ghost use Rattle.lane_code.specs.Acts.{chosen};
 
 use lane_kernels::blend64;
 use std::simd::prelude::*;

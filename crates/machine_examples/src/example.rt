@@ -1,8 +1,7 @@
 //! A program of one code with all that it runs on.
-ghost use Rattle.std.specs.Prelude.{[], ◌≡◌, ◌<◌, ◌≤◌, ◌+◌, ◌-◌, ◌/◌, IfOk, true};
+ghost use Rattle.std.specs.Prelude.{[], ◌≡◌, ◌<◌, ◌+◌, ◌-◌, ◌/◌, IfOk, true};
 ghost use Rattle.cl_model.specs.View.{launch_of};
 ghost use Rattle.lane_code.specs.Fits.{is_code, code_fits};
-ghost use Rattle.lane_code.specs.View.{plain_of};
 ghost use Rattle.wg_num.specs.Operators.{lanes_of};
 ghost use Rattle.machine_examples.specs.Examples.{launch, params, names, counts, IsReady};
 

@@ -1,5 +1,5 @@
 //! Ends, the tally and votes, on small codes.
-ghost use Rattle.std.specs.Prelude.{◌≡◌, IfOk};
+ghost use Rattle.std.specs.Prelude.{IfOk};
 ghost use Rattle.machine_examples.specs.Examples.{IsReady};
 
 use crate::Example;

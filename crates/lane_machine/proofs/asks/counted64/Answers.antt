@@ -1,7 +1,7 @@
-use Rattle.std.proofs.Common.{◌≡◌, ◌∙◌, ◌+◌, ◌<◌, ◌%◌, ◌^◌, sym, ap, pos, cond, get_or, length, replicate, subst, arith}
+use Rattle.std.proofs.Common.{◌≡◌, ◌∙◌, ◌+◌, ◌%◌, ◌^◌, sym, ap, cond, get_or, length, replicate, arith}
 use Rattle.std.proofs.lemmas.List.{length-set, length-replicate, get_or-replicate}
 use Rattle.wg_num.specs.declared.types.IntType.TheVariants.{Uint}
-use Rattle.wg_num.specs.Wrap.{value_of, residue}
+use Rattle.wg_num.specs.Wrap.{value_of}
 use Rattle.cl_model.specs.Sizes.{answer_of}
 use Rattle.cl_model.specs.View.{launch_of}
 use Rattle.lane_values.specs.Lanes.{lane}
