@@ -37,8 +37,8 @@ fn put_verdict(text: &mut String, found: Result<Program, SourceError>) -> Result
     match found {
         Ok(_) => text.push_str("accepted")?,
         Err(SourceError::Memory) => text.push_str("memory")?,
-        Err(SourceError::Fault { number, place }) => {
-            put_numbered(text, "E", number as u32)?;
+        Err(SourceError::Refused { condition, place }) => {
+            put_numbered(text, "E", condition.number() as u32)?;
             put_place(text, place)?;
         }
     }

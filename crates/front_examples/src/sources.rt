@@ -1,8 +1,9 @@
 //! A source with the program that it stands for, and one that is refused.
 
+use cl_meaning::Fault;
 use cl_prep::Defines;
 use std::test::Fail;
-use wg_front::{SourceError, compile};
+use wg_front::{Condition, SourceError, compile};
 use wg_num::Place;
 
 const SOURCE: &str = "__kernel void inc(__global int *a) { a[0] = 1; }";
@@ -17,8 +18,10 @@ fn a_kernel_is_compiled_by_its_name(rt: HostRuntime) -> Result<(), Fail> {
         Err(_) => return Err("refused".into()),
     }
     match compile(rt.alloc(), SOURCE.as_bytes(), &defines, b"in") {
-        Err(SourceError::Fault { number, place }) => {
-            assert_eq!(rt; number, 422);
+        Err(SourceError::Refused { condition, place }) => {
+            assert_eq!(rt; condition, Condition::Unit(Fault::NoSuchKernel));
+            assert_eq!(rt; condition.number(), 422);
+            assert_eq!(rt; condition.text(), b"E422 no such kernel".as_slice());
             assert_eq!(rt;
                 place,
                 Place {

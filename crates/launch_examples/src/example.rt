@@ -73,7 +73,8 @@ fn program_of(alloc: Global, example: &Example) -> Result<Program, Fail> {
     match compile(alloc, source, &defines, example.kernel.as_bytes()) {
         Ok(program) => Ok(program),
         Err(SourceError::Memory) => Err("out of memory".into()),
-        Err(SourceError::Fault { number, place }) => {
+        Err(SourceError::Refused { condition, place }) => {
+            let number = condition.number();
             Err(format!(in alloc; "E{number} at {place:?}")?.into())
         }
     }

@@ -11,6 +11,7 @@ use Rattle.cl_read.proofs.WholeUnit.{same_unit}
 use Rattle.cl_meaning.specs.Typed.{Unit'}
 use Rattle.cl_check.specs.Checked.{IsRefused}
 use Rattle.cl_check.proofs.Deciding.{accepted_or_not}
+use Rattle.wg_front.specs.declared.condition.Condition.{Condition}
 use Rattle.wg_front.specs.declared.front.SourceError.{SourceError}
 use Rattle.wg_front.specs.declared.front.SourceError.TheVariants as errors
 use Rattle.wg_front.specs.Front.{HasUnit, IsSource, IsRefusal, place_of_token}
@@ -51,9 +52,10 @@ pub has_unit : (bytes : List ℕ) (defines : List Define) (expanded : List Token
 has_unit bytes defines expanded unit is =
     (unit, (expanded, is))
 
-faulty_or_compiled : (bytes : List ℕ) (defines : List Define) (kernel : List ℕ) (number : ℕ) (place : Place)
-    (typed : Unit') → IsFaulty bytes defines kernel number place → IsCompiled bytes defines kernel typed → ⊥
-faulty_or_compiled bytes defines kernel number place typed bad good =
+faulty_or_compiled : (bytes : List ℕ) (defines : List Define) (kernel : List ℕ) (condition : Condition)
+    (place : Place) (typed : Unit') → IsFaulty bytes defines kernel condition place →
+    IsCompiled bytes defines kernel typed → ⊥
+faulty_or_compiled bytes defines kernel condition place typed bad good =
     let tokens =
     one_expanded bytes defines bad.expanded good.expanded bad.unit good.unit bad.is_source good.is_source in
     let unit = one_unit bytes defines bad.expanded good.expanded bad.unit good.unit bad.is_source good.is_source in
@@ -64,12 +66,13 @@ faulty_or_compiled bytes defines kernel number place typed bad good =
     accepted_or_not (places_of bytes good.expanded) kernel good.unit bad.fault bad.token refused good.accepted
 
 -- a source that is refused is not compiled
-pub refused_or_compiled : (bytes : List ℕ) (defines : List Define) (kernel : List ℕ) (number : ℕ) (place : Place)
-    (typed : Unit') → IsNotCompiled bytes defines kernel number place → IsCompiled bytes defines kernel typed → ⊥
-refused_or_compiled bytes defines kernel number place typed refused good = elim refused [
-  | inl stands ↦ refused_or_unit bytes defines number place stands (has_unit bytes defines good.expanded good.unit
+pub refused_or_compiled : (bytes : List ℕ) (defines : List Define) (kernel : List ℕ) (condition : Condition)
+    (place : Place) (typed : Unit') → IsNotCompiled bytes defines kernel condition place →
+    IsCompiled bytes defines kernel typed → ⊥
+refused_or_compiled bytes defines kernel condition place typed refused good = elim refused [
+  | inl stands ↦ refused_or_unit bytes defines condition place stands (has_unit bytes defines good.expanded good.unit
       good.is_source)
-  | inr faulty ↦ faulty_or_compiled bytes defines kernel number place typed faulty good
+  | inr faulty ↦ faulty_or_compiled bytes defines kernel condition place typed faulty good
 ]
 
 -- two typed units of a source are one
@@ -83,10 +86,10 @@ one_typed bytes defines kernel t u x y =
 -- what refuses a source refuses it for each kernel
 pub source_refused : (bytes : List ℕ) (defines : List Define) (kernel : List ℕ) (e : SourceError) →
     IsRefusal bytes defines e → IsKernelRefusal bytes defines kernel e
-source_refused bytes defines kernel (errors.Fault number place) h = inl h
+source_refused bytes defines kernel (errors.Refused condition place) h = inl h
 source_refused bytes defines kernel errors.Memory h = tt
 
 pub unit_refused : (bytes : List ℕ) (defines : List Define) (kernel : List ℕ) (e : SourceError) →
     IsUnitRefusal bytes defines kernel e → IsKernelRefusal bytes defines kernel e
-unit_refused bytes defines kernel (errors.Fault number place) h = inr h
+unit_refused bytes defines kernel (errors.Refused condition place) h = inr h
 unit_refused bytes defines kernel errors.Memory h = tt

@@ -25,9 +25,10 @@ use Rattle.cl_prep.proofs.Unique.{one_out, ends_or_fails}
 use Rattle.cl_tree.specs.Syntax.{Syntax, nesting}
 use Rattle.cl_tree.specs.Grammar.{SpellsUnit}
 use Rattle.cl_tree.specs.Places.{Continues, NoUnit, NoUnitWithin, SomeUnit, DeeperUnit}
-use Rattle.wg_front.specs.Front.{Reads, HasUnit, place_of_token, number_of_lexical, offset_of_lexical}
-use Rattle.wg_front.specs.Front.{number_of_expansion, token_of_expansion, StandsAt, uncut, unexpanded, no_unit}
-use Rattle.wg_front.specs.Front.{too_deep}
+use Rattle.wg_front.specs.declared.condition.Condition.{Condition}
+use Rattle.wg_front.specs.declared.condition.Condition.TheVariants as conditions
+use Rattle.wg_front.specs.Front.{Reads, HasUnit, place_of_token, condition_of_lexical}
+use Rattle.wg_front.specs.Front.{condition_of_expansion, StandsAt, uncut, unexpanded, no_unit, too_deep}
 
 -- ---- how many tokens a source has, and where an error of them stands
 
@@ -61,66 +62,64 @@ pub few_tokens : (source : List ℕ) (ts : List Token) → Cuts source ts → le
 few_tokens source ts h =
     omega (arith, cut_count source h.at h.first [] ts h.whole, cut_size source h.at h.first [] ts h.whole)
 
-pub uncut_within : (source : List ℕ) (e : LexError) (at : ℕ) → at ≡ offset_of_lexical e → IsUncutOrMemory source e →
-    at ≤ length source
-uncut_within source (lexical.NoToken n) at same h =
-    omega (arith, same, cut_size source n h.1.first h.1.rest h.1.before h.1.cut)
-uncut_within source (lexical.OpenComment n) at same h =
-    omega (arith, same, cut_size source n h.1.first h.1.rest h.1.before h.1.cut)
-uncut_within source (lexical.BadNumber n) at same h =
-    omega (arith, same, cut_size source n h.1.first h.1.rest h.1.before h.1.cut)
-uncut_within source (lexical.LargeNumber n) at same h =
-    omega (arith, same, cut_size source n h.1.first h.1.rest h.1.before h.1.cut)
-uncut_within source lexical.TooLong at same h = omega (arith, same)
-uncut_within source lexical.Memory at same h = omega (arith, same)
+pub uncut_within : (source : List ℕ) (e : LexError) (condition : Condition) (at : ℕ) →
+    condition_of_lexical e ≡ Some (condition, at) → IsUncutOrMemory source e → at ≤ length source
+uncut_within source (lexical.NoToken n) condition at same h =
+    let here : n ≡ at = cc in omega (arith, here, cut_size source n h.1.first h.1.rest h.1.before h.1.cut)
+uncut_within source (lexical.OpenComment n) condition at same h =
+    let here : n ≡ at = cc in omega (arith, here, cut_size source n h.1.first h.1.rest h.1.before h.1.cut)
+uncut_within source (lexical.BadNumber n) condition at same h =
+    let here : n ≡ at = cc in omega (arith, here, cut_size source n h.1.first h.1.rest h.1.before h.1.cut)
+uncut_within source (lexical.LargeNumber n) condition at same h =
+    let here : n ≡ at = cc in omega (arith, here, cut_size source n h.1.first h.1.rest h.1.before h.1.cut)
+uncut_within source lexical.TooLong condition at same h = let here : 0 ≡ at = cc in omega (arith, here)
+uncut_within source lexical.Memory condition at same h = let never : ⊥ = cc in absurd never
 
 -- ---- refusals
 
-uncut_refused : (source : List ℕ) (e : LexError) → IsUncutOrMemory source e → (0 ≡ number_of_lexical e → ⊥) →
-    IsUncut source e
-uncut_refused source (lexical.NoToken n) h some = h
-uncut_refused source (lexical.OpenComment n) h some = h
-uncut_refused source (lexical.BadNumber n) h some = h
-uncut_refused source (lexical.LargeNumber n) h some = h
-uncut_refused source lexical.TooLong h some = h
-uncut_refused source lexical.Memory h some = absurd (some refl)
+uncut_refused : (source : List ℕ) (e : LexError) (found : Condition × ℕ) → IsUncutOrMemory source e →
+    condition_of_lexical e ≡ Some found → IsUncut source e
+uncut_refused source (lexical.NoToken n) found h is = h
+uncut_refused source (lexical.OpenComment n) found h is = h
+uncut_refused source (lexical.BadNumber n) found h is = h
+uncut_refused source (lexical.LargeNumber n) found h is = h
+uncut_refused source lexical.TooLong found h is = h
+uncut_refused source lexical.Memory found h is = let never : ⊥ = cc in absurd never
 
-pub uncut_stands : (source : List ℕ) (e : LexError) (number at : ℕ) (place : Place) → IsUncutOrMemory source e →
-    number ≡ number_of_lexical e → (number ≡ 0 → ⊥) → at ≡ offset_of_lexical e → place ≡ place_at source at
-    → (defines : List Define) → StandsAt source defines number place
-uncut_stands source e number at place h is some here placed =
-    λ defines. uncut e (uncut_refused source e h (λ z. some (is ∙ sym z))) is
-    (subst (λ (o : ℕ). place ≡ place_at source o) here placed)
+pub uncut_stands : (source : List ℕ) (e : LexError) (condition : Condition) (at : ℕ) (place : Place) →
+    IsUncutOrMemory source e → condition_of_lexical e ≡ Some (condition, at) → place ≡ place_at source at
+    → (defines : List Define) → StandsAt source defines condition place
+uncut_stands source e condition at place h is placed =
+    λ defines. uncut e at (uncut_refused source e (condition, at) h is) is placed
 
-unexpanded_refused : (tokens : List Token) (defines : List Define) (e : PrepError) →
-    IsUnexpandedOrMemory tokens defines e → (0 ≡ number_of_expansion e → ⊥) → IsUnexpanded tokens defines e
-unexpanded_refused tokens defines (prep.BadDirective n) h some = h
-unexpanded_refused tokens defines (prep.NoName n) h some = h
-unexpanded_refused tokens defines (prep.Redefined n) h some = h
-unexpanded_refused tokens defines (prep.NoOpening n) h some = h
-unexpanded_refused tokens defines (prep.NotClosed n) h some = h
-unexpanded_refused tokens defines (prep.TooMany n) h some = h
-unexpanded_refused tokens defines prep.Memory h some = absurd (some refl)
+unexpanded_refused : (tokens : List Token) (defines : List Define) (e : PrepError) (found : Condition × ℕ) →
+    IsUnexpandedOrMemory tokens defines e → condition_of_expansion e ≡ Some found → IsUnexpanded tokens defines e
+unexpanded_refused tokens defines (prep.BadDirective n) found h is = h
+unexpanded_refused tokens defines (prep.NoName n) found h is = h
+unexpanded_refused tokens defines (prep.Redefined n) found h is = h
+unexpanded_refused tokens defines (prep.NoOpening n) found h is = h
+unexpanded_refused tokens defines (prep.NotClosed n) found h is = h
+unexpanded_refused tokens defines (prep.TooMany n) found h is = h
+unexpanded_refused tokens defines prep.Memory found h is = let never : ⊥ = cc in absurd never
 
 pub unexpanded_stands : (source : List ℕ) (defines : List Define) (tokens : List Token) (e : PrepError)
-    (number at : ℕ) (place : Place) → length source ≤ limit → Cuts source tokens → IsUnexpandedOrMemory tokens defines e
-    → number ≡ number_of_expansion e → (number ≡ 0 → ⊥) → at ≡ token_of_expansion e →
-    place ≡ place_of_token source tokens at → StandsAt source defines number place
-unexpanded_stands source defines tokens e number at place short cuts h is some here placed =
-    unexpanded tokens e short cuts (unexpanded_refused tokens defines e h (λ z. some (is ∙ sym z))) is
-    (subst (λ (o : ℕ). place ≡ place_of_token source tokens o) here placed)
+    (condition : Condition) (at : ℕ) (place : Place) → length source ≤ limit → Cuts source tokens →
+    IsUnexpandedOrMemory tokens defines e → condition_of_expansion e ≡ Some (condition, at) →
+    place ≡ place_of_token source tokens at → StandsAt source defines condition place
+unexpanded_stands source defines tokens e condition at place short cuts h is placed =
+    unexpanded tokens e at short cuts (unexpanded_refused tokens defines e (condition, at) h is) is placed
 
 pub no_unit_stands : (source : List ℕ) (expanded : List Token) (at : ℕ) (place : Place) → NoUnit expanded at →
     ((before : ℕ) → before < at → SomeUnit expanded before) → place ≡ place_of_token source expanded at
     → (defines : List Define) (tokens : List Token) → Reads source defines tokens expanded →
-    StandsAt source defines 301 place
+    StandsAt source defines conditions.Syntax place
 no_unit_stands source expanded at place none least placed =
     λ defines tokens reads. no_unit tokens expanded at reads none least refl placed
 
 pub too_deep_stands : (source : List ℕ) (expanded : List Token) (at : ℕ) (place : Place) →
     NoUnitWithin 256 expanded at → DeeperUnit 256 expanded at → place ≡ place_of_token source expanded at
     → (defines : List Define) (tokens : List Token) → Reads source defines tokens expanded →
-    StandsAt source defines 302 place
+    StandsAt source defines conditions.Nesting place
 too_deep_stands source expanded at place none deeper placed =
     λ defines tokens reads. too_deep tokens expanded at reads none deeper refl placed
 
@@ -170,16 +169,16 @@ continues_itself tokens at = elim (cases_lt at (length tokens)) [
 ]
 
 -- a source that is refused has no unit
-pub refused_or_unit : (source : List ℕ) (defines : List Define) (number : ℕ) (place : Place) →
-    StandsAt source defines number place → HasUnit source defines → ⊥
-refused_or_unit source defines number place (uncut e h is placed) u =
+pub refused_or_unit : (source : List ℕ) (defines : List Define) (condition : Condition) (place : Place) →
+    StandsAt source defines condition place → HasUnit source defines → ⊥
+refused_or_unit source defines condition place (uncut e at h is placed) u =
     uncut_or_cut source e u.1.1.read.0 u.1.1.read.1.short u.1.1.read.1.cuts h
-refused_or_unit source defines number place (unexpanded tokens e short cuts h is placed) u =
+refused_or_unit source defines condition place (unexpanded tokens e at short cuts h is placed) u =
     unexpanded_or_expanded tokens defines e u.1.0 (subst (λ (ts : List Token). Expands ts defines u.1.0)
     (one_cut source u.1.1.read.0 tokens u.1.1.read.1.cuts cuts) u.1.1.read.1.expands) h
-refused_or_unit source defines number place (no_unit tokens expanded at reads none least is placed) u =
+refused_or_unit source defines condition place (no_unit tokens expanded at reads none least is placed) u =
     none expanded u.0 (continues_itself expanded at) (subst (λ (ts : List Token). SpellsUnit u.0 ts)
     (one_reading source defines u.1.1.read.0 tokens u.1.0 expanded u.1.1.read.1 reads) u.1.1.spelled)
-refused_or_unit source defines number place (too_deep tokens expanded at reads none deeper is placed) u =
+refused_or_unit source defines condition place (too_deep tokens expanded at reads none deeper is placed) u =
     none expanded u.0 (continues_itself expanded at) (subst (λ (ts : List Token). SpellsUnit u.0 ts)
     (one_reading source defines u.1.1.read.0 tokens u.1.0 expanded u.1.1.read.1 reads) u.1.1.spelled) u.1.1.nests

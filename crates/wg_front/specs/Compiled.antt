@@ -6,11 +6,12 @@ use Rattle.cl_token.specs.Places.{place_at}
 use Rattle.cl_prep.specs.declared.prep.Define.{Define}
 use Rattle.cl_tree.specs.Syntax.{Syntax}
 use Rattle.cl_meaning.specs.declared.fault.Fault.{Fault}
-use Rattle.cl_meaning.specs.Numbers.{number_of}
 use Rattle.cl_meaning.specs.Typed.{Unit'}
 use Rattle.cl_meaning.specs.Meant.{unit_meant}
 use Rattle.cl_limits.specs.Judged.{IsAccepted}
 use Rattle.cl_check.specs.Checked.{IsRefused}
+use Rattle.wg_front.specs.declared.condition.Condition.{Condition}
+use Rattle.wg_front.specs.declared.condition.Condition.TheVariants as conditions
 use Rattle.wg_front.specs.declared.front.SourceError.{SourceError}
 use Rattle.wg_front.specs.declared.front.SourceError.TheVariants as errors
 use Rattle.wg_front.specs.Front.{IsSource, StandsAt, place_of_token}
@@ -27,29 +28,30 @@ pub record IsCompiled (source : List ℕ) (defines : List Define) (kernel : List
   pub accepted : IsAccepted (places_of source expanded) kernel unit
   pub means : typed ≡ unit_meant (places_of source expanded) kernel unit
 
--- the first fault of the unit has that number, and is reported at that place
-pub record IsFaulty (source : List ℕ) (defines : List Define) (kernel : List ℕ) (number : ℕ) (place : Place) : Type 0
-  where
-    pub expanded : List Token
-    pub unit : Syntax
-    pub is_source : IsSource source defines expanded unit
-    pub fault : Fault
-    pub token : ℕ
-    pub refused : IsRefused (places_of source expanded) kernel unit fault token
-    pub number_is : number ≡ number_of fault
-    pub place_is : place ≡ place_of_token source expanded token
+-- the condition is the first fault of the unit, and is reported at that place
+pub record IsFaulty (source : List ℕ) (defines : List Define) (kernel : List ℕ) (condition : Condition)
+    (place : Place) : Type 0 where
+  pub expanded : List Token
+  pub unit : Syntax
+  pub is_source : IsSource source defines expanded unit
+  pub fault : Fault
+  pub token : ℕ
+  pub refused : IsRefused (places_of source expanded) kernel unit fault token
+  pub condition_is : condition ≡ conditions.Unit fault
+  pub place_is : place ≡ place_of_token source expanded token
 
--- the condition of that number stands at that place: of the bytes, the macros, the grammar, or the unit
-abbrev pub IsNotCompiled : List ℕ → List Define → (kernel : List ℕ) → ℕ → Place → Type 0
-IsNotCompiled source defines kernel number place =
-    StandsAt source defines number place ⊎ IsFaulty source defines kernel number place
+-- the condition stands at that place: of the bytes, the macros, the grammar, or the unit
+abbrev pub IsNotCompiled : List ℕ → List Define → (kernel : List ℕ) → Condition → Place → Type 0
+IsNotCompiled source defines kernel condition place =
+    StandsAt source defines condition place ⊎ IsFaulty source defines kernel condition place
 
 -- the source is refused with this error, or memory ran out
 abbrev pub IsKernelRefusal : List ℕ → List Define → (kernel : List ℕ) → SourceError → Type 0
-IsKernelRefusal source defines kernel (errors.Fault number place) = IsNotCompiled source defines kernel number place
+IsKernelRefusal source defines kernel (errors.Refused condition place) =
+    IsNotCompiled source defines kernel condition place
 IsKernelRefusal source defines kernel errors.Memory = ⊤
 
 -- the same, once the unit is there
 abbrev pub IsUnitRefusal : List ℕ → List Define → (kernel : List ℕ) → SourceError → Type 0
-IsUnitRefusal source defines kernel (errors.Fault number place) = IsFaulty source defines kernel number place
+IsUnitRefusal source defines kernel (errors.Refused condition place) = IsFaulty source defines kernel condition place
 IsUnitRefusal source defines kernel errors.Memory = ⊤

@@ -1,5 +1,5 @@
 -- What a source is before its kernels are looked at: its tokens, what they expand to, and the unit that those spell.
-use Rattle.std.specs.Prelude.{◌≡◌, ◌<◌, ◌≤◌, ⊤, ℕ, List, [], ◌∷◌, length, drop}
+use Rattle.std.specs.Prelude.{◌≡◌, ◌<◌, ◌≤◌, ⊤, ℕ, List, [], ◌∷◌, length, drop, Option, Some, None}
 use Rattle.wg_num.specs.declared.types.Place.{Place}
 use Rattle.cl_token.specs.declared.token.Token.{Token}
 use Rattle.cl_token.specs.declared.token.LexError.{LexError}
@@ -13,6 +13,8 @@ use Rattle.cl_prep.specs.Expands.{Expands, IsRefused as IsUnexpanded}
 use Rattle.cl_tree.specs.Syntax.{Syntax, nesting}
 use Rattle.cl_tree.specs.Grammar.{SpellsUnit}
 use Rattle.cl_tree.specs.Places.{NoUnit, NoUnitWithin, SomeUnit, DeeperUnit}
+use Rattle.wg_front.specs.declared.condition.Condition.{Condition}
+use Rattle.wg_front.specs.declared.condition.Condition.TheVariants as conditions
 use Rattle.wg_front.specs.declared.front.SourceError.{SourceError}
 use Rattle.wg_front.specs.declared.front.SourceError.TheVariants as errors
 
@@ -45,58 +47,43 @@ start_of_first end (t ∷ ts) = t.start
 abbrev pub place_of_token : List ℕ → List Token → ℕ → Place
 place_of_token source tokens number = place_at source (start_of_first (length source) (drop number tokens))
 
--- the number and the place of an error of the tokens
-abbrev pub number_of_lexical : LexError → ℕ
-number_of_lexical (lexical.NoToken at) = 101
-number_of_lexical (lexical.OpenComment at) = 102
-number_of_lexical (lexical.BadNumber at) = 103
-number_of_lexical (lexical.LargeNumber at) = 104
-number_of_lexical lexical.TooLong = 105
-number_of_lexical lexical.Memory = 0
+-- the condition of an error of the tokens and the offset at which it stands, or none where memory ran out
+abbrev pub condition_of_lexical : LexError → Option (Condition × ℕ)
+condition_of_lexical (lexical.NoToken at) = Some (conditions.NoToken, at)
+condition_of_lexical (lexical.OpenComment at) = Some (conditions.OpenComment, at)
+condition_of_lexical (lexical.BadNumber at) = Some (conditions.BadNumber, at)
+condition_of_lexical (lexical.LargeNumber at) = Some (conditions.LargeNumber, at)
+condition_of_lexical lexical.TooLong = Some (conditions.TooLong, 0)
+condition_of_lexical lexical.Memory = None
 
-abbrev pub offset_of_lexical : LexError → ℕ
-offset_of_lexical (lexical.NoToken at) = at
-offset_of_lexical (lexical.OpenComment at) = at
-offset_of_lexical (lexical.BadNumber at) = at
-offset_of_lexical (lexical.LargeNumber at) = at
-offset_of_lexical lexical.TooLong = 0
-offset_of_lexical lexical.Memory = 0
+-- the condition of an error of the expansion and the token at which it stands, or none where memory ran out
+abbrev pub condition_of_expansion : PrepError → Option (Condition × ℕ)
+condition_of_expansion (prep.BadDirective token) = Some (conditions.BadDirective, token)
+condition_of_expansion (prep.NoName token) = Some (conditions.NoName, token)
+condition_of_expansion (prep.Redefined token) = Some (conditions.Redefined, token)
+condition_of_expansion (prep.NoOpening token) = Some (conditions.NoOpening, token)
+condition_of_expansion (prep.NotClosed token) = Some (conditions.NotClosed, token)
+condition_of_expansion (prep.TooMany token) = Some (conditions.TooMany, token)
+condition_of_expansion prep.Memory = None
 
--- the number and the token of an error of the expansion
-abbrev pub number_of_expansion : PrepError → ℕ
-number_of_expansion (prep.BadDirective token) = 201
-number_of_expansion (prep.NoName token) = 202
-number_of_expansion (prep.Redefined token) = 203
-number_of_expansion (prep.NoOpening token) = 204
-number_of_expansion (prep.NotClosed token) = 205
-number_of_expansion (prep.TooMany token) = 206
-number_of_expansion prep.Memory = 0
-
-abbrev pub token_of_expansion : PrepError → ℕ
-token_of_expansion (prep.BadDirective token) = token
-token_of_expansion (prep.NoName token) = token
-token_of_expansion (prep.Redefined token) = token
-token_of_expansion (prep.NoOpening token) = token
-token_of_expansion (prep.NotClosed token) = token
-token_of_expansion (prep.TooMany token) = token
-token_of_expansion prep.Memory = 0
-
--- The condition of that number stands at that place, and none before it.
-pub data StandsAt (source : List ℕ) (defines : List Define) (number : ℕ) (place : Place) : Type 0 where
-  uncut : (e : LexError) → IsUncut source e → number ≡ number_of_lexical e →
-      place ≡ place_at source (offset_of_lexical e) → StandsAt source defines number place
-  unexpanded : (tokens : List Token) (e : PrepError) → length source ≤ limit → Cuts source tokens →
+-- The condition stands at that place, and none before it.
+pub data StandsAt (source : List ℕ) (defines : List Define) (condition : Condition) (place : Place) : Type 0 where
+  uncut : (e : LexError) (at : ℕ) → IsUncut source e → condition_of_lexical e ≡ Some (condition, at) →
+      place ≡ place_at source at → StandsAt source defines condition place
+  unexpanded : (tokens : List Token) (e : PrepError) (at : ℕ) → length source ≤ limit → Cuts source tokens →
       IsUnexpanded tokens defines e
-      → number ≡ number_of_expansion e → place ≡ place_of_token source tokens (token_of_expansion e) →
-      StandsAt source defines number place
+      → condition_of_expansion e ≡ Some (condition, at) → place ≡ place_of_token source tokens at →
+      StandsAt source defines condition place
   no_unit : (tokens expanded : List Token) (at : ℕ) → Reads source defines tokens expanded → NoUnit expanded at →
       ((before : ℕ) → before < at → SomeUnit expanded before)
-      → number ≡ 301 → place ≡ place_of_token source expanded at → StandsAt source defines number place
+      → condition ≡ conditions.Syntax → place ≡ place_of_token source expanded at →
+      StandsAt source defines condition place
   too_deep : (tokens expanded : List Token) (at : ℕ) → Reads source defines tokens expanded →
       NoUnitWithin 256 expanded at → DeeperUnit 256 expanded at
-      → number ≡ 302 → place ≡ place_of_token source expanded at → StandsAt source defines number place
+      → condition ≡ conditions.Nesting → place ≡ place_of_token source expanded at →
+      StandsAt source defines condition place
 
 -- The source is refused with this error, or memory ran out.
 abbrev pub IsRefusal : List ℕ → List Define → SourceError → Type 0
-IsRefusal source defines (errors.Fault number place) = StandsAt source defines number place
+IsRefusal source defines (errors.Refused condition place) = StandsAt source defines condition place
 IsRefusal source defines errors.Memory = ⊤

@@ -1,3 +1,4 @@
+pub mod Conditions
 pub mod Front
 pub mod Compiled
 pub mod Law

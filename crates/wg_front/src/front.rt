@@ -8,9 +8,10 @@ ghost use Rattle.cl_prep.specs.Expands.{token_limit};
 ghost use Rattle.cl_prep.specs.Progress.{IsRefusedOrMemory as IsUnexpandedOrMemory};
 ghost use Rattle.cl_tree.specs.Syntax.{view, nesting};
 ghost use Rattle.cl_tree.specs.Grammar.{SpellsUnit};
-ghost use Rattle.wg_front.specs.Front.{Reads, AreExpanded, IsRefusal, place_of_token, number_of_lexical};
-ghost use Rattle.wg_front.specs.Front.{offset_of_lexical, number_of_expansion, token_of_expansion};
+ghost use Rattle.wg_front.specs.Front.{Reads, AreExpanded, IsRefusal, place_of_token, condition_of_lexical};
+ghost use Rattle.wg_front.specs.Front.{condition_of_expansion};
 
+use crate::condition::Condition;
 use cl_parse::{ParseError, parse};
 use cl_prep::{Defines, PrepError, expand};
 use cl_token::{LexError, Token, place_of, tokens};
@@ -21,8 +22,8 @@ use wg_num::Place;
 /// Why a source is refused.
 #[derive(Clone, Copy)]
 pub enum SourceError {
-    /// The condition of that number stands at that place.
-    Fault { number: u16, place: Place },
+    /// The condition stands at that place.
+    Refused { condition: Condition, place: Place },
     Memory,
 }
 
@@ -38,31 +39,18 @@ pub(crate) fn token_place(source: &[u8], tokens: &[Token], number: u32) -> Place
     }
 }
 
-// The number of an error of the tokens.
-fn lexical_number(error: LexError) -> u16
-    ensures { result ≡ number_of_lexical error }
+// The condition of an error of the tokens and the offset at which it stands, or none where memory
+// ran out.
+fn lexical_condition(error: LexError) -> Option<(Condition, u32)>
+    ensures { result ≡ condition_of_lexical error }
 {
     match error {
-        LexError::NoToken { .. } => 101,
-        LexError::OpenComment { .. } => 102,
-        LexError::BadNumber { .. } => 103,
-        LexError::LargeNumber { .. } => 104,
-        LexError::TooLong => 105,
-        LexError::Memory => 0,
-    }
-}
-
-// The offset at which it stands.
-fn lexical_offset(error: LexError) -> u32
-    ensures { result ≡ offset_of_lexical error }
-{
-    match error {
-        LexError::NoToken { at } => at,
-        LexError::OpenComment { at } => at,
-        LexError::BadNumber { at } => at,
-        LexError::LargeNumber { at } => at,
-        LexError::TooLong => 0,
-        LexError::Memory => 0,
+        LexError::NoToken { at } => Some((Condition::NoToken, at)),
+        LexError::OpenComment { at } => Some((Condition::OpenComment, at)),
+        LexError::BadNumber { at } => Some((Condition::BadNumber, at)),
+        LexError::LargeNumber { at } => Some((Condition::LargeNumber, at)),
+        LexError::TooLong => Some((Condition::TooLong, 0)),
+        LexError::Memory => None,
     }
 }
 
@@ -71,13 +59,12 @@ fn uncut(source: &[u8], error: LexError) -> SourceError
     requires { IsUncutOrMemory source.now error }
     ensures { (defines : List Define) → IsRefusal source.now defines result }
 {
-    let number = lexical_number(error);
-    if number == 0 {
-        return SourceError::Memory;
-    }
-    SourceError::Fault {
-        number,
-        place: place_of(source, lexical_offset(error)),
+    match lexical_condition(error) {
+        Some((condition, at)) => SourceError::Refused {
+            condition,
+            place: place_of(source, at),
+        },
+        None => SourceError::Memory,
     }
 }
 
@@ -94,33 +81,19 @@ fn cut_source(alloc: Global, source: &[u8]) -> Result<Vec<Token>, SourceError>
     }
 }
 
-// The number of an error of the expansion.
-fn expansion_number(error: PrepError) -> u16
-    ensures { result ≡ number_of_expansion error }
+// The condition of an error of the expansion and the token at which it stands, or none where memory
+// ran out.
+fn expansion_condition(error: PrepError) -> Option<(Condition, u32)>
+    ensures { result ≡ condition_of_expansion error }
 {
     match error {
-        PrepError::BadDirective { .. } => 201,
-        PrepError::NoName { .. } => 202,
-        PrepError::Redefined { .. } => 203,
-        PrepError::NoOpening { .. } => 204,
-        PrepError::NotClosed { .. } => 205,
-        PrepError::TooMany { .. } => 206,
-        PrepError::Memory => 0,
-    }
-}
-
-// The number of the token at which it stands.
-fn expansion_token(error: PrepError) -> u32
-    ensures { result ≡ token_of_expansion error }
-{
-    match error {
-        PrepError::BadDirective { token } => token,
-        PrepError::NoName { token } => token,
-        PrepError::Redefined { token } => token,
-        PrepError::NoOpening { token } => token,
-        PrepError::NotClosed { token } => token,
-        PrepError::TooMany { token } => token,
-        PrepError::Memory => 0,
+        PrepError::BadDirective { token } => Some((Condition::BadDirective, token)),
+        PrepError::NoName { token } => Some((Condition::NoName, token)),
+        PrepError::Redefined { token } => Some((Condition::Redefined, token)),
+        PrepError::NoOpening { token } => Some((Condition::NoOpening, token)),
+        PrepError::NotClosed { token } => Some((Condition::NotClosed, token)),
+        PrepError::TooMany { token } => Some((Condition::TooMany, token)),
+        PrepError::Memory => None,
     }
 }
 
@@ -132,13 +105,12 @@ fn unexpanded(source: &[u8], defines: &Defines, tokens: &[Token], error: PrepErr
     requires refused { IsUnexpandedOrMemory tokens.now defines.now.list.items error }
     ensures { IsRefusal source.now defines.now.list.items result }
 {
-    let number = expansion_number(error);
-    if number == 0 {
-        return SourceError::Memory;
-    }
-    SourceError::Fault {
-        number,
-        place: token_place(source, tokens, expansion_token(error)),
+    match expansion_condition(error) {
+        Some((condition, token)) => SourceError::Refused {
+            condition,
+            place: token_place(source, tokens, token),
+        },
+        None => SourceError::Memory,
     }
 }
 
@@ -198,12 +170,12 @@ pub fn read_unit(alloc: Global, source: &[u8], expanded: &[Token]) -> Result<Tre
 {
     match parse(alloc, expanded) {
         Ok(unit) => Ok(unit),
-        Err(ParseError::Syntax { token }) => Err(SourceError::Fault {
-            number: 301,
+        Err(ParseError::Syntax { token }) => Err(SourceError::Refused {
+            condition: Condition::Syntax,
             place: token_place(source, expanded, token),
         }),
-        Err(ParseError::Nesting { token }) => Err(SourceError::Fault {
-            number: 302,
+        Err(ParseError::Nesting { token }) => Err(SourceError::Refused {
+            condition: Condition::Nesting,
             place: token_place(source, expanded, token),
         }),
         Err(ParseError::Memory) => Err(SourceError::Memory),

@@ -9,6 +9,7 @@ ghost use Rattle.wg_front.specs.Front.{IsRefusal, IsSource, place_of_token};
 ghost use Rattle.wg_front.specs.Compiled.{IsCompiled, IsKernelRefusal, IsUnitRefusal, places_of};
 ghost use Rattle.wg_front.specs.declared.front.SourceError.TheVariants as errors;
 
+use crate::condition::Condition;
 use crate::front::{SourceError, read_tokens, read_unit};
 use cl_check::{CheckError, check};
 use cl_model::Program;
@@ -100,8 +101,8 @@ pub fn compile_kernel(alloc: Global, source: &Source, kernel: &[u8]) -> Result<P
 {
     match check(alloc, &source.unit, &source.places, kernel) {
         Ok(program) => Ok(program),
-        Err(CheckError::Fault { fault, token }) => Err(SourceError::Fault {
-            number: fault.number(),
+        Err(CheckError::Fault { fault, token }) => Err(SourceError::Refused {
+            condition: Condition::Unit(fault),
             place: token_place(source, token),
         }),
         Err(CheckError::Memory) => Err(SourceError::Memory),

@@ -14,6 +14,7 @@ use Rattle.launch_file.proofs.Unique.{one_text, read_or_refused}
 use Rattle.wg_top.specs.declared.RunError.{RunError}
 use Rattle.wg_top.specs.declared.RunError.TheVariants.{Failed, Absent, Source, Launch, Range, Parted, Turns, Memory}
 use Rattle.cl_meaning.specs.Typed.{Unit'}
+use Rattle.wg_front.specs.declared.condition.Condition.{Condition}
 use Rattle.wg_front.specs.Front.{HasUnit}
 use Rattle.lane_code.specs.declared.end.RunEnd.TheVariants as run
 use Rattle.lane_code.specs.Program.{Plain}
@@ -53,10 +54,10 @@ same_text bytes others ask a b same x y =
     one_text bytes ask.lanes ask.turns a b x (subst (λ (bs : List ℕ). Reads bs ask.lanes ask.turns b) (sym same) y)
 
 -- a source that is compiled for each launch is not at fault
-pub no_fault : (bytes others : List ℕ) (text other : Text) (s : List Unit') (number : ℕ) (place : _) →
-    bytes ≡ others → text ≡ other → IsSourceFault bytes text number place → HasUnit others other.defines →
-    AreCompiled others other.defines other.list s → ⊥
-no_fault bytes others text other s number place same_bytes same fault unit are =
+pub no_fault : (bytes others : List ℕ) (text other : Text) (s : List Unit') (condition : Condition)
+    (place : _) → bytes ≡ others → text ≡ other → IsSourceFault bytes text condition place →
+    HasUnit others other.defines → AreCompiled others other.defines other.list s → ⊥
+no_fault bytes others text other s condition place same_bytes same fault unit are =
     let u : HasUnit bytes text.defines =
     subst (λ (t : Text). HasUnit bytes t.defines) (sym same) (subst (λ (b : List ℕ). HasUnit b other.defines)
     (sym same_bytes) unit) in
@@ -64,8 +65,8 @@ no_fault bytes others text other s number place same_bytes same fault unit are =
     subst (λ (t : Text). AreCompiled bytes t.defines t.list s) (sym same)
     (subst (λ (b : List ℕ). AreCompiled b other.defines other.list s) (sym same_bytes) are) in
     elim fault [
-      | inl stands ↦ refused_or_unit bytes text.defines number place stands u
-      | inr first ↦ no_refused bytes text.defines text.list s number place first c
+      | inl stands ↦ refused_or_unit bytes text.defines condition place stands u
+      | inr first ↦ no_refused bytes text.defines text.list s condition place first c
     ]
 
 -- two readings have the same typed units

@@ -11,6 +11,7 @@ use Rattle.launch_file.specs.Binding.{loads_of, lengths_of}
 use Rattle.launch_file.specs.Refusals.{Reads}
 use Rattle.launch_file.specs.Texts.{Text}
 use Rattle.launch_file.proofs.Unique.{read_or_refused}
+use Rattle.wg_front.specs.declared.condition.Condition.{Condition}
 use Rattle.wg_top.specs.declared.RunError.{RunError}
 use Rattle.wg_top.specs.declared.RunError.TheVariants.{Failed, Absent, Source, Launch, Range, Parted, Turns, Memory}
 use Rattle.wg_top.specs.declared.Summary.{Summary}
@@ -35,7 +36,7 @@ data Found (files : Option FileMap) (ask : Files) : Type 0 where
   no_source : LacksFile files ask.source → Found files ask
   no_launch : (bytes : List ℕ) → SourceLoaded files ask.source bytes → LacksFile files ask.launch → Found files ask
   bad_launch : (number : ℕ) → TextRefused files ask number → Found files ask
-  bad_source : (number : ℕ) (place : Place) → SourceRefused files ask number place → Found files ask
+  bad_source : (condition : Condition) (place : Place) → SourceRefused files ask condition place → Found files ask
   bad_bind : (number : ℕ) → BindRefused files ask number → Found files ask
   no_buffer : (text : Text) (s : List Unit') → RunBound files ask text s →
       LacksOneFile files (loads_of text.buffers) → Found files ask
@@ -75,15 +76,15 @@ launch_differs fs ask number bytes text refused loaded reads =
     read_or_refused refused.launch_bytes ask.lanes ask.turns text number
     (subst (λ (b : List ℕ). Reads b ask.lanes ask.turns text) same reads) refused.refused
 
-pub source_differs : (fs : FileMap) (ask : Files) (number : ℕ) (place : Place) (text : Text) (s : List Unit') →
-    SourceRefused (Some fs) ask number place → RunRead (Some fs) ask text s → ⊥
-source_differs fs ask number place text s refused read =
+pub source_differs : (fs : FileMap) (ask : Files) (condition : Condition) (place : Place) (text : Text)
+    (s : List Unit') → SourceRefused (Some fs) ask condition place → RunRead (Some fs) ask text s → ⊥
+source_differs fs ask condition place text s refused read =
     let same = same_text refused.launch_bytes read.launch_bytes ask refused.text text
     (same_start fs ask.launch 1048577 refused.launch_bytes read.launch_bytes refused.launch_loaded
     read.launch_loaded) refused.reads read.reads in
     let bytes = same_start fs ask.source 262145 refused.source_bytes read.source_bytes refused.source_loaded
     read.source_loaded in
-    no_fault refused.source_bytes read.source_bytes refused.text text s number place bytes same refused.fault
+    no_fault refused.source_bytes read.source_bytes refused.text text s condition place bytes same refused.fault
     read.unit read.compiled
 
 two_texts : (fs : FileMap) (ask : Files) (text other : Text) (s t : List Unit') → RunRead (Some fs) ask text s →

@@ -8,6 +8,7 @@ use Rattle.cl_prep.specs.declared.prep.Define.{Define}
 use Rattle.cl_meaning.specs.Typed.{Unit'}
 use Rattle.launch_file.specs.declared.text.LaunchPart.{LaunchPart}
 use Rattle.launch_file.specs.Texts.{Text, Part, part_of}
+use Rattle.wg_front.specs.declared.condition.Condition.{Condition}
 use Rattle.wg_front.specs.Compiled.{IsCompiled, IsFaulty}
 use Rattle.wg_front.proofs.CompileLemmas.{refused_or_compiled, one_typed}
 use Rattle.wg_top.specs.declared.RunError.{RunError}
@@ -28,13 +29,14 @@ one_units bytes defines [] [] (v ∷ vs) x y = absurd y
 one_units bytes defines (part ∷ parts) [] vs x y = absurd x
 one_units bytes defines (part ∷ parts) (u ∷ us) [] x y = absurd y
 
-pub no_refused : (bytes : List ℕ) (defines : List Define) (parts : List Part) (us : List Unit') (number : ℕ)
-    (place : Place) → IsFirstRefused bytes defines parts number place → AreCompiled bytes defines parts us → ⊥
-no_refused bytes defines [] us number place refused are = refused
-no_refused bytes defines (part ∷ parts) [] number place refused are = are
-no_refused bytes defines (part ∷ parts) (u ∷ us) number place refused are = elim refused [
-  | inl faulty ↦ refused_or_compiled bytes defines part.kernel number place u (inr faulty) are.0
-  | inr later ↦ no_refused bytes defines parts us number place later.1 are.1
+pub no_refused : (bytes : List ℕ) (defines : List Define) (parts : List Part) (us : List Unit')
+    (condition : Condition) (place : Place) → IsFirstRefused bytes defines parts condition place →
+    AreCompiled bytes defines parts us → ⊥
+no_refused bytes defines [] us condition place refused are = refused
+no_refused bytes defines (part ∷ parts) [] condition place refused are = are
+no_refused bytes defines (part ∷ parts) (u ∷ us) condition place refused are = elim refused [
+  | inl faulty ↦ refused_or_compiled bytes defines part.kernel condition place u (inr faulty) are.0
+  | inr later ↦ no_refused bytes defines parts us condition place later.1 are.1
 ]
 
 -- ---- one launch more
@@ -49,13 +51,17 @@ compiled_behind bytes defines [] (v ∷ us) part u are one = absurd are
 compiled_behind bytes defines (p ∷ parts) [] part u are one = absurd are
 
 refused_behind : (bytes : List ℕ) (defines : List Define) (parts : List Part) (us : List Unit') (part : Part)
-    (rest : List Part) (number : ℕ) (place : Place) → AreCompiled bytes defines parts us →
-    IsFaulty bytes defines part.kernel number place → IsFirstRefused bytes defines (parts ++ (part ∷ rest)) number place
-refused_behind bytes defines [] [] part rest number place are one = inl one
-refused_behind bytes defines (p ∷ parts) (v ∷ us) part rest number place are one =
-    inr (record { typed = v; compiled = are.0 }, refused_behind bytes defines parts us part rest number place are.1 one)
-refused_behind bytes defines [] (v ∷ us) part rest number place are one = absurd are
-refused_behind bytes defines (p ∷ parts) [] part rest number place are one = absurd are
+    (rest : List Part) (condition : Condition) (place : Place) → AreCompiled bytes defines parts us →
+    IsFaulty bytes defines part.kernel condition place →
+    IsFirstRefused bytes defines (parts ++ (part ∷ rest)) condition place
+refused_behind bytes defines [] [] part rest condition place are one = inl one
+refused_behind bytes defines (p ∷ parts) (v ∷ us) part rest condition place are one =
+    inr (
+      record { typed = v; compiled = are.0 },
+      refused_behind bytes defines parts us part rest condition place are.1 one,
+    )
+refused_behind bytes defines [] (v ∷ us) part rest condition place are one = absurd are
+refused_behind bytes defines (p ∷ parts) [] part rest condition place are one = absurd are
 
 -- the first of some things, by what is seen of them, and one more
 module _ {X P : Type 0} (view : X → P) (xs : List X) (k : ℕ) (x : X) (lt : k < length xs) (is : x ≡ get_or xs k x) where
@@ -97,18 +103,18 @@ pub one_refused : {X : Type 0} (unit : X → Unit') (bytes : List ℕ) (defines 
     (k : ℕ) (part : LaunchPart) (kernels : List X) (e : RunError) → k < length list → part ≡ get_or list k part
     → AreCompiled bytes defines (map part_of (take k list)) (map unit kernels) →
     KernelCause bytes defines (part_of part).kernel e → KernelsCause bytes defines (map part_of list) e
-one_refused unit bytes defines list k part kernels (Source number place) lt is are cause =
-    subst (λ (ps : List Part). IsFirstRefused bytes defines ps number place)
+one_refused unit bytes defines list k part kernels (Source condition place) lt is are cause =
+    subst (λ (ps : List Part). IsFirstRefused bytes defines ps condition place)
     (sym (split_of part_of list k part lt is)) (refused_behind bytes defines (map part_of (take k list))
-    (map unit kernels) (part_of part) (map part_of (drop (suc k) list)) number place are cause)
+    (map unit kernels) (part_of part) (map part_of (drop (suc k) list)) condition place are cause)
 one_refused unit bytes defines list k part kernels Memory lt is are cause = tt
 one_refused unit bytes defines list k part kernels _ lt is are cause = absurd cause
 
 -- the launches' refusal is one of the source
 pub kernels_cause : (bytes : List ℕ) (text : Text) (parts : List Part) (e : RunError) → parts ≡ text.list →
     KernelsCause bytes text.defines parts e → ProgramCause bytes text e
-kernels_cause bytes text parts (Source number place) same cause =
-    inr (subst (λ (ps : List Part). IsFirstRefused bytes text.defines ps number place) same cause)
+kernels_cause bytes text parts (Source condition place) same cause =
+    inr (subst (λ (ps : List Part). IsFirstRefused bytes text.defines ps condition place) same cause)
 kernels_cause bytes text parts Memory same cause = tt
 kernels_cause bytes text parts _ same cause = absurd cause
 

@@ -13,6 +13,7 @@ use Rattle.wg_top.specs.declared.RunError.{RunError}
 use Rattle.wg_top.specs.declared.RunError.TheVariants.{Failed, Absent, Source, Launch, Range, Parted, Turns, Memory}
 use Rattle.wg_top.specs.declared.Summary.{Summary}
 use Rattle.cl_meaning.specs.Typed.{Unit'}
+use Rattle.wg_front.specs.declared.condition.Condition.{Condition}
 use Rattle.wg_front.specs.Front.{HasUnit, StandsAt}
 use Rattle.wg_top.specs.Units.{AreCompiled, IsFirstRefused, bind_refusal}
 use Rattle.wg_top.specs.Launches.{launches_in, LaunchesRan, EndsSo, all_groups, all_items}
@@ -75,21 +76,21 @@ pub record BindRefused (files : Option FileMap) (ask : Files) (number : ℕ) : T
   pub read : RunRead files ask text units
   pub refused : bind_refusal text units ≡ Some number
 
--- the condition of that number stands of the source at that place: a source without a unit comes first, then the
--- first launch whose kernel is at fault
-abbrev pub IsSourceFault : List ℕ → Text → ℕ → Place → Type 0
-IsSourceFault bytes text number place =
-    StandsAt bytes text.defines number place ⊎ IsFirstRefused bytes text.defines text.list number place
+-- the condition stands of the source at that place: a source without a unit comes first, then the first launch whose
+-- kernel is at fault
+abbrev pub IsSourceFault : List ℕ → Text → Condition → Place → Type 0
+IsSourceFault bytes text condition place =
+    StandsAt bytes text.defines condition place ⊎ IsFirstRefused bytes text.defines text.list condition place
 
--- the launch file was read, and the condition of that number stands of the source at that place
-pub record SourceRefused (files : Option FileMap) (ask : Files) (number : ℕ) (place : Place) : Type 0 where
+-- the launch file was read, and the condition stands of the source at that place
+pub record SourceRefused (files : Option FileMap) (ask : Files) (condition : Condition) (place : Place) : Type 0 where
   pub text : Text
   pub source_bytes : List ℕ
   pub source_loaded : SourceLoaded files ask.source source_bytes
   pub launch_bytes : List ℕ
   pub launch_loaded : LaunchLoaded files ask.launch launch_bytes
   pub reads : Reads launch_bytes ask.lanes ask.turns text
-  pub fault : IsSourceFault source_bytes text number place
+  pub fault : IsSourceFault source_bytes text condition place
 
 -- where files are told, the source is not among them, or the launch file where the source is there
 abbrev pub LacksText : Option FileMap → Files → Type 0
@@ -141,7 +142,7 @@ pub record RunStops (files : Option FileMap) (ask : Files) (error : RunError) : 
 abbrev pub Finds : Option FileMap → Files → RunError → Type 0
 Finds files ask Failed = ⊥
 Finds files ask Absent = LacksName files ask
-Finds files ask (Source number place) = SourceRefused files ask number place
+Finds files ask (Source condition place) = SourceRefused files ask condition place
 Finds files ask (Launch number) = TextRefused files ask number ⊎ BindRefused files ask number
 Finds files ask (Range launch several group item place) = RunStopped files ask (Range launch several group item place)
 Finds files ask (Parted launch several group item place) = RunStopped files ask (Parted launch several group item place)
@@ -151,7 +152,7 @@ Finds files ask Memory = ⊥
 -- the same of a command that runs nothing
 abbrev pub ReadingFinds : Option FileMap → Files → RunError → Type 0
 ReadingFinds files ask Absent = LacksText files ask
-ReadingFinds files ask (Source number place) = SourceRefused files ask number place
+ReadingFinds files ask (Source condition place) = SourceRefused files ask condition place
 ReadingFinds files ask (Launch number) = TextRefused files ask number
 ReadingFinds files ask _ = ⊥
 
@@ -159,7 +160,7 @@ ReadingFinds files ask _ = ⊥
 abbrev pub Cause : Standing → Standing → Files → RunError → Type 0
 Cause old new ask Failed = Rose old.faults new.faults
 Cause old new ask Absent = Rose old.misses new.misses × Finds old.files ask Absent
-Cause old new ask (Source number place) = Finds old.files ask (Source number place)
+Cause old new ask (Source condition place) = Finds old.files ask (Source condition place)
 Cause old new ask (Launch number) = Finds old.files ask (Launch number)
 Cause old new ask (Range launch several group item place) =
     RunStops old.files ask (Range launch several group item place)
@@ -172,7 +173,7 @@ Cause old new ask Memory = ⊤
 abbrev pub ReadingCause : Standing → Standing → Files → RunError → Type 0
 ReadingCause old new ask Failed = Rose old.faults new.faults
 ReadingCause old new ask Absent = Rose old.misses new.misses × LacksText old.files ask
-ReadingCause old new ask (Source number place) = SourceRefused old.files ask number place
+ReadingCause old new ask (Source condition place) = SourceRefused old.files ask condition place
 ReadingCause old new ask (Launch number) = TextRefused old.files ask number
 ReadingCause old new ask Memory = ⊤
 ReadingCause old new ask _ = ⊥

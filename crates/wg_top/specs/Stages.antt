@@ -36,19 +36,19 @@ LaunchCause old new launch lanes turns _ = ⊥
 
 -- the cause of a refusal of the source's bytes
 abbrev pub ProgramCause : List ℕ → Text → RunError → Type 0
-ProgramCause bytes text (Source number place) = IsSourceFault bytes text number place
+ProgramCause bytes text (Source condition place) = IsSourceFault bytes text condition place
 ProgramCause bytes text Memory = ⊤
 ProgramCause bytes text _ = ⊥
 
 -- the cause of a refusal of a launch's kernel, once the source has a unit
 abbrev pub KernelCause : List ℕ → List Define → (kernel : List ℕ) → RunError → Type 0
-KernelCause bytes defines kernel (Source number place) = IsFaulty bytes defines kernel number place
+KernelCause bytes defines kernel (Source condition place) = IsFaulty bytes defines kernel condition place
 KernelCause bytes defines kernel Memory = ⊤
 KernelCause bytes defines kernel _ = ⊥
 
 -- the same of the launches' kernels
 abbrev pub KernelsCause : List ℕ → List Define → List Part → RunError → Type 0
-KernelsCause bytes defines parts (Source number place) = IsFirstRefused bytes defines parts number place
+KernelsCause bytes defines parts (Source condition place) = IsFirstRefused bytes defines parts condition place
 KernelsCause bytes defines parts Memory = ⊤
 KernelsCause bytes defines parts _ = ⊥
 

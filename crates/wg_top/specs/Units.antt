@@ -7,6 +7,7 @@ use Rattle.launch_file.specs.declared.text.BufferText.{BufferText}
 use Rattle.launch_file.specs.Binding.{Needs, launch_refusal}
 use Rattle.launch_file.specs.Texts.{Text, Part}
 use Rattle.launch_bind.specs.Needed.{needs_of_kernel}
+use Rattle.wg_front.specs.declared.condition.Condition.{Condition}
 use Rattle.wg_front.specs.Compiled.{IsCompiled, IsFaulty}
 
 -- what the launches of a unit's kernel must meet
@@ -26,11 +27,11 @@ pub record Compiles (source : List ℕ) (defines : List Define) (kernel : List �
   pub compiled : IsCompiled source defines kernel typed
 
 -- the kernel of the first launch that is at fault
-abbrev pub IsFirstRefused : List ℕ → List Define → List Part → ℕ → Place → Type 0
-IsFirstRefused source defines [] number place = ⊥
-IsFirstRefused source defines (part ∷ parts) number place =
-    IsFaulty source defines part.kernel number place ⊎
-    (Compiles source defines part.kernel × IsFirstRefused source defines parts number place)
+abbrev pub IsFirstRefused : List ℕ → List Define → List Part → Condition → Place → Type 0
+IsFirstRefused source defines [] condition place = ⊥
+IsFirstRefused source defines (part ∷ parts) condition place =
+    IsFaulty source defines part.kernel condition place ⊎
+    (Compiles source defines part.kernel × IsFirstRefused source defines parts condition place)
 
 -- what is there, or what comes later
 abbrev pub or_later : Option ℕ → Option ℕ → Option ℕ

@@ -18,6 +18,7 @@ use crate::sample::{SAMPLE, sample_sum};
 use crate::texts::{Shown, show_source};
 use command_words::{FileWords, Words, WordsError, read_words};
 use std::alloc::Global;
+use wg_front::Condition;
 use wg_num::Place;
 use wg_outside::{Failed, Sink, Store};
 
@@ -41,9 +42,9 @@ pub enum RunError {
     Failed,
     /// A file that the run loads is not there.
     Absent,
-    /// The condition of that number stands at that place of the source.
+    /// The condition stands at that place of the source.
     Source {
-        number: u16,
+        condition: Condition,
         place: Place,
     },
     /// The condition of that number stands of the launch file.

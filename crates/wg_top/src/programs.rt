@@ -28,7 +28,7 @@ fn refused(error: SourceError) -> RunError
         IsUnitRefusal bytes defines kernel error → KernelCause bytes defines kernel result }
 {
     match error {
-        SourceError::Fault { number, place } => RunError::Source { number, place },
+        SourceError::Refused { condition, place } => RunError::Source { condition, place },
         SourceError::Memory => RunError::Memory,
     }
 }
