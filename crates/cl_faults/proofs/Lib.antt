@@ -1,6 +1,6 @@
 pub mod Known
 pub mod Counts
-pub mod Signatures
+pub mod SameParameters
 pub mod Reaching
 pub mod LeastFaults
 pub mod PlacesAside

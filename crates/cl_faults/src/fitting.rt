@@ -175,7 +175,7 @@ pub fn same_parameter(left: Parameter, right: Parameter) -> bool
 }
 
 /// Whether two functions take the same.
-#[tactic(auto, using(crate::proofs::Signatures::ends_before))]
+#[tactic(auto, using(crate::proofs::SameParameters::ends_before))]
 pub fn same_parameters(left: &[Parameter], right: &[Parameter]) -> bool
     ensures { result ≡ faults.same_parameters left.now right.now }
 {
