@@ -1,7 +1,7 @@
 -- From a source to its unit: what is refused, and that nothing is both.
-use Rattle.std.proofs.Common.{◌≡◌, ℕ, ◌+◌, ◌<◌, ◌≤◌, Bool, List, [], ◌∷◌, ◌++◌, length, take, drop, Option, Some}
-use Rattle.std.proofs.Common.{None, inl, inr, refl, sym, ◌∙◌, subst, arith, length-append}
-use Rattle.std.specs.Prelude.{◌⊎◌, IfErr, Result, Ok, Err}
+use Rattle.std.proofs.Common.{◌≡◌, ℕ, ◌+◌, ◌<◌, ◌≤◌, Bool, List, [], ◌∷◌, ◌++◌, length, drop, Option, Some}
+use Rattle.std.proofs.Common.{None, inl, inr, refl, sym, ◌∙◌, ap, subst, arith, length-append}
+use Rattle.std.specs.Prelude.{Err}
 use Rattle.std.proofs.lemmas.Bool.{cases_lt}
 use Rattle.std.proofs.lemmas.List.{take-append-drop}
 use Rattle.wg_num.specs.declared.types.Place.{Place}
@@ -18,7 +18,6 @@ use Rattle.cl_prep.specs.declared.prep.Define.{Define}
 use Rattle.cl_prep.specs.declared.prep.PrepError.{PrepError}
 use Rattle.cl_prep.specs.declared.prep.PrepError.TheVariants as prep
 use Rattle.cl_prep.specs.Names.{Names}
-use Rattle.cl_prep.specs.Start.{start_names, with_defines}
 use Rattle.cl_prep.specs.Expands.{Expands, Ends, defined_twice, fails, start_state, IsRefused as IsUnexpanded}
 use Rattle.cl_prep.specs.Progress.{IsRefusedOrMemory as IsUnexpandedOrMemory}
 use Rattle.cl_prep.proofs.Unique.{one_out, ends_or_fails}
@@ -62,17 +61,22 @@ pub few_tokens : (source : List ℕ) (ts : List Token) → Cuts source ts → le
 few_tokens source ts h =
     omega (arith, cut_count source h.at h.first [] ts h.whole, cut_size source h.at h.first [] ts h.whole)
 
+-- the offset at which a condition stands, where there is one
+abbrev at_of : Option (Condition × ℕ) → ℕ
+at_of None = 0
+at_of (Some found) = found.1
+
 pub uncut_within : (source : List ℕ) (e : LexError) (condition : Condition) (at : ℕ) →
     condition_of_lexical e ≡ Some (condition, at) → IsUncutOrMemory source e → at ≤ length source
 uncut_within source (lexical.NoToken n) condition at same h =
-    let here : n ≡ at = cc in omega (arith, here, cut_size source n h.1.first h.1.rest h.1.before h.1.cut)
+    let here : n ≡ at = ap at_of same in omega (arith, here, cut_size source n h.1.first h.1.rest h.1.before h.1.cut)
 uncut_within source (lexical.OpenComment n) condition at same h =
-    let here : n ≡ at = cc in omega (arith, here, cut_size source n h.1.first h.1.rest h.1.before h.1.cut)
+    let here : n ≡ at = ap at_of same in omega (arith, here, cut_size source n h.1.first h.1.rest h.1.before h.1.cut)
 uncut_within source (lexical.BadNumber n) condition at same h =
-    let here : n ≡ at = cc in omega (arith, here, cut_size source n h.1.first h.1.rest h.1.before h.1.cut)
+    let here : n ≡ at = ap at_of same in omega (arith, here, cut_size source n h.1.first h.1.rest h.1.before h.1.cut)
 uncut_within source (lexical.LargeNumber n) condition at same h =
-    let here : n ≡ at = cc in omega (arith, here, cut_size source n h.1.first h.1.rest h.1.before h.1.cut)
-uncut_within source lexical.TooLong condition at same h = let here : 0 ≡ at = cc in omega (arith, here)
+    let here : n ≡ at = ap at_of same in omega (arith, here, cut_size source n h.1.first h.1.rest h.1.before h.1.cut)
+uncut_within source lexical.TooLong condition at same h = let here : 0 ≡ at = ap at_of same in omega (arith, here)
 uncut_within source lexical.Memory condition at same h = let never : ⊥ = cc in absurd never
 
 -- ---- refusals

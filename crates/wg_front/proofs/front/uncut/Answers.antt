@@ -1,11 +1,11 @@
+use Rattle.std.proofs.Common.{sym, ◌∙◌}
 use Rattle.wg_front.proofs.FrontLemmas.{uncut_within, uncut_stands}
 use Rattle.wg_front.proofs.front.uncut.Goals as goal
 
 pub place_of-requires : goal.place_of-requires
-place_of-requires c =
-    uncut_within c.args.source.now c.args.error c.lexical_offset.result c.lexical_offset.ensures c.requires
+place_of-requires c = uncut_within c.args.source.now c.args.error c.in-Some.condition c.in-Some.at
+    (sym c.lexical_condition.ensures ∙ c.in-Some.is) c.requires
 
-pub returns : goal.returns
-returns c = uncut_stands c.args.source.now c.args.error c.lexical_number-number.result c.lexical_offset.result
-    c.place_of.result c.requires c.lexical_number-number.ensures c.if-number-eq0.false c.lexical_offset.ensures
-    c.place_of.ensures
+pub returns-in-Some : goal.returns-in-Some
+returns-in-Some c = uncut_stands c.args.source.now c.args.error c.in-Some.condition c.in-Some.at c.place_of.result
+    c.requires (sym c.lexical_condition.ensures ∙ c.in-Some.is) c.place_of.ensures
