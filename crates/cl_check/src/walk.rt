@@ -229,11 +229,11 @@ fn judge(
 ) -> Result<Piece, CheckError>
     ensures made { IfOk result (λ p. (end : Env) → inner_of inner ≡ inner_at (form_of (view tree.now)) end →
         IsJudged (asked_of walk.entry.asked.now) (env_of walk.entry.places.now environment.old) end sites.old.items role
-        (view tree.now)
-        (map piece_of parts.pieces.items) parts.kinds.items (env_of walk.entry.places.now environment.new)
-        sites.new.items (piece_of p)) }
+        (view tree.now) (map piece_of parts.pieces.items) parts.kinds.items
+        (env_of walk.entry.places.now environment.new) sites.new.items (piece_of p)) }
     ensures faulted { IfFault result (λ k token.
-        IsAtFault (asked_of walk.entry.asked.now) (length walk.entry.places.now) (looked_in (env_of walk.entry.places.now environment.old) role (view tree.now) parts.kinds.items)
+        IsAtFault (asked_of walk.entry.asked.now) (length walk.entry.places.now)
+        (looked_in (env_of walk.entry.places.now environment.old) role (view tree.now) parts.kinds.items)
         (first_of (view tree.now)) k token) }
 {
     let kinds = parts.kinds.as_slice();
