@@ -176,8 +176,8 @@ fn build(
     kind: Option<Kind>,
 ) -> Result<Piece, Memory>
     ensures { IfOk result (λ p. (end : Env) → inner_of inner ≡ inner_at (form_of (view tree.now)) end →
-        IsBuilt (env_of walk.places.now environment.old) end sites.old.items (view tree.now)
-        (map piece_of parts.pieces.items) parts.kinds.items kind (env_of walk.places.now environment.new)
+        IsBuilt (env_of walk.entry.places.now environment.old) end sites.old.items (view tree.now)
+        (map piece_of parts.pieces.items) parts.kinds.items kind (env_of walk.entry.places.now environment.new)
         sites.new.items (piece_of p)) }
 {
     let pieces = parts.pieces;
@@ -228,12 +228,12 @@ fn judge(
     parts: Parts,
 ) -> Result<Piece, CheckError>
     ensures made { IfOk result (λ p. (end : Env) → inner_of inner ≡ inner_at (form_of (view tree.now)) end →
-        IsJudged (asked_of walk.asked.now) (env_of walk.places.now environment.old) end sites.old.items role
-        (view tree.now)
-        (map piece_of parts.pieces.items) parts.kinds.items (env_of walk.places.now environment.new) sites.new.items
-        (piece_of p)) }
-    ensures faulted { IfFault result (λ k token. IsAtFault (asked_of walk.asked.now) (length walk.places.now)
-        (looked_in (env_of walk.places.now environment.old) role (view tree.now) parts.kinds.items)
+        IsJudged (asked_of walk.entry.asked.now) (env_of walk.entry.places.now environment.old) end sites.old.items role
+        (view tree.now) (map piece_of parts.pieces.items) parts.kinds.items
+        (env_of walk.entry.places.now environment.new) sites.new.items (piece_of p)) }
+    ensures faulted { IfFault result (λ k token.
+        IsAtFault (asked_of walk.entry.asked.now) (length walk.entry.places.now)
+        (looked_in (env_of walk.entry.places.now environment.old) role (view tree.now) parts.kinds.items)
         (first_of (view tree.now)) k token) }
 {
     let kinds = parts.kinds.as_slice();
@@ -261,12 +261,12 @@ fn check_parts(
     form: Form,
     trees: &[Tree],
 ) -> Result<Parts, CheckError>
-    ensures done { IfOk result (λ d. PartsWalked (asked_of walk.asked.now) (length walk.places.now) form
-        (env_of walk.places.now environment.old) sites.old.items (views trees.now)
-        (env_of walk.places.now environment.new)
+    ensures done { IfOk result (λ d. PartsWalked (asked_of walk.entry.asked.now) (length walk.entry.places.now) form
+        (env_of walk.entry.places.now environment.old) sites.old.items (views trees.now)
+        (env_of walk.entry.places.now environment.new)
         sites.new.items d.last (map piece_of d.pieces.items) d.kinds.items) }
-    ensures faulted { IfFault result (PartsFaulted (asked_of walk.asked.now) (length walk.places.now) form
-        (env_of walk.places.now environment.old) (views trees.now)) }
+    ensures faulted { IfFault result (PartsFaulted (asked_of walk.entry.asked.now) (length walk.entry.places.now) form
+        (env_of walk.entry.places.now environment.old) (views trees.now)) }
 {
     let mut parts = Parts {
         pieces: Vec::new(walk.alloc),
@@ -295,12 +295,12 @@ pub(crate) fn check_tree(
     role: Role,
     tree: &Tree,
 ) -> Result<Piece, CheckError>
-    ensures walked { IfOk result (λ p. Walked (asked_of walk.asked.now) (length walk.places.now)
-        (env_of walk.places.now environment.old) sites.old.items role (view tree.now)
-        (env_of walk.places.now environment.new)
+    ensures walked { IfOk result (λ p. Walked (asked_of walk.entry.asked.now) (length walk.entry.places.now)
+        (env_of walk.entry.places.now environment.old) sites.old.items role (view tree.now)
+        (env_of walk.entry.places.now environment.new)
         sites.new.items (piece_of p)) }
-    ensures faulted { IfFault result (Faulted (asked_of walk.asked.now) (length walk.places.now)
-        (env_of walk.places.now environment.old) role (view tree.now)) }
+    ensures faulted { IfFault result (Faulted (asked_of walk.entry.asked.now) (length walk.entry.places.now)
+        (env_of walk.entry.places.now environment.old) role (view tree.now)) }
 {
     match enter(walk.alloc, environment, tree) {
         Err(_) => Err(CheckError::Memory),
