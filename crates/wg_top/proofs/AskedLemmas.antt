@@ -26,8 +26,8 @@ unread_memory : (old new : Standing) (ask : Files) (text : Text) (s : List Unit'
 unread_memory old new ask text s Failed n all quiet is cause = absurd (quiet cause)
 unread_memory old new ask text s Absent n all quiet is cause =
     absurd (none_found old.files ask text s Absent all cause.1)
-unread_memory old new ask text s (Source number place) n all quiet is cause =
-    absurd (none_found old.files ask text s (Source number place) all cause)
+unread_memory old new ask text s (Source condition place) n all quiet is cause =
+    absurd (none_found old.files ask text s (Source condition place) all cause)
 unread_memory old new ask text s (Launch number) n all quiet is cause =
     absurd (none_found old.files ask text s (Launch number) all cause)
 unread_memory old new ask text s Memory n all quiet is cause = is
@@ -71,7 +71,7 @@ sample_complete old_out new_out old_err new_err k n ends all out_quiet = elim en
 -- is found of a run
 reading_finds : (files : Option FileMap) (ask : Files) (e : RunError) → ReadingFinds files ask e → Finds files ask e
 reading_finds files ask Absent finds = inl finds
-reading_finds files ask (Source number place) finds = finds
+reading_finds files ask (Source condition place) finds = finds
 reading_finds files ask (Launch number) finds = inl finds
 reading_finds files ask _ finds = absurd finds
 
@@ -82,7 +82,7 @@ not_read fs ask text s Absent read finds = elim finds [
   | inl first ↦ lacks_loaded fs ask.source 262145 read.source_bytes first read.source_loaded
   | inr second ↦ lacks_loaded fs ask.launch 1048577 read.launch_bytes second.2 read.launch_loaded
 ]
-not_read fs ask text s (Source number place) read finds = source_differs fs ask number place text s finds read
+not_read fs ask text s (Source condition place) read finds = source_differs fs ask condition place text s finds read
 not_read fs ask text s (Launch number) read finds =
     launch_differs fs ask number read.launch_bytes text finds read.launch_loaded read.reads
 not_read fs ask text s _ read finds = finds

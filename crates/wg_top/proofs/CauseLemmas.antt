@@ -72,7 +72,7 @@ launch_cause old mid new ask bytes _ loaded same before after c = absurd c
 pub program_cause : (old new : Standing) (ask : Files) (bytes : List ℕ) (text : Text) (e : RunError) →
     TextRead old.files ask.launch ask.lanes ask.turns text → SourceLoaded old.files ask.source bytes →
     ProgramCause bytes text e → ReadingCause old new ask e
-program_cause old new ask bytes text (Source number place) read loaded c =
+program_cause old new ask bytes text (Source condition place) read loaded c =
     record {
       text = text;
       source_bytes = bytes;
@@ -95,7 +95,7 @@ stops files later ask text s e read same c =
 pub reading_cause : (old new : Standing) (ask : Files) (e : RunError) → ReadingCause old new ask e → Cause old new ask e
 reading_cause old new ask Failed c = c
 reading_cause old new ask Absent c = (c.0, inl c.1)
-reading_cause old new ask (Source number place) c = c
+reading_cause old new ask (Source condition place) c = c
 reading_cause old new ask (Launch number) c = inl c
 reading_cause old new ask Memory c = tt
 reading_cause old new ask _ c = absurd c
@@ -139,7 +139,7 @@ leaves_files old mid new ask text s Failed read same left = elim left [
   })
 ]
 leaves_files old mid new ask text s Absent read same left = left ∙ same
-leaves_files old mid new ask text s (Source number place) read same left = left ∙ same
+leaves_files old mid new ask text s (Source condition place) read same left = left ∙ same
 leaves_files old mid new ask text s (Launch number) read same left = left ∙ same
 leaves_files old mid new ask text s (Range number several group item place) read same left = left ∙ same
 leaves_files old mid new ask text s (Parted number several group item place) read same left = left ∙ same
@@ -161,7 +161,7 @@ pub leaves_read : (old new : Standing) (ask : Files) (e : RunError) → new.file
     ReadingCause old new ask e → LeavesFiles old new ask e
 leaves_read old new ask Failed same c = inl same
 leaves_read old new ask Absent same c = same
-leaves_read old new ask (Source number place) same c = same
+leaves_read old new ask (Source condition place) same c = same
 leaves_read old new ask (Launch number) same c = same
 leaves_read old new ask Memory same c = same
 leaves_read old new ask _ same c = absurd c

@@ -108,11 +108,11 @@ none_unread files ask text s all lacks = elim lacks [
 pub none_found : (files : Option FileMap) (ask : Files) (text : Text) (s : List Unit') (e : RunError) →
     IsReadable files ask text s → ReadingFinds files ask e → ⊥
 none_found files ask text s Absent all finds = none_unread files ask text s all finds
-none_found files ask text s (Source number place) all finds =
+none_found files ask text s (Source condition place) all finds =
     let same = read_text files ask text finds.text s finds.launch_bytes all finds.launch_loaded finds.reads in
     let bytes : finds.source_bytes ≡ take 262145 all.source_bytes =
     start_is files ask.source 262145 finds.source_bytes all.source_bytes all.source_told finds.source_loaded in
-    no_fault finds.source_bytes (take 262145 all.source_bytes) finds.text text s number place bytes same finds.fault
+    no_fault finds.source_bytes (take 262145 all.source_bytes) finds.text text s condition place bytes same finds.fault
     all.unit all.compiled
 none_found files ask text s (Launch number) all finds =
     let bytes : take 1048577 all.launch_bytes ≡ finds.launch_bytes =
@@ -190,8 +190,8 @@ complete : (old new : Standing) (ask : Files) (text : Text) (s : List Unit') (e 
     n ≡ status_of e → Cause old new ask e → n ≡ 8
 complete old new ask text s Failed n all never other is cause = absurd (other refl)
 complete old new ask text s Absent n all never other is cause = absurd (none_lacked old.files ask text s all cause.1)
-complete old new ask text s (Source number place) n all never other is cause =
-    absurd (none_found old.files ask text s (Source number place) all.readable cause)
+complete old new ask text s (Source condition place) n all never other is cause =
+    absurd (none_found old.files ask text s (Source condition place) all.readable cause)
 complete old new ask text s (Launch number) n all never other is cause = absurd (elim cause [
   | inl unread ↦ none_found old.files ask text s (Launch number) all.readable unread
   | inr unbound ↦
@@ -264,7 +264,7 @@ refused_clean old new ask text s e n all quiet is cause =
 is_memory : (e : RunError) → status_of e ≡ 8 → e ≡ Memory
 is_memory Failed is = absurd (omega (arith, is))
 is_memory Absent is = absurd (omega (arith, is))
-is_memory (Source number place) is = absurd (omega (arith, is))
+is_memory (Source condition place) is = absurd (omega (arith, is))
 is_memory (Launch number) is = absurd (omega (arith, is))
 is_memory (Range launch several group item place) is = absurd (omega (arith, is))
 is_memory (Parted launch several group item place) is = absurd (omega (arith, is))
@@ -330,7 +330,7 @@ refused_loops : (old new : Standing) (ask : Files) (e : RunError) (n : ℕ) → 
     n ≡ 7 → HasLoops old.files ask
 refused_loops old new ask Failed n is cause seven = absurd (omega arith)
 refused_loops old new ask Absent n is cause seven = absurd (omega arith)
-refused_loops old new ask (Source number place) n is cause seven = absurd (omega arith)
+refused_loops old new ask (Source condition place) n is cause seven = absurd (omega arith)
 refused_loops old new ask (Launch number) n is cause seven = absurd (omega arith)
 refused_loops old new ask (Range launch several group item place) n is cause seven = absurd (omega arith)
 refused_loops old new ask (Parted launch several group item place) n is cause seven = absurd (omega arith)

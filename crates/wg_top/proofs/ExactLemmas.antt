@@ -342,7 +342,7 @@ found files ask Absent finds = elim finds [
   ]
   | inr third ↦ (no_buffer third.0 third.1 third.2 third.3, refl)
 ]
-found files ask (Source number place) finds = (bad_source number place finds, refl)
+found files ask (Source condition place) finds = (bad_source condition place finds, refl)
 found files ask (Launch number) finds = elim finds [
   | inl unread ↦ (bad_launch number unread, refl)
   | inr unbound ↦ (bad_bind number unbound, refl)
@@ -387,9 +387,9 @@ pub refusal : (fs : FileMap) (old new : Standing) (ask : Files) (e d : RunError)
 refusal fs old new ask e Failed n told finds other is cause = absurd (other refl)
 refusal fs old new ask e Absent n told finds other is cause =
     inl (is ∙ one_status fs ask Absent e (subst (λ (f : Option FileMap). Finds f ask Absent) told cause.1) finds)
-refusal fs old new ask e (Source number place) n told finds other is cause =
-    inl (is ∙ one_status fs ask (Source number place) e
-    (subst (λ (f : Option FileMap). Finds f ask (Source number place)) told cause) finds)
+refusal fs old new ask e (Source condition place) n told finds other is cause =
+    inl (is ∙ one_status fs ask (Source condition place) e
+    (subst (λ (f : Option FileMap). Finds f ask (Source condition place)) told cause) finds)
 refusal fs old new ask e (Launch number) n told finds other is cause =
     inl (is ∙ one_status fs ask (Launch number) e (subst (λ (f : Option FileMap). Finds f ask (Launch number)) told
     cause) finds)
