@@ -51,7 +51,7 @@ fn number_of(alloc: Global, sizes: &str, args: &str, buffers: &str) -> Result<u1
     match read(alloc, text.as_str().as_bytes(), None, None) {
         Ok(file) => match bind_kernel(alloc, &needs, &file, 0) {
             Ok(_) => Ok(0),
-            Err(LaunchError::Fault { number }) => Ok(number),
+            Err(LaunchError::Refused(refusal)) => Ok(refusal.number()),
             Err(LaunchError::Memory) => Ok(1000),
         },
         Err(_) => Ok(2000),

@@ -1,9 +1,9 @@
 //! The launches of a launch file, bound to the kernel of a typed program.
 #![tactic(auto)]
 
-ghost use Rattle.std.specs.Prelude.{◌≡◌, ◌<◌, ℕ, All, IfOk, Err, Some, map, take, length};
+ghost use Rattle.std.specs.Prelude.{◌≡◌, ◌<◌, All, IfOk, Err, Some, map, take, length};
 ghost use Rattle.cl_limits.specs.View.{function_of};
-ghost use Rattle.launch_file.specs.declared.text.LaunchError.TheVariants.{Fault};
+ghost use Rattle.launch_file.specs.declared.text.LaunchError.TheVariants.{Refused};
 ghost use Rattle.launch_file.specs.Binding as spec;
 ghost use Rattle.launch_file.specs.NeedsView.{needs_of};
 ghost use Rattle.launch_file.specs.Texts.{text_of, part_of};
@@ -12,7 +12,7 @@ ghost use Rattle.launch_bind.specs.Needed.{needs_in, needs_of_kernel};
 
 use cl_limits::local_bytes;
 use cl_model::{Function, Launch, Program, Var, VarKind};
-use launch_file::{KernelNeeds, LaunchError, LaunchText, bind_kernel};
+use launch_file::{KernelNeeds, LaunchError, LaunchText, Refusal, bind_kernel};
 use std::alloc::Global;
 use wg_num::Memory;
 
@@ -72,9 +72,9 @@ pub fn needs(alloc: Global, program: &Program) -> Result<KernelNeeds, Memory>
 
 /// The launch with that number, counted from 0, of a launch file, for a program whose kernel it
 /// names: its sizes, the buffers and values bound to the kernel's parameters, and its files. It is
-/// refused with the number of the first condition that stands: L4 (sizes), L5 (argument count), L6
-/// (argument kind), L7 (argument out of range), L8 (unknown buffer), L11 (constant buffer shared),
-/// L12 (required size), L13 (local memory), L14 (buffers).
+/// refused for the first of these conditions that stands: `Sizes`, `ArgumentCount`, `ArgumentKind`,
+/// `ValueOutOfRange`, `UnknownBuffer`, `ConstantBufferShared`, `RequiredSize`, `LocalMemory`,
+/// `Buffers`.
 pub fn bind(
     alloc: Global,
     program: &Program,
@@ -86,9 +86,9 @@ pub fn bind(
     ensures bound { IfOk result (spec.Binds (needs_of_kernel (map function_of program.now.functions.items)
         program.now.kernel) (text_of text.now) (spec.part_at (text_of text.now) which)) }
     ensures offsets { IfOk result (λ l. spec.AreOffsets l.offset) }
-    ensures refused { (number : ℕ) → result ≡ Err (Fault number) →
+    ensures refused { (first : Refusal) → result ≡ Err (Refused first) →
         spec.launch_refusal (needs_of_kernel (map function_of program.now.functions.items) program.now.kernel)
-        (text_of text.now).buffers (spec.part_at (text_of text.now) which) ≡ Some number }
+        (text_of text.now).buffers (spec.part_at (text_of text.now) which) ≡ Some first }
 {
     match needs(alloc, program) {
         Ok(asked) => bind_kernel(alloc, &asked, text, which),

@@ -6,15 +6,17 @@ use Rattle.std.specs.List.{list_any}
 use Rattle.std.proofs.lemmas.Bool.{or_parts, cases_Bool, eqb-true, ltb-false}
 use Rattle.cl_model.specs.Sizes.{product}
 use Rattle.launch_file.specs.declared.text.BufferText.{BufferText}
+use Rattle.launch_file.specs.declared.refusal.Refusal.{Refusal}
+use Rattle.launch_file.specs.declared.refusal.Refusal.TheVariants as refusal
 use Rattle.launch_file.specs.Refusals.{Condition, when, first_of, is_named}
 use Rattle.launch_file.specs.Texts.{Part}
 use Rattle.launch_file.specs.Binding as spec
 
 -- where none stands, the first does not
-pub first_none : (number : ℕ) (stands : Bool) (later : List Condition) →
-    first_of (when number stands ∷ later) ≡ None → (stands ≡ false) × (first_of later ≡ None)
-first_none number false later none = (refl, none)
-first_none number true later none = absurd (let never : ⊥ = cc in never)
+pub first_none : (r : Refusal) (stands : Bool) (later : List Condition) →
+    first_of (when r stands ∷ later) ≡ None → (stands ≡ false) × (first_of later ≡ None)
+first_none r false later none = (refl, none)
+first_none r true later none = absurd (let never : ⊥ = cc in never)
 
 -- no condition stands on the launch
 pub record Accepts (needs : spec.Needs) (buffers : List BufferText) (part : Part) : Type 0 where
@@ -36,23 +38,29 @@ not_not false is = absurd (let never : ⊥ = cc in never)
 pub accepts : (needs : spec.Needs) (buffers : List BufferText) (part : Part) →
     spec.launch_refusal needs buffers part ≡ None → Accepts needs buffers part
 accepts needs buffers part none =
-    let c14 = when 14 (spec.buffers_wrong buffers) ∷ [] in
-    let c13 = when 13 (spec.local_wrong needs part) ∷ c14 in
-    let c12 = when 12 (spec.is_another_size (spec.three_sizes part.local) needs.required) ∷ c13 in
-    let c11 = when 11 (spec.some_pair (spec.is_shared needs.kinds part.args) needs.kinds part.args) ∷ c12 in
-    let c8 = when 8 (list_any (spec.is_unlisted buffers) part.args) ∷ c11 in
-    let c7 = when 7 (spec.some_pair spec.value_wrong needs.kinds part.args) ∷ c8 in
-    let c6 = when 6 (spec.some_pair spec.kind_wrong needs.kinds part.args) ∷ c7 in
-    let c5 = when 5 (not (length part.args == length needs.kinds)) ∷ c6 in
-    let a = first_none 4 (spec.sizes_wrong part) c5 none in
-    let b = first_none 5 (not (length part.args == length needs.kinds)) c6 a.1 in
-    let c = first_none 6 (spec.some_pair spec.kind_wrong needs.kinds part.args) c7 b.1 in
-    let d = first_none 7 (spec.some_pair spec.value_wrong needs.kinds part.args) c8 c.1 in
-    let e = first_none 8 (list_any (spec.is_unlisted buffers) part.args) c11 d.1 in
-    let f = first_none 11 (spec.some_pair (spec.is_shared needs.kinds part.args) needs.kinds part.args) c12 e.1 in
-    let g = first_none 12 (spec.is_another_size (spec.three_sizes part.local) needs.required) c13 f.1 in
-    let h = first_none 13 (spec.local_wrong needs part) c14 g.1 in
-    let i = first_none 14 (spec.buffers_wrong buffers) [] h.1 in
+    let from_buffers = when refusal.Buffers (spec.buffers_wrong buffers) ∷ [] in
+    let from_local = when refusal.LocalMemory (spec.local_wrong needs part) ∷ from_buffers in
+    let from_required = when refusal.RequiredSize
+    (spec.is_another_size (spec.three_sizes part.local) needs.required) ∷ from_local in
+    let from_shared = when refusal.ConstantBufferShared
+    (spec.some_pair (spec.is_shared needs.kinds part.args) needs.kinds part.args) ∷ from_required in
+    let from_unknown = when refusal.UnknownBuffer (list_any (spec.is_unlisted buffers) part.args) ∷ from_shared in
+    let from_values = when refusal.ValueOutOfRange
+    (spec.some_pair spec.value_wrong needs.kinds part.args) ∷ from_unknown in
+    let from_kinds = when refusal.ArgumentKind (spec.some_pair spec.kind_wrong needs.kinds part.args) ∷ from_values in
+    let from_count = when refusal.ArgumentCount (not (length part.args == length needs.kinds)) ∷ from_kinds in
+    let a = first_none refusal.Sizes (spec.sizes_wrong part) from_count none in
+    let b = first_none refusal.ArgumentCount (not (length part.args == length needs.kinds)) from_kinds a.1 in
+    let c = first_none refusal.ArgumentKind (spec.some_pair spec.kind_wrong needs.kinds part.args) from_values b.1 in
+    let d = first_none refusal.ValueOutOfRange
+    (spec.some_pair spec.value_wrong needs.kinds part.args) from_unknown c.1 in
+    let e = first_none refusal.UnknownBuffer (list_any (spec.is_unlisted buffers) part.args) from_shared d.1 in
+    let f = first_none refusal.ConstantBufferShared
+    (spec.some_pair (spec.is_shared needs.kinds part.args) needs.kinds part.args) from_required e.1 in
+    let g = first_none refusal.RequiredSize (spec.is_another_size (spec.three_sizes part.local) needs.required)
+    from_local f.1 in
+    let h = first_none refusal.LocalMemory (spec.local_wrong needs part) from_buffers g.1 in
+    let i = first_none refusal.Buffers (spec.buffers_wrong buffers) [] h.1 in
     record {
       sizes = a.0;
       count = not_not (length part.args == length needs.kinds) b.0;

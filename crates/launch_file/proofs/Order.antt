@@ -4,12 +4,14 @@ use Rattle.std.proofs.Common.{get_or, Option, Some, None, refl, sym, ◌∙◌, 
 use Rattle.cl_model.specs.declared.launch.Launch.{Launch as Bindings}
 use Rattle.std.specs.List.{list_any}
 use Rattle.launch_file.specs.declared.text.BufferText.{BufferText}
+use Rattle.launch_file.specs.declared.refusal.Refusal.{Refusal}
+use Rattle.launch_file.specs.declared.refusal.Refusal.TheVariants as refusal
 use Rattle.launch_file.specs.Refusals.{Condition, when, first_of}
 use Rattle.launch_file.specs.Texts.{Part}
 use Rattle.launch_file.specs.Binding as spec
 
 -- where none of five stands, what comes behind them decides
-behind_five : (a b c d e : Bool) (n m k j i : ℕ) (later : List Condition) →
+behind_five : (a b c d e : Bool) (n m k j i : Refusal) (later : List Condition) →
     first_of (when n a ∷ when m b ∷ when k c ∷ when j d ∷ when i e ∷ []) ≡ None →
     first_of (when n a ∷ when m b ∷ when k c ∷ when j d ∷ when i e ∷ later) ≡ first_of later
 behind_five false false false false false n m k j i later none = refl
@@ -23,28 +25,30 @@ module _ (needs : spec.Needs) (buffers : List BufferText) (part : Part) (sizes :
     (arguments : spec.arguments_refusal needs buffers part ≡ None)
     (size : spec.is_another_size (spec.three_sizes part.local) needs.required ≡ false) where
   later : List Condition
-  later = when 12 (spec.is_another_size (spec.three_sizes part.local) needs.required) ∷
-      when 13 (spec.local_wrong needs part) ∷ when 14 (spec.buffers_wrong buffers) ∷ []
+  later = when refusal.RequiredSize (spec.is_another_size (spec.three_sizes part.local) needs.required) ∷
+      when refusal.LocalMemory (spec.local_wrong needs part) ∷ when refusal.Buffers (spec.buffers_wrong buffers) ∷ []
 
-  decided : spec.launch_refusal needs buffers part ≡ first_of (when 13 (spec.local_wrong needs part) ∷
-      when 14 (spec.buffers_wrong buffers) ∷ [])
+  decided : spec.launch_refusal needs buffers part ≡ first_of (when refusal.LocalMemory (spec.local_wrong needs part) ∷
+      when refusal.Buffers (spec.buffers_wrong buffers) ∷ [])
   unfolding later
   decided =
       let first : spec.launch_refusal needs buffers part ≡
       first_of (spec.argument_conditions needs buffers part later) = rw sizes refl in
-      let second : first_of later ≡ first_of (when 13 (spec.local_wrong needs part) ∷
-      when 14 (spec.buffers_wrong buffers) ∷ []) = rw size refl in
+      let second : first_of later ≡ first_of (when refusal.LocalMemory (spec.local_wrong needs part) ∷
+      when refusal.Buffers (spec.buffers_wrong buffers) ∷ []) = rw size refl in
       first ∙ (behind_five (not (length part.args == length needs.kinds))
       (spec.some_pair spec.kind_wrong needs.kinds part.args)
       (spec.some_pair spec.value_wrong needs.kinds part.args) (list_any (spec.is_unlisted buffers) part.args)
-      (spec.some_pair (spec.is_shared needs.kinds part.args) needs.kinds part.args) 5 6 7 8 11 later arguments ∙
+      (spec.some_pair (spec.is_shared needs.kinds part.args) needs.kinds part.args) refusal.ArgumentCount
+      refusal.ArgumentKind refusal.ValueOutOfRange refusal.UnknownBuffer refusal.ConstantBufferShared later arguments ∙
       second)
 
-  pub local_stands : spec.local_wrong needs part ≡ true → spec.launch_refusal needs buffers part ≡ Some 13
+  pub local_stands : spec.local_wrong needs part ≡ true →
+      spec.launch_refusal needs buffers part ≡ Some refusal.LocalMemory
   local_stands stands = decided ∙ rw stands refl
 
   pub buffers_stand : spec.local_wrong needs part ≡ false → spec.buffers_wrong buffers ≡ true →
-      spec.launch_refusal needs buffers part ≡ Some 14
+      spec.launch_refusal needs buffers part ≡ Some refusal.Buffers
   buffers_stand local stands = decided ∙ rw (local, stands) refl
 
   pub none_stands : spec.local_wrong needs part ≡ false → spec.buffers_wrong buffers ≡ false →
@@ -59,7 +63,7 @@ part_there view (y ∷ ys) zero x d lt is = ap view is
 part_there view (y ∷ ys) (suc k) x d lt is = part_there view ys k x d (omega arith) is
 
 -- the first condition on the same launch is the same
-pub same_refusal : (needs : spec.Needs) (buffers others : List BufferText) (part other : Part) (o o' : Option ℕ) →
+pub same_refusal : (needs : spec.Needs) (buffers others : List BufferText) (part other : Part) (o o' : Option Refusal) →
     buffers ≡ others → part ≡ other → o ≡ o' → spec.launch_refusal needs buffers part ≡ o →
     spec.launch_refusal needs others other ≡ o'
 same_refusal needs buffers others part other o o' e f g is =

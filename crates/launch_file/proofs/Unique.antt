@@ -3,6 +3,7 @@ use Rattle.std.proofs.Common.{◌≡◌, ℕ, pos, Bool, List, Option, Some, Non
 use Rattle.toml.specs.Data.{Members}
 use Rattle.cl_prep.specs.declared.prep.Define.{Define}
 use Rattle.launch_file.specs.declared.text.BufferText.{BufferText}
+use Rattle.launch_file.specs.declared.refusal.Refusal.{Refusal}
 use Rattle.launch_file.specs.Values.{Values}
 use Rattle.launch_file.specs.Texts.{Text, Part}
 use Rattle.launch_file.specs.Refusals.{IsNoDocument, IsDocument, Says, IsRead, Reads, IsRefused, no_document}
@@ -57,12 +58,12 @@ no_both bytes members none is = elim none [
 ]
 
 -- what is read is not refused
-pub read_or_refused : (bytes : List ℕ) (lanes turns : Option ℕ) (text : Text) (number : ℕ) →
-    Reads bytes lanes turns text → IsRefused bytes lanes turns number → ⊥
+pub read_or_refused : (bytes : List ℕ) (lanes turns : Option ℕ) (text : Text) (first : Refusal) →
+    Reads bytes lanes turns text → IsRefused bytes lanes turns first → ⊥
 read_or_refused bytes lanes turns text _ read (no_document none) = no_both bytes read.members none read.document
-read_or_refused bytes lanes turns text number read (in_document members _ is refused) =
+read_or_refused bytes lanes turns text first read (in_document members _ is refused) =
     let same : members ≡ read.members = one_document bytes members read.members is read.document in
     let none : refusal_of members lanes turns ≡ None =
     subst (λ (m : Members). refusal_of m lanes turns ≡ None) (sym same) read.read.accepted in
-    let e : Some number ≡ None = sym refused ∙ none in
+    let e : Some first ≡ None = sym refused ∙ none in
     let never : ⊥ = cc e in never

@@ -14,6 +14,8 @@ use Rattle.cl_model.specs.declared.program.VarKind.TheVariants.{Scalar, Pointer}
 use Rattle.cl_model.specs.Sizes.{Launch, product}
 use Rattle.cl_model.specs.View.{launch_of}
 use Rattle.launch_file.specs.declared.text.BufferText.{BufferText}
+use Rattle.launch_file.specs.declared.refusal.Refusal.{Refusal}
+use Rattle.launch_file.specs.declared.refusal.Refusal.TheVariants as refusal
 use Rattle.launch_file.specs.declared.text.ArgText.{ArgText}
 use Rattle.launch_file.specs.declared.text.ArgText.TheVariants as arg
 use Rattle.launch_file.specs.Refusals.{Condition, when, first_of, is_named}
@@ -145,29 +147,29 @@ buffers_wrong buffers =
 -- the conditions on the arguments, in order, before these
 abbrev pub argument_conditions : Needs → List BufferText → Part → List Condition → List Condition
 argument_conditions needs buffers part later =
-    when 5 (not (length part.args == length needs.kinds))
-    ∷ when 6 (some_pair kind_wrong needs.kinds part.args)
-    ∷ when 7 (some_pair value_wrong needs.kinds part.args)
-    ∷ when 8 (list_any (is_unlisted buffers) part.args)
-    ∷ when 11 (some_pair (is_shared needs.kinds part.args) needs.kinds part.args)
+    when refusal.ArgumentCount (not (length part.args == length needs.kinds))
+    ∷ when refusal.ArgumentKind (some_pair kind_wrong needs.kinds part.args)
+    ∷ when refusal.ValueOutOfRange (some_pair value_wrong needs.kinds part.args)
+    ∷ when refusal.UnknownBuffer (list_any (is_unlisted buffers) part.args)
+    ∷ when refusal.ConstantBufferShared (some_pair (is_shared needs.kinds part.args) needs.kinds part.args)
     ∷ later
 
--- the number of the first that stands on the arguments
-abbrev pub arguments_refusal : Needs → List BufferText → Part → Option ℕ
+-- the first that stands on the arguments
+abbrev pub arguments_refusal : Needs → List BufferText → Part → Option Refusal
 arguments_refusal needs buffers part = first_of (argument_conditions needs buffers part [])
 
 -- the conditions on one launch, in order
 abbrev pub launch_conditions : Needs → List BufferText → Part → List Condition
 launch_conditions needs buffers part =
-    when 4 (sizes_wrong part)
+    when refusal.Sizes (sizes_wrong part)
     ∷ argument_conditions needs buffers part (
-    when 12 (is_another_size (three_sizes part.local) needs.required)
-    ∷ when 13 (local_wrong needs part)
-    ∷ when 14 (buffers_wrong buffers)
+    when refusal.RequiredSize (is_another_size (three_sizes part.local) needs.required)
+    ∷ when refusal.LocalMemory (local_wrong needs part)
+    ∷ when refusal.Buffers (buffers_wrong buffers)
     ∷ [])
 
--- the number of the first condition that stands on a launch
-abbrev pub launch_refusal : Needs → List BufferText → Part → Option ℕ
+-- the first condition that stands on a launch
+abbrev pub launch_refusal : Needs → List BufferText → Part → Option Refusal
 launch_refusal needs buffers part = first_of (launch_conditions needs buffers part)
 
 -- the number of the first buffer of that name, which is the number of buffers where there is none

@@ -1,3 +1,4 @@
+pub mod Numbers
 pub mod Keys
 pub mod Texts
 pub mod Values

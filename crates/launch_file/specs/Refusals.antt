@@ -6,6 +6,8 @@ use Rattle.std.specs.List.{list_any}
 use Rattle.toml.specs.Data.{Members, get_member}
 use Rattle.toml.specs.Parse.{parse_document}
 use Rattle.launch_file.specs.declared.text.BufferText.{BufferText}
+use Rattle.launch_file.specs.declared.refusal.Refusal.{Refusal}
+use Rattle.launch_file.specs.declared.refusal.Refusal.TheVariants as refusal
 use Rattle.launch_file.specs.declared.format.Format.{Format}
 use Rattle.launch_file.specs.declared.format.Format.TheVariants.{One, Two, Three}
 use Rattle.launch_file.specs.Keys.{has_only, tables_pass}
@@ -111,28 +113,28 @@ is_turn_count (negsuc n) = false
 abbrev pub is_launch_count : ℕ → Bool
 is_launch_count n = nat_le 1 n && nat_le n 16
 
--- a condition, by its number
+-- a condition: the refusal, and whether it stands
 pub record Condition : Type 0 where
-  pub number : ℕ
+  pub refusal : Refusal
   pub stands : Bool
 
--- the number of the first that stands
-abbrev pub first_of : List Condition → Option ℕ
+-- the first that stands
+abbrev pub first_of : List Condition → Option Refusal
 first_of [] = None
-first_of (c ∷ cs) = if c.stands then Some c.number else first_of cs
+first_of (c ∷ cs) = if c.stands then Some c.refusal else first_of cs
 
 -- a condition
-abbrev pub when : ℕ → Bool → Condition
-when n stands = record { number = n; stands = stands }
+abbrev pub when : Refusal → Bool → Condition
+when r stands = record { refusal = r; stands = stands }
 
 -- the conditions on the values, in order
 abbrev pub value_conditions : Option ℕ → Option ℕ → Values → List Condition
 value_conditions lanes turns values =
-    when 9 (named_twice values.buffers)
-    ∷ when 10 (saved_twice values.buffers)
-    ∷ when 15 (not (is_lane_count (chosen_lanes lanes values)))
-    ∷ when 16 (not (is_turn_count (chosen_turns turns values)))
-    ∷ when 17 (not (is_launch_count (length values.list)))
+    when refusal.BufferNamedTwice (named_twice values.buffers)
+    ∷ when refusal.SavedTwice (saved_twice values.buffers)
+    ∷ when refusal.Lanes (not (is_lane_count (chosen_lanes lanes values)))
+    ∷ when refusal.Turns (not (is_turn_count (chosen_turns turns values)))
+    ∷ when refusal.Launches (not (is_launch_count (length values.list)))
     ∷ []
 
 -- behind them, where the table has values
@@ -143,12 +145,12 @@ later_conditions lanes turns (Some values) = value_conditions lanes turns values
 -- the conditions on a document, in order
 abbrev pub conditions : Members → Option ℕ → Option ℕ → List Condition
 conditions members lanes turns =
-    when 2 (has_unknown_key members)
-    ∷ when 3 (is_none (values_in members))
+    when refusal.UnknownKey (has_unknown_key members)
+    ∷ when refusal.KeyMissing (is_none (values_in members))
     ∷ later_conditions lanes turns (values_in members)
 
--- the number of the first condition that stands
-abbrev pub refusal_of : Members → Option ℕ → Option ℕ → Option ℕ
+-- the first condition that stands
+abbrev pub refusal_of : Members → Option ℕ → Option ℕ → Option Refusal
 refusal_of members lanes turns = first_of (conditions members lanes turns)
 
 -- the values are those of the text, with the lanes and turns that are chosen
@@ -173,8 +175,8 @@ pub record Reads (bytes : List ℕ) (lanes turns : Option ℕ) (text : Text) : T
   pub document : IsDocument bytes members
   pub read : IsRead members lanes turns text
 
--- the condition of this number is the first that stands
-pub data IsRefused (bytes : List ℕ) (lanes turns : Option ℕ) : ℕ → Type 0 where
-  no_document : IsNoDocument bytes → IsRefused bytes lanes turns 1
-  in_document : (members : Members) (number : ℕ) → IsDocument bytes members →
-      refusal_of members lanes turns ≡ Some number → IsRefused bytes lanes turns number
+-- this condition is the first that stands
+pub data IsRefused (bytes : List ℕ) (lanes turns : Option ℕ) : Refusal → Type 0 where
+  no_document : IsNoDocument bytes → IsRefused bytes lanes turns refusal.NotToml
+  in_document : (members : Members) (first : Refusal) → IsDocument bytes members →
+      refusal_of members lanes turns ≡ Some first → IsRefused bytes lanes turns first

@@ -1,16 +1,17 @@
 //! The launches of a launch file for a kernel.
-ghost use Rattle.std.specs.Prelude.{◌≡◌, ◌<◌, ◌≤◌, ℕ, All, IfOk, Err, Some, None, IfNone, IfSome};
+ghost use Rattle.std.specs.Prelude.{◌≡◌, ◌<◌, ◌≤◌, All, IfOk, Err, Some, None, IfNone, IfSome};
 ghost use Rattle.std.specs.Prelude.{length, slice_index_or};
 ghost use Rattle.launch_file.specs.Binding as spec;
 ghost use Rattle.launch_file.specs.Values.{HasOneLength};
 ghost use Rattle.launch_file.specs.NeedsView.{needs_of};
 ghost use Rattle.launch_file.specs.Texts.{part_of, text_of};
-ghost use Rattle.launch_file.specs.declared.text.LaunchError.TheVariants.{Fault};
+ghost use Rattle.launch_file.specs.declared.text.LaunchError.TheVariants.{Refused};
 
 use crate::arguments::{
     local_wrong, some_kind_wrong, some_shared, some_unlisted, some_value_wrong,
 };
 use crate::lengths::{all_bound, buffers_wrong, lengths_of, loads_of, saves_of};
+use crate::refusal::Refusal;
 use crate::sizes::{is_another_size, sizes_wrong, three_offsets, three_sizes};
 use crate::text::{BufferText, LaunchError, LaunchPart, LaunchText};
 use cl_model::{Launch, VarKind};
@@ -27,52 +28,56 @@ pub struct KernelNeeds {
     pub required: Option<[u64; 3]>,
 }
 
-// The number of the first condition on the arguments that stands.
-fn arguments_refused(needs: &KernelNeeds, buffers: &[BufferText], part: &LaunchPart) -> Option<u16>
+// The first condition on the arguments that stands.
+fn arguments_refused(
+    needs: &KernelNeeds,
+    buffers: &[BufferText],
+    part: &LaunchPart,
+) -> Option<Refusal>
     ensures none { IfNone result (spec.arguments_refusal (needs_of needs.now) buffers.now (part_of part.now) ≡ None) }
-    ensures some { IfSome result (λ n. spec.arguments_refusal (needs_of needs.now) buffers.now (part_of part.now) ≡
-        Some n) }
+    ensures some { IfSome result (λ r. spec.arguments_refusal (needs_of needs.now) buffers.now (part_of part.now) ≡
+        Some r) }
 {
     let kinds = needs.kinds.as_slice();
     let args = part.args.as_slice();
     if args.len() != kinds.len() {
-        return Some(5);
+        return Some(Refusal::ArgumentCount);
     }
     if some_kind_wrong(kinds, args) {
-        return Some(6);
+        return Some(Refusal::ArgumentKind);
     }
     if some_value_wrong(kinds, args) {
-        return Some(7);
+        return Some(Refusal::ValueOutOfRange);
     }
     if some_unlisted(buffers, args) {
-        return Some(8);
+        return Some(Refusal::UnknownBuffer);
     }
     if some_shared(kinds, args) {
-        return Some(11);
+        return Some(Refusal::ConstantBufferShared);
     }
     None
 }
 
-// The number of the first condition on the launch that stands.
-fn launch_refused(needs: &KernelNeeds, buffers: &[BufferText], part: &LaunchPart) -> Option<u16>
+// The first condition on the launch that stands.
+fn launch_refused(needs: &KernelNeeds, buffers: &[BufferText], part: &LaunchPart) -> Option<Refusal>
     ensures none { IfNone result (spec.launch_refusal (needs_of needs.now) buffers.now (part_of part.now) ≡ None) }
-    ensures some { IfSome result (λ n. spec.launch_refusal (needs_of needs.now) buffers.now (part_of part.now) ≡
-        Some n) }
+    ensures some { IfSome result (λ r. spec.launch_refusal (needs_of needs.now) buffers.now (part_of part.now) ≡
+        Some r) }
 {
     if sizes_wrong(part) {
-        return Some(4);
+        return Some(Refusal::Sizes);
     }
-    if let Some(number) = arguments_refused(needs, buffers, part) {
-        return Some(number);
+    if let Some(refusal) = arguments_refused(needs, buffers, part) {
+        return Some(refusal);
     }
     if is_another_size(three_sizes(&part.local), needs.required) {
-        return Some(12);
+        return Some(Refusal::RequiredSize);
     }
     if local_wrong(needs.local_bytes, &part.args) {
-        return Some(13);
+        return Some(Refusal::LocalMemory);
     }
     if buffers_wrong(buffers) {
-        return Some(14);
+        return Some(Refusal::Buffers);
     }
     None
 }
@@ -106,11 +111,11 @@ fn launch_of(
     })
 }
 
-/// The launch that a part of a launch file says for a kernel with these needs, or the number of the
-/// first condition that stands: L4 (sizes), L5 (argument count), L6 (argument kind), L7 (value out
-/// of range), L8 (unknown buffer), L11 (constant buffer shared), L12 (required size), L13 (local
-/// memory), L14 (buffers). `which` is the number of the launch, counted from 0; the sizes and the
-/// offset of a launch have one length from 1 to 3, as `read` gives them.
+/// The launch that a part of a launch file says for a kernel with these needs. It is refused for the
+/// first of these conditions that stands: `Sizes`, `ArgumentCount`, `ArgumentKind`,
+/// `ValueOutOfRange`, `UnknownBuffer`, `ConstantBufferShared`, `RequiredSize`, `LocalMemory`,
+/// `Buffers`. `which` is the number of the launch, counted from 0; the sizes and the offset of a
+/// launch have one length from 1 to 3, as `read` gives them.
 pub fn bind_kernel(
     alloc: Global,
     needs: &KernelNeeds,
@@ -122,14 +127,14 @@ pub fn bind_kernel(
     ensures bound { IfOk result (spec.Binds (needs_of needs.now) (text_of text.now)
         (spec.part_at (text_of text.now) which)) }
     ensures offsets { IfOk result (λ l. spec.AreOffsets l.offset) }
-    ensures refused { (number : ℕ) → result ≡ Err (Fault number) →
+    ensures refused { (first : Refusal) → result ≡ Err (Refused first) →
         spec.launch_refusal (needs_of needs.now) (text_of text.now).buffers
-        (spec.part_at (text_of text.now) which) ≡ Some number }
+        (spec.part_at (text_of text.now) which) ≡ Some first }
 {
     let part = &text.list[which];
     let buffers = text.buffers.as_slice();
-    if let Some(number) = launch_refused(needs, buffers, part) {
-        return Err(LaunchError::Fault { number });
+    if let Some(refusal) = launch_refused(needs, buffers, part) {
+        return Err(LaunchError::Refused(refusal));
     }
     match launch_of(alloc, text.turns, buffers, part) {
         Ok(launch) => Ok(launch),

@@ -1,4 +1,4 @@
-//! Launch files: what one says, each refusal by its number, and the launches that it gives.
+//! Launch files: what one says, what it is refused for, and the launches that it gives.
 #![tactic(auto)]
 
 mod arguments;
@@ -9,6 +9,7 @@ mod keys;
 mod lengths;
 mod parts;
 mod reader;
+pub mod refusal;
 mod settle;
 mod sizes;
 pub mod text;
@@ -16,4 +17,5 @@ mod values;
 
 pub use bind::{KernelNeeds, bind_kernel};
 pub use reader::read;
+pub use refusal::Refusal;
 pub use text::{ArgText, BufferText, LaunchError, LaunchPart, LaunchText};

@@ -1,17 +1,18 @@
 //! Reading a launch file.
-ghost use Rattle.std.specs.Prelude.{◌≡◌, ◌≤◌, ℕ, All, false, length, IfOk, Err, Some, codes};
+ghost use Rattle.std.specs.Prelude.{◌≡◌, ◌≤◌, All, false, length, IfOk, Err, Some, codes};
 ghost use Rattle.toml.specs.View.{view, table_view, items_view};
 ghost use Rattle.toml.specs.Data.{as_table, get_member};
 ghost use Rattle.launch_file.specs.Keys.{has_only as has_only_keys, passes, each_passes, tables_pass};
 ghost use Rattle.launch_file.specs.Refusals as spec;
 ghost use Rattle.launch_file.specs.Texts.{part_of, text_of};
 ghost use Rattle.launch_file.specs.Values.{HasTexts, HasOneLength, HasNumber};
-ghost use Rattle.launch_file.specs.declared.text.LaunchError.TheVariants.{Fault};
+ghost use Rattle.launch_file.specs.declared.text.LaunchError.TheVariants.{Refused};
 
 use crate::document::{DocumentError, document};
 use crate::format::{Format, format_of};
 use crate::keys::{has_only, tables_have_only, value_at};
 use crate::parts::values_in;
+use crate::refusal::Refusal;
 use crate::settle::settle;
 use crate::text::{LaunchError, LaunchText};
 use std::alloc::Global;
@@ -122,26 +123,25 @@ fn read_table(
     ensures some { IfOk result (λ t. 1 ≤ length t.list.items) }
     ensures few { IfOk result (λ t. length t.list.items ≤ 16) }
     ensures apart { IfOk result (λ t. spec.saved_twice t.buffers.items ≡ false) }
-    ensures refused { (number : ℕ) → result ≡ Err (Fault number) →
-        spec.refusal_of (table_view table.now) lanes turns ≡ Some number }
+    ensures refused { (first : Refusal) → result ≡ Err (Refused first) →
+        spec.refusal_of (table_view table.now) lanes turns ≡ Some first }
 {
     if has_unknown_key(table) {
-        return Err(LaunchError::Fault { number: 2 });
+        return Err(LaunchError::Refused(Refusal::UnknownKey));
     }
     match values_in(alloc, table) {
         Ok(Some(values)) => match settle(values, lanes, turns) {
             Ok(text) => Ok(text),
-            Err(number) => Err(LaunchError::Fault { number }),
+            Err(refusal) => Err(LaunchError::Refused(refusal)),
         },
-        Ok(None) => Err(LaunchError::Fault { number: 3 }),
+        Ok(None) => Err(LaunchError::Refused(Refusal::KeyMissing)),
         Err(Memory) => Err(LaunchError::Memory),
     }
 }
 
-/// What a launch file and the options `--lanes` and `--turns` say, or the number of the first
-/// condition that stands: L1 (no document), L2 (unknown key), L3 (key missing or wrong), L9 (buffer
-/// named twice), L10 (saved twice), L15 (lanes), L16 (turns), L17 (launches). An option comes before
-/// the file's key.
+/// What a launch file and the options `--lanes` and `--turns` say. It is refused for the first of
+/// these conditions that stands: `NotToml`, `UnknownKey`, `KeyMissing`, `BufferNamedTwice`,
+/// `SavedTwice`, `Lanes`, `Turns`, `Launches`. An option comes before the file's key.
 pub fn read(
     alloc: Global,
     bytes: &[u8],
@@ -155,11 +155,12 @@ pub fn read(
     ensures some { IfOk result (λ t. 1 ≤ length t.list.items) }
     ensures few { IfOk result (λ t. length t.list.items ≤ 16) }
     ensures apart { IfOk result (λ t. spec.saved_twice t.buffers.items ≡ false) }
-    ensures refused { (number : ℕ) → result ≡ Err (Fault number) → spec.IsRefused bytes.now lanes turns number }
+    ensures refused { (first : Refusal) → result ≡ Err (Refused first) →
+        spec.IsRefused bytes.now lanes turns first }
 {
     match document(alloc, bytes) {
         Ok(table) => read_table(alloc, &table, lanes, turns),
-        Err(DocumentError::NotToml) => Err(LaunchError::Fault { number: 1 }),
+        Err(DocumentError::NotToml) => Err(LaunchError::Refused(Refusal::NotToml)),
         Err(DocumentError::Memory) => Err(LaunchError::Memory),
     }
 }

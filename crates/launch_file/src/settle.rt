@@ -9,9 +9,10 @@ ghost use Rattle.launch_file.specs.Values.{HasTexts, HasOneLength, HasNumber};
 ghost use Rattle.launch_file.specs.ValueViews.{values_of};
 
 use crate::parts::Values;
+use crate::refusal::Refusal;
 use crate::text::{BufferText, LaunchError, LaunchText};
 use cl_prep::Defines;
-use wg_num::{Width, Word};
+use wg_num::{Width, Word, width_of};
 
 pub(crate) fn is_named(name: &[u8], buffer: &BufferText) -> bool
     ensures { result ≡ spec.is_named name.now buffer.now }
@@ -93,16 +94,14 @@ fn chosen(option: Option<u64>, in_file: Option<i64>, other: u32) -> i128
     }
 }
 
-fn width_of(lanes: i128) -> Option<Width>
+// The width of that many lanes.
+fn width_for(lanes: i128) -> Option<Width>
     ensures { MatchOption result (spec.is_lane_count lanes ≡ false) (λ w. (spec.is_lane_count lanes ≡ true) ×
         (pos (lanes_of w) ≡ lanes)) }
 {
-    match lanes {
-        1 => Some(Width::W1),
-        4 => Some(Width::W4),
-        8 => Some(Width::W8),
-        16 => Some(Width::W16),
-        _ => None,
+    match u64::try_from(lanes) {
+        Ok(count) => width_of(count),
+        Err(_) => None,
     }
 }
 
@@ -123,13 +122,12 @@ fn is_launch_count(count: usize) -> bool
     1 <= count && count <= 16
 }
 
-/// The text of a file's values and the two options, or the number of the first condition that
-/// stands on them.
+/// The text of a file's values and the two options, or the first condition that stands on them.
 pub(crate) fn settle(
     values: Values,
     lanes: Option<u64>,
     turns: Option<u64>,
-) -> Result<LaunchText, u16>
+) -> Result<LaunchText, Refusal>
     requires texts { All HasTexts values.buffers.items }
     requires lengths { All (λ p. HasOneLength (part_of p)) values.list.items }
     requires numbers { All HasNumber values.defines.items }
@@ -142,23 +140,23 @@ pub(crate) fn settle(
     ensures apart { IfOk result (λ t. spec.saved_twice t.buffers.items ≡ false) }
     ensures accepted { IfOk result (λ _. spec.first_of (spec.value_conditions lanes turns (values_of values)) ≡
         None) }
-    ensures refused { IfErr result (λ n. spec.first_of (spec.value_conditions lanes turns (values_of values)) ≡
-        Some n) }
+    ensures refused { IfErr result (λ r. spec.first_of (spec.value_conditions lanes turns (values_of values)) ≡
+        Some r) }
 {
     if named_twice(values.buffers.as_slice()) {
-        return Err(9);
+        return Err(Refusal::BufferNamedTwice);
     }
     if saved_twice(values.buffers.as_slice()) {
-        return Err(10);
+        return Err(Refusal::SavedTwice);
     }
-    let Some(width) = width_of(chosen(lanes, values.lanes, 8)) else {
-        return Err(15);
+    let Some(width) = width_for(chosen(lanes, values.lanes, 8)) else {
+        return Err(Refusal::Lanes);
     };
     let Some(count) = turn_count(chosen(turns, values.turns, 100_000_000)) else {
-        return Err(16);
+        return Err(Refusal::Turns);
     };
     if !is_launch_count(values.list.len()) {
-        return Err(17);
+        return Err(Refusal::Launches);
     }
     Ok(LaunchText {
         defines: Defines {

@@ -1,7 +1,7 @@
 //! What a launch file says.
 
+use crate::refusal::Refusal;
 use cl_prep::Defines;
-use thiserror::Error;
 use wg_num::{Memory, Width, Word};
 
 /// A buffer: its name and its length in bytes, the file that it starts as and the file that it is
@@ -45,12 +45,11 @@ pub struct LaunchText {
     pub list: Vec<LaunchPart>,
 }
 
-/// Why a launch file is refused: the number of the first condition that stands.
-#[derive(Clone, Copy, PartialEq, Eq, Debug, Error)]
+/// Why a launch file gives no text or no launch: it is refused for the first condition that stands,
+/// or memory ran out.
+#[derive(Clone, Copy, PartialEq, Eq, Debug)]
 pub enum LaunchError {
-    #[error("launch file refused")]
-    Fault { number: u16 },
-    #[error("out of memory")]
+    Refused(Refusal),
     Memory,
 }
 

@@ -28,8 +28,8 @@ unread_memory old new ask text s Absent n all quiet is cause =
     absurd (none_found old.files ask text s Absent all cause.1)
 unread_memory old new ask text s (Source condition place) n all quiet is cause =
     absurd (none_found old.files ask text s (Source condition place) all cause)
-unread_memory old new ask text s (Launch number) n all quiet is cause =
-    absurd (none_found old.files ask text s (Launch number) all cause)
+unread_memory old new ask text s (Launch first) n all quiet is cause =
+    absurd (none_found old.files ask text s (Launch first) all cause)
 unread_memory old new ask text s Memory n all quiet is cause = is
 unread_memory old new ask text s _ n all quiet is cause = absurd cause
 
@@ -72,7 +72,7 @@ sample_complete old_out new_out old_err new_err k n ends all out_quiet = elim en
 reading_finds : (files : Option FileMap) (ask : Files) (e : RunError) → ReadingFinds files ask e → Finds files ask e
 reading_finds files ask Absent finds = inl finds
 reading_finds files ask (Source condition place) finds = finds
-reading_finds files ask (Launch number) finds = inl finds
+reading_finds files ask (Launch first) finds = inl finds
 reading_finds files ask _ finds = absurd finds
 
 -- and of nothing that was read
@@ -83,8 +83,8 @@ not_read fs ask text s Absent read finds = elim finds [
   | inr second ↦ lacks_loaded fs ask.launch 1048577 read.launch_bytes second.2 read.launch_loaded
 ]
 not_read fs ask text s (Source condition place) read finds = source_differs fs ask condition place text s finds read
-not_read fs ask text s (Launch number) read finds =
-    launch_differs fs ask number read.launch_bytes text finds read.launch_loaded read.reads
+not_read fs ask text s (Launch first) read finds =
+    launch_differs fs ask first read.launch_bytes text finds read.launch_loaded read.reads
 not_read fs ask text s _ read finds = finds
 
 not_shown : (fs : FileMap) (files : Option FileMap) (ask : Files) (show : Showing) (shown : List ℕ) (e : RunError) →

@@ -12,6 +12,7 @@ use Rattle.cl_meaning.specs.Typed.{Unit'}
 use Rattle.lane_code.specs.Fits.{LaunchFits}
 use Rattle.lane_code.specs.View.{plain_of}
 use Rattle.launch_file.specs.declared.text.BufferText.{BufferText}
+use Rattle.launch_file.specs.declared.refusal.Refusal.{Refusal}
 use Rattle.launch_file.specs.Binding as spec
 use Rattle.launch_file.specs.declared.text.LaunchPart.{LaunchPart}
 use Rattle.launch_file.specs.Texts.{Text, Part, part_of}
@@ -90,10 +91,10 @@ refused_later buffers parts units k part u in_parts in_units part_is u_is accept
 
 -- the launch at a place is refused
 pub refused_here : (buffers : List BufferText) (parts : List Part) (units : List Unit') (k : ℕ) (part : Part)
-    (u : Unit') (number : ℕ) → k < length parts → k < length units → part ≡ get_or parts k part → u ≡ get_or units k u
-    → spec.launch_refusal (needs_in u) buffers part ≡ Some number →
-    first_refusal buffers (drop k parts) (drop k units) ≡ Some number
-refused_here buffers parts units k part u number in_parts in_units part_is u_is refused =
+    (u : Unit') (first : Refusal) → k < length parts → k < length units → part ≡ get_or parts k part →
+    u ≡ get_or units k u → spec.launch_refusal (needs_in u) buffers part ≡ Some first →
+    first_refusal buffers (drop k parts) (drop k units) ≡ Some first
+refused_here buffers parts units k part u first in_parts in_units part_is u_is refused =
     from_place buffers parts units k part u in_parts in_units part_is u_is ∙
     ap (λ o. or_later o (first_refusal buffers (drop (k + 1) parts) (drop (k + 1) units))) refused
 

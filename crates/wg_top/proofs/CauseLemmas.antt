@@ -57,7 +57,7 @@ launch_cause old mid new ask bytes Absent loaded same before after c = (
   rose_over old.misses mid.misses new.misses before.misses after.misses c.0,
   inr (bytes, loaded, subst (λ (f : Option FileMap). LacksFile f ask.launch) same c.1),
 )
-launch_cause old mid new ask bytes (Launch number) loaded same before after c =
+launch_cause old mid new ask bytes (Launch first) loaded same before after c =
     record {
       source_bytes = bytes;
       source_loaded = loaded;
@@ -96,7 +96,7 @@ pub reading_cause : (old new : Standing) (ask : Files) (e : RunError) → Readin
 reading_cause old new ask Failed c = c
 reading_cause old new ask Absent c = (c.0, inl c.1)
 reading_cause old new ask (Source condition place) c = c
-reading_cause old new ask (Launch number) c = inl c
+reading_cause old new ask (Launch first) c = inl c
 reading_cause old new ask Memory c = tt
 reading_cause old new ask _ c = absurd c
 
@@ -115,7 +115,7 @@ back_cause old mid new ask text s Absent read same before after c = (
     subst (λ (f : Option FileMap). LacksOneFile f (loads_of text.buffers)) same c.2,
   ),
 )
-back_cause old mid new ask text s (Launch number) read same before after c =
+back_cause old mid new ask text s (Launch first) read same before after c =
     inr (record { text = text; units = s; read = read; refused = c })
 back_cause old mid new ask text s (Range number several group item place) read same before after c =
     stops old.files mid.files ask text s (Range number several group item place) read same c
@@ -140,7 +140,7 @@ leaves_files old mid new ask text s Failed read same left = elim left [
 ]
 leaves_files old mid new ask text s Absent read same left = left ∙ same
 leaves_files old mid new ask text s (Source condition place) read same left = left ∙ same
-leaves_files old mid new ask text s (Launch number) read same left = left ∙ same
+leaves_files old mid new ask text s (Launch first) read same left = left ∙ same
 leaves_files old mid new ask text s (Range number several group item place) read same left = left ∙ same
 leaves_files old mid new ask text s (Parted number several group item place) read same left = left ∙ same
 leaves_files old mid new ask text s (Turns number several) read same left = left ∙ same
@@ -162,6 +162,6 @@ pub leaves_read : (old new : Standing) (ask : Files) (e : RunError) → new.file
 leaves_read old new ask Failed same c = inl same
 leaves_read old new ask Absent same c = same
 leaves_read old new ask (Source condition place) same c = same
-leaves_read old new ask (Launch number) same c = same
+leaves_read old new ask (Launch first) same c = same
 leaves_read old new ask Memory same c = same
 leaves_read old new ask _ same c = absurd c

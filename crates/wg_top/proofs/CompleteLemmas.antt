@@ -114,11 +114,11 @@ none_found files ask text s (Source condition place) all finds =
     start_is files ask.source 262145 finds.source_bytes all.source_bytes all.source_told finds.source_loaded in
     no_fault finds.source_bytes (take 262145 all.source_bytes) finds.text text s condition place bytes same finds.fault
     all.unit all.compiled
-none_found files ask text s (Launch number) all finds =
+none_found files ask text s (Launch first) all finds =
     let bytes : take 1048577 all.launch_bytes ≡ finds.launch_bytes =
     sym (start_is files ask.launch 1048577 finds.launch_bytes all.launch_bytes all.launch_told
     finds.launch_loaded) in
-    read_or_refused finds.launch_bytes ask.lanes ask.turns text number
+    read_or_refused finds.launch_bytes ask.lanes ask.turns text first
     (subst (λ (b : List ℕ). Reads b ask.lanes ask.turns text) bytes all.reads) finds.refused
 none_found files ask text s _ all finds = finds
 
@@ -192,11 +192,11 @@ complete old new ask text s Failed n all never other is cause = absurd (other re
 complete old new ask text s Absent n all never other is cause = absurd (none_lacked old.files ask text s all cause.1)
 complete old new ask text s (Source condition place) n all never other is cause =
     absurd (none_found old.files ask text s (Source condition place) all.readable cause)
-complete old new ask text s (Launch number) n all never other is cause = absurd (elim cause [
-  | inl unread ↦ none_found old.files ask text s (Launch number) all.readable unread
+complete old new ask text s (Launch first) n all never other is cause = absurd (elim cause [
+  | inl unread ↦ none_found old.files ask text s (Launch first) all.readable unread
   | inr unbound ↦
       let same = same_read old.files ask text unbound.text s unbound.units all.readable unbound.read in
-      let e : Some number ≡ None = sym unbound.refused ∙ (ap₂ bind_refusal same.0 same.1 ∙ all.accepted) in
+      let e : Some first ≡ None = sym unbound.refused ∙ (ap₂ bind_refusal same.0 same.1 ∙ all.accepted) in
       let never : ⊥ = cc e in never
 ])
 complete old new ask text s (Range launch several group item place) n all never other is cause =
@@ -265,7 +265,7 @@ is_memory : (e : RunError) → status_of e ≡ 8 → e ≡ Memory
 is_memory Failed is = absurd (omega (arith, is))
 is_memory Absent is = absurd (omega (arith, is))
 is_memory (Source condition place) is = absurd (omega (arith, is))
-is_memory (Launch number) is = absurd (omega (arith, is))
+is_memory (Launch first) is = absurd (omega (arith, is))
 is_memory (Range launch several group item place) is = absurd (omega (arith, is))
 is_memory (Parted launch several group item place) is = absurd (omega (arith, is))
 is_memory (Turns launch several) is = absurd (omega (arith, is))
@@ -331,7 +331,7 @@ refused_loops : (old new : Standing) (ask : Files) (e : RunError) (n : ℕ) → 
 refused_loops old new ask Failed n is cause seven = absurd (omega arith)
 refused_loops old new ask Absent n is cause seven = absurd (omega arith)
 refused_loops old new ask (Source condition place) n is cause seven = absurd (omega arith)
-refused_loops old new ask (Launch number) n is cause seven = absurd (omega arith)
+refused_loops old new ask (Launch first) n is cause seven = absurd (omega arith)
 refused_loops old new ask (Range launch several group item place) n is cause seven = absurd (omega arith)
 refused_loops old new ask (Parted launch several group item place) n is cause seven = absurd (omega arith)
 refused_loops old new ask (Turns launch several) n is cause seven = has_loops old.files ask launch several cause

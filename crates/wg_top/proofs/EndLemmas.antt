@@ -18,7 +18,7 @@ pub status_failed : (old new : Standing) (ask : Files) (e : RunError) (n : ℕ) 
 status_failed old new ask Failed n is cause one = cause
 status_failed old new ask Absent n is cause one = absurd (omega arith)
 status_failed old new ask (Source condition place) n is cause one = absurd (omega arith)
-status_failed old new ask (Launch number) n is cause one = absurd (omega arith)
+status_failed old new ask (Launch first) n is cause one = absurd (omega arith)
 status_failed old new ask (Range number several group item place) n is cause one = absurd (omega arith)
 status_failed old new ask (Parted number several group item place) n is cause one = absurd (omega arith)
 status_failed old new ask (Turns number several) n is cause one = absurd (omega arith)
@@ -29,7 +29,7 @@ pub status_absent : (old new : Standing) (ask : Files) (e : RunError) (n : ℕ) 
 status_absent old new ask Failed n is cause nine = absurd (omega arith)
 status_absent old new ask Absent n is cause nine = cause.0
 status_absent old new ask (Source condition place) n is cause nine = absurd (omega arith)
-status_absent old new ask (Launch number) n is cause nine = absurd (omega arith)
+status_absent old new ask (Launch first) n is cause nine = absurd (omega arith)
 status_absent old new ask (Range number several group item place) n is cause nine = absurd (omega arith)
 status_absent old new ask (Parted number several group item place) n is cause nine = absurd (omega arith)
 status_absent old new ask (Turns number several) n is cause nine = absurd (omega arith)
@@ -41,7 +41,7 @@ pub leaves_all : (old new : Standing) (ask : Files) (e : RunError) (n : ℕ) →
 leaves_all old new ask Failed n is leaves other = absurd (other is)
 leaves_all old new ask Absent n is leaves other = leaves
 leaves_all old new ask (Source condition place) n is leaves other = leaves
-leaves_all old new ask (Launch number) n is leaves other = leaves
+leaves_all old new ask (Launch first) n is leaves other = leaves
 leaves_all old new ask (Range number several group item place) n is leaves other = leaves
 leaves_all old new ask (Parted number several group item place) n is leaves other = leaves
 leaves_all old new ask (Turns number several) n is leaves other = leaves
@@ -52,7 +52,7 @@ pub status_above : (e : RunError) (n : ℕ) → n ≡ status_of e → (n ≡ 0 �
 status_above Failed n is = (λ h. omega arith, λ h. omega arith)
 status_above Absent n is = (λ h. omega arith, λ h. omega arith)
 status_above (Source condition place) n is = (λ h. omega arith, λ h. omega arith)
-status_above (Launch number) n is = (λ h. omega arith, λ h. omega arith)
+status_above (Launch first) n is = (λ h. omega arith, λ h. omega arith)
 status_above (Range number several group item place) n is = (λ h. omega arith, λ h. omega arith)
 status_above (Parted number several group item place) n is = (λ h. omega arith, λ h. omega arith)
 status_above (Turns number several) n is = (λ h. omega arith, λ h. omega arith)
@@ -203,7 +203,7 @@ no_fault_status : (e : RunError) (n : ℕ) → n ≡ status_of e → (e ≡ Fail
 no_fault_status Failed n is none = absurd (none.0 refl)
 no_fault_status Absent n is none = absurd (none.1 refl)
 no_fault_status (Source condition place) n is none = (λ h. omega arith, λ h. omega arith)
-no_fault_status (Launch number) n is none = (λ h. omega arith, λ h. omega arith)
+no_fault_status (Launch first) n is none = (λ h. omega arith, λ h. omega arith)
 no_fault_status (Range number several group item place) n is none = (λ h. omega arith, λ h. omega arith)
 no_fault_status (Parted number several group item place) n is none = (λ h. omega arith, λ h. omega arith)
 no_fault_status (Turns number several) n is none = (λ h. omega arith, λ h. omega arith)

@@ -10,6 +10,7 @@ use Rattle.command_words.specs.Command.{Files}
 use Rattle.launch_file.specs.Binding.{loads_of, lengths_of}
 use Rattle.launch_file.specs.Refusals.{Reads}
 use Rattle.launch_file.specs.Texts.{Text}
+use Rattle.launch_file.specs.declared.refusal.Refusal.{Refusal}
 use Rattle.launch_file.proofs.Unique.{read_or_refused}
 use Rattle.wg_front.specs.declared.condition.Condition.{Condition}
 use Rattle.wg_top.specs.declared.RunError.{RunError}
@@ -35,9 +36,9 @@ use Rattle.wg_top.proofs.EndLemmas.{status_above}
 data Found (files : Option FileMap) (ask : Files) : Type 0 where
   no_source : LacksFile files ask.source → Found files ask
   no_launch : (bytes : List ℕ) → SourceLoaded files ask.source bytes → LacksFile files ask.launch → Found files ask
-  bad_launch : (number : ℕ) → TextRefused files ask number → Found files ask
+  bad_launch : (first : Refusal) → TextRefused files ask first → Found files ask
   bad_source : (condition : Condition) (place : Place) → SourceRefused files ask condition place → Found files ask
-  bad_bind : (number : ℕ) → BindRefused files ask number → Found files ask
+  bad_bind : (first : Refusal) → BindRefused files ask first → Found files ask
   no_buffer : (text : Text) (s : List Unit') → RunBound files ask text s →
       LacksOneFile files (loads_of text.buffers) → Found files ask
   stopped : (e : RunError) → RunStopped files ask e → Found files ask
@@ -67,13 +68,13 @@ same_start : (fs : FileMap) (name : List ℕ) (most : ℕ) (bytes others : List 
     HasFileStart (Some fs) name most bytes → HasFileStart (Some fs) name most others → bytes ≡ others
 same_start fs name most bytes others a b = let e : Some bytes ≡ Some others = sym a ∙ b in cc
 
-pub launch_differs : (fs : FileMap) (ask : Files) (number : ℕ) (bytes : List ℕ) (text : Text) →
-    TextRefused (Some fs) ask number → LaunchLoaded (Some fs) ask.launch bytes →
+pub launch_differs : (fs : FileMap) (ask : Files) (first : Refusal) (bytes : List ℕ) (text : Text) →
+    TextRefused (Some fs) ask first → LaunchLoaded (Some fs) ask.launch bytes →
     Reads bytes ask.lanes ask.turns text → ⊥
-launch_differs fs ask number bytes text refused loaded reads =
+launch_differs fs ask first bytes text refused loaded reads =
     let same : bytes ≡ refused.launch_bytes =
     same_start fs ask.launch 1048577 bytes refused.launch_bytes loaded refused.launch_loaded in
-    read_or_refused refused.launch_bytes ask.lanes ask.turns text number
+    read_or_refused refused.launch_bytes ask.lanes ask.turns text first
     (subst (λ (b : List ℕ). Reads b ask.lanes ask.turns text) same reads) refused.refused
 
 pub source_differs : (fs : FileMap) (ask : Files) (condition : Condition) (place : Place) (text : Text)
@@ -99,10 +100,10 @@ two_units fs ask text other s t a b =
     same_units a.source_bytes b.source_bytes text other s t (same_start fs ask.source 262145 a.source_bytes
     b.source_bytes a.source_loaded b.source_loaded) (two_texts fs ask text other s t a b) a.compiled b.compiled
 
-bind_differs : (fs : FileMap) (ask : Files) (number : ℕ) (text : Text) (s : List Unit') →
-    BindRefused (Some fs) ask number → RunBound (Some fs) ask text s → ⊥
-bind_differs fs ask number text s refused bound =
-    let e : Some number ≡ None = sym refused.refused ∙
+bind_differs : (fs : FileMap) (ask : Files) (first : Refusal) (text : Text) (s : List Unit') →
+    BindRefused (Some fs) ask first → RunBound (Some fs) ask text s → ⊥
+bind_differs fs ask first text s refused bound =
+    let e : Some first ≡ None = sym refused.refused ∙
     (ap₂ bind_refusal (two_texts fs ask refused.text text refused.units s refused.read bound.read)
     (two_units fs ask refused.text text refused.units s refused.read bound.read) ∙ bound.accepted) in
     let never : ⊥ = cc e in never
@@ -343,9 +344,9 @@ found files ask Absent finds = elim finds [
   | inr third ↦ (no_buffer third.0 third.1 third.2 third.3, refl)
 ]
 found files ask (Source condition place) finds = (bad_source condition place finds, refl)
-found files ask (Launch number) finds = elim finds [
-  | inl unread ↦ (bad_launch number unread, refl)
-  | inr unbound ↦ (bad_bind number unbound, refl)
+found files ask (Launch first) finds = elim finds [
+  | inl unread ↦ (bad_launch first unread, refl)
+  | inr unbound ↦ (bad_bind first unbound, refl)
 ]
 found files ask (Range launch several group item place) finds =
     (stopped (Range launch several group item place) finds, refl)
@@ -390,8 +391,8 @@ refusal fs old new ask e Absent n told finds other is cause =
 refusal fs old new ask e (Source condition place) n told finds other is cause =
     inl (is ∙ one_status fs ask (Source condition place) e
     (subst (λ (f : Option FileMap). Finds f ask (Source condition place)) told cause) finds)
-refusal fs old new ask e (Launch number) n told finds other is cause =
-    inl (is ∙ one_status fs ask (Launch number) e (subst (λ (f : Option FileMap). Finds f ask (Launch number)) told
+refusal fs old new ask e (Launch first) n told finds other is cause =
+    inl (is ∙ one_status fs ask (Launch first) e (subst (λ (f : Option FileMap). Finds f ask (Launch first)) told
     cause) finds)
 refusal fs old new ask e (Range launch several group item place) n told finds other is cause =
     inl (is ∙ one_status fs ask (Range launch several group item place) e

@@ -6,6 +6,7 @@ use Rattle.wg_outside.specs.Files.{FileMap, HasFileStart, LacksFile, told_file}
 use Rattle.buffer_io.specs.Loads.{AllStartAs, LacksOneFile}
 use Rattle.buffer_io.specs.Saves.{AllSavedAs, KeepsAllBut, StopsAt}
 use Rattle.command_words.specs.Command.{Files}
+use Rattle.launch_file.specs.declared.refusal.Refusal.{Refusal}
 use Rattle.launch_file.specs.Refusals.{Reads, IsRefused}
 use Rattle.launch_file.specs.Binding.{loads_of, saves_of, lengths_of}
 use Rattle.launch_file.specs.Texts.{Text}
@@ -60,21 +61,20 @@ pub record RunBound (files : Option FileMap) (ask : Files) (text : Text) (units 
   pub read : RunRead files ask text units
   pub accepted : bind_refusal text units ≡ None
 
--- the source and the launch file were loaded, and the condition of that number is the first that stands on the launch
--- file
-pub record TextRefused (files : Option FileMap) (ask : Files) (number : ℕ) : Type 0 where
+-- the source and the launch file were loaded, and that condition is the first that stands on the launch file
+pub record TextRefused (files : Option FileMap) (ask : Files) (refusal : Refusal) : Type 0 where
   pub source_bytes : List ℕ
   pub source_loaded : SourceLoaded files ask.source source_bytes
   pub launch_bytes : List ℕ
   pub launch_loaded : LaunchLoaded files ask.launch launch_bytes
-  pub refused : IsRefused launch_bytes ask.lanes ask.turns number
+  pub refused : IsRefused launch_bytes ask.lanes ask.turns refusal
 
--- all was read, and the condition of that number is the first that stands on the launches
-pub record BindRefused (files : Option FileMap) (ask : Files) (number : ℕ) : Type 0 where
+-- all was read, and that condition is the first that stands on the launches
+pub record BindRefused (files : Option FileMap) (ask : Files) (refusal : Refusal) : Type 0 where
   pub text : Text
   pub units : List Unit'
   pub read : RunRead files ask text units
-  pub refused : bind_refusal text units ≡ Some number
+  pub refused : bind_refusal text units ≡ Some refusal
 
 -- the condition stands of the source at that place: a source without a unit comes first, then the first launch whose
 -- kernel is at fault
@@ -143,7 +143,7 @@ abbrev pub Finds : Option FileMap → Files → RunError → Type 0
 Finds files ask Failed = ⊥
 Finds files ask Absent = LacksName files ask
 Finds files ask (Source condition place) = SourceRefused files ask condition place
-Finds files ask (Launch number) = TextRefused files ask number ⊎ BindRefused files ask number
+Finds files ask (Launch refusal) = TextRefused files ask refusal ⊎ BindRefused files ask refusal
 Finds files ask (Range launch several group item place) = RunStopped files ask (Range launch several group item place)
 Finds files ask (Parted launch several group item place) = RunStopped files ask (Parted launch several group item place)
 Finds files ask (Turns launch several) = RunStopped files ask (Turns launch several)
@@ -153,7 +153,7 @@ Finds files ask Memory = ⊥
 abbrev pub ReadingFinds : Option FileMap → Files → RunError → Type 0
 ReadingFinds files ask Absent = LacksText files ask
 ReadingFinds files ask (Source condition place) = SourceRefused files ask condition place
-ReadingFinds files ask (Launch number) = TextRefused files ask number
+ReadingFinds files ask (Launch refusal) = TextRefused files ask refusal
 ReadingFinds files ask _ = ⊥
 
 -- the cause of each refusal
@@ -161,7 +161,7 @@ abbrev pub Cause : Standing → Standing → Files → RunError → Type 0
 Cause old new ask Failed = Rose old.faults new.faults
 Cause old new ask Absent = Rose old.misses new.misses × Finds old.files ask Absent
 Cause old new ask (Source condition place) = Finds old.files ask (Source condition place)
-Cause old new ask (Launch number) = Finds old.files ask (Launch number)
+Cause old new ask (Launch refusal) = Finds old.files ask (Launch refusal)
 Cause old new ask (Range launch several group item place) =
     RunStops old.files ask (Range launch several group item place)
 Cause old new ask (Parted launch several group item place) =
@@ -174,7 +174,7 @@ abbrev pub ReadingCause : Standing → Standing → Files → RunError → Type 
 ReadingCause old new ask Failed = Rose old.faults new.faults
 ReadingCause old new ask Absent = Rose old.misses new.misses × LacksText old.files ask
 ReadingCause old new ask (Source condition place) = SourceRefused old.files ask condition place
-ReadingCause old new ask (Launch number) = TextRefused old.files ask number
+ReadingCause old new ask (Launch refusal) = TextRefused old.files ask refusal
 ReadingCause old new ask Memory = ⊤
 ReadingCause old new ask _ = ⊥
 

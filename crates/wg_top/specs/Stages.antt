@@ -3,6 +3,7 @@ use Rattle.std.specs.Prelude.{◌≡◌, ◌⊎◌, ⊤, ℕ, List, Option, Some
 use Rattle.wg_outside.specs.Counts.{Rose}
 use Rattle.wg_outside.specs.Files.{FileMap, LacksFile}
 use Rattle.buffer_io.specs.Loads.{LacksOneFile}
+use Rattle.launch_file.specs.declared.refusal.Refusal.{Refusal}
 use Rattle.launch_file.specs.Refusals.{Reads, IsRefused}
 use Rattle.launch_file.specs.Binding.{loads_of}
 use Rattle.cl_prep.specs.declared.prep.Define.{Define}
@@ -20,17 +21,18 @@ pub record TextRead (files : Option FileMap) (launch : List ℕ) (lanes turns : 
   pub loaded : LaunchLoaded files launch bytes
   pub reads : Reads bytes lanes turns text
 
--- the launch file was loaded, and the condition of that number is the first that stands on it
-pub record TextUnread (files : Option FileMap) (launch : List ℕ) (lanes turns : Option ℕ) (number : ℕ) : Type 0 where
+-- the launch file was loaded, and that condition is the first that stands on it
+pub record TextUnread (files : Option FileMap) (launch : List ℕ) (lanes turns : Option ℕ)
+    (refusal : Refusal) : Type 0 where
   pub bytes : List ℕ
   pub loaded : LaunchLoaded files launch bytes
-  pub refused : IsRefused bytes lanes turns number
+  pub refused : IsRefused bytes lanes turns refusal
 
 -- the cause of a refusal while the launch file is read
 abbrev pub LaunchCause : Standing → Standing → List ℕ → Option ℕ → Option ℕ → RunError → Type 0
 LaunchCause old new launch lanes turns Failed = Rose old.faults new.faults
 LaunchCause old new launch lanes turns Absent = Rose old.misses new.misses × LacksFile old.files launch
-LaunchCause old new launch lanes turns (Launch number) = TextUnread old.files launch lanes turns number
+LaunchCause old new launch lanes turns (Launch refusal) = TextUnread old.files launch lanes turns refusal
 LaunchCause old new launch lanes turns Memory = ⊤
 LaunchCause old new launch lanes turns _ = ⊥
 
@@ -54,7 +56,7 @@ KernelsCause bytes defines parts _ = ⊥
 
 -- the cause of a refusal of the launches
 abbrev pub BindCause : Text → List Unit' → RunError → Type 0
-BindCause text units (Launch number) = bind_refusal text units ≡ Some number
+BindCause text units (Launch refusal) = bind_refusal text units ≡ Some refusal
 BindCause text units Memory = ⊤
 BindCause text units _ = ⊥
 
@@ -63,7 +65,7 @@ abbrev pub BackCause : Standing → Standing → Text → List Unit' → RunErro
 BackCause old new text units Failed = Rose old.faults new.faults
 BackCause old new text units Absent =
     Rose old.misses new.misses × (bind_refusal text units ≡ None) × LacksOneFile old.files (loads_of text.buffers)
-BackCause old new text units (Launch number) = bind_refusal text units ≡ Some number
+BackCause old new text units (Launch refusal) = bind_refusal text units ≡ Some refusal
 BackCause old new text units (Range launch several group item place) =
     StopsIn old.files text units (Range launch several group item place)
 BackCause old new text units (Parted launch several group item place) =

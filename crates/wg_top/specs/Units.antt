@@ -4,6 +4,7 @@ use Rattle.wg_num.specs.declared.types.Place.{Place}
 use Rattle.cl_prep.specs.declared.prep.Define.{Define}
 use Rattle.cl_meaning.specs.Typed.{Unit'}
 use Rattle.launch_file.specs.declared.text.BufferText.{BufferText}
+use Rattle.launch_file.specs.declared.refusal.Refusal.{Refusal}
 use Rattle.launch_file.specs.Binding.{Needs, launch_refusal}
 use Rattle.launch_file.specs.Texts.{Text, Part}
 use Rattle.launch_bind.specs.Needed.{needs_of_kernel}
@@ -34,16 +35,16 @@ IsFirstRefused source defines (part ∷ parts) condition place =
     (Compiles source defines part.kernel × IsFirstRefused source defines parts condition place)
 
 -- what is there, or what comes later
-abbrev pub or_later : Option ℕ → Option ℕ → Option ℕ
+abbrev pub or_later : Option Refusal → Option Refusal → Option Refusal
 or_later None later = later
-or_later (Some n) later = Some n
+or_later (Some first) later = Some first
 
--- the number of the first condition that stands on the launches, in order, each for its own kernel
-abbrev pub first_refusal : List BufferText → List Part → List Unit' → Option ℕ
+-- the first condition that stands on the launches, in order, each for its own kernel
+abbrev pub first_refusal : List BufferText → List Part → List Unit' → Option Refusal
 first_refusal buffers (part ∷ parts) (u ∷ us) =
     or_later (launch_refusal (needs_in u) buffers part) (first_refusal buffers parts us)
 first_refusal buffers _ _ = None
 
 -- the same for a launch file
-abbrev pub bind_refusal : Text → List Unit' → Option ℕ
+abbrev pub bind_refusal : Text → List Unit' → Option Refusal
 bind_refusal text units = first_refusal text.buffers text.list units

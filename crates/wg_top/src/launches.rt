@@ -57,7 +57,7 @@ pub(crate) fn bind_each(
                     return Err(RunError::Memory);
                 }
             }
-            Err(LaunchError::Fault { number }) => return Err(RunError::Launch { number }),
+            Err(LaunchError::Refused(refusal)) => return Err(RunError::Launch { refusal }),
             Err(LaunchError::Memory) => return Err(RunError::Memory),
         }
     }

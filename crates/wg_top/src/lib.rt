@@ -17,6 +17,7 @@ ghost use Rattle.wg_top.specs.Lines.{status_of};
 use crate::sample::{SAMPLE, sample_sum};
 use crate::texts::{Shown, show_source};
 use command_words::{FileWords, Words, WordsError, read_words};
+use launch_file::Refusal;
 use std::alloc::Global;
 use wg_front::Condition;
 use wg_num::Place;
@@ -47,9 +48,9 @@ pub enum RunError {
         condition: Condition,
         place: Place,
     },
-    /// The condition of that number stands of the launch file.
+    /// The launch file is refused for that condition.
     Launch {
-        number: u16,
+        refusal: Refusal,
     },
     /// In that launch, counted from 1, a work-item, by the number of its group and its own number
     /// in the launch, came to an element outside its object, at the access of that place of the

@@ -52,7 +52,7 @@ fn load_launch<S: Store>(
     match store.load(alloc, launch, LAUNCH_MOST) {
         Ok(bytes) => match read(alloc, &bytes, options.lanes, options.turns) {
             Ok(text) => Ok(text),
-            Err(LaunchError::Fault { number }) => Err(RunError::Launch { number }),
+            Err(LaunchError::Refused(refusal)) => Err(RunError::Launch { refusal }),
             Err(LaunchError::Memory) => Err(RunError::Memory),
         },
         Err(LoadError::Absent) => Err(RunError::Absent),

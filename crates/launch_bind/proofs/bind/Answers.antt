@@ -5,6 +5,6 @@ use Rattle.launch_bind.proofs.bind.Goals as goal
 
 pub returns-in-Ok-clause-refused : goal.returns-in-Ok-clause-refused
 returns-in-Ok-clause-refused c =
-    λ number is. subst (λ (n : Needs). launch_refusal n (text_of c.args.text.now).buffers
-    (part_at (text_of c.args.text.now) c.args.which) ≡ Some number) c.in-Ok.ensures
-    (c.bind_kernel.ensures.refused number is)
+    λ first is. subst (λ (n : Needs). launch_refusal n (text_of c.args.text.now).buffers
+    (part_at (text_of c.args.text.now) c.args.which) ≡ Some first) c.in-Ok.ensures
+    (c.bind_kernel.ensures.refused first is)

@@ -8,14 +8,14 @@ use Rattle.launch_file.proofs.Order.{part_there, same_refusal, same_launch}
 use Rattle.launch_file.proofs.bind.bind_kernel.Goals as goal
 
 pub returns-in-Some-clause-refused : goal.returns-in-Some-clause-refused
-returns-in-Some-clause-refused c = λ number is.
+returns-in-Some-clause-refused c = λ first is.
     let part : part_of c.index-part.result.now ≡ spec.part_at (text_of c.args.text.now) c.args.which =
     part_there part_of c.args.text.now.list.items c.args.which c.index-part.result.now _ c.requires.within
     c.index-part.ensures in
-    let same : c.in-Some.number ≡ number = cc is in
+    let same : c.in-Some.refusal ≡ first = cc is in
     same_refusal (needs_of c.args.needs.now) c.as_slice-buffers.result.now c.args.text.now.buffers.items
     (part_of c.index-part.result.now) (spec.part_at (text_of c.args.text.now) c.args.which)
-    (Some c.in-Some.number) (Some number) c.as_slice-buffers.ensures.value part (ap Some same)
+    (Some c.in-Some.refusal) (Some first) c.as_slice-buffers.ensures.value part (ap Some same)
     c.in-Some.ensures.some
 
 pub launch_of-requires-clause-few : goal.launch_of-requires-clause-few

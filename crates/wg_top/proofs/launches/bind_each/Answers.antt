@@ -63,8 +63,8 @@ loop-which-preserved c =
           kernel in_kernels is) c.in-Ok.ensures.bound.accepted;
     }
 
-pub returns-in-Err-Fault-clause-err : goal.returns-in-Err-Fault-clause-err
-returns-in-Err-Fault-clause-err c =
+pub returns-in-Err-Refused-clause-err : goal.returns-in-Err-Refused-clause-err
+returns-in-Err-Refused-clause-err c =
     let unit : Compiled → Unit' = λ k. unit_of k.program in
     let parts = map part_of c.args.text.now.list.items in
     let units = map unit c.args.kernels.now in
@@ -83,5 +83,5 @@ returns-in-Err-Fault-clause-err c =
     (refused_here c.args.text.now.buffers.items parts units c.loop-which.which part (unit kernel) _ there
     there_too (get_or_default parts c.loop-which.which _ part there)
     (at_place unit c.args.kernels.now c.loop-which.which kernel in_kernels is)
-    (c.in-Err-Fault.ensures.refused c.in-Err-Fault.number (ap Err c.in-Err-Fault.field-0-is)) ∙
-    cc c.in-Err-Fault.number-is)
+    (c.in-Err-Refused.ensures.refused c.in-Err-Refused.refusal (ap Err c.in-Err-Refused.field-0-is)) ∙
+    cc c.in-Err-Refused.refusal-is)
