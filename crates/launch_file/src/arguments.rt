@@ -1,7 +1,6 @@
 //! The arguments of a launch against the parameters of its kernel.
-ghost use Rattle.std.specs.Prelude.{◌≡◌, ◌+◌, ◌-◌, ◌^◌, ◌≤◌, length, min};
+ghost use Rattle.std.specs.Prelude.{◌≡◌, ◌+◌, ◌-◌, ◌^◌, length, min};
 ghost use Rattle.std.specs.List.{list_any};
-ghost use Rattle.wg_num.specs.Wrap.{wrap_of};
 ghost use Rattle.launch_file.specs.Binding as spec;
 ghost use Rattle.launch_file.specs.Texts.{Part};
 

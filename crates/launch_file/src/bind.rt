@@ -1,6 +1,6 @@
 //! The launches of a launch file for a kernel.
 ghost use Rattle.std.specs.Prelude.{◌≡◌, ◌<◌, ◌≤◌, All, IfOk, Err, Some, None, IfNone, IfSome};
-ghost use Rattle.std.specs.Prelude.{length, slice_index_or};
+ghost use Rattle.std.specs.Prelude.{length};
 ghost use Rattle.launch_file.specs.Binding as spec;
 ghost use Rattle.launch_file.specs.Values.{HasOneLength};
 ghost use Rattle.launch_file.specs.NeedsView.{needs_of};

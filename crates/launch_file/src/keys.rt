@@ -1,5 +1,5 @@
 //! What stands at a key of a table.
-ghost use Rattle.std.specs.Prelude.{◌≡◌, List, option_map, map, bytes_eq};
+ghost use Rattle.std.specs.Prelude.{◌≡◌, option_map, map, bytes_eq};
 ghost use Rattle.std.specs.List.{list_any};
 ghost use Rattle.toml.specs.View.{view, table_view, items_view};
 ghost use Rattle.toml.specs.Data.{as_table, as_array, get_member};

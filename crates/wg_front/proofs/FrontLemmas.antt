@@ -21,7 +21,7 @@ use Rattle.cl_prep.specs.Names.{Names}
 use Rattle.cl_prep.specs.Expands.{Expands, Ends, defined_twice, fails, start_state, IsRefused as IsUnexpanded}
 use Rattle.cl_prep.specs.Progress.{IsRefusedOrMemory as IsUnexpandedOrMemory}
 use Rattle.cl_prep.proofs.Unique.{one_out, ends_or_fails}
-use Rattle.cl_tree.specs.Syntax.{Syntax, nesting}
+use Rattle.cl_tree.specs.Syntax.{Syntax}
 use Rattle.cl_tree.specs.Grammar.{SpellsUnit}
 use Rattle.cl_tree.specs.Places.{Continues, NoUnit, NoUnitWithin, SomeUnit, DeeperUnit}
 use Rattle.wg_front.specs.declared.condition.Condition.{Condition}

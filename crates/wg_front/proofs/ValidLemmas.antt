@@ -5,14 +5,12 @@ use Rattle.cl_model.specs.declared.program.Var as rust_var
 use Rattle.cl_model.specs.declared.program.Array as rust_array
 use Rattle.cl_model.specs.declared.program.Table as rust_table
 use Rattle.cl_model.specs.declared.program.Function as rust_function
-use Rattle.cl_model.specs.declared.program.VarKind.{VarKind}
 use Rattle.cl_model.specs.Sizes as sizes
 use Rattle.cl_model.specs.Valid.{IsValid}
 use Rattle.cl_model.specs.View as view
 use Rattle.cl_prep.specs.declared.prep.Define.{Define}
 use Rattle.cl_meaning.specs.Declarations as declarations
 use Rattle.cl_meaning.specs.Typed.{Unit'}
-use Rattle.cl_meaning.specs.Meant.{unit_meant}
 use Rattle.cl_scope.specs.View as scope
 use Rattle.cl_piece.specs.View as piece
 use Rattle.cl_valid.specs.Erased as erased

@@ -1,5 +1,5 @@
 // The launches of a launch file, one after the other, over its buffers.
-ghost use Rattle.std.specs.Prelude.{◌≡◌, ◌<◌, ◌≤◌, ◌+◌, ℕ, All, List, None, IfOk, IfErr, OnOk};
+ghost use Rattle.std.specs.Prelude.{◌≡◌, ◌<◌, ◌≤◌, ◌+◌, All, None, IfOk, IfErr, OnOk};
 ghost use Rattle.std.specs.Prelude.{length, map, IsTrue, ◌↔◌, ◌∷◌, [], sum, min, slice_index_or};
 ghost use Rattle.cl_model.specs.View.{launch_of, buffers_of};
 ghost use Rattle.cl_model.specs.Sizes.{group_count, item_count};

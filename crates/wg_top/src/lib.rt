@@ -1,7 +1,7 @@
 //! The top call: from words to a status, from files to files, through all passes of the compiler.
 #![tactic(auto)]
 
-ghost use Rattle.std.specs.Prelude.{◌≡◌, ◌≤◌, ◌⊎◌, List, map, string_bytes, IfOk};
+ghost use Rattle.std.specs.Prelude.{◌≡◌, ◌⊎◌, List, map, string_bytes};
 ghost use Rattle.command_words.specs.Command.{Files, Request, run, TakesWords, files_of, request_of};
 ghost use Rattle.launch_file.specs.Texts.{Text};
 ghost use Rattle.wg_outside.specs.Counts.{Rose};

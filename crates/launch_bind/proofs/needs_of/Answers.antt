@@ -1,7 +1,5 @@
-use Rattle.std.proofs.Common.{◌≡◌, ◌∙◌, List, map, take, ap, sym}
-use Rattle.cl_model.specs.declared.program.VarKind.{VarKind}
+use Rattle.std.proofs.Common.{◌≡◌, map, take}
 use Rattle.cl_limits.specs.View.{variable_of}
-use Rattle.launch_file.specs.Binding.{Needs}
 use Rattle.launch_bind.proofs.FirstKinds.{first_kinds}
 use Rattle.launch_bind.proofs.needs_of.Goals as goal
 
