@@ -50,7 +50,7 @@ one_unit bytes defines a b u v x y =
 pub has_unit : (bytes : List ℕ) (defines : List Define) (expanded : List Token) (unit : Syntax) →
     IsSource bytes defines expanded unit → HasUnit bytes defines
 has_unit bytes defines expanded unit is =
-    (unit, (expanded, is))
+    (unit, expanded, is)
 
 faulty_or_compiled : (bytes : List ℕ) (defines : List Define) (kernel : List ℕ) (condition : Condition)
     (place : Place) (typed : Unit') → IsFaulty bytes defines kernel condition place →

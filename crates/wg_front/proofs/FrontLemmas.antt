@@ -176,13 +176,13 @@ continues_itself tokens at = elim (cases_lt at (length tokens)) [
 pub refused_or_unit : (source : List ℕ) (defines : List Define) (condition : Condition) (place : Place) →
     StandsAt source defines condition place → HasUnit source defines → ⊥
 refused_or_unit source defines condition place (uncut e at h is placed) u =
-    uncut_or_cut source e u.1.1.read.0 u.1.1.read.1.short u.1.1.read.1.cuts h
+    uncut_or_cut source e u.2.read.0 u.2.read.1.short u.2.read.1.cuts h
 refused_or_unit source defines condition place (unexpanded tokens e at short cuts h is placed) u =
-    unexpanded_or_expanded tokens defines e u.1.0 (subst (λ (ts : List Token). Expands ts defines u.1.0)
-    (one_cut source u.1.1.read.0 tokens u.1.1.read.1.cuts cuts) u.1.1.read.1.expands) h
+    unexpanded_or_expanded tokens defines e u.1 (subst (λ (ts : List Token). Expands ts defines u.1)
+    (one_cut source u.2.read.0 tokens u.2.read.1.cuts cuts) u.2.read.1.expands) h
 refused_or_unit source defines condition place (no_unit tokens expanded at reads none least is placed) u =
     none expanded u.0 (continues_itself expanded at) (subst (λ (ts : List Token). SpellsUnit u.0 ts)
-    (one_reading source defines u.1.1.read.0 tokens u.1.0 expanded u.1.1.read.1 reads) u.1.1.spelled)
+    (one_reading source defines u.2.read.0 tokens u.1 expanded u.2.read.1 reads) u.2.spelled)
 refused_or_unit source defines condition place (too_deep tokens expanded at reads none deeper is placed) u =
     none expanded u.0 (continues_itself expanded at) (subst (λ (ts : List Token). SpellsUnit u.0 ts)
-    (one_reading source defines u.1.1.read.0 tokens u.1.0 expanded u.1.1.read.1 reads) u.1.1.spelled) u.1.1.nests
+    (one_reading source defines u.2.read.0 tokens u.1 expanded u.2.read.1 reads) u.2.spelled) u.2.nests
