@@ -1,19 +1,17 @@
 -- Laws of loads and stores.
-use Rattle.std.proofs.Common.{◌≡◌, ℕ, zero, suc, ◌+◌, ◌-◌, ◌*◌, ◌/◌, ◌%◌, ◌^◌, ◌<◌, ◌≤◌, refl, sym, ap, ap₂, ◌∙◌}
+use Rattle.std.proofs.Common.{◌≡◌, ℕ, zero, suc, ◌+◌, ◌*◌, ◌/◌, ◌%◌, ◌^◌, ◌<◌, ◌≤◌, refl, sym, ap, ap₂, ◌∙◌}
 use Rattle.std.proofs.Common.{arith, Bool, false, List, [], ◌∷◌, length, take, set, get_or, drop-cons, add-one}
-use Rattle.std.proofs.Common.{add-zero, ℤ, map, cond, not, nat_eq, true, pos, true≢false, eqb-true, eq-eqb}
-use Rattle.std.proofs.lemmas.Int.{ints}
+use Rattle.std.proofs.Common.{add-zero, ℤ, map, true}
 use Rattle.std.specs.Simd.Lanes.{chunk, put_chunk, number_l, digits_l}
 use Rattle.std.specs.Simd.Lanes.{zip2}
-use Rattle.std.specs.Int.{from_bool}
 use Rattle.wg_num.specs.declared.types.IntType.{IntType}
-use Rattle.wg_num.specs.Wrap.{value_of, truth_of, is_bool, bits_of}
+use Rattle.wg_num.specs.Wrap.{bits_of}
 use Rattle.wg_num.proofs.WrapLaws.{congruent_trans, congruent_divides, bits_congruent}
 use Rattle.wg_num.specs.Bytes.{size_of}
-use Rattle.lane_values.specs.Lanes.{FitsLane, lane, extended}
+use Rattle.lane_values.specs.Lanes.{lane, extended}
 use Rattle.lane_values.specs.Access.{lane_from, lane_put, gathered, scattered}
 use Rattle.lane_kernels.specs.Vectors.{number_from}
-use Rattle.lane_kernels.proofs.ListLaws.{map_of_map, map_of_zip2, zip2_same}
+use Rattle.lane_kernels.proofs.ListLaws.{map_of_zip2, zip2_same}
 use Rattle.lane_kernels.proofs.LaneLaws as K
 
 -- ---- loads
@@ -27,47 +25,14 @@ gathered_64 t bytes m index =
     one true at = refl
     one false at = K.extended_zero 64 (2 ^ 63) refl refl (omega arith) (omega arith) t
 
-truth_number : (x : ℕ) → truth_of (pos (from_bool (not (nat_eq x 0)))) ≡ truth_of (pos x)
-truth_number x = by (nat_eq x 0) refl
+pub gathered_32 : (t : IntType) (bytes : List ℕ) (m : List Bool) (index : List ℕ) →
+    map (extended 32 t) (zip2 (number_from (size_of t) bytes) m index) ≡ gathered 32 t bytes m index
+gathered_32 t bytes m index =
+    map_of_zip2 (extended 32 t) (number_from (size_of t) bytes) m index ∙ zip2_same _ (lane_from 32 t bytes) one m index
   where
-    number : (n : ℕ) → pos n ≡ pos 0 → n ≡ 0
-    number n z = omega (arith, ints, z)
-
-    by : (b : Bool) → nat_eq x 0 ≡ b → truth_of (pos (from_bool (not (nat_eq x 0)))) ≡ truth_of (pos x)
-    by true e = ap (λ b. truth_of (pos (from_bool (not b)))) e ∙ ap (λ n. truth_of (pos n)) (sym (eqb-true x 0 e))
-    by false e = ap (λ b. truth_of (pos (from_bool (not b)))) e
-        ∙ sym (K.truth_nonzero 32 (2 ^ 31) refl refl (omega arith) (omega arith) (pos x)
-        (λ z. true≢false (sym (eq-eqb x 0 (number x z)) ∙ e)))
-
-abbrev low_of : IntType → ℕ → ℕ
-low_of t x = cond (is_bool t) (from_bool (not (nat_eq x 0))) (x % 2 ^ 32)
-
--- the low half decides what a narrow lane holds
-low_extended : (t : IntType) (x : ℕ) → FitsLane 32 t → extended 32 t (low_of t x) ≡ extended 32 t x
-unfolding value_of
-low_extended t x n = by (is_bool t) refl
-  where
-    by : (b : Bool) → is_bool t ≡ b → extended 32 t (low_of t x) ≡ extended 32 t x
-    by true e = ap (λ b. extended 32 t (cond b (from_bool (not (nat_eq x 0))) (x % 2 ^ 32))) e
-        ∙ ap (lane 32) (K.stands 32 (2 ^ 31) refl refl (omega arith) (omega arith) t (from_bool (not (nat_eq x 0)))
-        (pos x) n (λ f. absurd (true≢false (sym e ∙ f))) (λ f. truth_number x))
-    by false e = ap (λ b. extended 32 t (cond b (from_bool (not (nat_eq x 0))) (x % 2 ^ 32))) e
-        ∙ ap (lane 32) (K.stands 32 (2 ^ 31) refl refl (omega arith) (omega arith) t (x % 2 ^ 32) (pos x) n
-        (λ f. K.mod_congruent 32 (2 ^ 31) refl refl (omega arith) (omega arith) x)
-        (λ f. absurd (true≢false (sym f ∙ e))))
-
-pub gathered_32 : (t : IntType) (bytes : List ℕ) (m : List Bool) (index : List ℕ) → FitsLane 32 t
-    → map (extended 32 t) (map (λ x. cond (is_bool t) (from_bool (not (nat_eq x 0))) (x % 2 ^ 32))
-    (zip2 (number_from (size_of t) bytes) m index)) ≡ gathered 32 t bytes m index
-gathered_32 t bytes m index n =
-    map_of_map (extended 32 t) (low_of t) (zip2 (number_from (size_of t) bytes) m index)
-    ∙ map_of_zip2 (λ x. extended 32 t (low_of t x)) (number_from (size_of t) bytes) m index
-    ∙ zip2_same _ (lane_from 32 t bytes) one m index
-  where
-    one : (on : Bool) (at : ℕ) → extended 32 t (low_of t (number_from (size_of t) bytes on at)) ≡
-        lane_from 32 t bytes on at
-    one true at = low_extended t (number_from (size_of t) bytes true at) n
-    one false at = low_extended t 0 n ∙ K.extended_zero 32 (2 ^ 31) refl refl (omega arith) (omega arith) t
+    one : (on : Bool) (at : ℕ) → extended 32 t (number_from (size_of t) bytes on at) ≡ lane_from 32 t bytes on at
+    one true at = refl
+    one false at = K.extended_zero 32 (2 ^ 31) refl refl (omega arith) (omega arith) t
 
 -- the low bits of a pattern are the lane
 pub bits_lane : (z : ℤ) → bits_of z % 2 ^ 32 ≡ lane 32 z

@@ -36,6 +36,10 @@ shr_lane W bias width p q = (raised W bias p / 2 ^ (q % width) + (2 ^ W - bias /
 pub record IsSize (size : ℕ) : Type 0 where
   pub small : (size ≡ 1) ⊎ ((size ≡ 2) ⊎ ((size ≡ 4) ⊎ (size ≡ 8)))
 
+-- and a value of at most 32 bits
+pub record IsNarrowSize (size : ℕ) : Type 0 where
+  pub small : (size ≡ 1) ⊎ ((size ≡ 2) ⊎ (size ≡ 4))
+
 -- the number whose bytes stand at an element, lowest first, and 0 for a lane that is inactive
 abbrev pub number_from : ℕ → List ℕ → Bool → ℕ → ℕ
 number_from size bytes on at = if on then number_l 256 (chunk (at * size) size bytes) else 0

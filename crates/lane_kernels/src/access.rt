@@ -1,12 +1,13 @@
 //! One element of an object: where it stands, its bytes read and written; and lanes of elements.
 ghost use Rattle.std.specs.Prelude.{◌≡◌, ◌+◌, ◌*◌, ◌/◌, ◌<◌, ◌≤◌, ◌^◌, ◌⊎◌};
-ghost use Rattle.std.specs.Prelude.{length, take, MatchResult, MatchOption, IfErr, OnOk, not, true, false};
+ghost use Rattle.std.specs.Prelude.{length, take, nat_lt, ℕ, MatchResult, MatchOption, IfErr, OnOk, not, true, false};
 ghost use Rattle.std.specs.Bool.{OnTrue, OnFalse};
 ghost use Rattle.std.specs.Simd.Lanes.{number_l, digits_l, chunk, put_chunk, zip2};
 ghost use Rattle.wg_num.specs.Bytes.{size_of};
+ghost use Rattle.lane_values.specs.Lanes.{FitsLane};
 ghost use Rattle.lane_values.specs.Masks.{IsEmpty, IsLowest};
 ghost use Rattle.lane_values.specs.Access.{is_within, is_fault, faults, put_element, lane_put, scattered};
-ghost use Rattle.lane_kernels.specs.Vectors.{IsSize, number_from};
+ghost use Rattle.lane_kernels.specs.Vectors.{IsSize, IsNarrowSize, number_from};
 
 use wg_num::IntType;
 
@@ -103,11 +104,28 @@ fn put_number(bytes: &mut [u8], size: usize, at: usize, x: u64)
     }
 }
 
-/// The number at element `at`, and 0 where the lane is inactive; `None` exactly where an active
-/// lane's element is out of range.
 #[inline(always)]
-fn number_for(bytes: &[u8], size: usize, on: bool, at: u64) -> Option<u64>
-    requires { IsSize size }
+fn is_below(at: u64, count: u64) -> bool
+    ensures { result ≡ nat_lt at count }
+{
+    at < count
+}
+
+/// How many elements of a size lie within `len` bytes and have an index.
+#[inline(always)]
+fn elements_in(size: usize, len: usize) -> u64
+    requires { 0 < size }
+    ensures { (at : ℕ) → nat_lt at result ≡ is_within size len at }
+{
+    ((len / size) as u64).min(1 << 63)
+}
+
+/// The number at element `at`, and 0 where the lane is inactive; `None` exactly where an active
+/// lane's element is not one of the first `count`, which are those in range.
+#[inline(always)]
+fn number_for(bytes: &[u8], size: usize, count: u64, on: bool, at: u64) -> Option<u64>
+    requires size { IsSize size }
+    requires count { (k : ℕ) → nat_lt k count ≡ is_within size (length bytes.now) k }
     ensures { MatchOption result
         (is_fault size (length bytes.now) on at ≡ true)
         (λ x. (is_fault size (length bytes.now) on at ≡ false) × (x ≡ number_from size bytes.now on at)) }
@@ -115,7 +133,7 @@ fn number_for(bytes: &[u8], size: usize, on: bool, at: u64) -> Option<u64>
     if !on {
         return Some(0);
     }
-    if !is_in_range(size, bytes.len(), at) {
+    if !is_below(at, count) {
         return None;
     }
     Some(number_at(bytes, size, at as usize))
@@ -135,9 +153,10 @@ fn gather_of<const W: usize, const S: usize>(
         (v ≡ zip2 (number_from S bytes.now) mask.entry places.entry))
         (IsLowest (faults S (length bytes.now) mask.entry places.entry)) }
 {
+    let count = elements_in(S, bytes.len());
     let mut lanes = [0u64; W];
     for i in 0..W {
-        match number_for(bytes, S, mask[i], places[i]) {
+        match number_for(bytes, S, count, mask[i], places[i]) {
             Some(lane) => lanes[i] = lane,
             None => return Err(i as u32),
         }
@@ -163,6 +182,84 @@ pub(crate) fn gather_numbers<const W: usize>(
         2 => gather_of::<W, 2>(bytes, places, mask),
         4 => gather_of::<W, 4>(bytes, places, mask),
         _ => gather_of::<W, 8>(bytes, places, mask),
+    }
+}
+
+/// The number of at most four bytes at element `at`, lowest first.
+#[inline(always)]
+fn narrow_at(bytes: &[u8], size: usize, at: usize) -> u32
+    requires size { IsNarrowSize size }
+    requires room { (at + 1) * size ≤ length bytes.now }
+    ensures { result ≡ number_l 256 (chunk (at * size) size bytes.now) }
+{
+    let from = at * size;
+    match size {
+        1 => bytes[from] as u32,
+        2 => bytes[from] as u32 + 0x100 * bytes[from + 1] as u32,
+        _ => four_bytes(bytes, from),
+    }
+}
+
+/// What `number_for` answers, of elements of at most four bytes.
+#[inline(always)]
+fn narrow_for(bytes: &[u8], size: usize, count: u64, on: bool, at: u64) -> Option<u32>
+    requires size { IsNarrowSize size }
+    requires count { (k : ℕ) → nat_lt k count ≡ is_within size (length bytes.now) k }
+    ensures { MatchOption result
+        (is_fault size (length bytes.now) on at ≡ true)
+        (λ x. (is_fault size (length bytes.now) on at ≡ false) × (x ≡ number_from size bytes.now on at)) }
+{
+    if on {
+        if !is_below(at, count) {
+            return None;
+        }
+        return Some(narrow_at(bytes, size, at as usize));
+    }
+    Some(0)
+}
+
+/// What `gather_of` answers, of elements of at most four bytes.
+fn narrow_of<const W: usize, const S: usize>(
+    bytes: &[u8],
+    places: [u64; W],
+    mask: [bool; W],
+) -> Result<[u32; W], u32>
+    requires size { IsNarrowSize S }
+    requires lanes { W ≤ 64 }
+    ensures { MatchResult result
+        (λ v. IsEmpty (faults S (length bytes.now) mask.entry places.entry) ×
+        (v ≡ zip2 (number_from S bytes.now) mask.entry places.entry))
+        (IsLowest (faults S (length bytes.now) mask.entry places.entry)) }
+{
+    let count = elements_in(S, bytes.len());
+    let mut lanes = [0u32; W];
+    for i in 0..W {
+        match narrow_for(bytes, S, count, mask[i], places[i]) {
+            Some(lane) => lanes[i] = lane,
+            None => return Err(i as u32),
+        }
+    }
+    Ok(lanes)
+}
+
+/// What `gather_numbers` answers, of elements of a type of at most 32 bits.
+pub(crate) fn gather_narrow<const W: usize>(
+    bytes: &[u8],
+    t: IntType,
+    places: [u64; W],
+    mask: [bool; W],
+) -> Result<[u32; W], u32>
+    requires fits { FitsLane 32 t }
+    requires lanes { W ≤ 64 }
+    ensures { MatchResult result
+        (λ v. IsEmpty (faults (size_of t) (length bytes.now) mask.entry places.entry) ×
+        (v ≡ zip2 (number_from (size_of t) bytes.now) mask.entry places.entry))
+        (IsLowest (faults (size_of t) (length bytes.now) mask.entry places.entry)) }
+{
+    match size_in_bytes(t) {
+        1 => narrow_of::<W, 1>(bytes, places, mask),
+        2 => narrow_of::<W, 2>(bytes, places, mask),
+        _ => narrow_of::<W, 4>(bytes, places, mask),
     }
 }
 

@@ -7,8 +7,7 @@ ghost use Rattle.lane_values.specs.Lanes.{FitsLane};
 ghost use Rattle.lane_values.specs.Masks.{IsEmpty, IsLowest};
 ghost use Rattle.lane_values.specs.Access.{is_fault, faults, lane_from, lane_put, loaded, gathered, scattered};
 
-use crate::access::{gather_numbers, scatter_numbers};
-use crate::convert::low_halves;
+use crate::access::{gather_narrow, scatter_numbers};
 use crate::lanes32::extend32;
 use crate::tally::Tally;
 use std::simd::prelude::*;
@@ -32,11 +31,8 @@ pub fn gather32<const W: usize>(
     ensures counted { tally.new ≡ min (tally.old + 1) (2 ^ 64 - 1) }
 {
     tally.raise();
-    match gather_numbers(bytes, t, index.to_array(), mask) {
-        Ok(numbers) => {
-            let low = low_halves(t, Simd::from_array(numbers));
-            Ok(extend32(t, low).to_array())
-        }
+    match gather_narrow(bytes, t, index.to_array(), mask) {
+        Ok(numbers) => Ok(extend32(t, Simd::from_array(numbers)).to_array()),
         Err(lane) => Err(lane),
     }
 }

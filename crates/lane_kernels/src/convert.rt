@@ -66,7 +66,7 @@ pub fn widen<const W: usize>(
 }
 
 /// The low 32 bits, or for `Bool` whether there is a bit.
-pub(crate) fn low_halves<const W: usize>(to: IntType, a: Simd<u64, W>) -> Simd<u32, W>
+fn low_halves<const W: usize>(to: IntType, a: Simd<u64, W>) -> Simd<u32, W>
     ensures { result ≡ map (λ x. if is_bool to then from_bool (not (nat_eq x 0)) else x % 2 ^ 32) a.entry }
 {
     if let IntType::Bool = to {

@@ -26,6 +26,14 @@ fn numbers_of32<const W: usize>(mask: [bool; W]) -> Simd<u32, W>
     Simd::from_array(lanes)
 }
 
+/// What `blend32` answers, out of line, so that a step whose mask is full reads the mask alone.
+#[inline(never)]
+fn partly32<const W: usize>(mask: [bool; W], new: Simd<u32, W>, old: Simd<u32, W>) -> Simd<u32, W>
+    ensures { result ≡ sel_l mask.entry new.entry old.entry }
+{
+    numbers_of32(mask).simd_ne(Simd::splat(0)).select(new, old)
+}
+
 /// `new` where the mask is set, and else `old`.
 pub fn blend32<const W: usize>(
     mask: [bool; W],
@@ -37,7 +45,7 @@ pub fn blend32<const W: usize>(
     if is_full(mask) {
         return new;
     }
-    numbers_of32(mask).simd_ne(Simd::splat(0)).select(new, old)
+    partly32(mask, new, old)
 }
 
 /// The lanes that are not 0.
@@ -63,6 +71,14 @@ fn numbers_of64<const W: usize>(mask: [bool; W]) -> Simd<u64, W>
     Simd::from_array(lanes)
 }
 
+/// What `blend64` answers, out of line, so that a step whose mask is full reads the mask alone.
+#[inline(never)]
+fn partly64<const W: usize>(mask: [bool; W], new: Simd<u64, W>, old: Simd<u64, W>) -> Simd<u64, W>
+    ensures { result ≡ sel_l mask.entry new.entry old.entry }
+{
+    numbers_of64(mask).simd_ne(Simd::splat(0)).select(new, old)
+}
+
 /// `new` where the mask is set, and else `old`.
 pub fn blend64<const W: usize>(
     mask: [bool; W],
@@ -74,7 +90,7 @@ pub fn blend64<const W: usize>(
     if is_full(mask) {
         return new;
     }
-    numbers_of64(mask).simd_ne(Simd::splat(0)).select(new, old)
+    partly64(mask, new, old)
 }
 
 /// The lanes that are not 0.

@@ -1,6 +1,5 @@
-use Rattle.std.proofs.Common.{◌≡◌, ◌∙◌, ℕ, sym, length, subst, arith, MatchResult}
+use Rattle.std.proofs.Common.{◌≡◌, ◌∙◌, sym, length, subst, arith, MatchResult}
 use Rattle.std.specs.Simd.Lanes.{zip2}
-use Rattle.wg_num.specs.Bytes.{size_of}
 use Rattle.lane_values.specs.Masks.{IsEmpty, IsLowest}
 use Rattle.lane_values.specs.Access.{faults}
 use Rattle.lane_kernels.specs.Vectors.{number_from}

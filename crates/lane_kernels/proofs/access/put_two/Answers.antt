@@ -1,4 +1,4 @@
-use Rattle.std.proofs.Common.{◌+◌, sym}
+use Rattle.std.proofs.Common.{sym}
 use Rattle.lane_kernels.proofs.AccessLaws.{put_2}
 use Rattle.lane_kernels.proofs.access.put_two.Goals as goal
 

@@ -1,5 +1,4 @@
-use Rattle.std.proofs.Common.{◌≡◌, ◌∙◌, ℕ, sym, length, take, subst, arith, MatchResult, OnOk, IfErr}
-use Rattle.wg_num.specs.Bytes.{size_of}
+use Rattle.std.proofs.Common.{◌≡◌, ◌∙◌, sym, length, take, subst, arith, MatchResult, OnOk, IfErr}
 use Rattle.lane_values.specs.Masks.{IsEmpty, IsLowest}
 use Rattle.lane_values.specs.Access.{faults, scattered}
 use Rattle.lane_kernels.proofs.access.scatter_numbers.Goals as goal

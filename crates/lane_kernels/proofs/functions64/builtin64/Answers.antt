@@ -1,4 +1,4 @@
-use Rattle.std.proofs.Common.{◌^◌, ◌∙◌, ap, ap₂, refl, sym, map, arith}
+use Rattle.std.proofs.Common.{◌^◌, ◌∙◌, ap, ap₂, refl, sym, arith}
 use Rattle.std.specs.Simd.Lanes.{zip2}
 use Rattle.wg_num.specs.declared.types.Fun.TheVariants.{Min, Max}
 use Rattle.lane_values.specs.Lanes.{extended, builtin_lane, zip3}

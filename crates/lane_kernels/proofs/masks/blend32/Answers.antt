@@ -1,15 +1,6 @@
-use Rattle.std.proofs.Common.{◌≡◌, ◌∙◌, sym, ap, refl, map, replicate, cond, not, eqb, length, rules}
-use Rattle.std.specs.Simd.Lanes.{zip2, sel_l, top}
-use Rattle.lane_kernels.proofs.ListLaws as L
+use Rattle.std.proofs.Common.{◌≡◌, ◌∙◌, sym, length, rules}
 use Rattle.lane_kernels.proofs.ListLaws.{full_select}
 use Rattle.lane_kernels.proofs.masks.blend32.Goals as goal
-
-pub returns : goal.returns
-returns g c =
-    let long : length c.args.mask ≡ g.row.W = search rules in
-    ap (λ m. sel_l m c.args.new c.args.old)
-    (ap (λ xs. map (top 31) (zip2 (λ u v. cond (not (eqb u v)) 4294967295 0) xs (replicate g.row.W 0)))
-    c.numbers_of32.ensures ∙ L.mask_again 32 31 4294967295 refl refl g.row.W c.args.mask long)
 
 pub returns-then-is_full : goal.returns-then-is_full
 returns-then-is_full g c =
