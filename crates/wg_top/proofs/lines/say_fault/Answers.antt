@@ -6,5 +6,5 @@ returns-clause-said g c = rw (
   c.format.ensures.text,
   c.as_bytes-2.ensures.value,
   c.format-2.ensures.text,
-  c.text.ensures,
+  c.requires,
 ) at c.say.ensures.said
