@@ -5,5 +5,5 @@ returns-clause-said g c = rw (
   c.as_bytes.ensures.value,
   c.format.ensures.text,
   c.number.ensures,
-  c.text.ensures,
+  c.requires,
 ) at c.say.ensures.said
