@@ -12,7 +12,11 @@ use std::simd::prelude::*;
 fn is_full<const W: usize>(mask: [bool; W]) -> bool
     ensures { result ≡ list_all (λ on. on) mask.entry }
 {
-    mask.iter().all(|on| *on)
+    let mut full = true;
+    for i in 0..W {
+        full &= mask[i];
+    }
+    full
 }
 
 /// 1 where the mask is set, and else 0.
