@@ -30,7 +30,13 @@ returns-in_default g c =
     let bytes = c.args.bytes.now in
     let m = c.args.mask in
     let places = c.args.places in
-    let one : c.size_in_bytes.result ≡ 4 = grind (arith, c.size_in_bytes.ensures.size.small, c.size_in_bytes.ensures.value, c.requires.fits, c.in_default) in
+    let one : c.size_in_bytes.result ≡ 4 = grind (
+      arith,
+      c.size_in_bytes.ensures.size.small,
+      c.size_in_bytes.ensures.value,
+      c.requires.fits,
+      c.in_default,
+    ) in
     subst (λ s. MatchResult c.narrow_of-in_default.result (λ v. IsEmpty (faults s (length bytes) m places) ×
     (v ≡ zip2 (number_from s bytes) m places)) (IsLowest (faults s (length bytes) m places)))
     (sym one ∙ c.size_in_bytes.ensures.value) c.narrow_of-in_default.ensures
