@@ -2,9 +2,9 @@
 #![tactic(auto)]
 
 ghost use Rattle.std.specs.Prelude.{◌≡◌, ◌≤◌, ◌<◌, ◌+◌, ℕ, IfOk, OnOk, OnErr, Err, IfSome};
-ghost use Rattle.std.specs.Prelude.{is_some, IsUtf8, All, length, map, vec_len, ◌∷◌, []};
+ghost use Rattle.std.specs.Prelude.{is_some, IsUtf8, All, map, vec_len, ◌∷◌, []};
 ghost use Rattle.wg_outside.specs.Counts.{Rose};
-ghost use Rattle.buffer_io.specs.Loads.{AllStartAs, LacksOneFile, StartsAs, fitted};
+ghost use Rattle.buffer_io.specs.Loads.{AllStartAs, LacksOneFile, StartsAs};
 ghost use Rattle.buffer_io.specs.Saves.{AllSavedAs, KeepsAllBut, AreApart, StopsAt, IsSavedAs, saves_for, room_for};
 ghost use Rattle.buffer_io.specs.Saves.{all_saves, all_room};
 ghost use Rattle.buffer_io.specs.Words.{words_of, bytes_of_words};

@@ -6,7 +6,6 @@ ghost use Rattle.cl_meaning.specs.declared.kind.Role.TheVariants as roles;
 ghost use Rattle.wg_num.specs.declared.types.Place.{Place as PlaceOf};
 ghost use Rattle.cl_tree.specs.Syntax.{view, views, none};
 ghost use Rattle.cl_meaning.specs.Declarations.{form_of, word_of};
-ghost use Rattle.cl_meaning.specs.Visible as visible;
 ghost use Rattle.cl_scope.specs.View.{env_of, visible_in};
 ghost use Rattle.cl_meaning.specs.Calls.{call_of};
 ghost use Rattle.cl_faults.specs.View.{looked_in};

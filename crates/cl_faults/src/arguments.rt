@@ -7,9 +7,9 @@ ghost use Rattle.cl_meaning.specs.Kinds as spec;
 ghost use Rattle.cl_faults.specs.Known.{known};
 
 use crate::kinds::{is_number, number, type_of};
-use cl_meaning::{Each, Intrinsic, Kind, Parameter, Yield, common, same_space, same_type};
+use cl_meaning::{Each, Intrinsic, Kind, Parameter, Yield, common, same_space};
 use cl_model::Query;
-use wg_num::{Fun, IntType};
+use wg_num::{Fun, IntType, same_type};
 
 /// Whether the kinds of all parts are known.
 #[tactic(auto, using(crate::proofs::Known::all_known_more))]

@@ -12,7 +12,7 @@ ghost use Rattle.cl_faults.specs.View.{looked_of};
 use crate::kinds::is_number;
 use crate::looked::Looked;
 use crate::targets::changes_root;
-use cl_meaning::{Declared, Each, Kind, constant_of, same_space, same_type};
+use cl_meaning::{Declared, Each, Kind, constant_of, same_space};
 use cl_model::Space;
 use cl_scope::{
     Declarator, declarator_in, dims_of, has_list, initialiser_count, is_at_outermost, is_at_unit,
@@ -20,7 +20,7 @@ use cl_scope::{
 };
 use cl_tree::{Form, Tree};
 use std::alloc::Global;
-use wg_num::Memory;
+use wg_num::{Memory, same_type};
 
 /// The declarator that the node is.
 #[tactic(auto, using(cl_meaning::proofs::Views::view_out))]

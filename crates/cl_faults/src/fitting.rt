@@ -7,8 +7,8 @@ ghost use Rattle.cl_meaning.specs.Faults as faults;
 use crate::kinds::{address_kind, comma_kind, element_kind, index_kind, is_number};
 use crate::operators::{binary_kind, choice_kind, logic_kind, operator_kind};
 use crate::settings::{is_target, root_changes, value_fits};
-use cl_meaning::{Kind, Parameter, Postfix, Prefix, Setting, Yield, same_space, same_type};
-use wg_num::{Bin, Un};
+use cl_meaning::{Kind, Parameter, Postfix, Prefix, Setting, Yield, same_space};
+use wg_num::{Bin, Un, same_type};
 
 /// Whether the operands of a comma do not fit.
 pub fn comma_misfits(kinds: &[Option<Kind>]) -> bool

@@ -1,6 +1,6 @@
 //! Names that are not visible, or declared already (C99, sections 6.2.1 and 6.7).
 
-ghost use Rattle.std.specs.Prelude.{◌≡◌, List, ℕ};
+ghost use Rattle.std.specs.Prelude.{◌≡◌};
 ghost use Rattle.cl_meaning.specs.Faults as spec;
 ghost use Rattle.cl_scope.specs.View.{visible_in};
 ghost use Rattle.cl_faults.specs.View.{looked_of};

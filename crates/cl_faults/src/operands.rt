@@ -2,15 +2,13 @@
 
 ghost use Rattle.std.specs.Prelude.{◌≡◌};
 ghost use Rattle.cl_meaning.specs.Kinds as spec;
-ghost use Rattle.cl_meaning.specs.Faults as faults;
 ghost use Rattle.cl_tree.specs.Syntax.{views};
 ghost use Rattle.cl_meaning.specs.Spelling.{literal_in};
-ghost use Rattle.cl_scope.specs.View.{visible_in};
 ghost use Rattle.cl_faults.specs.View.{looked_of};
 
 use crate::arguments::list_kind;
 use crate::callees::call_kind;
-use crate::kinds::{cast_kind, is_number, number};
+use crate::kinds::{cast_kind, number};
 use crate::looked::Looked;
 use crate::operators::{postfix_kind, prefix_kind};
 use crate::parts::{binary_of, choice_of, comma_of, logic_of, only_of, set_of};

@@ -5,9 +5,9 @@ ghost use Rattle.cl_meaning.specs.Kinds as spec;
 ghost use Rattle.cl_meaning.specs.Faults as faults;
 
 use crate::kinds::value_kind;
-use cl_meaning::{Each, Kind, Reach, Setting, same_root, same_space, same_type};
+use cl_meaning::{Each, Kind, Reach, Setting, same_root, same_space};
 use cl_model::Space;
-use wg_num::Bin;
+use wg_num::{Bin, same_type};
 
 /// Whether it is a scalar variable, a pointer variable or an element.
 pub fn is_target(kind: Kind) -> bool

@@ -8,9 +8,9 @@ ghost use Rattle.cl_model.specs.Steps as model;
 ghost use Rattle.cl_model.specs.Calls.{function_at};
 ghost use Rattle.cl_model.specs.Task as way;
 ghost use Rattle.cl_model.specs.View.{launch_of};
-ghost use Rattle.cl_interpreter.specs.Trees.{action_of, array_of, expression_of, expressions_of, optional_of};
-ghost use Rattle.cl_interpreter.specs.Trees.{statement_of, statements_of, arms_of, program_of};
-ghost use Rattle.cl_interpreter.specs.Tasks.{leg_of, path_of, task_of, tasks_of, item_of};
+ghost use Rattle.cl_interpreter.specs.Trees.{array_of};
+ghost use Rattle.cl_interpreter.specs.Trees.{statements_of, program_of};
+ghost use Rattle.cl_interpreter.specs.Tasks.{path_of, tasks_of, item_of};
 ghost use Rattle.cl_interpreter.specs.Nexts.{next_of};
 
 use crate::bytes::{bytes_of, zeros};

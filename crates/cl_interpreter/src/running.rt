@@ -1,16 +1,13 @@
 //! The steps of statements that begin.
 
-ghost use Rattle.std.specs.Prelude.{◌≡◌, ◌∷◌, [], ◌++◌, ℕ, IfOk, OnOk, if◌then◌else◌};
+ghost use Rattle.std.specs.Prelude.{◌≡◌, IfOk, if◌then◌else◌};
 ghost use Rattle.work_items.specs.Items as items;
 ghost use Rattle.cl_model.specs.Tree as tree;
-ghost use Rattle.cl_model.specs.Sizes as sizes;
 ghost use Rattle.cl_model.specs.Steps as model;
-ghost use Rattle.cl_model.specs.Calls.{function_at};
 ghost use Rattle.cl_model.specs.Task as way;
-ghost use Rattle.cl_model.specs.View.{launch_of};
-ghost use Rattle.cl_interpreter.specs.Trees.{action_of, array_of, expression_of, expressions_of, optional_of};
-ghost use Rattle.cl_interpreter.specs.Trees.{statement_of, statements_of, arms_of, program_of};
-ghost use Rattle.cl_interpreter.specs.Tasks.{leg_of, path_of, task_of, tasks_of, item_of};
+ghost use Rattle.cl_interpreter.specs.Trees.{expressions_of, optional_of};
+ghost use Rattle.cl_interpreter.specs.Trees.{statement_of, statements_of};
+ghost use Rattle.cl_interpreter.specs.Tasks.{path_of, item_of};
 ghost use Rattle.cl_interpreter.specs.Nexts.{next_of};
 
 use crate::copying;

@@ -1,6 +1,6 @@
 //! A launch under given moves: its memory, its work-items and its fault, if there is one.
 
-ghost use Rattle.std.specs.Prelude.{◌≡◌, ◌<◌, ◌/◌, ◌⊎◌, ℕ, IfOk, IfErr, MatchOption, Option, map};
+ghost use Rattle.std.specs.Prelude.{◌≡◌, ◌<◌, ◌/◌, ℕ, IfOk, IfErr, MatchOption, Option, map};
 ghost use Rattle.std.specs.Prelude.{length, vec_len, slice_get, nat_eq, true, false};
 ghost use Rattle.work_items.specs.Items as acts;
 ghost use Rattle.cl_model.specs.Meaning as meaning;

@@ -1,5 +1,5 @@
 -- Where no limit is found, each is kept.
-use Rattle.std.proofs.Common.{◌≡◌, Bool, true, false, Option, None, Some, if◌then◌else◌, refl}
+use Rattle.std.proofs.Common.{◌≡◌, Bool, true, false, None, Some, if◌then◌else◌, refl}
 use Rattle.cl_limits.specs.Kernel.{Sized, at_limit, limit_of}
 use Rattle.cl_meaning.specs.declared.fault.Fault.{Fault}
 use Rattle.cl_meaning.specs.declared.fault.Fault.TheVariants as faults

@@ -1,6 +1,6 @@
 //! How deep barriers stand in functions with all that they call.
 
-ghost use Rattle.std.specs.Prelude.{◌≡◌, ◌+◌, ℕ, IfOk, min, max, length, slice_index};
+ghost use Rattle.std.specs.Prelude.{◌≡◌, ℕ, IfOk, min, max, length, slice_index};
 ghost use Rattle.cl_tree.specs.Syntax.{views};
 ghost use Rattle.cl_limits.specs.Heights.{lifted, functions_among, full_height};
 ghost use Rattle.cl_limits.specs.Rounds as rounds;

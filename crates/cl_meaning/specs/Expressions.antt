@@ -8,6 +8,7 @@ use Rattle.wg_num.specs.declared.types.IntType.TheVariants as types
 use Rattle.wg_num.specs.declared.types.Bin.{Bin}
 use Rattle.wg_num.specs.declared.types.Bin.TheVariants as bins
 use Rattle.wg_num.specs.Bytes.{size_of}
+use Rattle.wg_num.specs.Types.{same_type}
 use Rattle.cl_model.specs.declared.program.Root.{Root}
 use Rattle.cl_model.specs.Tree as tree
 use Rattle.cl_model.specs.Tree.{Expression, Expressions, Apply, single, pair, truth_of, decided}
@@ -30,7 +31,7 @@ use Rattle.cl_meaning.specs.declared.kind.Meaning.TheVariants as meanings
 use Rattle.cl_meaning.specs.declared.kind.Parameter.{Parameter}
 use Rattle.cl_meaning.specs.declared.kind.Parameter.TheVariants as parameters
 use Rattle.cl_meaning.specs.Environment.{Env, meaning_of}
-use Rattle.cl_meaning.specs.Kinds.{same_type, type_of, is_flag, counted, builtin_type, Callee, defined, undefined}
+use Rattle.cl_meaning.specs.Kinds.{type_of, is_flag, counted, builtin_type, Callee, defined, undefined}
 use Rattle.cl_meaning.specs.Kinds.{known}
 use Rattle.cl_meaning.specs.Declarations.{first_type}
 use Rattle.cl_meaning.specs.Typed.{Target, variable, element, What, nothing, value, target, offset, barrier, fence}

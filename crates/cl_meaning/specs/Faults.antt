@@ -8,6 +8,7 @@ use Rattle.std.specs.Ordering.{int_eq}
 use Rattle.wg_num.specs.declared.types.IntType.{IntType}
 use Rattle.wg_num.specs.declared.types.IntType.TheVariants as types
 use Rattle.wg_num.specs.Wrap.{wrap_of}
+use Rattle.wg_num.specs.Types.{same_type}
 use Rattle.cl_model.specs.declared.program.Space.{Space}
 use Rattle.cl_model.specs.declared.program.Space.TheVariants as spaces
 use Rattle.cl_tree.specs.declared.tree.Form.{Form}
@@ -38,7 +39,7 @@ use Rattle.cl_meaning.specs.declared.kind.Role.{Role}
 use Rattle.cl_meaning.specs.declared.kind.Role.TheVariants as roles
 use Rattle.cl_meaning.specs.Numbers.{number_of}
 use Rattle.cl_meaning.specs.Environment.{Env, Labels, Signature, is_declared, at_unit, at_outermost}
-use Rattle.cl_meaning.specs.Kinds.{same_type, same_space, is_some, name_kind, binary_kind, logic_kind, choice_kind}
+use Rattle.cl_meaning.specs.Kinds.{same_space, is_some, name_kind, binary_kind, logic_kind, choice_kind}
 use Rattle.cl_meaning.specs.Kinds.{comma_kind, cast_kind, operator_kind, address_kind, element_kind, index_kind}
 use Rattle.cl_meaning.specs.Kinds.{is_number, is_target, is_fixed, is_constant_memory, value_fits, root_changes}
 use Rattle.cl_meaning.specs.Kinds.{all_known, Callee, defined, undefined, known, is_fence, callee_of, arity_fits}

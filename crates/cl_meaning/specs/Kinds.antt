@@ -7,6 +7,7 @@ use Rattle.wg_num.specs.declared.types.Bin.{Bin}
 use Rattle.wg_num.specs.declared.types.Bin.TheVariants as bins
 use Rattle.wg_num.specs.declared.types.Un.{Un}
 use Rattle.wg_num.specs.Builtins.{result_type}
+use Rattle.wg_num.specs.Types.{same_type}
 use Rattle.cl_model.specs.declared.program.Query.{Query}
 use Rattle.cl_model.specs.declared.program.Query.TheVariants as queries
 use Rattle.cl_model.specs.declared.program.Root.{Root}
@@ -43,19 +44,7 @@ use Rattle.cl_meaning.specs.declared.kind.Yield.{Yield}
 use Rattle.cl_meaning.specs.declared.kind.Yield.TheVariants as yields
 use Rattle.cl_meaning.specs.Environment.{Env, Signature, meaning_of}
 
--- ---- equal types, spaces and roots
-
-abbrev pub same_type : IntType → IntType → Bool
-same_type types.Bool types.Bool = true
-same_type types.Char types.Char = true
-same_type types.Uchar types.Uchar = true
-same_type types.Short types.Short = true
-same_type types.Ushort types.Ushort = true
-same_type types.Int types.Int = true
-same_type types.Uint types.Uint = true
-same_type types.Long types.Long = true
-same_type types.Ulong types.Ulong = true
-same_type _ _ = false
+-- ---- equal spaces and roots
 
 abbrev pub same_space : Space → Space → Bool
 same_space spaces.Global spaces.Global = true

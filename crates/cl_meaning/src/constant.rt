@@ -1,6 +1,6 @@
 //! Constant expressions.
 
-ghost use Rattle.std.specs.Prelude.{◌≡◌, IfSome, option_map, pos};
+ghost use Rattle.std.specs.Prelude.{◌≡◌, IfSome};
 ghost use Rattle.wg_num.specs.Wrap.{IsValue};
 ghost use Rattle.cl_tree.specs.Syntax.{view};
 ghost use Rattle.cl_meaning.specs.Constants as spec;

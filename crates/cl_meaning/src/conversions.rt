@@ -2,7 +2,6 @@
 
 ghost use Rattle.std.specs.Prelude.{◌≡◌};
 ghost use Rattle.wg_num.specs.Operators as operators;
-ghost use Rattle.wg_num.specs.Wrap.{width_bits, is_signed as has_sign};
 ghost use Rattle.wg_num.specs.Bytes as bytes;
 ghost use Rattle.cl_meaning.specs.Conversions as spec;
 

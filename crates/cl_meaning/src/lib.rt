@@ -22,7 +22,7 @@ pub use constant::{Constant, constant_of};
 pub use conversions::{
     binary_type, common, is_comparison, operand_type, promoted, right_type, size_of, unary_type,
 };
-pub use equal::{same_root, same_space, same_type};
+pub use equal::{same_root, same_space};
 pub use fault::Fault;
 pub use kind::{Each, Entry, Kind, Meaning, Parameter, Reach, Role, Yield};
 pub use literals::{literal, truth_of};

@@ -1,6 +1,6 @@
 //! The own words of a node, one at a time.
 
-ghost use Rattle.std.specs.Prelude.{◌≡◌, ◌<◌, ◌≤◌, ◌∷◌, List, length, IfSome};
+ghost use Rattle.std.specs.Prelude.{◌≡◌, ◌<◌, ◌≤◌, length, IfSome};
 ghost use Rattle.std.specs.List.{before_first, after_first, position_or_len, count_by};
 ghost use Rattle.cl_tree.specs.Words.{is_among};
 ghost use Rattle.cl_meaning.specs.Pieces.{is_blank, pieces, name_in, is_text, listed};

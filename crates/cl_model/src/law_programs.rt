@@ -1,6 +1,6 @@
 //! The programs of the laws, with their launches and buffers.
 
-ghost use Rattle.std.specs.Prelude.{◌≡◌, [], ◌∷◌, ◌*◌, ◌<◌, ◌^◌, ◌≤◌, IfOk, replicate};
+ghost use Rattle.std.specs.Prelude.{◌≡◌, [], ◌∷◌, ◌<◌, IfOk, replicate};
 ghost use Rattle.cl_model.specs.View.{expression_of, array_of, listed_statements, function_of, program_of, launch_of};
 ghost use Rattle.cl_model.specs.View.{buffers_of};
 ghost use Rattle.cl_model.specs.Heads.{named_array, head_of, heads_of};
@@ -10,9 +10,7 @@ ghost use Rattle.cl_model.specs.Exchange as exchange;
 use crate::build::{also, load, store};
 use crate::expression::{ask, binary, convert};
 use crate::launch::{Bound, Buffers, Launch};
-use crate::program::{
-    Array, Expr, Function, Program, Query, Root, Space, Stmt, Target, Var, VarKind,
-};
+use crate::program::{Array, Expr, Function, Program, Query, Root, Space, Stmt, Var, VarKind};
 use std::alloc::Global;
 use wg_num::{Bin, IntType, Memory, Place, Word};
 

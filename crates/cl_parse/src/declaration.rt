@@ -1,6 +1,6 @@
 //! Declarations (OpenCL 1.2, sections 6.5 and 6.9; C99, section 6.7).
 
-ghost use Rattle.std.specs.Prelude.{◌≡◌, true};
+ghost use Rattle.std.specs.Prelude.{true};
 ghost use Rattle.cl_tree.specs.Syntax.{view, views};
 ghost use Rattle.cl_tree.specs.declared.terminal.Terminal.TheVariants as terminals;
 ghost use Rattle.cl_read.specs.Gives.{Gives, spot_of};

@@ -5,7 +5,6 @@ ghost use Rattle.cl_tree.specs.Syntax.{view};
 ghost use Rattle.cl_tree.specs.Nodes.{prefix_node};
 ghost use Rattle.cl_tree.specs.Precedence.{joins, form_of};
 ghost use Rattle.cl_tree.specs.declared.terminal.Terminal.TheVariants as terminals;
-ghost use Rattle.cl_read.specs.Starts.{postfixes};
 ghost use Rattle.cl_read.specs.Gives.{Gives, spot_of};
 ghost use Rattle.cl_read.specs.Members.{members};
 ghost use Rattle.cl_read.specs.Reading.{is, readers, chain, all_of, behind_comma, level_step, expr_step, postfix_step};

@@ -1,6 +1,6 @@
 //! Statements (OpenCL 1.2, chapter 6; C99, section 6.8).
 
-ghost use Rattle.std.specs.Prelude.{◌≡◌, true, not};
+ghost use Rattle.std.specs.Prelude.{true, not};
 ghost use Rattle.cl_tree.specs.Syntax.{view, views};
 ghost use Rattle.cl_tree.specs.declared.terminal.Terminal.TheVariants as terminals;
 ghost use Rattle.cl_read.specs.Starts.{same};

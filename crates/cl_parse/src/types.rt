@@ -1,6 +1,6 @@
 //! Types: what the tokens of a type, a star or an address space spell (OpenCL 1.2, sections 6.1, 6.5 and 6.7).
 
-ghost use Rattle.std.specs.Prelude.{◌≡◌, true};
+ghost use Rattle.std.specs.Prelude.{true};
 ghost use Rattle.cl_tree.specs.Syntax.{view};
 ghost use Rattle.cl_read.specs.Gives.{Gives, spots};
 ghost use Rattle.cl_read.specs.Members.{members};

@@ -16,10 +16,10 @@ use crate::piece::{Piece, What};
 use crate::sites::take_site;
 use crate::types::type_in;
 use crate::values::{literal, operand, read};
-use cl_meaning::{Intrinsic, Kind, Parameter, common, same_type};
+use cl_meaning::{Intrinsic, Kind, Parameter, common};
 use cl_model::{Arg, Expr, Query, expression};
 use std::alloc::Global;
-use wg_num::{Fun, IntType, Memory, Place, push};
+use wg_num::{Fun, IntType, Memory, Place, push, same_type};
 
 /// An argument for a parameter: a number converted to its type, or the offset of a pointer.
 fn passed(alloc: Global, parameter: Parameter, a: Piece) -> Result<Arg, Memory>

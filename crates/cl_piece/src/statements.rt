@@ -1,14 +1,14 @@
 //! Statements that test, repeat and leave.
 
 ghost use Rattle.std.specs.Prelude.{◌≡◌, IfOk, map, option_map};
-ghost use Rattle.cl_model.specs.View.{expression_of, statement_of};
+ghost use Rattle.cl_model.specs.View.{expression_of};
 ghost use Rattle.cl_model.specs.Tree as tree;
 ghost use Rattle.cl_meaning.specs.Typed as typed;
 ghost use Rattle.cl_meaning.specs.Expressions.{sited};
 ghost use Rattle.cl_meaning.specs.Statements as meaning;
 ghost use Rattle.cl_tree.specs.Syntax.{views};
 ghost use Rattle.cl_piece.specs.Heads.{for_by, loop_by, heads_in, heads_of};
-ghost use Rattle.cl_piece.specs.View.{piece_of, what_of, built_of};
+ghost use Rattle.cl_piece.specs.View.{piece_of, built_of};
 
 use crate::beside::{beside, site_beside};
 use crate::boxes::as_statement;

@@ -7,10 +7,10 @@ ghost use Rattle.cl_piece.specs.View.{piece_of, what_of, target_of};
 
 use crate::piece::{Piece, What};
 use crate::types::type_in;
-use cl_meaning::{promoted, same_type};
+use cl_meaning::promoted;
 use cl_model::{Expr, Target, expression};
 use std::alloc::Global;
-use wg_num::{Bin, IntType, Memory};
+use wg_num::{Bin, IntType, Memory, same_type};
 
 /// A literal.
 pub(crate) fn literal(value: i128, of: IntType) -> Expr

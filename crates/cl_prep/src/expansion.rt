@@ -1,5 +1,5 @@
 //! The expansion of tokens.
-ghost use Rattle.std.specs.Prelude.{◌≡◌, ◌+◌, ◌<◌, ◌≤◌, ◌^◌, [], ℕ, List, length, drop, All};
+ghost use Rattle.std.specs.Prelude.{◌≡◌, ◌+◌, ◌<◌, ◌≤◌, ◌^◌, [], ℕ, List, length, All};
 ghost use Rattle.std.specs.Prelude.{IfOk, IfErr};
 ghost use Rattle.cl_token.specs.declared.token.Token.{Token as AnyToken};
 ghost use Rattle.cl_prep.specs.declared.prep.PrepError.{PrepError as AnyError};

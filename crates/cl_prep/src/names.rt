@@ -1,17 +1,15 @@
 //! The table of names.
-ghost use Rattle.std.specs.Prelude.{◌≡◌, ◌++◌, ◌∷◌, [], ℕ, Some, None, OnOk, IfOk, IfSome};
-ghost use Rattle.std.specs.Prelude.{option_map, length, slice_get, map, is_some};
-ghost use Rattle.std.specs.Str.{bytes_eq};
-ghost use Rattle.indexmap.specs.IndexMap.{IsUnchanged};
+ghost use Rattle.std.specs.Prelude.{◌≡◌, [], Some, None, OnOk, IfOk};
+ghost use Rattle.std.specs.Prelude.{option_map};
 ghost use Rattle.cl_token.specs.Lexeme.{lexeme_of, lexemes_of};
 ghost use Rattle.cl_prep.specs.Names as spec;
 ghost use Rattle.cl_prep.specs.Expands.{placed as placed_at};
 ghost use Rattle.cl_prep.specs.Table.{names_of};
 
-use cl_token::{Kind, Token};
+use cl_token::Token;
 use indexmap::IndexMap;
 use std::alloc::Global;
-use wg_num::{Memory, Word, push};
+use wg_num::{Memory, push};
 
 /// From each name in force to the tokens that replace it.
 pub(crate) type Names = IndexMap<Vec<u8>, Vec<Token>>;

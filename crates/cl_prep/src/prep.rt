@@ -1,6 +1,5 @@
 //! Expansion.
 
-use std::alloc::Global;
 use thiserror::Error;
 use wg_num::{Memory, Word};
 

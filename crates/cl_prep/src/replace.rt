@@ -1,7 +1,7 @@
 //! The replacement of a name.
-ghost use Rattle.std.specs.Prelude.{◌≡◌, ◌++◌, ◌+◌, ◌<◌, ◌≤◌, ◌∷◌, [], ℕ, Some, None};
-ghost use Rattle.std.specs.Prelude.{Ok, Err, OnOk, IfOk, IfErr, IfSome, IfNone, MatchOption, MatchResult, option_map};
-ghost use Rattle.std.specs.Prelude.{length, set, true, false, get_or, option_to_list};
+ghost use Rattle.std.specs.Prelude.{◌≡◌, ◌++◌, ◌+◌, ◌<◌, ◌≤◌, ◌∷◌, [], Some, None};
+ghost use Rattle.std.specs.Prelude.{Ok, Err, OnOk, IfOk, IfErr, IfSome, IfNone};
+ghost use Rattle.std.specs.Prelude.{length, set, true, false, get_or};
 ghost use Rattle.cl_token.specs.Lexeme.{lexeme_of, lexemes_of};
 ghost use Rattle.cl_prep.specs.Names.{replacement};
 ghost use Rattle.cl_prep.specs.Expands.{placed as placed_at, token_limit, replacement_limit};

@@ -1,6 +1,6 @@
 //! The names in force and the open conditionals.
-ghost use Rattle.std.specs.Prelude.{◌≡◌, ◌+◌, ◌<◌, ◌∷◌, ◌^◌, ◌++◌, [], ℕ, OnOk, OnErr};
-ghost use Rattle.std.specs.Prelude.{IfErr, IfSome, IfNone, MatchResult, option_to_list};
+ghost use Rattle.std.specs.Prelude.{◌≡◌, ◌+◌, ◌<◌, ◌∷◌, ◌^◌, ◌++◌, [], OnOk};
+ghost use Rattle.std.specs.Prelude.{IfErr, IfSome, IfNone, option_to_list};
 ghost use Rattle.cl_prep.specs.Directives as spec;
 ghost use Rattle.cl_prep.specs.Scopes.{idle_of, Follows, IsInnermost};
 ghost use Rattle.cl_prep.specs.Table.{names_of};

@@ -1,8 +1,7 @@
 //! The names that are in force from the start, and those that are given.
-ghost use Rattle.std.specs.Prelude.{◌≡◌, ◌++◌, ◌∷◌, [], ℕ, Some, None, OnOk, IfOk, MatchResult};
-ghost use Rattle.std.specs.Prelude.{option_map, codes, string_bytes};
+ghost use Rattle.std.specs.Prelude.{◌≡◌, ◌++◌, ◌∷◌, [], Some, OnOk, IfOk};
 ghost use Rattle.std.specs.Fmt.{decimal as decimal_text};
-ghost use Rattle.cl_token.specs.Lexeme.{lexeme_of, lexemes_of};
+ghost use Rattle.cl_token.specs.Lexeme.{lexemes_of};
 ghost use Rattle.cl_prep.specs.Names as spec;
 ghost use Rattle.cl_prep.specs.Start as begin;
 ghost use Rattle.cl_prep.specs.Table.{names_of};

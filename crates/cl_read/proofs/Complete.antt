@@ -8,7 +8,7 @@ use Rattle.cl_tree.specs.Precedence.{qualifies}
 use Rattle.cl_tree.specs.Syntax.{Syntax, Forest, none, more, joined, nesting, deepest}
 use Rattle.cl_tree.specs.Nodes.{Spot, tok, declarator_node, declarator_set_node, declare_node}
 use Rattle.cl_tree.specs.Grammar as grammar
-use Rattle.cl_tree.specs.Grammar.{Sort, TypeName, Base, Core, Star, Declare, Declarator, Dimension, Init}
+use Rattle.cl_tree.specs.Grammar.{Sort, TypeName, Base, Star, Declare, Declarator, Dimension, Init}
 use Rattle.cl_tree.specs.Grammar.{Initializers, Elements, Assign, Cond, Qualifier, Maybe, Many, Comma, Space, one}
 use Rattle.cl_tree.specs.Grammar.{list, Spells}
 use Rattle.cl_read.specs.Starts.{code, starts_type, starts_core, starts_expression, starts_declarator}

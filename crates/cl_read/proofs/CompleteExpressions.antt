@@ -11,7 +11,7 @@ use Rattle.cl_tree.specs.Precedence.{joins, form_of, assigns, prefixes}
 use Rattle.cl_tree.specs.Syntax.{Syntax, Forest, more, nesting, deepest}
 use Rattle.cl_tree.specs.Nodes.{Spot, tok, pair_node, index_node, step_node, call_node, paren_node}
 use Rattle.cl_tree.specs.Grammar as grammar
-use Rattle.cl_tree.specs.Grammar.{Sort, TypeName, Expr, Assign, Cond, Cast, Unary, Postfix, Primary, Level, Many}
+use Rattle.cl_tree.specs.Grammar.{Expr, Assign, Cond, Cast, Unary, Postfix, Level, Many}
 use Rattle.cl_tree.specs.Grammar.{Comma, one, list, Spells}
 use Rattle.cl_read.specs.Starts.{starts_type, starts_expression, postfixes}
 use Rattle.cl_read.specs.Reading.{Got, Reader, ◌>>=◌, done, begins, is, choose, eat_in, eat, chain, Readers, is_unary}

@@ -7,7 +7,7 @@ use Rattle.cl_tree.specs.declared.terminal.Leaf.{Leaf}
 use Rattle.cl_tree.specs.Syntax.{Syntax, Forest, none, more, joined, nesting, deepest}
 use Rattle.cl_tree.specs.Nodes.{Spot, tok}
 use Rattle.cl_tree.specs.Grammar as grammar
-use Rattle.cl_tree.specs.Grammar.{closed, Sort, Declare, Block, Line, Start, Simple, Statement, Expr, Maybe, Many}
+use Rattle.cl_tree.specs.Grammar.{Block, Line, Start, Simple, Statement, Expr, Maybe}
 use Rattle.cl_tree.specs.Grammar.{Just, one, list, Spells}
 use Rattle.cl_read.specs.Starts.{starts_type, starts_expression, starts_simple, starts_statement}
 use Rattle.cl_read.specs.Reading.{Got, begins, is, each, unless, Readers, line_of, block_of, simple_of, if_of}

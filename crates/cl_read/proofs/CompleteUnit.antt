@@ -8,8 +8,8 @@ use Rattle.cl_tree.specs.declared.terminal.Leaf.{Leaf}
 use Rattle.cl_tree.specs.Syntax.{Syntax, Forest, none, more, nesting, deepest}
 use Rattle.cl_tree.specs.Nodes.{Spot, tok, declare_node, params_node, function_node, prototype_node, unit_node}
 use Rattle.cl_tree.specs.Grammar as grammar
-use Rattle.cl_tree.specs.Grammar.{Sort, Source, Item, Head, Attribute, Result, Params, Param, TypeName, Star, Declare}
-use Rattle.cl_tree.specs.Grammar.{Declarator, Dimension, Block, Cond, Maybe, Many, Just, Comma, one, list, Spells}
+use Rattle.cl_tree.specs.Grammar.{Source, Item, Head, Attribute, Result, Params, Param, TypeName, Star, Declare}
+use Rattle.cl_tree.specs.Grammar.{Declarator, Dimension, Block, Many, Just, Comma, one, list, Spells}
 use Rattle.cl_read.specs.Starts.{starts_type, starts_head}
 use Rattle.cl_read.specs.Reading.{Out, Got, Wrong, Deep, after, Reader, done, begins, is, Listing, appended, all_of}
 use Rattle.cl_read.specs.Reading.{each, Readers, readers, attribute_of, head_of, param_of, params_of, callable, named}

@@ -7,10 +7,10 @@ use Rattle.cl_tree.specs.Precedence.{prefixes, qualifies}
 use Rattle.cl_tree.specs.Syntax.{Syntax, Forest, none}
 use Rattle.cl_tree.specs.Nodes.{Spot, tok}
 use Rattle.cl_tree.specs.Grammar as grammar
-use Rattle.cl_tree.specs.Grammar.{Sort, Source, Item, Head, Attribute, Result, Params, Param, TypeName, Base, Core}
-use Rattle.cl_tree.specs.Grammar.{Star, Declare, Declarator, Dimension, Init, Initializers, Elements, Block, Line}
-use Rattle.cl_tree.specs.Grammar.{Start, Simple, Statement, Expr, Assign, Cond, Cast, Unary, Postfix, Primary, Level}
-use Rattle.cl_tree.specs.Grammar.{Qualifier, Maybe, Many, Just, Comma, Space, Value, one, list, Spells}
+use Rattle.cl_tree.specs.Grammar.{Sort, Item, Head, Result, Param, TypeName, Base, Core}
+use Rattle.cl_tree.specs.Grammar.{Star, Declare, Declarator, Block, Line}
+use Rattle.cl_tree.specs.Grammar.{Simple, Statement, Expr, Assign, Cond, Cast, Unary, Postfix, Primary, Level}
+use Rattle.cl_tree.specs.Grammar.{Qualifier, Many, Just, Comma, Space, one, list, Spells}
 use Rattle.cl_read.specs.Starts.{starts_expression, starts_simple, starts_statement, starts_type, starts_core}
 use Rattle.cl_read.specs.Starts.{starts_declarator, starts_head}
 use Rattle.cl_read.specs.Reading.{begins}

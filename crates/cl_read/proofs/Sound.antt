@@ -11,9 +11,9 @@ use Rattle.cl_tree.specs.Syntax.{Syntax, Forest, none, more, joined}
 use Rattle.cl_tree.specs.Nodes.{Spot, tok, word_node, pair_node, type_node, declarator_node, paren_node}
 use Rattle.cl_tree.specs.Grammar as grammar
 use Rattle.cl_tree.specs.Grammar.{closed, Sort, TypeName, Base, Core, Star, Declare, Declarator, Dimension, Init}
-use Rattle.cl_tree.specs.Grammar.{Initializers, Elements, Block, Line, Start, Simple, Statement, Expr, Assign, Cond}
+use Rattle.cl_tree.specs.Grammar.{Initializers, Elements, Block, Simple, Statement, Expr, Assign, Cond}
 use Rattle.cl_tree.specs.Grammar.{Cast, Unary, Postfix, Primary, Level, Qualifier, Maybe, Many, Just, Comma, Space}
-use Rattle.cl_tree.specs.Grammar.{Value, one, list, Spells}
+use Rattle.cl_tree.specs.Grammar.{one, list, Spells}
 use Rattle.cl_read.specs.Starts.{postfixes}
 use Rattle.cl_read.specs.Reading.{Got, Reader, done, begins, is, Listing, all_of, each, behind_comma, if_begun}
 use Rattle.cl_read.specs.Reading.{unless, Readers, is_unary, qualifier_of, qualifiers, core_of, base_of, space_of}

@@ -10,8 +10,8 @@ use Rattle.cl_tree.specs.declared.tree.Form.TheVariants as forms
 use Rattle.cl_tree.specs.Syntax.{Syntax, Forest, none, more}
 use Rattle.cl_tree.specs.Nodes.{Spot, tok, word_node, if_node, simple_node, declare_node, declarator_node}
 use Rattle.cl_tree.specs.Grammar as grammar
-use Rattle.cl_tree.specs.Grammar.{closed, Sort, TypeName, Base, Star, Declare, Declarator, Initializers, Block, Line}
-use Rattle.cl_tree.specs.Grammar.{Start, Simple, Statement, Expr, Assign, Cond, Cast, Unary, Level, Qualifier, Many}
+use Rattle.cl_tree.specs.Grammar.{closed, Sort, TypeName, Star, Declare, Declarator, Initializers, Block, Line}
+use Rattle.cl_tree.specs.Grammar.{Start, Simple, Statement, Expr, Assign, Cond, Cast, Unary, Level, Qualifier}
 use Rattle.cl_tree.specs.Grammar.{Just, Space, one, list, Spells}
 use Rattle.cl_read.specs.Starts.{same, starts_type, starts_expression, starts_simple, starts_statement}
 use Rattle.cl_read.specs.Starts.{starts_declarator}

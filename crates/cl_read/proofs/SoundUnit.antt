@@ -6,8 +6,8 @@ use Rattle.cl_tree.specs.declared.tree.Form.TheVariants as forms
 use Rattle.cl_tree.specs.Syntax.{Syntax, Forest, none, more}
 use Rattle.cl_tree.specs.Nodes.{Spot, tok, word_node, alone_node}
 use Rattle.cl_tree.specs.Grammar as grammar
-use Rattle.cl_tree.specs.Grammar.{Sort, Source, Item, Head, Attribute, Result, Params, Param, TypeName, Star}
-use Rattle.cl_tree.specs.Grammar.{Declarator, Block, Cond, Many, Just, Comma, one, list, Spells}
+use Rattle.cl_tree.specs.Grammar.{Source, Item, Head, Attribute, Result, Params, Param, TypeName, Star}
+use Rattle.cl_tree.specs.Grammar.{Many, Just, Comma, list, Spells}
 use Rattle.cl_read.specs.Starts.{starts_head}
 use Rattle.cl_read.specs.Reading.{is, Listing, empty, all_of, each, behind_comma, Readers, readers, attribute_of}
 use Rattle.cl_read.specs.Reading.{head_of, param_of, params_of, callable, named, result_of, typed, headed, item_of}

@@ -1,7 +1,7 @@
 //! Nodes, and lists of parts, with their heights.
 
-ghost use Rattle.std.specs.Prelude.{◌≡◌, ◌<◌, ◌-◌, ◌^◌, ℕ, min, IfOk, nat_le, [], length};
-ghost use Rattle.cl_tree.specs.Syntax.{view, views, nesting, deepest, none, joined, first_of, last_of, first_in};
+ghost use Rattle.std.specs.Prelude.{◌≡◌, ◌<◌, ◌-◌, ◌^◌, min, IfOk, nat_le, []};
+ghost use Rattle.cl_tree.specs.Syntax.{view, views, nesting, deepest, joined, first_of, last_of, first_in};
 ghost use Rattle.cl_tree.specs.Syntax.{last_in};
 ghost use Rattle.cl_tree.specs.Nodes.{tree_of, spelled, first_spot, last_spot, word_node, pair_node, forest1, forest2};
 ghost use Rattle.cl_tree.specs.Nodes.{forest3};

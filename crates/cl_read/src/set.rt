@@ -1,8 +1,8 @@
 //! Sets of terminals.
 
 ghost use Rattle.std.specs.Prelude.{◌≡◌};
-ghost use Rattle.cl_tree.specs.Precedence.{looseness, assigns, prefixes, qualifies};
-ghost use Rattle.cl_read.specs.Starts.{code, same, starts_expression, starts_simple, starts_statement, starts_type};
+ghost use Rattle.cl_tree.specs.Precedence.{looseness, prefixes, qualifies};
+ghost use Rattle.cl_read.specs.Starts.{same, starts_expression, starts_simple, starts_statement, starts_type};
 ghost use Rattle.cl_read.specs.Starts.{starts_core};
 ghost use Rattle.cl_read.specs.Sets.{in_set};
 

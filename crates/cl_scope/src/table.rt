@@ -1,6 +1,6 @@
 //! The bytes of the constant tables of a unit.
 ghost use Rattle.std.specs.Prelude.{◌≡◌, ◌++◌, ◌∷◌, ◌*◌, [], map, OnOk, IfOk};
-ghost use Rattle.cl_tree.specs.Syntax.{view, views};
+ghost use Rattle.cl_tree.specs.Syntax.{view};
 ghost use Rattle.wg_num.specs.Wrap.{IsValue};
 ghost use Rattle.wg_num.specs.Bytes.{bytes_of, size_of as bytes_in};
 ghost use Rattle.cl_meaning.specs.Constants as constants;

@@ -29,13 +29,15 @@ pub(crate) fn is_hexadecimal_digit(byte: u8) -> bool
     is_digit(byte) || b'a' <= byte && byte <= b'f' || b'A' <= byte && byte <= b'F'
 }
 
-pub(crate) fn is_name_start(byte: u8) -> bool
+/// Whether a byte may begin an identifier (C99, section 6.4.2.1).
+pub fn is_name_start(byte: u8) -> bool
     ensures { result ≡ class.is_name_start byte }
 {
     b'a' <= byte && byte <= b'z' || b'A' <= byte && byte <= b'Z' || byte == b'_'
 }
 
-pub(crate) fn is_name_byte(byte: u8) -> bool
+/// Whether a byte may stand in an identifier (C99, section 6.4.2.1).
+pub fn is_name_byte(byte: u8) -> bool
     ensures { result ≡ class.is_name_byte byte }
 {
     is_name_start(byte) || is_digit(byte)

@@ -1,6 +1,6 @@
 //! The cutting of a source into tokens.
-ghost use Rattle.std.specs.Prelude.{◌≡◌, ◌↔◌, ℕ, List, ◌<◌, ◌≤◌, length, All, IfOk, IfErr};
-ghost use Rattle.std.specs.Prelude.{OnOk, MatchResult, ◌++◌, ◌∷◌, [], Err, slice_range, drop};
+ghost use Rattle.std.specs.Prelude.{◌≡◌, ◌↔◌, List, ◌<◌, ◌≤◌, length, All, IfOk, IfErr};
+ghost use Rattle.std.specs.Prelude.{MatchResult, [], Err, slice_range, drop};
 ghost use Rattle.cl_token.specs.declared.token.Token.{Token as AnyToken};
 ghost use Rattle.cl_token.specs.declared.token.LexError.{LexError as AnyError};
 ghost use Rattle.cl_token.specs.Cuts.{Cuts, IsRefused, limit};
@@ -10,7 +10,7 @@ ghost use Rattle.cl_token.specs.Answers.{IsTokens, IsFault, IsRefusedOrMemory, I
 use crate::piece::{Fault, Piece, piece_of};
 use crate::token::{Kind, LexError, Token};
 use std::alloc::Global;
-use wg_num::Word;
+use wg_num::{Word, push};
 
 /// The most bytes that a source may have.
 pub const SOURCE_LIMIT: usize = 262_144;
@@ -45,9 +45,7 @@ fn token_at(
       first = first;
     }) (λ e. e ≡ LexError.Memory) }
 {
-    let Ok(word) = Word::new(alloc, &source[start..end]) else {
-        return Err(LexError::Memory);
-    };
+    let word = Word::new(alloc, &source[start..end])?;
     Ok(Token {
         kind,
         word,
@@ -55,16 +53,6 @@ fn token_at(
         end: end as u32,
         first,
     })
-}
-
-fn push(tokens: &mut Vec<Token>, token: Token) -> Result<(), LexError>
-    ensures ok { OnOk result (tokens.new.items ≡ tokens.old.items ++ token ∷ []) }
-    ensures err { IfErr result (λ e. e ≡ LexError.Memory) }
-{
-    match tokens.push(token) {
-        Ok(()) => Ok(()),
-        Err(_) => Err(LexError::Memory),
-    }
 }
 
 fn piece_at(source: &[u8], at: usize) -> Result<Piece, Fault>

@@ -1,6 +1,6 @@
 //! Integer constants: how they are spelled, their values and their types.
 ghost use Rattle.std.specs.Prelude.{◌≡◌, ◌↔◌, ℕ, ◌^◌, ◌<◌, ◌≤◌, ◌+◌, ◌*◌, length};
-ghost use Rattle.std.specs.Prelude.{IfOk, Ok, Err, None, MatchOption, SomeIff, option_map};
+ghost use Rattle.std.specs.Prelude.{IfOk, Ok, Err, None, SomeIff, option_map};
 ghost use Rattle.std.specs.List.{prefix_len};
 ghost use Rattle.wg_num.specs.declared.types.IntType.{IntType as AnyType};
 ghost use Rattle.cl_token.specs.Number as spec;

@@ -1,8 +1,7 @@
 //! What stands at the head of the rest of a source.
-ghost use Rattle.std.specs.Prelude.{◌≡◌, ◌≢◌, ◌↔◌, ℕ, ◌+◌, ◌<◌, ◌≤◌, length};
-ghost use Rattle.std.specs.Prelude.{MatchOption, IfSome, slice_index, drop, Ok, Err};
+ghost use Rattle.std.specs.Prelude.{◌≡◌, ◌+◌, ◌<◌, length};
+ghost use Rattle.std.specs.Prelude.{IfSome, Ok, Err};
 ghost use Rattle.std.specs.List.{prefix_len};
-ghost use Rattle.cl_token.specs.Spelling.{ClosesAt};
 ghost use Rattle.cl_token.specs.Reading as reading;
 
 use crate::bytes::{byte_at, is_digit, is_name_start, name_length, number_length};

@@ -1,6 +1,5 @@
 //! The places of tokens, as lines and columns.
-ghost use Rattle.std.specs.Prelude.{◌≡◌, ◌<◌, ◌≤◌, ◌++◌, ◌∷◌, [], length, map, All, IfOk};
-ghost use Rattle.std.specs.Prelude.{OnOk, OnErr, slice_index};
+ghost use Rattle.std.specs.Prelude.{◌≡◌, ◌<◌, ◌≤◌, [], length, map, All, IfOk};
 ghost use Rattle.cl_token.specs.Places.{place_at, place_behind};
 
 use crate::token::Token;

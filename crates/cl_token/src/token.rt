@@ -1,8 +1,7 @@
 //! The tokens of a source, and what can be wrong with a source that has none.
 
-use std::alloc::Global;
 use thiserror::Error;
-use wg_num::Word;
+use wg_num::{Memory, Word};
 
 /// What a token is (OpenCL 1.2, section 6; C99, section 6.4).
 #[derive(Clone, Copy, PartialEq, Eq, Debug)]
@@ -51,4 +50,15 @@ pub enum LexError {
     TooLong,
     #[error("out of memory")]
     Memory,
+}
+
+impl From<Memory> for LexError {
+    ghost use Rattle.std.specs.Prelude.{◌≡◌};
+    ghost use Rattle.cl_token.specs.declared.token.LexError.TheVariants.{Memory as OutOfMemory};
+
+    ghost from_gives = { λ _ e. e ≡ OutOfMemory };
+
+    fn from(_memory: Memory) -> LexError {
+        LexError::Memory
+    }
 }

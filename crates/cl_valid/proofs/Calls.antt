@@ -10,6 +10,8 @@ use Rattle.wg_num.specs.declared.types.Place.{Place}
 use Rattle.wg_num.specs.declared.types.Fun.{Fun}
 use Rattle.wg_num.specs.Wrap.{IsValue, half, modulus}
 use Rattle.wg_num.specs.Builtins.{result_type}
+use Rattle.wg_num.specs.Types.{same_type}
+use Rattle.wg_num.proofs.TypeLaws.{same_type_is}
 use Rattle.cl_model.specs.declared.program.Space.{Space}
 use Rattle.cl_model.specs.declared.program.Space.TheVariants as spaces
 use Rattle.cl_model.specs.declared.program.Root.{Root}
@@ -33,7 +35,7 @@ use Rattle.cl_meaning.specs.declared.kind.Parameter.TheVariants as parameters
 use Rattle.cl_meaning.specs.declared.kind.Yield.{Yield}
 use Rattle.cl_meaning.specs.declared.kind.Yield.TheVariants as yields
 use Rattle.cl_meaning.specs.Environment.{Env, Signature, meaning_of}
-use Rattle.cl_meaning.specs.Kinds.{same_type, same_space, number, kind_of_meaning, is_number, argument_fits}
+use Rattle.cl_meaning.specs.Kinds.{same_space, number, kind_of_meaning, is_number, argument_fits}
 use Rattle.cl_meaning.specs.Kinds.{arguments_fit, result_kind, all_numbers, counted, counted_types, type_of}
 use Rattle.cl_meaning.specs.Kinds.{builtin_type, intrinsic_arity, intrinsic_result, Callee, defined, undefined, known}
 use Rattle.cl_meaning.specs.Kinds.{callee_of, callee_by, defined_at, known_as, arity_fits, call_fits, call_result}
@@ -45,7 +47,7 @@ use Rattle.cl_meaning.specs.Expressions.{zero_offset, read, type_in, operand, op
 use Rattle.cl_meaning.specs.Expressions.{all_passed, root_in, roots_passed, types_in, dimension, known_made}
 use Rattle.cl_meaning.specs.Expressions.{call_made, name_made}
 use Rattle.cl_valid.specs.Fits.{ParameterIs, ParametersAre, CalledFits, MeaningFits, Fits, KindFits}
-use Rattle.cl_valid.proofs.Typing.{operand_typed, literal_typed, zero_typed, same_type_is}
+use Rattle.cl_valid.proofs.Typing.{operand_typed, literal_typed, zero_typed}
 use Rattle.cl_valid.proofs.Assigning.{both_true}
 use Rattle.cl_valid.proofs.Elements.{object_fits}
 

@@ -8,6 +8,8 @@ use Rattle.std.proofs.lemmas.Option.{none-some, same_Some}
 use Rattle.wg_num.specs.declared.types.IntType.{IntType}
 use Rattle.wg_num.specs.declared.types.IntType.TheVariants as types
 use Rattle.wg_num.specs.declared.types.Place.{Place}
+use Rattle.wg_num.specs.Types.{same_type}
+use Rattle.wg_num.proofs.TypeLaws.{same_type_is}
 use Rattle.cl_model.specs.declared.program.Space.{Space}
 use Rattle.cl_model.specs.declared.program.Space.TheVariants as spaces
 use Rattle.cl_model.specs.declared.program.VarKind.{VarKind}
@@ -28,7 +30,7 @@ use Rattle.cl_meaning.specs.declared.constant.Constant.{Constant}
 use Rattle.cl_meaning.specs.Constants.{constant_of}
 use Rattle.cl_meaning.specs.Environment as environment
 use Rattle.cl_meaning.specs.Environment.{Env, Variable, Array, at_unit, place_of}
-use Rattle.cl_meaning.specs.Kinds.{is_some, is_number, same_space, same_type}
+use Rattle.cl_meaning.specs.Kinds.{is_some, is_number, same_space}
 use Rattle.cl_meaning.specs.Declarations.{Declarator, is_list, initialisers, product, kept_in, pointed_space}
 use Rattle.cl_meaning.specs.Declarations.{array_in, with_variable, with_array, with_pointer, with_scalar}
 use Rattle.cl_meaning.specs.Declarations.{with_elements, root_of, table_bytes, next_root, each_of, dims_of, firm}
@@ -41,7 +43,7 @@ use Rattle.cl_meaning.specs.Statements.{alone, followed, set_value, initial, arr
 use Rattle.cl_valid.specs.Fits.{Holds, EachFits, KindFits, PieceFits, MeaningFits}
 use Rattle.cl_valid.proofs.Assigning.{both_true, if_some}
 use Rattle.cl_valid.proofs.Cases.{neither_first, neither_second}
-use Rattle.cl_valid.proofs.Typing.{operand_typed, same_type_is}
+use Rattle.cl_valid.proofs.Typing.{operand_typed}
 use Rattle.cl_valid.proofs.Calls.{same_space_is}
 use Rattle.cl_valid.proofs.Grown.{Extends, is_deep, deep_inside, each_append}
 use Rattle.cl_valid.proofs.Naming.{MeaningScoped, operand_scoped}

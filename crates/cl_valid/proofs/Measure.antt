@@ -2,9 +2,9 @@
 use Rattle.std.proofs.Common.{◌≡◌, ℕ, ◌+◌, ◌*◌, ◌≤◌, None, Some, Bool, true, false, if◌then◌else◌, arith}
 use Rattle.wg_num.specs.declared.types.IntType.{IntType}
 use Rattle.wg_num.specs.declared.types.Bin.{Bin}
+use Rattle.wg_num.specs.Types.{same_type}
 use Rattle.cl_model.specs.Tree as tree
 use Rattle.cl_model.specs.Tree.{Action, Expression, Expressions, Apply, Update, Choose, Call, none, more, single}
-use Rattle.cl_meaning.specs.Kinds.{same_type}
 use Rattle.cl_meaning.specs.Typed.{What, nothing, value, target, offset, values, barrier, fence, lines, statement}
 use Rattle.cl_meaning.specs.Typed.{labelled, function, functions, variable, element, Piece}
 use Rattle.cl_meaning.specs.Expressions.{read, way, type_in, convert, operand, moved, moved_by, assigned, updated}

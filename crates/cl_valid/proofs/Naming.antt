@@ -4,6 +4,7 @@ use Rattle.std.proofs.Common.{if◌then◌else◌, refl, ap, ◌∙◌, inl, inr
 use Rattle.std.proofs.lemmas.Bool.{false≢true}
 use Rattle.wg_num.specs.declared.types.IntType.{IntType}
 use Rattle.wg_num.specs.declared.types.Place.{Place}
+use Rattle.wg_num.specs.Types.{same_type}
 use Rattle.cl_model.specs.Tree as tree
 use Rattle.cl_model.specs.Tree.{Action, Expression, Expressions, Apply, Update, Choose, Call, none, more, single}
 use Rattle.cl_model.specs.Valid.{Scope, Has, ActionNames, NamesIn, NamesAmong}
@@ -14,7 +15,6 @@ use Rattle.cl_limits.specs.Limits.{called_sum}
 use Rattle.cl_meaning.specs.declared.kind.Meaning.{Meaning}
 use Rattle.cl_meaning.specs.declared.kind.Meaning.TheVariants as meanings
 use Rattle.cl_meaning.specs.Environment.{Env, meaning_of}
-use Rattle.cl_meaning.specs.Kinds.{same_type}
 use Rattle.cl_meaning.specs.Visible.{inside, later, behind, kind_of, visible_at}
 use Rattle.cl_meaning.specs.Faults as faults_specs
 use Rattle.cl_meaning.specs.Typed.{Piece}

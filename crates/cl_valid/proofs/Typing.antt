@@ -10,6 +10,8 @@ use Rattle.wg_num.specs.declared.types.Bin.TheVariants as bins
 use Rattle.std.proofs.lemmas.Int.{ints}
 use Rattle.wg_num.specs.Wrap.{IsValue, half, modulus}
 use Rattle.wg_num.specs.Operators.{is_shift}
+use Rattle.wg_num.specs.Types.{same_type}
+use Rattle.wg_num.proofs.TypeLaws.{same_type_is}
 use Rattle.cl_model.specs.Tree as tree
 use Rattle.cl_model.specs.Tree.{Expression, Function, Program, Apply, single}
 use Rattle.cl_model.specs.Valid.{HasType, RightFits, binary_type}
@@ -18,7 +20,7 @@ use Rattle.cl_meaning.specs.declared.kind.Each.TheVariants as each
 use Rattle.cl_meaning.specs.declared.kind.Reach.{Reach}
 use Rattle.cl_meaning.specs.declared.kind.Kind.{Kind}
 use Rattle.cl_meaning.specs.declared.kind.Kind.TheVariants as kinds
-use Rattle.cl_meaning.specs.Kinds.{same_type, binary_kind}
+use Rattle.cl_meaning.specs.Kinds.{binary_kind}
 use Rattle.cl_meaning.specs.Typed.{What, offset, Piece}
 use Rattle.cl_meaning.specs.Expressions.{literal, zero_offset, read, way, type_in, convert, operand, joined_by, moved}
 use Rattle.cl_meaning.specs.Expressions.{moved_by, binary_what}
@@ -35,18 +37,6 @@ literal_typed P f v t h = ([], tt, (h, refl))
 
 pub zero_typed : (P : Program) (f : Function) → HasType P f zero_offset types.Long
 zero_typed P f = literal_typed P f (pos 0) types.Long (long_value 0 (omega arith))
-
-pub same_type_is : (t u : IntType) → same_type t u ≡ true → t ≡ u
-same_type_is types.Bool types.Bool h = refl
-same_type_is types.Char types.Char h = refl
-same_type_is types.Uchar types.Uchar h = refl
-same_type_is types.Short types.Short h = refl
-same_type_is types.Ushort types.Ushort h = refl
-same_type_is types.Int types.Int h = refl
-same_type_is types.Uint types.Uint h = refl
-same_type_is types.Long types.Long h = refl
-same_type_is types.Ulong types.Ulong h = refl
-same_type_is _ _ h = absurd (false≢true h)
 
 convert_by : (P : Program) (f : Function) (b : Bool) (to from : IntType) (e : Expression) → (b ≡ true → to ≡ from) →
     HasType P f e from → HasType P f (if b then e else Apply (tree.Convert to) (single e)) to

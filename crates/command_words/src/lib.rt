@@ -1,7 +1,7 @@
 //! The command line: the words that the program takes, as `clap` reads them, and what they say.
 #![tactic(auto)]
 
-ghost use Rattle.std.specs.Prelude.{◌≡◌, ◌∷◌, [], ℕ, List, map, codes, false, string_bytes, Err, Some};
+ghost use Rattle.std.specs.Prelude.{◌≡◌, [], map, false, string_bytes, Err, Some};
 ghost use Rattle.std.specs.Prelude.{IfOk, IfSome, option_map};
 ghost use Rattle.clap.specs.Words.{rule_of, subcommand_of, subcommand_rows_of, first_of, rows_of, found_of};
 ghost use Rattle.command_words.specs.Command.{argument, option, number, run_app, plan_app, code_app, sample_app};

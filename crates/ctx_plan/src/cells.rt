@@ -1,7 +1,7 @@
 //! The homes of cells.
 
 ghost use Rattle.std.specs.Prelude.{◌≡◌, ◌+◌, ◌∷◌, [], ◌++◌, true, map, IfOk, OnOk};
-ghost use Rattle.kir.specs.Listed.{cell_of, kind_of};
+ghost use Rattle.kir.specs.Listed.{cell_of};
 ghost use Rattle.ctx_plan.specs.Points.{entry};
 ghost use Rattle.ctx_plan.specs.Sharing as spec;
 ghost use Rattle.ctx_plan.specs.Made as made;

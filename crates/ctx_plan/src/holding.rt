@@ -1,6 +1,6 @@
 //! Which functions, statements and lines hold a barrier after inlining.
 
-ghost use Rattle.std.specs.Prelude.{◌≡◌, ◌∷◌, [], ◌++◌, false, length, map, replicate, IsTrue, IfOk};
+ghost use Rattle.std.specs.Prelude.{◌≡◌, ◌∷◌, [], ◌++◌, false, map, replicate, IsTrue, IfOk};
 ghost use Rattle.std.specs.Prelude.{OnOk};
 ghost use Rattle.cl_model.specs.View.{statement_of, listed_statements, function_of};
 ghost use Rattle.kir.specs.Inlined.{holds, some_holds};

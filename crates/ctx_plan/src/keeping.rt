@@ -1,11 +1,11 @@
 //! Which cells the text of a kernel names on both sides of a cut.
 
-ghost use Rattle.std.specs.Prelude.{◌≡◌, ◌∷◌, [], ◌++◌, ◌||◌, List, length, replicate, None, IfOk};
+ghost use Rattle.std.specs.Prelude.{◌≡◌, ◌∷◌, [], ◌||◌, replicate, None, IfOk};
 ghost use Rattle.std.specs.Prelude.{OnOk};
 ghost use Rattle.kir.specs.Tree.{NoLine};
 ghost use Rattle.kir.specs.Listed.{line_before, lines_of, work_of};
 ghost use Rattle.kir.specs.Cuts.{holds_barrier};
-ghost use Rattle.kir.specs.Keeps.{Piece, Names, Cut, named_by, named_by_all, named_by_work, cut_before, pieces_of};
+ghost use Rattle.kir.specs.Keeps.{Names, named_by, named_by_all, named_by_work, cut_before, pieces_of};
 ghost use Rattle.ctx_plan.specs.Naming.{Leads, named_from};
 
 use crate::holding::no_entries;

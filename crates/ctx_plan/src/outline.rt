@@ -4,7 +4,7 @@ ghost use Rattle.std.specs.Prelude.{◌≡◌, ◌∷◌, [], ◌++◌, IfOk, On
 ghost use Rattle.cl_model.specs.Calls.{calls_in, calls_among, calls_in_optional};
 ghost use Rattle.cl_model.specs.View.{expression_of, argument_of, listed_expressions, optional_expression};
 ghost use Rattle.cl_model.specs.View.{statement_of, listed_statements, function_of};
-ghost use Rattle.ctx_plan.specs.Outline.{Outline, DeclaresThen, CutThen, CallsThen, BlockThen, NoPiece, cut_then};
+ghost use Rattle.ctx_plan.specs.Outline.{Outline, NoPiece, cut_then};
 ghost use Rattle.ctx_plan.specs.Outline.{calls_then, outline_then, outlines_then, outlines_of_arms, parameters_then};
 ghost use Rattle.ctx_plan.specs.Outline.{function_outline, piece_then, pieces_then};
 ghost use Rattle.ctx_plan.specs.Points.{calls_onto, listed_arguments, listed_arms, entry};

@@ -1,6 +1,6 @@
 //! The making of the plan of a kernel.
 
-ghost use Rattle.std.specs.Prelude.{◌≡◌, ◌*◌, ◌+◌, filter, map, sum, IfOk};
+ghost use Rattle.std.specs.Prelude.{◌≡◌, ◌*◌, map, sum, IfOk};
 ghost use Rattle.wg_num.specs.Bytes as bytes;
 ghost use Rattle.cl_model.specs.View.{array_of, program_of};
 ghost use Rattle.cl_model.specs.Objects as objects;

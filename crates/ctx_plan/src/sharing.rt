@@ -1,7 +1,7 @@
 //! Which variables cross, and the columns that they share: in the inlined text the variables of a
 //! block take the first columns behind those of the blocks around it.
 
-ghost use Rattle.std.specs.Prelude.{◌≡◌, ◌+◌, ◌∷◌, [], ◌++◌, true, false, length, map, replicate};
+ghost use Rattle.std.specs.Prelude.{◌≡◌, ◌+◌, ◌∷◌, [], ◌++◌, true, false, length, replicate};
 ghost use Rattle.std.specs.Prelude.{slice_set, IfOk, OnOk, if◌then◌else◌};
 ghost use Rattle.std.specs.Prelude.{List, Bool as Test};
 ghost use Rattle.cl_model.specs.View.{program_of, function_of};

@@ -21,7 +21,7 @@ fn a_kernel_is_compiled_by_its_name(rt: HostRuntime) -> Result<(), Fail> {
         Err(SourceError::Refused { condition, place }) => {
             assert_eq!(rt; condition, Condition::Unit(Fault::NoSuchKernel));
             assert_eq!(rt; condition.number(), 422);
-            assert_eq!(rt; condition.text(), b"E422 no such kernel".as_slice());
+            assert_eq!(rt; condition.text(), b"no such kernel".as_slice());
             assert_eq!(rt;
                 place,
                 Place {

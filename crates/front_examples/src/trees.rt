@@ -1,5 +1,5 @@
 use cl_parse::{ParseError, parse};
-use cl_token::{Token, tokens};
+use cl_token::tokens;
 use cl_tree::Tree;
 use std::alloc::Global;
 use std::fmt::Write;

@@ -1,6 +1,6 @@
 //! From regions to the program of a work-group.
 
-ghost use Rattle.std.specs.Prelude.{◌≡◌, ◌∷◌, ◌++◌, [], map, true, false, IfOk, OnOk};
+ghost use Rattle.std.specs.Prelude.{◌≡◌, [], map, true, false, IfOk};
 ghost use Rattle.cl_model.specs.View.{array_of, table_of};
 ghost use Rattle.kir.specs.View.{kernel_of};
 ghost use Rattle.lane_code.specs.Program.{work_of};

@@ -1,6 +1,6 @@
 //! Copies of a kernel's tables.
 
-ghost use Rattle.std.specs.Prelude.{◌≡◌, ◌∷◌, ◌++◌, [], map, IfOk};
+ghost use Rattle.std.specs.Prelude.{◌≡◌, [], map, IfOk};
 ghost use Rattle.cl_model.specs.View.{array_of, table_of};
 
 use cl_model::{Array, Table};

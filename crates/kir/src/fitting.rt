@@ -4,7 +4,6 @@
 ghost use Rattle.std.specs.Prelude.{◌≡◌, ◌&&◌, true, IfSome, IsSome, ◌↔◌, length, replicate, slice_get};
 ghost use Rattle.wg_num.specs.Wrap as wrap;
 ghost use Rattle.cl_model.specs.Objects as objects;
-ghost use Rattle.cl_model.specs.Valid.{arity_of};
 ghost use Rattle.kir.specs.Listed.{lines_of, work_of};
 ghost use Rattle.kir.specs.Tree.{NoLine, LoadThen, StoreThen};
 ghost use Rattle.kir.specs.Listed.{line_before};
@@ -14,11 +13,9 @@ ghost use Rattle.kir.specs.Fits as fits;
 
 use crate::kernel::{Cell, Kernel};
 use crate::line::{Atom, Line, Work};
-use crate::types::{
-    arity, binary_type, is_shift, kind_type, query_type, result_type, same_type, unary_type,
-};
+use crate::types::{arity, binary_type, is_shift, kind_type, query_type, result_type, unary_type};
 use cl_model::{Array, Root, Space, Table, VarKind};
-use wg_num::{Bin, IntType, Place};
+use wg_num::{Bin, IntType, Place, same_type};
 
 /// The parts of a kernel, valid or not.
 #[derive(Drop)]

@@ -4,33 +4,9 @@ ghost use Rattle.std.specs.Prelude.{◌≡◌};
 ghost use Rattle.wg_num.specs.Operators as operators;
 ghost use Rattle.wg_num.specs.Builtins as builtins;
 ghost use Rattle.cl_model.specs.Valid as valid;
-ghost use Rattle.kir.specs.Fits as fits;
 
 use cl_model::{Query, VarKind};
 use wg_num::{Bin, Fun, IntType, Un};
-
-fn number_of_type(t: IntType) -> u8
-    ensures { result ≡ fits.number_of_type t }
-{
-    match t {
-        IntType::Bool => 0,
-        IntType::Char => 1,
-        IntType::Uchar => 2,
-        IntType::Short => 3,
-        IntType::Ushort => 4,
-        IntType::Int => 5,
-        IntType::Uint => 6,
-        IntType::Long => 7,
-        IntType::Ulong => 8,
-    }
-}
-
-/// They are one type.
-pub fn same_type(t: IntType, u: IntType) -> bool
-    ensures { result ≡ fits.same_type t u }
-{
-    number_of_type(t) == number_of_type(u)
-}
 
 /// The type to which a value is promoted (C99, section 6.3.1.1).
 pub fn promoted(t: IntType) -> IntType

@@ -1,11 +1,11 @@
 //! The step of each action on the values of its operands.
 
-ghost use Rattle.std.specs.Prelude.{◌≡◌, ◌+◌, [], ◌∷◌, pos, IfOk, OnOk, map};
+ghost use Rattle.std.specs.Prelude.{◌≡◌, ◌+◌, [], IfOk, OnOk};
 ghost use Rattle.wg_num.specs.Builtins as builtins;
 ghost use Rattle.cl_model.specs.Tree as tree;
 ghost use Rattle.cl_model.specs.Valid as valid;
 ghost use Rattle.kir.specs.Listed.{lines_of};
-ghost use Rattle.kir.specs.Tree.{NoLine, ClearThen, Unary, Builtin, Ask, joined_to};
+ghost use Rattle.kir.specs.Tree.{ClearThen, Unary, Builtin, Ask, joined_to};
 ghost use Rattle.kir_lower.specs.Made as made_spec;
 ghost use Rattle.kir_lower.specs.Actions as spec;
 ghost use Rattle.kir_lower.specs.View.{made_of, instance_of};

@@ -1,6 +1,6 @@
 //! Which arm of a `switch` is chosen.
 
-ghost use Rattle.std.specs.Prelude.{◌≡◌, pos, IfOk, OnOk};
+ghost use Rattle.std.specs.Prelude.{◌≡◌, IfOk, OnOk};
 ghost use Rattle.kir.specs.Listed.{lines_of};
 ghost use Rattle.kir.specs.Tree.{joined_to};
 ghost use Rattle.cl_model.specs.Listed.{listed_arms};

@@ -1,11 +1,10 @@
 //! A call: a function's cells and arrays, its parameters and its result.
 
-ghost use Rattle.std.specs.Prelude.{◌≡◌, ◌+◌, ◌++◌, ◌∷◌, [], IfOk, OnOk, length, map, slice_get};
+ghost use Rattle.std.specs.Prelude.{◌≡◌, ◌+◌, ◌++◌, ◌∷◌, [], IfOk, OnOk, length, map};
 ghost use Rattle.cl_model.specs.Tree as tree;
 ghost use Rattle.cl_model.specs.Valid as valid;
 ghost use Rattle.cl_model.specs.View.{function_of, program_of, root_of};
 ghost use Rattle.kir.specs.Listed.{lines_of, cell_of};
-ghost use Rattle.kir.specs.Lowering.{names_of};
 ghost use Rattle.kir.specs.Tree.{OfVariable, joined_to};
 ghost use Rattle.cl_model.specs.Listed.{listed_roots};
 ghost use Rattle.kir_lower.specs.Made as spec;
@@ -15,7 +14,7 @@ ghost use Rattle.kir_lower.specs.View.{made_of, instance_of, names_in, names_lis
 
 use crate::emit::{put_copy, put_set};
 use crate::places::{
-    Callee, Instance, Made, Value, add_arrays, add_value, behind, constant, elements_of, int,
+    Callee, Instance, Made, Value, add_arrays, add_value, behind, constant, elements_of,
     longer_calls, longer_places, number, place_at, root_in, types_of,
 };
 use cl_model::{Arg, Function, Program, Root, Var, VarKind};

@@ -1,6 +1,6 @@
 //! Where variables, flags, values and arrays are kept.
 
-ghost use Rattle.std.specs.Prelude.{◌≡◌, ◌+◌, ◌++◌, ◌∷◌, [], pos, IfOk, OnOk, length, map};
+ghost use Rattle.std.specs.Prelude.{◌≡◌, ◌+◌, ◌++◌, ◌∷◌, [], IfOk, OnOk, map};
 ghost use Rattle.cl_model.specs.Calls as called;
 ghost use Rattle.cl_model.specs.Tree as plain;
 ghost use Rattle.cl_model.specs.View.{array_of, function_of, program_of};

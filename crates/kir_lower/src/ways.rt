@@ -1,7 +1,7 @@
 //! Ways out: the cell of a construct that says what is pending, and the guards on it. It holds 0
 //! for nothing, 1 for `continue`, 2 for `break` and 3 for `return`.
 
-ghost use Rattle.std.specs.Prelude.{◌≡◌, pos, IfOk, OnOk};
+ghost use Rattle.std.specs.Prelude.{◌≡◌, IfOk, OnOk};
 ghost use Rattle.kir.specs.Listed.{lines_of};
 ghost use Rattle.kir.specs.Tree.{NoLine, LoopThen, joined_to};
 ghost use Rattle.kir_lower.specs.Actions as spec;

@@ -1,8 +1,8 @@
 //! Makes codes and programs of groups from their parts, which it checks.
 
-ghost use Rattle.std.specs.Prelude.{◌≡◌, ◌+◌, ◌^◌, ◌&&◌, max, is_some, IfSome, nat_lt, int_le};
+ghost use Rattle.std.specs.Prelude.{◌≡◌, ◌+◌, ◌&&◌, max, is_some, IfSome, nat_lt};
 ghost use Rattle.wg_num.specs.Wrap.{lowest, highest};
-ghost use Rattle.lane_code.specs.Fits.{is_bank, is_below, is_value, is_ahead, is_well, is_code, count_of};
+ghost use Rattle.lane_code.specs.Fits.{is_below, is_value, is_ahead, is_well, is_code, count_of};
 ghost use Rattle.lane_code.specs.Counting.{registers_of, counted_among, counted_in, counted, are_few, make_code};
 
 use crate::code::{Code, Counts};

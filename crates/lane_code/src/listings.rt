@@ -1,7 +1,7 @@
 //! The listing of a group program.
 
-ghost use Rattle.std.specs.Prelude.{◌≡◌, ◌++◌, ℕ, OnOk, IfOk, codes};
-ghost use Rattle.lane_code.specs.Listing.{deeper, line_text, step_line, steps_text, code_text, part_text, named_text};
+ghost use Rattle.std.specs.Prelude.{◌≡◌, ◌++◌, OnOk, IfOk};
+ghost use Rattle.lane_code.specs.Listing.{deeper, line_text, step_line, code_text, part_text, named_text};
 ghost use Rattle.lane_code.specs.Listing.{nodes_text, loop_name, work_text, listing_text};
 ghost use Rattle.lane_code.specs.Program.{work_of, code_of};
 ghost use Rattle.wg_num.specs.Operators.{lanes_of};

@@ -1,10 +1,10 @@
 //! Programs of groups, made from their parts where these fit each other.
 
-ghost use Rattle.std.specs.Prelude.{◌≡◌, ◌&&◌, ◌||◌, length, is_some, IfSome, nat_lt, slice_get};
+ghost use Rattle.std.specs.Prelude.{◌≡◌, ◌&&◌, ◌||◌, length, is_some, IfSome, slice_get};
 ghost use Rattle.lane_code.specs.Fits.{is_reg, bank_of, holds_lanes, holds_values, holds_numbers, is_mask, is_own_mask};
 ghost use Rattle.lane_code.specs.Fits.{is_pointer, names_object, names_written, holds_argument, type_of_query};
 ghost use Rattle.lane_code.specs.Fits.{is_of_group, holds_answer, holds_converted, step_fits, all_steps, code_fits};
-ghost use Rattle.lane_code.specs.Program.{work_of, plain_with, names_of, work_fits, roots_are_own, is_parameter};
+ghost use Rattle.lane_code.specs.Program.{work_of, names_of, work_fits, roots_are_own, is_parameter};
 ghost use Rattle.lane_code.specs.Program.{is_group_program};
 ghost use Rattle.lane_code.specs.View.{plain_of};
 ghost use Rattle.lane_code.specs.Parts.{parts_of, nodes_fit, root_is_own};

@@ -1,6 +1,6 @@
 //! The text of a group program.
 
-ghost use Rattle.std.specs.Prelude.{◌≡◌, ◌++◌, ℕ, OnOk, IfOk, codes};
+ghost use Rattle.std.specs.Prelude.{◌≡◌, ◌++◌, OnOk};
 ghost use Rattle.std.specs.List.{flat_map};
 ghost use Rattle.lane_code.specs.Text.{type_name, unary_name, binary_name, function_name, query_name, root_name};
 ghost use Rattle.lane_code.specs.Text.{root_number, label_name, bank_letter, field_text, fields_text, step_text};

@@ -90,8 +90,6 @@ pub fn bind(
         spec.launch_refusal (needs_of_kernel (map function_of program.now.functions.items) program.now.kernel)
         (text_of text.now).buffers (spec.part_at (text_of text.now) which) ≡ Some first }
 {
-    match needs(alloc, program) {
-        Ok(asked) => bind_kernel(alloc, &asked, text, which),
-        Err(Memory) => Err(LaunchError::Memory),
-    }
+    let asked = needs(alloc, program)?;
+    bind_kernel(alloc, &asked, text, which)
 }

@@ -136,8 +136,6 @@ pub fn bind_kernel(
     if let Some(refusal) = launch_refused(needs, buffers, part) {
         return Err(LaunchError::Refused(refusal));
     }
-    match launch_of(alloc, text.turns, buffers, part) {
-        Ok(launch) => Ok(launch),
-        Err(Memory) => Err(LaunchError::Memory),
-    }
+    let launch = launch_of(alloc, text.turns, buffers, part)?;
+    Ok(launch)
 }

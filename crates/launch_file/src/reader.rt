@@ -129,13 +129,12 @@ fn read_table(
     if has_unknown_key(table) {
         return Err(LaunchError::Refused(Refusal::UnknownKey));
     }
-    match values_in(alloc, table) {
-        Ok(Some(values)) => match settle(values, lanes, turns) {
+    match values_in(alloc, table)? {
+        Some(values) => match settle(values, lanes, turns) {
             Ok(text) => Ok(text),
             Err(refusal) => Err(LaunchError::Refused(refusal)),
         },
-        Ok(None) => Err(LaunchError::Refused(Refusal::KeyMissing)),
-        Err(Memory) => Err(LaunchError::Memory),
+        None => Err(LaunchError::Refused(Refusal::KeyMissing)),
     }
 }
 

@@ -10,7 +10,7 @@ ghost use Rattle.launch_file.specs.ValueViews.{values_of};
 
 use crate::parts::Values;
 use crate::refusal::Refusal;
-use crate::text::{BufferText, LaunchError, LaunchText};
+use crate::text::{BufferText, LaunchText};
 use cl_prep::Defines;
 use wg_num::{Width, Word, width_of};
 

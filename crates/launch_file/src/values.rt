@@ -11,21 +11,10 @@ ghost use Rattle.launch_file.specs.Values as spec;
 use crate::keys::{integer_at, optional_string, string_at, value_at};
 use crate::text::{ArgText, BufferText};
 use cl_prep::Define;
+use cl_token::{is_name_byte, is_name_start};
 use std::alloc::Global;
 use toml::{Table, Value};
 use wg_num::{Memory, Word};
-
-fn is_name_start(byte: u8) -> bool
-    ensures { result ≡ class.is_name_start byte }
-{
-    b'a' <= byte && byte <= b'z' || b'A' <= byte && byte <= b'Z' || byte == b'_'
-}
-
-fn is_name_byte(byte: u8) -> bool
-    ensures { result ≡ class.is_name_byte byte }
-{
-    is_name_start(byte) || b'0' <= byte && byte <= b'9'
-}
 
 fn are_name_bytes(bytes: &[u8]) -> bool
     ensures { result ≡ list_all class.is_name_byte bytes.now }

@@ -28,7 +28,6 @@ use Rattle.lowering_laws.proofs.Steps.{IsFree, either_quiet}
 use Rattle.lowering_laws.proofs.Scoped.{free_first, free_second, fewer_ways, fewer_of_arms, all_have, return_type}
 use Rattle.lowering_laws.proofs.Scoped.{argument_count}
 use Rattle.lowering_laws.proofs.Making as making
-use Rattle.lowering_laws.proofs.Making.{call_of}
 use Rattle.lowering_laws.proofs.Absent.{Absent, absent_none, absent_then, absent_set, absent_load, absent_store}
 use Rattle.lowering_laws.proofs.Absent.{absent_clear, absent_barrier, absent_if, next_more, IsOut, out_within}
 use Rattle.lowering_laws.proofs.AbsentSteps.{action_within, opened_exit, three_out, changed_absent, action_absent}

@@ -8,7 +8,7 @@ use Rattle.cl_model.specs.declared.program.Root.{Root}
 use Rattle.cl_model.specs.Tree as tree
 use Rattle.cl_model.specs.Tree.{Action, Expression, Apply, Update, Choose, Call, Expressions, none, more, Statement}
 use Rattle.cl_model.specs.Tree.{Do, Declare, Fill, Block, If, Loop, Switch, Break, Continue, Return, Barrier}
-use Rattle.cl_model.specs.Tree.{Statements, empty, also, Arms, no_arm, arm, Function, Program}
+use Rattle.cl_model.specs.Tree.{Statements, empty, also, Arms, no_arm, arm, Program}
 use Rattle.cl_model.specs.Calls.{function_at}
 use Rattle.kir.specs.declared.line.Atom.{Atom}
 use Rattle.kir.specs.declared.line.Atom.TheVariants.{Cell as CellAtom}

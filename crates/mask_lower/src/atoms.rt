@@ -1,6 +1,6 @@
 //! The atoms that a region names.
 
-ghost use Rattle.std.specs.Prelude.{◌≡◌, ◌++◌, ◌∷◌, [], map, IfOk, OnOk};
+ghost use Rattle.std.specs.Prelude.{◌≡◌, ◌++◌, [], map, IfOk, OnOk};
 ghost use Rattle.kir.specs.Tree.{Lines};
 ghost use Rattle.kir.specs.Listed.{line_before, lines_of, work_of};
 ghost use Rattle.regions.specs.View.{region_of};

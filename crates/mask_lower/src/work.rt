@@ -12,7 +12,7 @@ use crate::registers::{Free, Layout, Operand, amount_type, crosses, put, registe
 use kir::types::{binary_type, is_shift, unary_type};
 use kir::{Atom, Work};
 use lane_code::{Reg, Step};
-use wg_num::{Bin, Fun, IntType, Memory, Un};
+use wg_num::{Bin, Fun, IntType, Memory};
 
 /// Where what is computed in a type goes first, if it is of this kind: to the cell's register, or to
 /// that on the way to the other bank.

@@ -36,7 +36,7 @@ use Rattle.kir.specs.Steps.{shell_of}
 use Rattle.kir.proofs.Shells.{same_locals}
 use Rattle.kir.proofs.Numbers.{same_local_object, same_private_object}
 use Rattle.kir_lower.specs.declared.places.Value.{Value}
-use Rattle.kir_lower.specs.Made.{Made, next_cell, variable_cells, root_in, argument_root, argument_roots, element_at}
+use Rattle.kir_lower.specs.Made.{Made, next_cell, variable_cells, root_in, argument_root, argument_roots}
 use Rattle.kir_lower.specs.Made as low
 use Rattle.kir_lower.specs.Code.{result_code}
 use Rattle.kir_lower.specs.Whole.{names_at, way_behind, instance_at, with_instance, call_code, own_roots, kernel_way}

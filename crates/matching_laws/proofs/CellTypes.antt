@@ -21,6 +21,7 @@ use Rattle.wg_num.specs.Wrap.{IsValue, half, modulus, lowest, highest, wrap_of}
 use Rattle.wg_num.specs.Operators.{number_of, unary_of, binary_of, unary_exact, binary_exact}
 use Rattle.wg_num.proofs.WrapLaws.{IsValue-wrap, IsValue-value}
 use Rattle.wg_num.proofs.BuiltinLaws.{IsValue-builtin}
+use Rattle.wg_num.proofs.TypeLaws.{same_type_is}
 use Rattle.cl_model.specs.declared.launch.Bound.{Bound}
 use Rattle.cl_model.specs.declared.launch.Bound.TheVariants as bound
 use Rattle.cl_model.specs.declared.program.Query.{Query}
@@ -45,7 +46,7 @@ use Rattle.kir.specs.Steps.{shell_of, Item, with_tasks, with_cell, atom_value, w
 use Rattle.kir_moves.specs.Leads.{Leads, past_end, past_set, past_load, past_store, past_clear, past_barrier}
 use Rattle.kir_moves.specs.Leads.{into_chosen, into_other, into_test, into_body, past_loop, to_body}
 use Rattle.kir.specs.Meaning.{GoesOn}
-use Rattle.kir.specs.Fits.{same_type, has_type, is_value, atom_type, type_of_cell, work_fits, work_type, cell_takes}
+use Rattle.kir.specs.Fits.{has_type, is_value, atom_type, type_of_cell, work_fits, work_type, cell_takes}
 use Rattle.kir.specs.Fits.{type_of_parameter}
 use Rattle.kir.specs.Lowering.{HasGlobalSizes}
 use Rattle.kir_moves.proofs.Told.{TasksFit}
@@ -61,18 +62,6 @@ abbrev HoldTypes : Kernel → (ℕ → ℤ) → Type 0
 HoldTypes kernel cells = (c : ℕ) (of : IntType) → type_of kernel c ≡ Some of → IsValue of (cells c)
 
 -- ---- types
-
-same_type_is : (t u : IntType) → same_type t u ≡ true → t ≡ u
-same_type_is types.Bool types.Bool h = refl
-same_type_is types.Char types.Char h = refl
-same_type_is types.Uchar types.Uchar h = refl
-same_type_is types.Short types.Short h = refl
-same_type_is types.Ushort types.Ushort h = refl
-same_type_is types.Int types.Int h = refl
-same_type_is types.Uint types.Uint h = refl
-same_type_is types.Long types.Long h = refl
-same_type_is types.Ulong types.Ulong h = refl
-same_type_is _ _ h = absurd (true≢false (sym h))
 
 has_type_is : (t : IntType) (o : Option IntType) → has_type t o ≡ true → o ≡ Some t
 has_type_is t None h = absurd (true≢false (sym h))

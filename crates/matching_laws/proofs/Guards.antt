@@ -17,7 +17,7 @@ use Rattle.kir.specs.Places.{Behind, IntoChosen, IntoOther, Place, Tasks, LinesA
 use Rattle.kir.specs.Steps.{Item}
 use Rattle.kir_lower.specs.Made.{Made, next_cell, with_cell, int}
 use Rattle.kir_lower.specs.Actions.{set_to, settled, outward, is_none, guarded_before}
-use Rattle.lowering_laws.specs.Marks.{Way, Marks, NoMark, FormThen, marks_then, all_marked, marks_behind, marks_one}
+use Rattle.lowering_laws.specs.Marks.{Way, Marks, NoMark, FormThen, marks_then, all_marked, marks_behind}
 use Rattle.lowering_laws.specs.Marks.{marks_two, marks_at}
 use Rattle.lowering_laws.specs.CodeMarks.{guarded_marks}
 use Rattle.lowering_laws.proofs.Joined.{join_none}

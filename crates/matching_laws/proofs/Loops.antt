@@ -16,7 +16,7 @@ use Rattle.kir.specs.Places.{Behind, IntoTest, Place, Tasks, LinesAt, AnswerAt, 
 use Rattle.kir.specs.Steps.{Item, atom_value, answer_next}
 use Rattle.kir_lower.specs.Made.{Made, next_cell}
 use Rattle.kir_lower.specs.Ways.{way_out}
-use Rattle.kir_lower.specs.Actions.{set_to, opened, settled, outward, guarded_before, is_none, round_code}
+use Rattle.kir_lower.specs.Actions.{opened, outward, round_code}
 use Rattle.kir_lower.specs.Code.{Calls, expression_code, optional_code, statement_code}
 use Rattle.lowering_laws.specs.Marks.{Way, in_turn, Marks, marks_then, all_marked, marks_at}
 use Rattle.lowering_laws.specs.CodeMarks.{CallMarks, optional_marks, round_marks, statement_marks}

@@ -18,9 +18,9 @@ use Rattle.cl_model.specs.Meaning.{machine_of, start_world, is_test, IsWithin, I
 use Rattle.model_examples.specs.Terms.{line, buffer}
 use Rattle.model_examples.specs.Play.{first_ready, same_point, has_ended, Finished, Faulted, Stuck, ended_from}
 use Rattle.model_examples.specs.Play.{ended_of, play, play_from, moves_from}
-use Rattle.model_examples.specs.Barriers.{race, iterations_part}
+use Rattle.model_examples.specs.Barriers.{race}
 use Rattle.model_examples.specs.Outcomes.{FinishedIsDone, FaultedIsRange, parting, IsParting, IsNeverReleased}
-use Rattle.model_examples.specs.Outcomes.{on_four, BothWait, IterationsAreApart, NothingFollowsAFault, RaceIsNotClean}
+use Rattle.model_examples.specs.Outcomes.{BothWait, IterationsAreApart, NothingFollowsAFault, RaceIsNotClean}
 use Rattle.model_examples.proofs.Played.{first_is_ready, played}
 
 ended : (n : Next Item) → has_ended n ≡ true → HasEnded n

@@ -10,7 +10,7 @@ use Rattle.cl_model.specs.Lists.{IsOneOf}
 use Rattle.cl_model.specs.Valid.{CallsEnd}
 use Rattle.kir.specs.Tree.{Variable}
 use Rattle.kir.specs.Inlined as kir
-use Rattle.kir.specs.Inlined.{Text, NoText, DeclaredThen, CutThen as CutText, BlockThen as BlockText, variable_of}
+use Rattle.kir.specs.Inlined.{Text, variable_of}
 use Rattle.kir.specs.Inlined.{function_text, variables_in, crossing_in}
 use Rattle.ctx_plan.specs.Outline.{Outline, NoPiece, DeclaresThen, CutThen, CallsThen, BlockThen, function_outline}
 use Rattle.ctx_plan.specs.Points.{entry}

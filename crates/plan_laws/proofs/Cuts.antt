@@ -10,7 +10,7 @@ use Rattle.cl_model.specs.Calls.{CallSite, calls_in, calls_among, calls_in_optio
 use Rattle.cl_model.specs.Valid.{CallsEnd}
 use Rattle.kir.specs.Inlined as kir
 use Rattle.kir.specs.Inlined.{holds_in, holds_among, holds_in_optional, holds, some_holds, arms_hold, body_holds}
-use Rattle.kir.specs.Inlined.{Inlining, function_text}
+use Rattle.kir.specs.Inlined.{function_text}
 use Rattle.ctx_plan.specs.Outline.{Outline, NoPiece, DeclaresThen, CutThen, CallsThen, BlockThen, cut_then}
 use Rattle.ctx_plan.specs.Outline.{calls_then, outline_then, outlines_then, outlines_of_arms, parameters_then}
 use Rattle.ctx_plan.specs.Outline.{function_outline}

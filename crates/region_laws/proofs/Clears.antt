@@ -1,7 +1,6 @@
 -- The code of a clearing line makes the arrays of its active lanes' items zeros, as the items do.
-use Rattle.std.proofs.Common.{◌≡◌, ◌≢◌, ℕ, zero, suc, ◌+◌, ◌*◌, ◌<◌, ◌≤◌, ℤ, pos, List, [], ◌∷◌, length, map, filter}
-use Rattle.std.proofs.Common.{replicate, Option, Some, None, refl, sym, ap, ap₂, ◌∙◌, subst, ⊎_elim, arith, cond}
-use Rattle.std.proofs.Common.{IsTrue}
+use Rattle.std.proofs.Common.{◌≡◌, ◌≢◌, ℕ, zero, suc, ◌+◌, ◌*◌, ◌<◌, pos, List, [], ◌∷◌, length, map, filter}
+use Rattle.std.proofs.Common.{Option, Some, None, refl, sym, ap, ◌∙◌, subst, arith, cond}
 use Rattle.std.specs.Prelude.{slice_get, slice_index_or, unwrap_or, nat_eq, nat_le, if◌then◌else◌}
 use Rattle.std.specs.Prelude.{Bool as Test, true, false}
 use Rattle.std.proofs.lemmas.Bool.{true≢false, and_parts, eq-eqb, ne_eqb, lt-ltb, le-leb}
@@ -27,7 +26,7 @@ use Rattle.lane_code.specs.declared.code.Counts.{Counts}
 use Rattle.lane_code.specs.Registers.{Registers, mask_of}
 use Rattle.lane_code.specs.Fits.{is_code}
 use Rattle.lane_code.specs.Groups.{Group, window, own_cleared}
-use Rattle.lane_code.specs.Acts.{State, On, act, with_own}
+use Rattle.lane_code.specs.Acts.{State, with_own}
 use Rattle.lane_code.specs.Meaning.{Ended}
 use Rattle.lane_laws.proofs.Reading.{window_read, window_length}
 use Rattle.lane_laws.proofs.Steps.{on_step}

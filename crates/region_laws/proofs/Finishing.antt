@@ -43,7 +43,7 @@ use Rattle.mask_lower.specs.declared.registers.Free.{Free}
 use Rattle.mask_lower.specs.Banks.{mask_reg}
 use Rattle.mask_lower.specs.Atoms.{atoms_voted}
 use Rattle.mask_lower.specs.Layout.{kernel_chunk, HasShape, Mirrors}
-use Rattle.mask_lower.specs.Standing.{type_of, HasLive, HasVoted}
+use Rattle.mask_lower.specs.Standing.{HasLive, HasVoted}
 use Rattle.mask_lower.specs.Following.{ChunkOf, ChunkDone, ReadsVote}
 use Rattle.mask_lower.specs.Registers.{Frame, cell_at, operand}
 use Rattle.mask_lower.specs.Homes.{exit_code}

@@ -6,8 +6,8 @@ use Rattle.std.specs.Prelude.{slice_get, slice_index_or, nat_eq, nat_lt, nat_le,
 use Rattle.std.specs.Prelude.{Bool as Test, true, false}
 use Rattle.std.specs.Simd.Lanes.{number_l}
 use Rattle.std.proofs.lemmas.Int.{ints}
-use Rattle.std.proofs.lemmas.Bool.{cases_Bool, true≢false, and_parts, or_left, or_right, eqb-true, eqb-false, eq-eqb}
-use Rattle.std.proofs.lemmas.Bool.{ne_eqb, lt-ltb, le-ltb, ltb-true, not_from_false}
+use Rattle.std.proofs.lemmas.Bool.{true≢false, and_parts, or_left, or_right, eqb-true, eqb-false, eq-eqb}
+use Rattle.std.proofs.lemmas.Bool.{ne_eqb, lt-ltb, le-ltb, ltb-true}
 use Rattle.std.proofs.lemmas.Option.{same_Some}
 use Rattle.std.proofs.lemmas.Simd.{get_or-zip2, length-zip2}
 use Rattle.work_items.specs.Memory.{bytes_of, first_byte, has_element, is_in_range, loaded as loaded_bytes}
@@ -25,7 +25,7 @@ use Rattle.kir.specs.declared.line.Atom.{Atom}
 use Rattle.kir.specs.Tree.{Lines, NoLine, LoadThen, Kernel}
 use Rattle.kir.specs.Places.{Behind, Place, Tasks, LinesAt}
 use Rattle.kir.specs.Live.{reads, some_reads, live_now}
-use Rattle.kir.specs.Fits.{is_site, can_load, has_type, atom_type, cell_takes, lines_fit}
+use Rattle.kir.specs.Fits.{is_site, can_load, has_type, atom_type, cell_takes}
 use Rattle.kir.specs.Steps.{shell_of, Item, with_cell, atom_value, object_at, access_at, tasks_next}
 use Rattle.kir.specs.Meaning.{machine_of}
 use Rattle.lane_code.specs.declared.step.Step.{Step}
@@ -36,7 +36,7 @@ use Rattle.lane_code.specs.declared.end.RegionEnd.TheVariants as end
 use Rattle.lane_code.specs.Registers.{Registers, bits_in, lanes_of, mask_of, lowest}
 use Rattle.lane_code.specs.Fits.{bank_of, is_below, is_code}
 use Rattle.lane_code.specs.Groups.{Group, window, Reached, Own, reached, own_faults, own_loaded}
-use Rattle.lane_code.specs.Acts.{State, act, loads, writes, load_at, shared_bytes, own_objects, with_registers}
+use Rattle.lane_code.specs.Acts.{State, act, loads, load_at, with_registers}
 use Rattle.lane_code.specs.Meaning.{Ended}
 use Rattle.lane_laws.specs.Reading.{mask_at}
 use Rattle.lane_laws.proofs.Reading.{window_read, window_length, lowest_is, none_lowest}

@@ -1,6 +1,6 @@
 -- The object that a root names to a lane's item, and what the code of a chunk reaches by it.
-use Rattle.std.proofs.Common.{◌≡◌, ℕ, zero, suc, ◌+◌, ◌*◌, ◌/◌, ◌<◌, ◌≤◌, List, [], ◌∷◌, ◌++◌, length, map, filter}
-use Rattle.std.proofs.Common.{take, Option, Some, None, slice_get, refl, sym, ap, ◌∙◌, subst, ⊎_elim, arith, cond}
+use Rattle.std.proofs.Common.{◌≡◌, ℕ, zero, suc, ◌+◌, ◌*◌, ◌<◌, List, [], ◌∷◌, length, filter}
+use Rattle.std.proofs.Common.{take, Option, Some, None, slice_get, refl, sym, ap, ◌∙◌, subst, arith, cond}
 use Rattle.std.proofs.Common.{length-append, suc-mul, append-nil}
 use Rattle.std.specs.Prelude.{nat_eq, if◌then◌else◌}
 use Rattle.std.specs.Prelude.{Bool as Test, true, false}
@@ -10,6 +10,7 @@ use Rattle.std.proofs.lemmas.Option.{none-some, same_Some, slice_get_within}
 use Rattle.std.proofs.Math.Seq.{take-length}
 use native.Mathlib.Nat.{div-eq_of_lt-le}
 use Rattle.wg_num.specs.declared.types.IntType.{IntType}
+use Rattle.wg_num.specs.Types.{same_type}
 use Rattle.cl_model.specs.declared.program.Root.{Root}
 use Rattle.cl_model.specs.declared.program.Root.TheVariants as root
 use Rattle.cl_model.specs.declared.program.Space.{Space}
@@ -25,7 +26,7 @@ use Rattle.cl_model.specs.Objects.{private_arrays, place_among, local_arguments,
 use Rattle.cl_model.specs.Objects.{first_table, first_local, first_private}
 use Rattle.cl_model.specs.Fitting.{ArgumentFits, ArgumentsFit, FitsProgram}
 use Rattle.kir.specs.Tree.{Kernel}
-use Rattle.kir.specs.Fits.{points_to, table_has, array_has, can_load, can_store, points_to_written, same_type}
+use Rattle.kir.specs.Fits.{points_to, table_has, array_has, can_load, can_store, points_to_written}
 use Rattle.kir.specs.Fits.{is_written}
 use Rattle.kir.specs.Steps.{shell_of, Item, object_at}
 use Rattle.lane_code.specs.Groups.{Reached, Buffer, Table as TableAt, LocalObject, Own, reached, reached_by}

@@ -11,7 +11,7 @@ use Rattle.kir.specs.Tree.{Lines, NoLine, SetThen, LoadThen, StoreThen, ClearThe
 use Rattle.kir.specs.Tree.{Kernel}
 use Rattle.kir.specs.Places.{Tasks}
 use Rattle.kir.specs.Live.{reads, some_reads}
-use Rattle.kir.specs.Fits.{lines_fit, has_some_type, atom_type, work_fits, work_type, cell_takes}
+use Rattle.kir.specs.Fits.{lines_fit, atom_type, cell_takes}
 use Rattle.kir.specs.Steps.{Item}
 use Rattle.lane_code.specs.declared.step.Step.{Step}
 use Rattle.lane_code.specs.declared.code.Counts.{Counts}

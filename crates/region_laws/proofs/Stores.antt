@@ -4,11 +4,10 @@ use Rattle.std.proofs.Common.{◌≡◌, ℕ, suc, ◌+◌, ◌*◌, ◌<◌, �
 use Rattle.std.proofs.Common.{◌∙◌, subst, arith, cond, ◌≢◌}
 use Rattle.std.specs.Prelude.{slice_get, slice_index_or, ◌&&◌, ◌||◌, not}
 use Rattle.std.specs.Prelude.{Bool as Test, true, false}
-use Rattle.std.specs.Simd.Lanes.{zip2, chunk as element_at, number_l}
-use Rattle.std.proofs.lemmas.Bool.{cases_Bool, true≢false, and_parts, or_left, or_right, eqb-true, eqb-false, eq-eqb}
-use Rattle.std.proofs.lemmas.Bool.{ne_eqb, lt-ltb, le-ltb, ltb-true, not_from_false, cases_eq, cases_lt}
+use Rattle.std.proofs.lemmas.Bool.{true≢false, and_parts, or_left, or_right}
+use Rattle.std.proofs.lemmas.Bool.{lt-ltb}
 use Rattle.std.proofs.lemmas.Simd.{get_or-zip2, length-zip2}
-use Rattle.work_items.specs.Memory.{bytes_of, first_byte, has_element, is_in_range, loaded as loaded_bytes, Memory}
+use Rattle.work_items.specs.Memory.{bytes_of, first_byte, has_element, is_in_range, Memory}
 use Rattle.work_items.specs.Memory.{overwritten}
 use Rattle.work_items.specs.Items.{fault_of, Stores}
 use Rattle.wg_num.specs.declared.types.IntType.{IntType}
@@ -17,7 +16,7 @@ use Rattle.wg_num.specs.Bytes.{size_of, bytes_of as bytes_of_value}
 use Rattle.lane_values.specs.Lanes.{lane as lane_bits}
 use Rattle.lane_values.specs.Access.{is_within, is_fault, faults, put_element, scattered}
 use Rattle.cl_model.specs.declared.program.Root.{Root}
-use Rattle.cl_model.specs.Objects.{local_arrays, first_private, local_sizes, private_sizes, first_local}
+use Rattle.cl_model.specs.Objects.{local_arrays, first_private, private_sizes, first_local}
 use Rattle.cl_model.specs.Sizes.{Launch, group_size}
 use Rattle.kir.specs.declared.line.Atom.{Atom}
 use Rattle.kir.specs.Tree.{Lines, NoLine, Kernel, StoreThen}
@@ -34,8 +33,8 @@ use Rattle.lane_code.specs.declared.end.RegionEnd.TheVariants as end
 use Rattle.lane_code.specs.Registers.{Registers, lanes_of, mask_of, lowest}
 use Rattle.lane_code.specs.Fits.{is_below, is_code}
 use Rattle.lane_code.specs.Groups.{Group, window, Reached, Own, reached, own_faults, own_stored}
-use Rattle.lane_code.specs.Acts.{State, act, loads, writes, load_at, shared_bytes, own_objects, with_registers, On}
-use Rattle.lane_code.specs.Acts.{stores, store_at, with_shared, with_own, objects_stored}
+use Rattle.lane_code.specs.Acts.{State, act}
+use Rattle.lane_code.specs.Acts.{stores, store_at}
 use Rattle.lane_code.specs.Meaning.{Ended}
 use Rattle.lane_laws.specs.Reading.{mask_at}
 use Rattle.lane_laws.proofs.Reading.{window_read, window_length, lowest_is, none_lowest}

@@ -1,5 +1,5 @@
 -- Lines can be run through.
-use Rattle.std.proofs.Common.{◌≡◌, ℕ, suc, ◌∷◌, refl, ap, subst}
+use Rattle.std.proofs.Common.{◌≡◌, ◌∷◌, refl, ap, subst}
 use Rattle.std.specs.Prelude.{true, false}
 use Rattle.std.proofs.lemmas.Bool.{true≢false}
 use Rattle.kir.specs.Tree.{Lines, NoLine, SetThen, LoadThen, StoreThen, ClearThen, IfThen, LoopThen, BarrierThen}

@@ -6,7 +6,7 @@ ghost use Rattle.std.specs.Prelude.{Bool as Test};
 ghost use Rattle.kir.specs.Tree.{Lines, NoLine};
 ghost use Rattle.kir.specs.Places.{Behind, Place, Tasks, LinesAt};
 ghost use Rattle.kir.specs.Listed.{line_before, lines_of};
-ghost use Rattle.kir.specs.Live.{reads, live_in, live_now};
+ghost use Rattle.kir.specs.Live.{live_in, live_now};
 ghost use Rattle.kir.specs.Cuts.{holds_barrier};
 ghost use Rattle.kir.specs.View.{kernel_of};
 ghost use Rattle.regions.specs.Tree.{Tree, NoRegion, LoopThen};

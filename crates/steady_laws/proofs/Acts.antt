@@ -18,7 +18,7 @@ use Rattle.cl_model.specs.Lists.{IsOneOf}
 use Rattle.cl_model.specs.Calls.{function_at}
 use Rattle.cl_model.specs.Steps.{nth}
 use Rattle.cl_model.specs.Valid.{ActionFits, unary_type, binary_type, query_type}
-use Rattle.cl_model.specs.Varying.{expressions_of_list, IsAmong, IsNth, is_own, is_store, AVariable, AnExpression}
+use Rattle.cl_model.specs.Varying.{expressions_of_list, IsAmong, IsNth, is_own, is_store, AnExpression}
 use Rattle.cl_model.specs.Varying.{Varies, own_id, loaded, named, operand, stored, assigned}
 use Rattle.cl_model.specs.Varying as varying
 use Rattle.kir.specs.declared.line.Atom.{Atom}

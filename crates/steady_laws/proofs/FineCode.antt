@@ -6,9 +6,8 @@ use Rattle.std.proofs.lemmas.Bool.{or_left, or_right}
 use Rattle.wg_num.specs.declared.types.IntType.{IntType}
 use Rattle.cl_model.specs.declared.program.Root.{Root}
 use Rattle.cl_model.specs.Tree as tree
-use Rattle.cl_model.specs.Tree.{Action, Expression, Apply, Update, Choose, Call, Expressions, none, more, Statement}
-use Rattle.cl_model.specs.Tree.{Do, Declare, Fill, Block, If, Loop, Switch, Break, Continue, Return, Barrier}
-use Rattle.cl_model.specs.Tree.{Statements, empty, also, Arms, no_arm, arm, Program, Function}
+use Rattle.cl_model.specs.Tree.{Action, Expression, Apply, Update, Choose, Call, Expressions, none, more}
+use Rattle.cl_model.specs.Tree.{Program, Function}
 use Rattle.cl_model.specs.Lists.{IsOneOf}
 use Rattle.cl_model.specs.Calls.{function_at}
 use Rattle.cl_model.specs.Valid.{Scope, Has, ActionNames, HasType, HaveTypes, NamesIn, NamesAmong, parameter_kinds}

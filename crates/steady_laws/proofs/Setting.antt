@@ -10,7 +10,7 @@ use Rattle.cl_model.specs.Tree.{Call, Expressions, Program}
 use Rattle.cl_model.specs.Lists.{IsOneOf}
 use Rattle.cl_model.specs.Calls.{function_at}
 use Rattle.cl_model.specs.Valid.{Scope, Has, CanLoad, ArgumentsFit, parameter_kinds}
-use Rattle.cl_model.specs.Varying.{expressions_of_list, AVariable, AResult, AnExpression, Varies}
+use Rattle.cl_model.specs.Varying.{expressions_of_list, AVariable, AResult, Varies}
 use Rattle.cl_model.specs.Varying as varying
 use Rattle.kir.specs.Tree.{Lines, Kernel}
 use Rattle.kir.specs.Live.{live_in}

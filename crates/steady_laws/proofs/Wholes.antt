@@ -14,7 +14,7 @@ use Rattle.cl_model.specs.Tree.{Program, Function}
 use Rattle.cl_model.specs.Calls.{function_at, kernel_of}
 use Rattle.cl_model.specs.Objects.{is_constant_pointer}
 use Rattle.cl_model.specs.Valid.{IsValid, CallsEnd, CanLoad, RootIs, ArgumentsFit, parameter_kinds}
-use Rattle.cl_model.specs.Varying.{expressions_of_list, AVariable, AResult, Varies}
+use Rattle.cl_model.specs.Varying.{AVariable, AResult, Varies}
 use Rattle.cl_model.specs.Varying as varying
 use Rattle.kir.specs.Tree.{OfValue, Kernel, Variable, Cell}
 use Rattle.kir.specs.Live.{live_in}

@@ -15,7 +15,7 @@ use Rattle.cl_model.specs.Varying.{named, operand, stored, updated, tested, chos
 use Rattle.cl_model.specs.Varying.{returning, return_under, return_beside, assigned, assigned_under, exit_under}
 use Rattle.diverge.specs.declared.known.Entry.{Entry}
 use Rattle.diverge.specs.Known as known
-use Rattle.diverge.specs.Known.{Row, State, absent, leave_result}
+use Rattle.diverge.specs.Known.{State, absent, leave_result}
 use Rattle.diverge.specs.Rounds.{Gone, gone_over_all, parameters_left, over_function, over_functions}
 use Rattle.cl_agreement.proofs.Keeps.{or_left, or_right, Key, Answer, Cell, HasKey, some_give}
 use Rattle.cl_agreement.proofs.Values.{cond_gives}

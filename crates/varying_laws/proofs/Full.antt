@@ -14,7 +14,7 @@ use Rattle.cl_model.specs.Varying.{is_own, is_constant_root, is_store}
 use Rattle.diverge.specs.declared.known.Entry.{Entry}
 use Rattle.diverge.specs.declared.known.Spot.{Spot}
 use Rattle.diverge.specs.Known as known
-use Rattle.diverge.specs.Known.{State, variable_at, result_at, with_variable, same_guard, assign, pass}
+use Rattle.diverge.specs.Known.{State, variable_at, with_variable, same_guard, assign, pass}
 use Rattle.diverge.specs.Rounds.{Seen, varies_itself, settled, seen_in, seen_among, seen_arguments}
 use Rattle.cl_agreement.proofs.Keeps.{or_left, or_right, Key, Answer, Cell, HasKey, sets_key, gives_in, gives_among}
 use Rattle.cl_agreement.proofs.Parts.{in_left, in_right, Good, GoodAll, good_apply, good_more, good_update}

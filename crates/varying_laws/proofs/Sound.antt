@@ -20,8 +20,8 @@ use Rattle.diverge.specs.declared.known.Entry.{Entry}
 use Rattle.diverge.specs.declared.known.Spot.{Spot}
 use Rattle.diverge.specs.declared.known.Ways.{Ways}
 use Rattle.diverge.specs.Known as known
-use Rattle.diverge.specs.Known.{State, absent, variable_at, result_at, with_variable, same_guard, assign, declare}
-use Rattle.diverge.specs.Known.{pass, give, leave, under, behind}
+use Rattle.diverge.specs.Known.{State, absent, variable_at, with_variable, same_guard, assign}
+use Rattle.diverge.specs.Known.{pass, behind}
 use Rattle.diverge.specs.Rounds.{Seen, varies_itself, settled, seen_in, seen_among, seen_arguments, seen_optional}
 use Rattle.diverge.specs.Rounds.{gone_over}
 use Rattle.cl_agreement.proofs.Keeps.{neither, Key, Answer, Cell, HasKey, sets_key, gives_in, gives_among}

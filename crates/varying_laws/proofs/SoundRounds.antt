@@ -15,7 +15,7 @@ use Rattle.cl_model.specs.Varying.{Varies, operand, returning, assigned}
 use Rattle.diverge.specs.declared.known.Entry.{Entry}
 use Rattle.diverge.specs.declared.known.Ways.{Ways}
 use Rattle.diverge.specs.Known as known
-use Rattle.diverge.specs.Known.{State, variable_at, result_at, with_variable, with_result, leave, leave_result}
+use Rattle.diverge.specs.Known.{State, variable_at, result_at, leave, leave_result}
 use Rattle.diverge.specs.Known.{behind, joined}
 use Rattle.diverge.specs.Rounds.{Seen, seen_in, seen_optional, unseen, closed, Gone, gone_over, gone_over_all}
 use Rattle.diverge.specs.Rounds.{gone_over_arms, parameters_left, over_function, over_functions, round, rounds, start}

@@ -8,7 +8,7 @@ use Rattle.cl_model.specs.Lists.{IsOneOf, AllDiffer}
 use Rattle.cl_model.specs.Valid.{Scope, Has}
 use Rattle.diverge.specs.declared.known.Entry.{Entry}
 use Rattle.diverge.specs.Known as known
-use Rattle.diverge.specs.Known.{State, absent, variable_at, result_at, with_variable, with_result, same_guard, grows}
+use Rattle.diverge.specs.Known.{State, absent, variable_at, result_at, with_variable, same_guard, grows}
 use Rattle.cl_agreement.proofs.Keeps.{neither, not_true, Key, Answer, Cell, HasKey}
 use Rattle.cl_agreement.proofs.Parts.{in_left, in_right}
 use Rattle.varying_laws.proofs.Slots.{slot, entry, with_key, entry_is, changed, changed_slot}

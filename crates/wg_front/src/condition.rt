@@ -62,57 +62,57 @@ impl Condition {
         }
     }
 
-    /// What is printed of the condition: `E`, its number, a blank and what it says, in ASCII.
+    /// The text that is printed behind the number, in ASCII.
     pub fn text(self) -> &'static [u8]
         ensures { result.now ≡ text_of self }
     {
         match self {
-            Condition::NoToken => b"E101 no token",
-            Condition::OpenComment => b"E102 unfinished comment",
-            Condition::BadNumber => b"E103 malformed number",
-            Condition::LargeNumber => b"E104 number too large",
-            Condition::TooLong => b"E105 source too long",
-            Condition::BadDirective => b"E201 directive not in the profile",
-            Condition::NoName => b"E202 name missing",
-            Condition::Redefined => b"E203 defined twice",
-            Condition::NoOpening => b"E204 no opening",
-            Condition::NotClosed => b"E205 conditional not closed",
-            Condition::TooMany => b"E206 too many tokens",
-            Condition::Syntax => b"E301 syntax",
-            Condition::Nesting => b"E302 nested too deep",
+            Condition::NoToken => b"no token",
+            Condition::OpenComment => b"unfinished comment",
+            Condition::BadNumber => b"malformed number",
+            Condition::LargeNumber => b"number too large",
+            Condition::TooLong => b"source too long",
+            Condition::BadDirective => b"directive not in the profile",
+            Condition::NoName => b"name missing",
+            Condition::Redefined => b"defined twice",
+            Condition::NoOpening => b"no opening",
+            Condition::NotClosed => b"conditional not closed",
+            Condition::TooMany => b"too many tokens",
+            Condition::Syntax => b"syntax",
+            Condition::Nesting => b"nested too deep",
             Condition::Unit(fault) => unit_text(fault),
         }
     }
 }
 
-// What is printed of a fault of a node.
+// The text of a fault of a node.
 fn unit_text(fault: Fault) -> &'static [u8]
     ensures { result.now ≡ text_of_unit fault }
 {
     match fault {
-        Fault::UnknownName => b"E401 unknown name",
-        Fault::DeclaredTwice => b"E402 declared twice",
-        Fault::OperandTypes => b"E403 operand types do not fit",
-        Fault::ArgumentCount => b"E404 argument count",
-        Fault::ArgumentType => b"E405 argument type",
-        Fault::NotAssignable => b"E406 not assignable",
-        Fault::ConstantWritten => b"E407 constant memory written",
-        Fault::OutsideType => b"E408 type outside the profile",
-        Fault::LocalMisplaced => b"E409 local variable misplaced",
-        Fault::ProgramVariable => b"E410 program variable",
-        Fault::KernelSignature => b"E411 kernel signature",
-        Fault::Recursion => b"E412 recursion",
-        Fault::PointerRoot => b"E413 pointer root changes",
-        Fault::ArrayLength => b"E414 array length",
-        Fault::Misplaced => b"E415 misplaced statement",
-        Fault::CaseValue => b"E416 case value",
-        Fault::ReturnFit => b"E417 return does not fit",
-        Fault::BarrierFlags => b"E418 barrier flags",
-        Fault::KernelTooLarge => b"E419 kernel too large",
-        Fault::PrivateMemory => b"E420 private memory",
-        Fault::BarriersTooDeep => b"E421 barriers too deep",
-        Fault::NoSuchKernel => b"E422 no such kernel",
-        Fault::LocalMemory => b"E423 local memory",
-        Fault::PrototypeMatch => b"E424 prototype does not match",
+        Fault::UnknownName => b"unknown name",
+        Fault::DeclaredTwice => b"declared twice",
+        Fault::OperandTypes => b"operand types do not fit",
+        Fault::ArgumentCount => b"argument count",
+        Fault::ArgumentType => b"argument type",
+        Fault::NotAssignable => b"not assignable",
+        Fault::ConstantWritten => b"constant memory written",
+        Fault::OutsideType => b"type outside the profile",
+        Fault::LocalMisplaced => b"local variable misplaced",
+        Fault::ProgramVariable => b"program variable",
+        Fault::KernelSignature => b"kernel signature",
+        Fault::Recursion => b"recursion",
+        Fault::PointerRoot => b"pointer root changes",
+        Fault::ArrayLength => b"array length",
+        Fault::Misplaced => b"misplaced statement",
+        Fault::CaseValue => b"case value",
+        Fault::ReturnFit => b"return does not fit",
+        Fault::BarrierFlags => b"barrier flags",
+        Fault::KernelTooLarge => b"kernel too large",
+        Fault::PrivateMemory => b"private memory",
+        Fault::BarriersTooDeep => b"barriers too deep",
+        Fault::NoSuchKernel => b"no such kernel",
+        Fault::LocalMemory => b"local memory",
+        Fault::PrototypeMatch => b"prototype does not match",
     }
 }

@@ -1,5 +1,9 @@
 //! The types of values, and the names of operators and functions.
 
+ghost use Rattle.std.specs.Prelude.{◌≡◌};
+ghost use Rattle.std.specs.Bool.{OnTrue};
+ghost use Rattle.wg_num.specs.Types as spec;
+
 use thiserror::Error;
 
 /// An integer type of the language (OpenCL 1.2, section 6.1.1); `size_t` is `Ulong`.
@@ -14,6 +18,26 @@ pub enum IntType {
     Uint,
     Long,
     Ulong,
+}
+
+/// Whether two types are one.
+#[tactic(auto, using(crate::proofs::TypeLaws::same_type_is))]
+pub fn same_type(a: IntType, b: IntType) -> bool
+    ensures same { result ≡ spec.same_type a b }
+    ensures one { OnTrue result (a ≡ b) }
+{
+    match (a, b) {
+        (IntType::Bool, IntType::Bool) => true,
+        (IntType::Char, IntType::Char) => true,
+        (IntType::Uchar, IntType::Uchar) => true,
+        (IntType::Short, IntType::Short) => true,
+        (IntType::Ushort, IntType::Ushort) => true,
+        (IntType::Int, IntType::Int) => true,
+        (IntType::Uint, IntType::Uint) => true,
+        (IntType::Long, IntType::Long) => true,
+        (IntType::Ulong, IntType::Ulong) => true,
+        _ => false,
+    }
 }
 
 /// The unary operators `+`, `-`, `~` and `!` (C99, section 6.5.3.3).

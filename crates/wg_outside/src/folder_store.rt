@@ -1,5 +1,5 @@
 // A store over the files of the current folder.
-ghost use Rattle.std.specs.Prelude.{◌≡◌, ◌≤◌, ◌<◌, None, IfOk, vec_len, length};
+ghost use Rattle.std.specs.Prelude.{◌≡◌, ◌≤◌, ◌<◌, None, IfOk, vec_len};
 ghost use Rattle.wg_outside.specs.FolderStore.{new_counts};
 
 use crate::whole::write_whole;

@@ -1,6 +1,6 @@
 // A sink in memory.
-ghost use Rattle.std.specs.Prelude.{◌≡◌, ◌↔◌, ◌≤◌, ◌+◌, ◌++◌, Some, IfOk, OnOk, OnErr, true};
-ghost use Rattle.std.specs.Prelude.{false, vec_capacity, vec_len, length, Contains};
+ghost use Rattle.std.specs.Prelude.{◌≡◌, ◌≤◌, ◌+◌, ◌++◌, Some, IfOk, OnOk, OnErr};
+ghost use Rattle.std.specs.Prelude.{vec_capacity, vec_len, length, Contains};
 ghost use Rattle.std.specs.Io.KnownBytes.{Appends};
 ghost use Rattle.wg_outside.specs.Bytes.{AppendsPrefix};
 ghost use Rattle.wg_outside.specs.Counts.{Rose, next_count};

@@ -1,6 +1,6 @@
 // Files in one pool of bytes.
 ghost use Rattle.std.specs.Prelude.{◌≡◌, ◌≤◌, ◌<◌, ◌+◌, ◌++◌, ◌∷◌, [], IfOk, IfSome};
-ghost use Rattle.std.specs.Prelude.{vec_capacity, vec_len, length, option_map, true, false, OnOk, OnErr};
+ghost use Rattle.std.specs.Prelude.{vec_capacity, vec_len, length, option_map, OnOk, OnErr};
 ghost use Rattle.wg_outside.specs.Files.{file_in};
 ghost use Rattle.wg_outside.specs.Spans.{span_end, file_at, files_at, IsInPool};
 

@@ -12,14 +12,14 @@ use Rattle.wg_top.specs.declared.RunError.TheVariants.{Failed, Absent, Source, L
 use Rattle.wg_top.specs.declared.Summary.{Summary}
 use Rattle.cl_meaning.specs.Typed.{Unit'}
 use Rattle.wg_front.specs.Front.{HasUnit}
-use Rattle.wg_top.specs.Causes.{Standing, Stands, SourceLoaded, RunRead, StopsIn, RunStops, Cause}
+use Rattle.wg_top.specs.Causes.{Standing, HasNoFewer, SourceLoaded, RunRead, StopsIn, RunStops, Cause}
 use Rattle.wg_top.specs.Causes.{ReadingCause, LeavesFiles, SaveStopped, IsRun, IsDone}
 use Rattle.wg_top.specs.Units.{AreCompiled}
 use Rattle.wg_top.specs.Stages.{TextRead, LaunchCause, ProgramCause, BackCause, LeavesOthers}
 
 -- counts that stand over two calls
 pub stands_over : (old new : Standing) (faults misses : ℕ) → old.faults ≤ faults → old.misses ≤ misses →
-    faults ≤ new.faults → misses ≤ new.misses → Stands old new
+    faults ≤ new.faults → misses ≤ new.misses → HasNoFewer old new
 stands_over old new faults misses a b c d = record { faults = omega arith; misses = omega arith }
 
 -- a launch file that was read after a load that leaves the files
@@ -49,7 +49,7 @@ rose_over a b c ab bc rose small =
 
 -- a refusal while the launch file is read
 pub launch_cause : (old mid new : Standing) (ask : Files) (bytes : List ℕ) (e : RunError) →
-    SourceLoaded old.files ask.source bytes → mid.files ≡ old.files → Stands old mid → Stands mid new →
+    SourceLoaded old.files ask.source bytes → mid.files ≡ old.files → HasNoFewer old mid → HasNoFewer mid new →
     LaunchCause mid new ask.launch ask.lanes ask.turns e → ReadingCause old new ask e
 launch_cause old mid new ask bytes Failed loaded same before after c =
     rose_over old.faults mid.faults new.faults before.faults after.faults c
@@ -102,7 +102,7 @@ reading_cause old new ask _ c = absurd c
 
 -- a refusal once all is read
 pub back_cause : (old mid new : Standing) (ask : Files) (text : Text) (s : List Unit') (e : RunError) →
-    RunRead old.files ask text s → mid.files ≡ old.files → Stands old mid → Stands mid new →
+    RunRead old.files ask text s → mid.files ≡ old.files → HasNoFewer old mid → HasNoFewer mid new →
     BackCause mid new text s e → Cause old new ask e
 back_cause old mid new ask text s Failed read same before after c =
     rose_over old.faults mid.faults new.faults before.faults after.faults c

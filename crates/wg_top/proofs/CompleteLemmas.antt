@@ -22,7 +22,7 @@ use Rattle.wg_top.specs.Middle.{programs_in}
 use Rattle.wg_top.specs.Units.{AreCompiled, bind_refusal}
 use Rattle.wg_top.specs.Launches.{launches_in, LaunchesRan, EndsSo}
 use Rattle.wg_top.specs.Stages.{BackCause}
-use Rattle.wg_top.specs.Causes.{Standing, Stands, ReadingFinds, Cause, BuffersLoaded, RunRead, RunStopped, RunStops}
+use Rattle.wg_top.specs.Causes.{Standing, HasNoFewer, ReadingFinds, Cause, BuffersLoaded, RunRead, RunStopped, RunStops}
 use Rattle.wg_top.specs.Causes.{IsRun, IsDone, IsReadable, IsTaken, Accepted, AcceptedClean, AcceptedRun, LeavesClean}
 use Rattle.wg_top.specs.Causes.{HasLoops, LacksText, LacksName, IsSourceFault}
 use Rattle.wg_top.specs.Outcomes.{AreMade, models_in, AreDone, IsOutcomeOf}
@@ -286,8 +286,8 @@ run_clean old mid new ask read_text units (Ok summary) read same run =
 run_clean old mid new ask read_text units (Err e) read same run = tt
 
 pub run_memory : (old mid new : Standing) (ask : Files) (read_text : Text) (units : List Unit')
-    (r : Result Summary RunError) → RunRead old.files ask read_text units → mid.files ≡ old.files → Stands old mid →
-    Stands mid new → IfErr r (BackCause mid new read_text units)
+    (r : Result Summary RunError) → RunRead old.files ask read_text units → mid.files ≡ old.files → HasNoFewer old mid →
+    HasNoFewer mid new → IfErr r (BackCause mid new read_text units)
     → IfErr r (λ e. (text : Text) (s : List Unit') → AcceptedClean old.files ask text s →
     (Rose old.faults new.faults → ⊥) → e ≡ Memory)
 run_memory old mid new ask read_text units (Ok summary) read same before after cause = tt

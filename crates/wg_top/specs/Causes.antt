@@ -33,7 +33,7 @@ abbrev pub standing : {S : Type 0} → (S → Option FileMap) → (S → ℕ) �
 standing files faults misses store = record { files = files store; faults = faults store; misses = misses store }
 
 -- the counts did not fall
-pub record Stands (old new : Standing) : Type 0 where
+pub record HasNoFewer (old new : Standing) : Type 0 where
   pub faults : old.faults ≤ new.faults
   pub misses : old.misses ≤ new.misses
 

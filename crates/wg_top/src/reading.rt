@@ -2,7 +2,7 @@
 ghost use Rattle.std.specs.Prelude.{◌≡◌, IfOk, IfErr, map};
 ghost use Rattle.cl_piece.specs.View.{unit_of};
 ghost use Rattle.launch_file.specs.Texts.{text_of};
-ghost use Rattle.wg_top.specs.Causes.{standing, Stands, ReadingCause, RunRead};
+ghost use Rattle.wg_top.specs.Causes.{standing, HasNoFewer, ReadingCause, RunRead};
 ghost use Rattle.wg_top.specs.Stages.{TextRead, LaunchCause};
 ghost use Rattle.wg_top.specs.Given.{IsText, IsGiven};
 ghost use Rattle.wg_top.specs.Ends.{asked};
@@ -46,7 +46,7 @@ fn load_launch<S: Store>(
     ensures err { IfErr result (LaunchCause (standing S.files S.faults S.misses store.old)
         (standing S.files S.faults S.misses store.new) launch.now options.lanes options.turns) }
     ensures files_stay { S.files store.new ≡ S.files store.old }
-    ensures stands { Stands (standing S.files S.faults S.misses store.old)
+    ensures stands { HasNoFewer (standing S.files S.faults S.misses store.old)
         (standing S.files S.faults S.misses store.new) }
 {
     match store.load(alloc, launch, LAUNCH_MOST) {
@@ -76,7 +76,7 @@ pub(crate) fn read_all<S: Store>(
     ensures err { IfErr result (ReadingCause (standing S.files S.faults S.misses store.old)
         (standing S.files S.faults S.misses store.new) (asked source.now launch.now options.lanes options.turns)) }
     ensures files_stay { S.files store.new ≡ S.files store.old }
-    ensures stands { Stands (standing S.files S.faults S.misses store.old)
+    ensures stands { HasNoFewer (standing S.files S.faults S.misses store.old)
         (standing S.files S.faults S.misses store.new) }
 {
     let bytes = match store.load(alloc, source, SOURCE_MOST) {

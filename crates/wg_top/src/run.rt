@@ -8,7 +8,7 @@ ghost use Rattle.cl_meaning.specs.Typed.{Unit'};
 ghost use Rattle.launch_file.specs.Texts.{Text, text_of};
 ghost use Rattle.wg_outside.specs.Counts.{Rose};
 ghost use Rattle.wg_top.specs.declared.RunError.TheVariants as refusals;
-ghost use Rattle.wg_top.specs.Causes.{standing, Stands, Cause, LeavesFiles, IsRun, IsDone, AcceptedClean};
+ghost use Rattle.wg_top.specs.Causes.{standing, HasNoFewer, Cause, LeavesFiles, IsRun, IsDone, AcceptedClean};
 ghost use Rattle.wg_top.specs.Causes.{LeavesClean};
 ghost use Rattle.wg_top.specs.Stages.{BackCause, LeavesOthers};
 ghost use Rattle.wg_top.specs.Described.{IsCompiledAt};
@@ -53,7 +53,7 @@ fn run_bound<S: Store>(
     ensures left { IfErr result (LeavesOthers (standing S.files S.faults S.misses store.old)
         (standing S.files S.faults S.misses store.new) (text_of text.now)
         (map (λ c. unit_of c.program) kernels.now)) }
-    ensures stands { Stands (standing S.files S.faults S.misses store.old)
+    ensures stands { HasNoFewer (standing S.files S.faults S.misses store.old)
         (standing S.files S.faults S.misses store.new) }
 {
     let summary = count_all(&launches);
@@ -88,7 +88,7 @@ fn run_given<S: Store>(alloc: Global, store: &mut S, given: Given) -> Result<Sum
     ensures left { IfErr result (LeavesOthers (standing S.files S.faults S.misses store.old)
         (standing S.files S.faults S.misses store.new) (text_of given.text)
         (map (λ c. unit_of c.program) given.kernels.items)) }
-    ensures stands { Stands (standing S.files S.faults S.misses store.old)
+    ensures stands { HasNoFewer (standing S.files S.faults S.misses store.old)
         (standing S.files S.faults S.misses store.new) }
 {
     let Given { text, kernels } = given;
@@ -119,7 +119,7 @@ pub fn run_source<S: Store>(
         (standing S.files S.faults S.misses store.new) (asked source.now launch.now lanes turns)) }
     ensures left { IfErr result (LeavesFiles (standing S.files S.faults S.misses store.old)
         (standing S.files S.faults S.misses store.new) (asked source.now launch.now lanes turns)) }
-    ensures stands { Stands (standing S.files S.faults S.misses store.old)
+    ensures stands { HasNoFewer (standing S.files S.faults S.misses store.old)
         (standing S.files S.faults S.misses store.new) }
     ensures clean { IfOk result (λ _. (text : Text) (units : List Unit') →
         AcceptedClean (S.files store.old) (asked source.now launch.now lanes turns) text units →

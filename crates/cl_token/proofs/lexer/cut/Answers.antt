@@ -80,7 +80,7 @@ loop-at-preserved c =
           s.size;
       cut = token_step c.args.source.now c.loop-at.at c.in-Ok-Cut.length c.loop-at.first c.loop-at.tokens.items _
           c.in_ok-token-in-Ok-Cut.token c.in-Ok-Cut.kind c.loop-at.invariant.cut s c.in_ok-token-in-Ok-Cut.ensures
-          c.in_ok-push-in-Ok-Cut.ensures.ok;
+          c.in_ok-push-in-Ok-Cut.ensures;
     }
 
 pub returns-in-Err : goal.returns-in-Err
