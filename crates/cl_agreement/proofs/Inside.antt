@@ -365,16 +365,19 @@ module _ (program : Program) (launch : Launch) (buffers : List (List ℕ)) (numb
                           elim (is_zero v) as (λ z. is_zero v ≡ z →
                           H m3 (it (cond z (Evaluate (at ++ Other ∷ []) b) (Evaluate (at ++ Chosen ∷ []) a) ∷ rest)
                           values mid) to → Valued (Choose site t a b) at n rest values s to) [
-                            | true ↦ λ z h3. elim (evaluate_runs b scope o.3 (at ++ Other ∷ []) m3 rest values mid to h3) [
-                              | inl w ↦ inl (deeper at Other (ComesIn (who program launch buffers number d frame) b mid)
-                                  (ComesIn (who program launch buffers number d frame) (Choose site t a b) s) to
-                                  (λ p tops c. (v, mid, e, c)) w)
-                              | inr (x, end, y, (m4, lt4, h4)) ↦
-                                  inr (x, end, (v, mid, e, inr (z, y)), (m4, omega arith, h4))
-                            ]
+                            | true ↦ λ z h3.
+                                elim (evaluate_runs b scope o.3 (at ++ Other ∷ []) m3 rest values mid to h3) [
+                                  | inl w ↦ inl (deeper at Other
+                                      (ComesIn (who program launch buffers number d frame) b mid)
+                                      (ComesIn (who program launch buffers number d frame) (Choose site t a b) s) to
+                                      (λ p tops c. (v, mid, e, c)) w)
+                                  | inr (x, end, y, (m4, lt4, h4)) ↦
+                                      inr (x, end, (v, mid, e, inr (z, y)), (m4, omega arith, h4))
+                                ]
                             | false ↦ λ z h3. elim (evaluate_runs a scope o.2 (at ++ Chosen ∷ []) m3 rest values mid to
                                 h3) [
-                                  | inl w ↦ inl (deeper at Chosen (ComesIn (who program launch buffers number d frame) a mid)
+                                  | inl w ↦ inl (deeper at Chosen
+                                      (ComesIn (who program launch buffers number d frame) a mid)
                                       (ComesIn (who program launch buffers number d frame) (Choose site t a b) s) to
                                       (λ p tops c. (v, mid, e, c)) w)
                                   | inr (x, end, y, (m4, lt4, h4)) ↦

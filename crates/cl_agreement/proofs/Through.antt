@@ -411,8 +411,8 @@ module _ (program : Program) (launch : Launch) (buffers : List (List ℕ)) (numb
                 | inl w ↦ inl (down at (Operand 0) (ComesIn W e s) (Comes W (Do e) s) to (λ p tops c. c) w)
                 | inr (x, mid, vx, (m2, lt2, h2)) ↦
                     elim (peel program launch buffers number m2 _ (I rest values mid) to (λ next l. l) h2) [
-                      | inl q ↦ inl (leg at (Own 0 ∷ []) (Comes W (Do e) s) (Discard (at ++ Own 0 ∷ []) ∷ rest) (x ∷ values)
-                          mid to q refl (x, mid, vx, refl))
+                      | inl q ↦ inl (leg at (Own 0 ∷ []) (Comes W (Do e) s) (Discard (at ++ Own 0 ∷ []) ∷ rest)
+                          (x ∷ values) mid to q refl (x, mid, vx, refl))
                       | inr (m3, lt3, h3) ↦ inr (Normal, mid, (x, vx, refl), (m3, omega arith, h3))
                     ]
               ]
@@ -430,11 +430,12 @@ module _ (program : Program) (launch : Launch) (buffers : List (List ℕ)) (numb
           | inr (m, lt, h1) ↦ elim (evaluate_runs program launch buffers number d f frame frames called e scope
               (good_declare (InBody program f) (UnderBody program f) (BackBody program f) scope y e ok).1
               (at ++ Operand 0 ∷ []) m (Keep at y ∷ rest) values s to h1) [
-                | inl w ↦ inl (down at (Operand 0) (ComesIn W e s) (Comes W (Declare y (Some e)) s) to (λ p tops c. c) w)
+                | inl w ↦ inl (down at (Operand 0) (ComesIn W e s) (Comes W (Declare y (Some e)) s) to (λ p tops c. c)
+                    w)
                 | inr (x, mid, vx, (m2, lt2, h2)) ↦
                     elim (peel program launch buffers number m2 _ (I rest values (put mid y x)) to (λ next l. l) h2) [
-                      | inl q ↦ inl (leg at (Own 0 ∷ []) (Comes W (Declare y (Some e)) s) (Keep at y ∷ rest) (x ∷ values) mid
-                          to q refl (x, mid, vx, refl))
+                      | inl q ↦ inl (leg at (Own 0 ∷ []) (Comes W (Declare y (Some e)) s) (Keep at y ∷ rest)
+                          (x ∷ values) mid to q refl (x, mid, vx, refl))
                       | inr (m3, lt3, h3) ↦ inr (Normal, put mid y x, (x, mid, vx, refl, refl), (m3, omega arith, h3))
                     ]
               ]
@@ -448,7 +449,13 @@ module _ (program : Program) (launch : Launch) (buffers : List (List ℕ)) (numb
               (good_fill (InBody program f) (UnderBody program f) (BackBody program f) scope site array es ok) at 0
               m (Clear at site array (count_of es) ∷ rest) values s to h1) [
                 | inl (j, p, tops, w, fr, c) ↦ let z : 0 + j ≡ j = omega arith in
-                    inl (Operand j ∷ p, tops, subst (λ k. first_point to.tasks ≡ Some (at ++ (Operand k ∷ p))) z w, fr, c)
+                    inl (
+                      Operand j ∷ p,
+                      tops,
+                      subst (λ k. first_point to.tasks ≡ Some (at ++ (Operand k ∷ p))) z w,
+                      fr,
+                      c,
+                    )
                 | inr (args, mid, v, (m2, le, h2)) ↦
                     cleared site array es at n m2 rest values s mid args to (omega arith) v h2
               ]
@@ -475,8 +482,8 @@ module _ (program : Program) (launch : Launch) (buffers : List (List ℕ)) (numb
                     elim (peel program launch buffers number m2 _
                     (I (cond (is_zero v) (in_order (at ++ Other ∷ []) 0 b rest) (in_order (at ++ Chosen ∷ []) 0 a rest))
                     values mid) to (λ next l. l) h2) [
-                      | inl q ↦ inl (leg at (Own 0 ∷ []) (Comes W (If site t a b) s) (Branch at a b ∷ rest) (v ∷ values) mid
-                          to q refl (v, mid, vx, refl, refl))
+                      | inl q ↦ inl (leg at (Own 0 ∷ []) (Comes W (If site t a b) s) (Branch at a b ∷ rest) (v ∷ values)
+                          mid to q refl (v, mid, vx, refl, refl))
                       | inr (m3, lt3, h3) ↦
                           elim (is_zero v) as (λ z. is_zero v ≡ z →
                           HH m3 (I (cond z (in_order (at ++ Other ∷ []) 0 b rest)
@@ -497,20 +504,21 @@ module _ (program : Program) (launch : Launch) (buffers : List (List ℕ)) (numb
                               | inr (how, after, e, (m4, le4, h4)) ↦
                                   inr (how, after, (v, mid, vx, inr (z, e)), (m4, omega arith, h4))
                             ]
-                            | false ↦ λ z h3. elim (all_run a scope o.2 (at ++ Chosen ∷ []) 0 m3 rest values mid to h3) [
-                              | inl (j, p, tops, w, fr, c) ↦
-                                  let z : 0 + j ≡ j = omega arith in
-                                  inl (
-                                    Chosen ∷ Nth j ∷ p,
-                                    tops,
-                                    subst (λ k. first_point to.tasks ≡ Some (at ++ (Chosen ∷ Nth k ∷ p))) z (w ∙
-                                        ap Some (append_assoc at (Chosen ∷ []) (Nth (0 + j) ∷ p))),
-                                    fr,
-                                    (v, mid, vx, c),
-                                  )
-                              | inr (how, after, e, (m4, le4, h4)) ↦
-                                  inr (how, after, (v, mid, vx, inl (z, e)), (m4, omega arith, h4))
-                            ]
+                            | false ↦ λ z h3. elim (all_run a scope o.2 (at ++ Chosen ∷ []) 0 m3 rest values mid to
+                                h3) [
+                                  | inl (j, p, tops, w, fr, c) ↦
+                                      let z : 0 + j ≡ j = omega arith in
+                                      inl (
+                                        Chosen ∷ Nth j ∷ p,
+                                        tops,
+                                        subst (λ k. first_point to.tasks ≡ Some (at ++ (Chosen ∷ Nth k ∷ p))) z (w ∙
+                                            ap Some (append_assoc at (Chosen ∷ []) (Nth (0 + j) ∷ p))),
+                                        fr,
+                                        (v, mid, vx, c),
+                                      )
+                                  | inr (how, after, e, (m4, le4, h4)) ↦
+                                      inr (how, after, (v, mid, vx, inl (z, e)), (m4, omega arith, h4))
+                                ]
                           ] refl h3
                     ]
               ]
@@ -546,15 +554,17 @@ module _ (program : Program) (launch : Launch) (buffers : List (List ℕ)) (numb
               s to q refl refl)
           | inr (m, lt, h1) ↦ elim (evaluate_runs program launch buffers number d f frame frames called value scope
               o.1 (at ++ Tested ∷ []) m (Select at site arms ∷ rest) values s to h1) [
-                | inl w ↦ inl (down at Tested (ComesIn W value s) (Comes W (Switch site value arms) s) to (λ p tops c. c) w)
+                | inl w ↦ inl (down at Tested (ComesIn W value s) (Comes W (Switch site value arms) s) to
+                    (λ p tops c. c) w)
                 | inr (v, mid, vx, (m2, lt2, h2)) ↦
                     elim (peel program launch buffers number m2 _
                     (I (entry_tasks at (entry_of v arms) (InSwitch at site ∷ rest)) values mid) to (λ next l. l) h2) [
-                      | inl q ↦ inl (leg at (Own 0 ∷ []) (Comes W (Switch site value arms) s) (Select at site arms ∷ rest)
-                          (v ∷ values) mid to q refl (v, mid, vx, refl, refl))
+                      | inl q ↦ inl (leg at (Own 0 ∷ []) (Comes W (Switch site value arms) s)
+                          (Select at site arms ∷ rest) (v ∷ values) mid to q refl (v, mid, vx, refl, refl))
                       | inr (m3, lt3, h3) ↦
                           let e0 : entered v arms ≡ 0 + entered v arms = omega arith in
-                          elim (arms_run arms scope o.2 (entered v arms) at 0 (entered v arms) e0 m3 (InSwitch at site ∷ rest)
+                          elim (arms_run arms scope o.2 (entered v arms) at 0 (entered v arms) e0 m3
+                          (InSwitch at site ∷ rest)
                           values mid to (subst (λ ts. HH m3 (I ts values mid) to)
                           (entry_is at v arms (InSwitch at site ∷ rest)) h3)) [
                             | inl (i, k, p, tops, start, w, fr, r, c) ↦ let z : 0 + i ≡ i = omega arith in
@@ -567,7 +577,8 @@ module _ (program : Program) (launch : Launch) (buffers : List (List ℕ)) (numb
                                   (v, mid, start, vx, r, c),
                                 )
                             | inr (how, after, e, (m4, le4, h4)) ↦
-                                switch_left site value arms at n m4 rest values s mid after v how to (omega arith) vx e h4
+                                switch_left site value arms at n m4 rest values s mid after v how to (omega arith) vx e
+                                h4
                           ]
                     ]
               ]
@@ -599,15 +610,21 @@ module _ (program : Program) (launch : Launch) (buffers : List (List ℕ)) (numb
           | inr (m, lt, h1) ↦ elim (evaluate_runs program launch buffers number d f frame frames called e scope
               (good_return (InBody program f) (UnderBody program f) (BackBody program f) scope site e ok).1
               (at ++ Operand 0 ∷ []) m (Leave at ∷ rest) values s to h1) [
-                | inl w ↦ inl (down at (Operand 0) (ComesIn W e s) (Comes W (Return site (Some e)) s) to (λ p tops c. c) w)
+                | inl w ↦ inl (down at (Operand 0) (ComesIn W e s) (Comes W (Return site (Some e)) s) to (λ p tops c. c)
+                    w)
                 | inr (x, mid, vx, (m2, lt2, h2)) ↦
                     let same = return_same (I (Leave at ∷ rest) (x ∷ values) mid) (I [] [] (answered mid x)) rest
                     (x ∷ values) refl refl in
                     elim (peel program launch buffers number m2 _ (left Returned rest values (answered mid x)) to
                     (λ next l. l ∙ same) h2) [
-                      | inl q ↦ inl (leg at (Own 0 ∷ []) (Comes W (Return site (Some e)) s) (Leave at ∷ rest) (x ∷ values)
-                          mid to q refl (x, mid, vx, refl))
-                      | inr (m3, lt3, h3) ↦ inr (Returned, answered mid x, (x, mid, vx, refl, refl), (m3, omega arith, h3))
+                      | inl q ↦ inl (leg at (Own 0 ∷ []) (Comes W (Return site (Some e)) s) (Leave at ∷ rest)
+                          (x ∷ values) mid to q refl (x, mid, vx, refl))
+                      | inr (m3, lt3, h3) ↦ inr (
+                        Returned,
+                        answered mid x,
+                        (x, mid, vx, refl, refl),
+                        (m3, omega arith, h3),
+                      )
                     ]
               ]
         ]

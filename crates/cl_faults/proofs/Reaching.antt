@@ -48,9 +48,11 @@ leads_more zero calls a b h =
     or_left (nat_eq a b) (list_any (λ (c : Call). nat_eq c.caller a && leads zero calls c.called b) calls) h
 leads_more (suc n) calls a b h =
     elim (or_parts (nat_eq a b) (list_any (λ (c : Call). nat_eq c.caller a && leads n calls c.called b) calls) h) [
-      | inl e ↦ or_left (nat_eq a b) (list_any (λ (c : Call). nat_eq c.caller a && leads (suc n) calls c.called b) calls) e
-      | inr e ↦ or_right (nat_eq a b) (list_any (λ (c : Call). nat_eq c.caller a && leads (suc n) calls c.called b) calls)
-          (any_mono (λ (c : Call). nat_eq c.caller a && leads n calls c.called b) (λ (c : Call). nat_eq c.caller a &&
+      | inl e ↦ or_left (nat_eq a b) (list_any (λ (c : Call). nat_eq c.caller a && leads (suc n) calls c.called b)
+          calls) e
+      | inr e ↦ or_right (nat_eq a b) (list_any (λ (c : Call). nat_eq c.caller a && leads (suc n) calls c.called b)
+          calls) (any_mono (λ (c : Call). nat_eq c.caller a && leads n calls c.called b)
+          (λ (c : Call). nat_eq c.caller a &&
           leads (suc n) calls c.called b)
           (λ c g. and_from (nat_eq c.caller a) (leads (suc n) calls c.called b)
           (and_parts (nat_eq c.caller a) (leads n calls c.called b) g).0
@@ -95,8 +97,9 @@ leads_behind zero calls a x y h g = leads_first zero calls a x y h g
 leads_behind (suc n) calls a x y h g =
     elim (or_parts (nat_eq a x) (list_any (λ (c : Call). nat_eq c.caller a && leads n calls c.called x) calls) h) [
       | inl e ↦ leads_first (suc n) calls a x y e g
-      | inr e ↦ or_right (nat_eq a y) (list_any (λ (c : Call). nat_eq c.caller a && leads (suc n) calls c.called y) calls)
-          (any_mono (λ (c : Call). nat_eq c.caller a && leads n calls c.called x) (λ (c : Call). nat_eq c.caller a &&
+      | inr e ↦ or_right (nat_eq a y) (list_any (λ (c : Call). nat_eq c.caller a && leads (suc n) calls c.called y)
+          calls) (any_mono (λ (c : Call). nat_eq c.caller a && leads n calls c.called x)
+          (λ (c : Call). nat_eq c.caller a &&
           leads (suc n) calls c.called y)
           (λ c k. and_from (nat_eq c.caller a) (leads (suc n) calls c.called y)
           (and_parts (nat_eq c.caller a) (leads n calls c.called x) k).0

@@ -56,7 +56,8 @@ index_fits P f place sites a b (kinds.Pointer s t c q each.Element p) (kinds.Num
     (element_fits P f (length sites) s t c q (moved (way a.what) (operand types.Long b)) x.1
     (moved_typed P f a.what (operand types.Long b) x.0 (operand_typed P f types.Long u p' b e y.0)))
 index_fits P f place sites a b (kinds.Pointer s t c q (each.Row n) p) (kinds.Number u p') r d e x y h =
-    subst (λ z. KindFits P f z (offset (Some (moved (way a.what) (scaled (operand types.Long b) n))))) (same_Some _ _ h) (
+    subst (λ z. KindFits P f z
+    (offset (Some (moved (way a.what) (scaled (operand types.Long b) n))))) (same_Some _ _ h) (
       moved_typed P f a.what (scaled (operand types.Long b) n) x.0 (scaled_typed P f (operand types.Long b) n x.3
           (operand_typed P f types.Long u p' b e y.0)),
       x.1,

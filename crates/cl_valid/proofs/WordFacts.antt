@@ -235,7 +235,13 @@ vector_rows = (
                                   (refl, refl, refl),
                                   (
                                     (refl, refl, refl),
-                                    ((refl, refl, refl), ((refl, refl, refl), ((refl, refl, refl), ((refl, refl, refl), tt)))),
+                                    (
+                                      (refl, refl, refl),
+                                      (
+                                        (refl, refl, refl),
+                                        ((refl, refl, refl), ((refl, refl, refl), tt)),
+                                      ),
+                                    ),
                                   ),
                                 ),
                               ),

@@ -2,6 +2,7 @@ pub mod Start
 pub mod Launch
 pub mod Chunks
 pub mod Votes
+pub mod GroupSteps
 pub mod Grouped
 pub mod Whole
 pub mod Ends

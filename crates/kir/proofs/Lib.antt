@@ -11,5 +11,7 @@ pub mod Aligned
 pub mod FromSteps
 pub mod EvenRuns
 pub mod Across
+pub mod NamedOrLive
+pub mod LiveCuts
 pub mod Kept
 pub mod FirstLines

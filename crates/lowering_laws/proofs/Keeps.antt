@@ -96,7 +96,8 @@ module _ (program : Program) (names : List (List Named)) (valid : IsValid progra
 
     -- without a way out: the cells that are named on both sides of a cut
     few_at : (way : Option ℕ) → way ≡ None → way_out_of_all true true f.body ≡ None → (test : ℕ → Test) →
-        ((c : ℕ) → c < length f.variables → test c ≡ false) → ((c : ℕ) → across (body_at way) c ≡ false → test c ≡ false)
+        ((c : ℕ) → c < length f.variables → test c ≡ false) →
+        ((c : ℕ) → across (body_at way) c ≡ false → test c ≡ false)
         → IsPlain program → IsOneOf (instances program) (record { path = []; function = program.kernel }) →
         count_below test (cells_at way) ≤ all_choices (function_holds program) f.body
     few_at (Some site) e w test own some plain i = absurd (none-some site (sym e))
@@ -182,7 +183,8 @@ module _ (program : Program) (names : List (List Named)) (valid : IsValid progra
     unfolding lowered_of
     keeps_where plain h =
         let fits = valid_function program valid program.kernel valid.kernel in
-        let quiet = plain.no_return (record { path = []; function = program.kernel }) kernel_first (sym same_depth ∙ h) in
+        let quiet = plain.no_return (record { path = []; function = program.kernel }) kernel_first (sym same_depth
+        ∙ h) in
         let w = some_exits_none false false true true (λ e. absurd (let k = e in cc)) (λ e. absurd (let k = e in
         cc)) f.body fits.exits quiet in
         few_at (way_out_of_all true true f.body) w w (is_keep (lowered_of program names)) own_not_made

@@ -120,6 +120,7 @@ module _ (S : Setting) (names : List (List Named)) (lowered : S.kernel ≡ lower
             heads_follow S G_stood stood C calls marks under is_body covering
             (stood_heads C calls marks under is_body covering) n scope inner cell exit way site first test step body m
             r T tm k at1 start ts vs e zero_
-            (λ at2 new vars2 o v can e2 a2 kept2 s2. (d at2 new vars2 o v can e2 a2 kept2 s2).covers n) b cells vars inv s;
+            (λ at2 new vars2 o v can e2 a2 kept2 s2. (d at2 new vars2 o v can e2 a2 kept2 s2).covers n) b cells vars inv
+            s;
         follows = spent;
       }

@@ -417,7 +417,8 @@ module _ (S : Setting) (G : ℕ → Item → ProgramItem → Type 0) (R : Rules 
             arms_marks calls marks C.here way exit site (CellAtom chosen) ca1.value.atom (first + 1) rest ca1.made
 
         abbrev body_marks1 : Marks
-        body_marks1 = marks_in_order (list_marks calls marks C.here (further way (Arm first)) 0 exit false body ce1.made)
+        body_marks1 = marks_in_order (list_marks calls marks C.here (further way (Arm first)) 0 exit false body
+            ce1.made)
 
         module _ (e : marks_at S.marks at ≡
             marks_then (marks_then (all_marked way ce1.lines)
@@ -525,7 +526,8 @@ module _ (S : Setting) (G : ℕ → Item → ProgramItem → Type 0) (R : Rules 
               Entering first (arm labels other body rest) fallen chosen cells at0 marker us →
               Sim S G R C n cells (LinesAt at (joined_to (joined_to ca1.lines rest_lines) T) k) us vs vars
           arm_by _ (falling holds passed) =
-              enter_arm true (int_eq (cells chosen) (pos first)) refl holds refl (passed_more (cells chosen) first passed)
+              enter_arm true (int_eq (cells chosen) (pos first)) refl holds refl
+              (passed_more (cells chosen) first passed)
           arm_by _ (waiting nowhere holds is) = wait_arm nowhere holds is.0 is.1
           arm_by _ (waiting (entry i arms) holds (inr is)) = wait_arm (entry i arms) holds is.0 is.1
           arm_by _ (waiting (entry i arms) holds (inl is)) =

@@ -319,7 +319,8 @@ module _ (kernel : Kernel) (launch : Launch) (fits : FitsProgram (shell_of kerne
         (take-length kernel.params) fits.arguments) e
     work_typed i (Copy a) t holds f e = atom_typed kernel i.cells a t holds e
 
-    -- what runs keep of an item: what it has left to do are parts of the kernel, and each cell holds a value of its type
+    -- what runs keep of an item: what it has left to do are parts of the kernel, and each cell holds a value of its
+    -- type
     abbrev Keeps : Item → Type 0
     Keeps i = TasksFit kernel i.tasks × HoldTypes kernel i.cells
 
@@ -379,7 +380,8 @@ module _ (kernel : Kernel) (launch : Launch) (fits : FitsProgram (shell_of kerne
     keep s (AnswerAt at test answer body n k) t f holds h = go (is_zero (atom_value s.cells answer)) h
       where
         go : (b : Test) → MayLead GoesOn
-            (cond b (Goes (with_tasks s k)) (Begins (with_tasks s (iteration at test answer body (suc n) k)))) t → Keeps t
+            (cond b (Goes (with_tasks s k)) (Begins (with_tasks s (iteration at test answer body (suc n) k)))) t →
+            Keeps t
         go true h = subst Keeps h (f.2, holds)
         go false h = subst Keeps h ((f.1, (f.0, (f.0, f.1, f.2))), holds)
 

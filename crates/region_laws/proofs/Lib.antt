@@ -9,6 +9,8 @@ pub mod Works
 pub mod Masks
 pub mod Through
 pub mod Soundness
+pub mod Branches
+pub mod Loops
 pub mod Sounds
 pub mod Objects
 pub mod Loads

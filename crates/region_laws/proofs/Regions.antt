@@ -66,8 +66,8 @@ use Rattle.region_laws.proofs.Standing.{sim_names, cond_set}
 use Rattle.region_laws.proofs.Entering.{Filled, Entered, constants_run, entry_runs, loaded_lane}
 use Rattle.region_laws.proofs.Masks.{flip_cond}
 use Rattle.region_laws.proofs.View.{code_well, mask_length}
-use Rattle.region_laws.proofs.Soundness.{Accessing, Fit, Lanes, whole_of, HasLoop, type_there, masks_step, masked_sim}
-use Rattle.region_laws.proofs.Soundness.{turn_enter}
+use Rattle.region_laws.proofs.Soundness.{Accessing, Fit, Lanes, whole_of, type_there, masks_step, masked_sim}
+use Rattle.region_laws.proofs.Loops.{HasLoop, turn_enter}
 use Rattle.region_laws.proofs.Sounds.{sound_of}
 use Rattle.region_laws.proofs.Loads.{load_runs}
 use Rattle.region_laws.proofs.Stores.{store_runs}

@@ -25,8 +25,10 @@ use Rattle.mask_lower.specs.Following.{ChunkOf}
 use Rattle.mask_lower.specs.Registers.{Frame}
 use Rattle.region_laws.specs.Framed.{IsFramed}
 use Rattle.region_laws.specs.Sim.{Ground, Closed}
-use Rattle.region_laws.proofs.Soundness.{Sound, Accessing, whole_of, no_line_sound, set_sound, access_sound, if_sound}
-use Rattle.region_laws.proofs.Soundness.{loop_sound, barrier_sound}
+use Rattle.region_laws.proofs.Soundness.{Sound, Accessing, whole_of, no_line_sound, set_sound, access_sound}
+use Rattle.region_laws.proofs.Soundness.{barrier_sound}
+use Rattle.region_laws.proofs.Branches.{if_sound}
+use Rattle.region_laws.proofs.Loops.{loop_sound}
 
 module _ (kernel : Kernel) (launch : Launch) (width : ℕ) (chunk : ChunkOf kernel launch width) (turns : ℕ)
     (w0 : Stage Item) (g0 : Group) (f : Frame) (counts : Counts) (r0 : Registers) (ground : Ground kernel launch w0)

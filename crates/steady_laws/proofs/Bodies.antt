@@ -45,7 +45,8 @@ use Rattle.steady_laws.proofs.Acts.{apart_below, atom_put}
 use Rattle.steady_laws.proofs.Guards.{AnswerEqual, AllSettled, covers_given}
 use Rattle.steady_laws.proofs.Exits.{IsSome, Pending, pending_opened, opened_together}
 use Rattle.steady_laws.proofs.Parts.{GL}
-use Rattle.steady_laws.proofs.Statements.{list_from, inside_together, behind_together}
+use Rattle.steady_laws.proofs.PlainStatements.{list_from}
+use Rattle.steady_laws.proofs.Statements.{inside_together, behind_together}
 
 -- ---- what a call sets
 

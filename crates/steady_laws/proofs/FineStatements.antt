@@ -1,54 +1,54 @@
 -- The code of statements is fine.
-use Rattle.std.proofs.Common.{◌≡◌, ℕ, ◌+◌, ◌<◌, ℤ, pos, length, List, [], ◌∷◌, ◌++◌, Option, Some, None, refl, sym, ap, ◌∙◌, subst, inl, inr, if◌then◌else◌}
+use Rattle.std.proofs.Common.{◌≡◌, ℕ, ◌+◌, pos, length, List, ◌∷◌, ◌++◌, Some, None, refl, ◌∙◌, inl, inr}
 use Rattle.std.proofs.Common.{Bool as Test, true, false}
-use Rattle.std.specs.Prelude.{nat_eq, not, ◌&&◌, ◌||◌}
-use Rattle.std.proofs.lemmas.Bool.{or_left, or_right, and_parts}
-use Rattle.std.proofs.lemmas.Option.{none-some, slice_get_within}
-use Rattle.wg_num.specs.declared.types.IntType.{IntType}
+use Rattle.std.specs.Prelude.{◌&&◌, ◌||◌}
+use Rattle.std.proofs.lemmas.Bool.{or_left, or_right}
+use Rattle.std.proofs.lemmas.Option.{slice_get_within}
 use Rattle.wg_num.specs.declared.types.IntType.TheVariants.{Int}
-use Rattle.cl_model.specs.Tree.{Expression, Call, Apply, Update, Choose, Statement, Do, Declare, Fill, Block, If}
-use Rattle.cl_model.specs.Tree.{Loop, Switch, Break, Continue, Return, Barrier, Statements, empty, also, Arms, no_arm}
-use Rattle.cl_model.specs.Tree.{arm, Program, Function}
-use Rattle.cl_model.specs.Lists.{IsOneOf}
+use Rattle.cl_model.specs.Tree.{Statement, Do, Declare, Fill, Block, If, Loop, Switch, Break, Continue, Return, Barrier}
+use Rattle.cl_model.specs.Tree.{Statements, empty, also, Arms, no_arm, arm, Program, Function}
 use Rattle.cl_model.specs.Calls.{function_at}
-use Rattle.cl_model.specs.Valid.{Scope, OptionalFits, NamesIn, NamesInOptional, StatementFits, AllFit, ArmsFit, IsScopedList, AreScopedArms, scope_after, parameter_kinds, promoted}
+use Rattle.cl_model.specs.Valid.{Scope, StatementFits, AllFit, ArmsFit, IsScopedList, AreScopedArms, scope_after}
+use Rattle.cl_model.specs.Valid.{promoted}
 use Rattle.kir.specs.declared.line.Atom.{Atom}
-use Rattle.kir.specs.declared.line.Atom.TheVariants.{Const, Cell as CellAtom}
-use Rattle.kir.specs.Tree.{Variable, Copy, Lines, NoLine, SetThen, ClearThen, IfThen, joined_to, OfValue, Kernel}
-use Rattle.kir.specs.Live.{reads, some_reads, live_in}
-use Rattle.kir.specs.Cuts.{holds_barrier}
-use Rattle.kir.specs.Homes.{IsCellOf}
-use Rattle.kir.specs.Inlined.{Text, NoText, DeclaredThen, Inlining, variable_of, expression_before, optional_before}
-use Rattle.kir.specs.Inlined.{statement_before, statements_before, arms_before, holds_in, holds_among}
-use Rattle.kir.specs.Inlined.{holds_in_optional, holds, some_holds, arms_hold, declared_in, Crosses}
-use Rattle.kir_lower.specs.declared.places.Value.{Value}
-use Rattle.kir_lower.specs.Made.{Made, Instance, next_cell, with_cell, int, constant, type_at, element_at, argument_roots}
+use Rattle.kir.specs.declared.line.Atom.TheVariants.{Cell as CellAtom}
+use Rattle.kir.specs.Tree.{Variable, Lines, NoLine, ClearThen, IfThen, joined_to, OfValue, Kernel}
+use Rattle.kir.specs.Live.{reads, live_in}
+use Rattle.kir.specs.Inlined.{Text, NoText, DeclaredThen, Inlining, variable_of, statement_before, statements_before}
+use Rattle.kir.specs.Inlined.{arms_before, holds_in, holds_among, holds_in_optional, holds, some_holds, arms_hold}
+use Rattle.kir.specs.Inlined.{declared_in}
+use Rattle.kir_lower.specs.Made.{Made, Instance, next_cell, with_cell, int, constant, type_at, element_at}
 use Rattle.kir_lower.specs.Ways.{way_out, way_out_of_all, way_out_of_arms, declares}
-use Rattle.kir_lower.specs.Actions.{atoms_of, set_to, initial_lines, opened, outward, is_none, guarded_before, settled, round_code, labels_code, all_labels_code, selected, fallen_code}
-use Rattle.kir_lower.specs.Code.{Calls, expression_code, operands_code, optional_code, Guarded, is_guarded, before_rest, set_exit, entry_code, statement_code, list_code, arms_code}
-use Rattle.even_laws.proofs.Living.{true_or_false, or_either}
-use Rattle.even_laws.proofs.Alike.{same_self, same_number}
+use Rattle.kir_lower.specs.Actions.{set_to, initial_lines, opened, outward, guarded_before, round_code, selected}
+use Rattle.kir_lower.specs.Actions.{fallen_code}
+use Rattle.kir_lower.specs.Code.{Calls, expression_code, operands_code, optional_code, is_guarded, set_exit, entry_code}
+use Rattle.kir_lower.specs.Code.{statement_code, list_code, arms_code}
+use Rattle.even_laws.proofs.Living.{true_or_false}
 use Rattle.cl_agreement.proofs.Keeps.{Sound, sound_list, body_sound, branch_scoped}
-use Rattle.lowering_laws.proofs.Quiet.{Quiet, or_parts, or_false, quiet_less, quiet_none, live_joined}
+use Rattle.lowering_laws.proofs.Quiet.{Quiet, or_parts, quiet_less, live_joined}
 use Rattle.cl_agreement.proofs.Parts.{in_right}
 use Rattle.lowering_laws.proofs.Steps.{round_quiet, IsApart, IsFree, ListQuiet, guarded_quiet, list_joined}
-use Rattle.lowering_laws.proofs.Scoped.{as_first, all_have, argument_count, return_type}
-use Rattle.lowering_laws.proofs.Anew.{expression_quiet, statement_quiet, list_quiet, arms_quiet}
-use Rattle.lowering_laws.proofs.Cutless.{Cutless, cutless_then, optional_cutless, statement_cutless, list_cutless, list_joined_cutless}
-use Rattle.steady_laws.proofs.UnsetCode.{operand_count}
-use Rattle.steady_laws.proofs.Ground.{Even, Grown, value_not_even, flag_not_even, back_value, opened_back, outward_back, round_back, selected_back, fallen_back, optional_back, statement_back, list_back, arms_back}
-use Rattle.steady_laws.proofs.Fresh.{values_not_read, expression_in, optional_in, operands_in}
+use Rattle.lowering_laws.proofs.Scoped.{as_first, all_have, return_type}
+use Rattle.lowering_laws.proofs.Anew.{statement_quiet, list_quiet, arms_quiet}
+use Rattle.lowering_laws.proofs.Cutless.{optional_cutless, statement_cutless, list_cutless, list_joined_cutless}
+use Rattle.steady_laws.proofs.Ground.{Even, Grown, value_not_even, back_value, opened_back, outward_back, round_back}
+use Rattle.steady_laws.proofs.Ground.{selected_back, fallen_back, optional_back, statement_back, list_back, arms_back}
+use Rattle.steady_laws.proofs.Fresh.{expression_in, operands_in}
 use Rattle.steady_laws.proofs.Setting.{ScopeWithin}
 use Rattle.steady_laws.proofs.Parts.{inner_true, list_parts, declared_declares}
 use Rattle.steady_laws.proofs.Scopes.{declares_none, way_first, way_second, more_ways, more_ways_arms}
-use Rattle.steady_laws.proofs.FineRules.{In, Good, ReadsIn, in_before, fine_reads, fine_if, fine_loop, fine_joined}
-use Rattle.steady_laws.proofs.FineRules.{Ok, ok_cut, ok_expression, ok_expressions, ok_optional, ok_statement}
-use Rattle.steady_laws.proofs.FineRules.{ok_statements, held_statements}
+use Rattle.steady_laws.proofs.FineRules.{In, ReadsIn, in_before, fine_reads, fine_if, fine_joined, Ok, ok_cut}
+use Rattle.steady_laws.proofs.FineRules.{ok_expression, ok_statement, ok_statements}
 use Rattle.steady_laws.proofs.FineCode.{nothing, FineLines, Around, around_good, around_less, Standing, in_joined, X}
-use Rattle.steady_laws.proofs.FineCode.{in_quiet, in_atom, in_values, in_cell, in_two, in_none, reads_joined, held_by}
+use Rattle.steady_laws.proofs.FineCode.{in_quiet, in_atom, in_values, in_cell, in_two, in_none, held_by}
 use Rattle.steady_laws.proofs.FineCode.{expression_fine, operands_fine}
+use Rattle.steady_laws.proofs.FineSteps.{round_fine, opened_reads, outward_reads, all_labels_reads, all_labels_grown}
+use Rattle.steady_laws.proofs.FineSteps.{initial_reads, fallen_reads, fallen_not, in_declared, in_after, around_rest}
+use Rattle.steady_laws.proofs.FineSteps.{same_or, loop_parts, optional_fine, do_fine, rest_grown, not_cell, opened_not}
+use Rattle.steady_laws.proofs.FineSteps.{optional_quiet, optional_atom, scope_within, before_fine}
 
-module _ (program : Program) (kernel : Kernel) (at : Inlining) (fn : ℕ) (calls : Calls) (here : Instance) (set : Standing program kernel at fn calls here) (X0 : Variable → Type 0) where
+module _ (program : Program) (kernel : Kernel) (at : Inlining) (fn : ℕ) (calls : Calls) (here : Instance)
+    (set : Standing program kernel at fn calls here) (X0 : Variable → Type 0) where
   abbrev F : Function
   F = function_at program fn
 
@@ -73,384 +73,8 @@ module _ (program : Program) (kernel : Kernel) (at : Inlining) (fn : ℕ) (calls
   abbrev A : Scope → List Variable → Test → Type 0
   A scope S b = Around program kernel (X program kernel at fn calls here set X0 scope) S b
 
-  abbrev G : Scope → Test → Type 0
-  G scope b = Good program kernel (X program kernel at fn calls here set X0 scope) b
-
   abbrev R : Scope → Lines → Type 0
   R scope lines = ReadsIn program kernel (X program kernel at fn calls here set X0 scope) lines
-
-  -- ---- guards and loops
-
-  held_one : (b : Test) (lines : Lines) → (b ≡ false → Cutless lines) → holds_barrier lines ≡ true → b ≡ true
-  held_one b lines h e = elim (true_or_false b) [ inl t ↦ t | inr f ↦ absurd (let k = (h f).is in let z : true ≡ false = sym e ∙ k in cc) ]
-
-  guarded_fine : (scope : Scope) (b : Test) (site exit : ℕ) (inside rest : Lines) (out : ℕ → Test) → (Var exit → ⊥) →
-      G scope b → (b ≡ false → Cutless inside) → L scope (λ c. live_in c rest (out c)) →
-      L scope (λ c. live_in c inside (live_in c rest (out c)))
-      → Go (λ c. live_in c rest (out c)) inside → Go out rest → L scope (λ c. live_in c (guarded_before site exit inside rest) (out c)) × Go out (guarded_before site exit inside rest)
-  guarded_fine scope b site exit inside rest out none_ good held lr li fi fr = by (is_none inside)
-    where
-      by : (n : Test) → L scope (λ c. live_in c (if n then rest else IfThen site (CellAtom exit) NoLine inside rest) (out c)) × Go out (if n then rest else IfThen site (CellAtom exit) NoLine inside rest)
-      by true = (lr, fr)
-      by false =
-          let re = in_cell program kernel at fn calls here set X0 scope exit none_ in (
-            in_two program kernel at fn calls here set X0 scope (λ c. reads c (CellAtom exit)) (λ c. live_in c rest (out c) || live_in c inside (live_in c rest (out c))) re
-                (in_two program kernel at fn calls here set X0 scope (λ c. live_in c rest (out c)) (λ c. live_in c inside (live_in c rest (out c))) lr li),
-            fine_joined program kernel out rest fr (IfThen site (CellAtom exit) NoLine inside NoLine)
-                (fine_if program kernel (XS scope) b site (CellAtom exit) NoLine inside (λ c. live_in c rest (out c))
-                good (λ e. held_one b inside held e) re lr lr li (fine_reads program kernel (XS scope) b NoLine
-                (λ c. live_in c rest (out c)) tt lr good) fi),
-          )
-
-  guarded_cutless : (site exit : ℕ) (inside : Lines) → Cutless inside → Cutless (guarded_before site exit inside NoLine)
-  guarded_cutless site exit inside h = by (is_none inside)
-    where
-      by : (n : Test) → Cutless (if n then NoLine else IfThen site (CellAtom exit) NoLine inside NoLine)
-      by true = record { is = refl }
-      by false = record { is = or_false _ _ h.is refl }
-
-  round_fine : (scope : Scope) (b : Test) (site : ℕ) (first : Test) (way : Option ℕ) (Y : ℕ) (lt : Lines)
-      (answer : Value) (ls lb : Lines) (mb : Made) (out : ℕ → Test) → G scope b →
-      ((s : ℕ) → way ≡ Some s → Var Y → ⊥) → L scope (λ c. reads c answer.atom)
-      → Grown nothing kernel (round_code site first way Y lt answer ls lb mb).made → (b ≡ false → Cutless lt × Cutless ls × Cutless lb)
-      → ((o : ℕ → Test) → L scope o → L scope (λ c. live_in c lt (o c)) × Go o lt) →
-      ((o : ℕ → Test) → L scope o → L scope (λ c. live_in c ls (o c)) × Go o ls) →
-      ((o : ℕ → Test) → L scope o → L scope (λ c. live_in c lb (o c)) × Go o lb)
-      → L scope out → Go out (round_code site first way Y lt answer ls lb mb).lines
-  round_fine scope b site first None Y lt answer ls lb mb out good y_not ra g held ft fs fb live =
-      fine_loop program kernel (XS scope) b site first lt answer.atom (joined_to lb ls) out good
-      (held_by program kernel at fn calls here set X0 b lt (joined_to lb ls) (λ f. let k = held f in
-      (k.0, cutless_then lb ls k.2 k.1))) ra live ft
-      (λ o l. let s = fs o l in let k = fb (λ c. live_in c ls (o c)) s.0 in (in_joined program kernel (XS scope) lb ls o k.0, fine_joined program kernel o ls s.1 lb k.1))
-  round_fine scope b site first (Some way) Y lt answer ls lb mb out good y_not ra g held ft fs fb live =
-      let to = next_cell mb in
-      let m1 = with_cell mb OfValue answer.of in
-      let n1 = next_cell m1 in
-      let cset = settled way Y m1 in
-      let g1 = back_value nothing kernel m1 Int g in
-      let set_answer = set_to to answer.atom in
-      let lines = joined_to lt set_answer in
-      let branch = IfThen way (CellAtom Y) NoLine lines NoLine in
-      let s1 = SetThen to (Copy (Const (pos 0) answer.of)) NoLine in
-      let gl = guarded_before way Y ls NoLine in
-      let tail = joined_to cset.lines gl in
-      let yn = y_not way refl in
-      let rY = in_cell program kernel at fn calls here set X0 scope Y yn in
-      let rs : R scope set_answer = (ra, tt) in
-      let r1 : R scope s1 = (in_none program kernel at fn calls here set X0 scope, tt) in
-      let rc : R scope cset.lines = (
-        in_two program kernel at fn calls here set X0 scope (λ c. reads c (CellAtom Y)) (λ c. false) rY (in_none program kernel at fn calls here set X0 scope),
-        (in_cell program kernel at fn calls here set X0 scope n1 (value_not_even nothing kernel m1 Int g), (in_none program kernel at fn calls here set X0 scope, tt), tt, tt),
-      ) in
-      let cut_lines : b ≡ false → Cutless lines = λ f. cutless_then lt set_answer (held f).0 (record { is = refl }) in
-      let held_t : b ≡ false → Cutless (joined_to s1 branch) = λ f. record { is = or_false _ _ (cut_lines f).is refl } in
-      let held_b : b ≡ false → Cutless (joined_to lb tail) = λ f. cutless_then lb tail (held f).2 (cutless_then cset.lines gl (record { is = refl }) (guarded_cutless way Y ls (held f).1)) in
-      let tests : (o : ℕ → Test) → L scope o → L scope (λ c. live_in c (joined_to s1 branch) (o c)) × Go o (joined_to s1 branch) = λ o l.
-      let l0 = in_before program kernel (XS scope) set_answer o rs l in
-      let k = ft (λ c. live_in c set_answer (o c)) l0 in
-      let ll = in_joined program kernel (XS scope) lt set_answer o k.0 in
-      let fl = fine_joined program kernel o set_answer (fine_reads program kernel (XS scope) b set_answer o rs l good) lt k.1 in
-      let fb_ = fine_if program kernel (XS scope) b way (CellAtom Y) NoLine lines o good (λ e. held_one b lines cut_lines e) rY l l ll (fine_reads program kernel (XS scope) b NoLine o tt l good) fl in
-      let lb_ = in_two program kernel at fn calls here set X0 scope (λ c. reads c (CellAtom Y))
-      (λ c. o c || live_in c lines (o c)) rY (in_two program kernel at fn calls here set X0 scope o
-      (λ c. live_in c lines (o c)) l ll) in (
-        in_joined program kernel (XS scope) s1 branch o
-            (in_before program kernel (XS scope) s1 (λ c. live_in c branch (o c)) r1 lb_),
-        fine_joined program kernel o branch fb_ s1
-            (fine_reads program kernel (XS scope) b s1 (λ c. live_in c branch (o c)) r1 lb_ good),
-      ) in
-      let bodies : (o : ℕ → Test) → L scope o → L scope (λ c. live_in c (joined_to lb tail) (o c)) × Go o (joined_to lb tail) = λ o l.
-      let s = fs o l in
-      let kg = guarded_fine scope b way Y ls NoLine o yn good (λ f. (held f).1) l s.0 s.1 (fine_reads program kernel (XS scope) b NoLine o tt l good) in
-      let lt_ = in_before program kernel (XS scope) cset.lines (λ c. live_in c gl (o c)) rc kg.0 in
-      let ft_ = fine_joined program kernel o gl kg.1 cset.lines (fine_reads program kernel (XS scope) b cset.lines (λ c. live_in c gl (o c)) rc kg.0 good) in
-      let l2 = in_joined program kernel (XS scope) cset.lines gl o lt_ in
-      let k = fb (λ c. live_in c tail (o c)) l2 in
-      (in_joined program kernel (XS scope) lb tail o k.0, fine_joined program kernel o tail ft_ lb k.1) in
-      fine_loop program kernel (XS scope) b site first (joined_to s1 branch) (CellAtom to) (joined_to lb tail) out
-      good (held_by program kernel at fn calls here set X0 b (joined_to s1 branch) (joined_to lb tail)
-      (λ f. (held_t f, held_b f)))
-      (in_cell program kernel at fn calls here set X0 scope to (value_not_even nothing kernel mb answer.of g1)) live tests bodies
-
-  abbrev cell_in : Atom → ℕ
-  cell_in (Const value of) = 0
-  cell_in (CellAtom c) = c
-
-  read_not : (a : Atom) → (Var (cell_in a) → ⊥) → (c : ℕ) → Var c → reads c a ≡ true → ⊥
-  read_not (Const value of) h c v e = let z : false ≡ true = e in cc
-  read_not (CellAtom d) h c v e = h (subst Var (same_number c d e) v)
-
-  -- ---- plain lines
-
-  pub opened_reads : (scope : Scope) (way : Option ℕ) (exit : ℕ) (m : Made) → R scope (opened way exit m).lines
-  opened_reads scope None exit m = tt
-  opened_reads scope (Some site) exit m = (in_none program kernel at fn calls here set X0 scope, tt)
-
-  outward_reads : (scope : Scope) (way : Option ℕ) (exit outer : ℕ) (m : Made) →
-      ((s : ℕ) → way ≡ Some s → Var exit → ⊥) → Grown nothing kernel (outward way exit outer m).made →
-      R scope (outward way exit outer m).lines
-  outward_reads scope None exit outer m h g = tt
-  outward_reads scope (Some site) exit outer m h g =
-      let r = in_cell program kernel at fn calls here set X0 scope exit (h site refl) in (
-        in_two program kernel at fn calls here set X0 scope (λ c. reads c (CellAtom exit)) (λ c. false) r (in_none program kernel at fn calls here set X0 scope),
-        (in_cell program kernel at fn calls here set X0 scope (next_cell m) (value_not_even nothing kernel m Int g), tt, (r, tt), tt),
-      )
-
-  labels_reads : (scope : Scope) (site : ℕ) (value : Value) (chosen k : ℕ) (labels : List ℤ) (m : Made) →
-      L scope (λ c. reads c value.atom) → Grown nothing kernel (labels_code site value chosen k labels m).made →
-      R scope (labels_code site value chosen k labels m).lines × Grown nothing kernel m
-  labels_reads scope site value chosen k [] m h g = (tt, g)
-  labels_reads scope site value chosen k (label ∷ labels) m h g =
-      let r = labels_reads scope site value chosen k labels (with_cell m OfValue Int) h g in (
-        (
-          in_two program kernel at fn calls here set X0 scope (λ c. reads c value.atom) (λ c. false) h (in_none program kernel at fn calls here set X0 scope),
-          (in_cell program kernel at fn calls here set X0 scope (next_cell m) (value_not_even nothing kernel m Int r.1), (in_none program kernel at fn calls here set X0 scope, tt), tt, r.0),
-        ),
-        back_value nothing kernel m Int r.1,
-      )
-
-  all_labels_reads : (scope : Scope) (site : ℕ) (value : Value) (chosen k : ℕ) (arms : Arms) (m : Made) →
-      L scope (λ c. reads c value.atom) → Grown nothing kernel (all_labels_code site value chosen k arms m).made →
-      R scope (all_labels_code site value chosen k arms m).lines × Grown nothing kernel m
-  all_labels_reads scope site value chosen k no_arm m h g = (tt, g)
-  all_labels_reads scope site value chosen k (arm labels default body rest) m h g =
-      let cl = labels_code site value chosen k labels m in
-      let r = all_labels_reads scope site value chosen (k + 1) rest cl.made h g in
-      let l = labels_reads scope site value chosen k labels m h r.1 in
-      (reads_joined program kernel at fn calls here set X0 scope cl.lines _ l.0 r.0, l.1)
-
-  labels_grown : (site : ℕ) (value : Value) (chosen k : ℕ) (labels : List ℤ) (m : Made) → Grown nothing kernel (labels_code site value chosen k labels m).made → Grown nothing kernel m
-  labels_grown site value chosen k [] m g = g
-  labels_grown site value chosen k (label ∷ labels) m g = back_value nothing kernel m Int (labels_grown site value chosen k labels (with_cell m OfValue Int) g)
-
-  all_labels_grown : (site : ℕ) (value : Value) (chosen k : ℕ) (arms : Arms) (m : Made) → Grown nothing kernel (all_labels_code site value chosen k arms m).made → Grown nothing kernel m
-  all_labels_grown site value chosen k no_arm m g = g
-  all_labels_grown site value chosen k (arm labels default body rest) m g =
-      labels_grown site value chosen k labels m (all_labels_grown site value chosen (k + 1) rest
-      (labels_code site value chosen k labels m).made g)
-
-  initial_reads : (scope : Scope) (site : ℕ) (element : IntType) (array k : ℕ) (values : List Value) → L scope (λ c. some_reads c (atoms_of values)) → R scope (initial_lines site element array k values)
-  initial_reads scope site element array k [] h = tt
-  initial_reads scope site element array k (v ∷ values) h =
-      ((λ w c i e. h w c i (or_left (reads c v.atom) _ e)), initial_reads scope site element array (k + 1) values (λ w c i e. h w c i (or_right (reads c v.atom) _ e)))
-
-  fallen_reads : (scope : Scope) (way : Option ℕ) (exit : ℕ) (entered : Value) (m : Made) →
-      ((s : ℕ) → way ≡ Some s → Var exit → ⊥) → L scope (λ c. reads c entered.atom) →
-      Grown nothing kernel (fallen_code way exit entered m).made
-      → R scope (fallen_code way exit entered m).lines × L scope (λ c. reads c (fallen_code way exit entered m).value.atom)
-  fallen_reads scope None exit entered m h r g = (tt, r)
-  fallen_reads scope (Some s) exit entered m h r g =
-      let g1 = back_value nothing kernel (with_cell m OfValue Int) Int g in (
-        (
-          in_cell program kernel at fn calls here set X0 scope exit (h s refl),
-          (
-            in_two program kernel at fn calls here set X0 scope (λ c. reads c entered.atom)
-                (λ c. reads c (CellAtom (next_cell m))) r (in_cell program kernel at fn calls here set X0 scope
-                (next_cell m) (value_not_even nothing kernel m Int g1)),
-            tt,
-          ),
-        ),
-        in_cell program kernel at fn calls here set X0 scope (next_cell (with_cell m OfValue Int)) (value_not_even nothing kernel (with_cell m OfValue Int) Int g),
-      )
-
-  fallen_not : (way : Option ℕ) (exit : ℕ) (entered : Value) (m : Made) → (Var (cell_in entered.atom) → ⊥) →
-      Grown nothing kernel (fallen_code way exit entered m).made → (c : ℕ) → Var c →
-      reads c (fallen_code way exit entered m).value.atom ≡ true → ⊥
-  fallen_not None exit entered m h g c v e = read_not entered.atom h c v e
-  fallen_not (Some s) exit entered m h g c v e = value_not_even nothing kernel (with_cell m OfValue Int) Int g (subst Var (same_number c _ e) v)
-
-  -- what is live before a variable's cell is set
-  in_declared : (x : ℕ) (a : Atom) (scope : Scope) (out : ℕ → Test) → x < Size → L scope (λ c. reads c a) → L (x ∷ scope) out → L scope (λ c. live_in c (set_to (here.base + x) a) (out c))
-  in_declared x a scope out less ra live v c i l =
-      elim (or_either (reads c a) _ l) [
-        | inl r ↦ ra v c i r
-        | inr r ↦
-            let k = and_parts (not (nat_eq c (here.base + x))) (out c) r in
-            elim (live v c i k.1) [
-              | inl y ↦ elim y.1 [
-                | inl e ↦ absurd (clash (set.one v c (here.base + x) i (subst (λ z. IsCellOf kernel z (here.base + x)) (sym (y.2 ∙ ap (λ z. variable_of at z) (sym e))) (set.own_cell x less))) k.0)
-                | inr h ↦ inl (y.0, h, y.2)
-              ]
-              | inr o ↦ inr o
-            ]
-      ]
-    where
-      clash : c ≡ here.base + x → not (nat_eq c (here.base + x)) ≡ true → ⊥
-      clash t n = let s : nat_eq c (here.base + x) ≡ true = subst (λ z. nat_eq c z ≡ true) t (same_self c) in let u : false ≡ true = sym (ap not s) ∙ n in cc
-
-  -- more is in scope
-  in_after : (scope : Scope) (s : Statement) (out : ℕ → Test) → L scope out → L (scope_after scope s) out
-  in_after scope (Declare x value) out h = λ v c i l. elim (h v c i l) [ inl y ↦ inl (y.0, inr y.1, y.2) | inr o ↦ inr o ]
-  in_after scope (Do e) out h = h
-  in_after scope (Fill site array values) out h = h
-  in_after scope (Block list) out h = h
-  in_after scope (If site test yes_ no_) out h = h
-  in_after scope (Loop site first test step body) out h = h
-  in_after scope (Switch site value arms) out h = h
-  in_after scope (Break site) out h = h
-  in_after scope (Continue site) out h = h
-  in_after scope (Return site value) out h = h
-  in_after scope (Barrier site) out h = h
-
-  -- the variables that can be named behind a statement of a list
-  around_rest : (scope : Scope) (s : Statement) (rest : Statements) (S : List Variable) (t : Text) →
-      Ok program kernel S (statement_before at s (statements_before at rest t)) →
-      A scope S (holds at.inside s || some_holds at.inside rest) → A (scope_after scope s) S (some_holds at.inside rest)
-  around_rest scope (Declare x value) rest S t ok h =
-      let k = ok_optional program kernel at set.tail S value (DeclaredThen (variable_of at x) (statements_before at rest t)) ok in
-      record {
-        inside = λ v n. elim n [
-          | inl y ↦ elim y.1 [
-            | inl e ↦ subst (IsOneOf S) (sym (y.2 ∙ ap (λ z. variable_of at z) (sym e))) k.1
-            | inr i ↦ h.inside v (inl (y.0, i, y.2))
-          ]
-          | inr o ↦ h.inside v (inr o)
-        ];
-        block = h.block;
-        cross = λ e v n. elim n [
-          | inl y ↦ elim y.1 [
-            | inl q ↦ subst (Crosses program) (sym (y.2 ∙ ap (λ z. variable_of at z) (sym q))) (k.0 (held_statements at set.cut_keeps set.cut_there rest t e))
-            | inr i ↦ h.cross (or_right (holds at.inside (Declare x value)) _ e) v (inl (y.0, i, y.2))
-          ]
-          | inr o ↦ h.cross (or_right (holds at.inside (Declare x value)) _ e) v (inr o)
-        ];
-      }
-  around_rest scope (Do e) rest S t ok h = around_less program kernel (XS scope) S _ _ (λ z. or_right (holds at.inside (Do e)) _ z) h
-  around_rest scope (Fill site array values) rest S t ok h = around_less program kernel (XS scope) S _ _ (λ z. or_right (holds at.inside (Fill site array values)) _ z) h
-  around_rest scope (Block list) rest S t ok h = around_less program kernel (XS scope) S _ _ (λ z. or_right (holds at.inside (Block list)) _ z) h
-  around_rest scope (If site test yes_ no_) rest S t ok h = around_less program kernel (XS scope) S _ _ (λ z. or_right (holds at.inside (If site test yes_ no_)) _ z) h
-  around_rest scope (Loop site first test step body) rest S t ok h = around_less program kernel (XS scope) S _ _ (λ z. or_right (holds at.inside (Loop site first test step body)) _ z) h
-  around_rest scope (Switch site value arms) rest S t ok h = around_less program kernel (XS scope) S _ _ (λ z. or_right (holds at.inside (Switch site value arms)) _ z) h
-  around_rest scope (Break site) rest S t ok h = around_less program kernel (XS scope) S _ _ (λ z. z) h
-  around_rest scope (Continue site) rest S t ok h = around_less program kernel (XS scope) S _ _ (λ z. z) h
-  around_rest scope (Return site value) rest S t ok h = around_less program kernel (XS scope) S _ _ (λ z. or_right (holds at.inside (Return site value)) _ z) h
-  around_rest scope (Barrier site) rest S t ok h = around_less program kernel (XS scope) S _ _ (λ z. refl) h
-
-  same_or : (b : Test) → (b || false) ≡ true → b ≡ true
-  same_or true e = refl
-  same_or false e = e
-
-  -- the parts of a loop
-  loop_parts : (site : ℕ) (first : Test) (test step : Option Expression) (body : Statement) (S : List Variable) (t : Text) → Ok program kernel S (statement_before at (Loop site first test step body) t)
-      → ((u : Text) × Ok program kernel S (optional_before at.called test u)) × ((u : Text) × Ok program kernel S (optional_before at.called step u)) × ((u : Text) × Ok program kernel S (statement_before at body u))
-  loop_parts site true test step body S t h =
-      let b = holds at.inside (Loop site true test step body) in
-      let h1 = ok_cut program kernel S b _ h in
-      let h2 = ok_cut program kernel S b _ (ok_optional program kernel at set.tail S test _ h1) in
-      let h3 = ok_cut program kernel S b _ (ok_optional program kernel at set.tail S step _ h2) in
-      ((_, h1), (_, h2), (_, h3))
-  loop_parts site false test step body S t h =
-      let b = holds at.inside (Loop site false test step body) in
-      let h1 = ok_cut program kernel S b _ h in
-      let h2 = ok_cut program kernel S b _ (ok_statement program kernel at set.tail S body _ h1) in
-      let h3 = ok_cut program kernel S b _ (ok_optional program kernel at set.tail S step _ h2) in
-      ((_, h3), (_, h2), (_, h1))
-
-  -- an expression that may be absent
-  optional_fine : (e : Option Expression) (scope : Scope) (m : Made) (b : Test) (S : List Variable) (t : Text) →
-      OptionalFits program F e → NamesInOptional scope e → W scope →
-      Grown nothing kernel (optional_code calls here e m).made → (holds_in_optional at.inside e ≡ true → b ≡ true) →
-      A scope S b
-      → Ok program kernel S (optional_before at.called e t) → (o : ℕ → Test) → L scope o → L scope (λ c. live_in c (optional_code calls here e m).lines (o c)) × Go o (optional_code calls here e m).lines
-  optional_fine None scope m b S t h n w g le around ok o live = (live, fine_reads program kernel (XS scope) b NoLine o tt live (around_good program kernel (XS scope) S b around))
-  optional_fine (Some e) scope m b S t h n w g le around ok o live = (
-    in_quiet program kernel at fn calls here set X0 (expression_code calls here e m).lines scope o w
-        (λ c v ap_. quiet_less c (expression_code calls here e m).lines _
-        (expression_quiet program c calls (set.quiet c) F here e h.0 scope h.1 n ap_ m)) live,
-    expression_fine program kernel at fn calls here set X0 e h.0 scope m o S t h.1 n w g (around_less program kernel (XS scope) S b (holds_in at.inside e) le around) ok live,
-  )
-
-  -- a call of a function that gives none
-  do_fine : (e : Expression) (scope : Scope) (m : Made) (out : ℕ → Test) (S : List Variable) (t : Text) →
-      StatementFits program F (Do e) → NamesIn scope e → W scope →
-      Grown nothing kernel (expression_code calls here e m).made → A scope S (holds_in at.inside e)
-      → Ok program kernel S (expression_before at.called e t) → L scope out → Go out (expression_code calls here e m).lines
-  unfolding expression_code
-  do_fine e scope m out S t (inl h) n w g around ok live = expression_fine program kernel at fn calls here set X0 e h.0 scope m out S t h.1 n w g around ok live
-  do_fine (Apply action operands) scope m out S t (inr h) n w g around ok live = absurd h
-  do_fine (Update site element root op of bk old index value) scope m out S t (inr h) n w g around ok live = absurd h
-  do_fine (Choose site test yes_ no_) scope m out S t (inr h) n w g around ok live = absurd h
-  do_fine (Call site g_ roots arguments) scope m out S t (inr h) n w g around ok live =
-      let b = holds_among at.inside arguments || at.inside g_ in
-      let ca = operands_code calls here arguments m in
-      let cl = calls here site g_ (argument_roots here roots) ca.values ca.made in
-      let ga = set.back here site g_ (argument_roots here roots) ca.values ca.made g in
-      let all = operands_in nothing kernel calls set.up set.back here set.fresh arguments m ga in
-      let count = operand_count program calls F here arguments h.1.0 h.1.1 m ∙ argument_count program F (parameter_kinds (function_at program g_)) roots h.1.0 h.1.2 in
-      let live1 = in_quiet program kernel at fn calls here set X0 cl.lines scope out w
-      (λ c e ap_. quiet_less c cl.lines _ (set.quiet c here site g_ (argument_roots here roots) ca.values ca.made
-      h.0.within count (values_not_read nothing kernel (next_cell m) (next_cell ca.made) ca.values c all e)))
-      live in
-      let ok1 = ok_expressions program kernel at set.tail S arguments (at.called site g_ t) ok in
-      fine_joined program kernel out cl.lines
-      (set.call site g_ (argument_roots here roots) ca.values (next_cell m) ca.made out (XS scope) S t h.0.within
-      count all g (around_less program kernel (XS scope) S b (at.inside g_)
-      (λ e. or_right (holds_among at.inside arguments) _ e) around) ok1 live) ca.lines
-      (operands_fine program kernel at fn calls here set X0 arguments h.1.0 scope m (λ c. live_in c cl.lines (out c))
-      S (at.called site g_ t) h.1.1 n w ga
-      (around_less program kernel (XS scope) S b (holds_among at.inside arguments)
-      (λ e. or_left (holds_among at.inside arguments) _ e) around) ok live1)
-
-  rest_grown : (exit : ℕ) (declared : Test) (way : Option ℕ) (lines : Lines) (g : Guarded) → Grown nothing kernel (before_rest exit declared way lines g).made → Grown nothing kernel g.made
-  rest_grown exit true way lines g h = h
-  rest_grown exit false None lines g h = h
-  rest_grown exit false (Some site) lines g h = h
-
-  pub not_cell : (c d : ℕ) → (Var d → ⊥) → Var c → nat_eq c d ≡ false
-  not_cell c d h v = elim (true_or_false (nat_eq c d)) [ inl t ↦ absurd (h (subst Var (same_number c d t) v)) | inr t ↦ t ]
-
-  pub opened_not : (way : Option ℕ) (exit : ℕ) (m : Made) → Grown nothing kernel (opened way exit m).made → (k : ℕ) → way ≡ Some k → Var (opened way exit m).exit → ⊥
-  opened_not None exit m g k e = absurd (none-some k e)
-  opened_not (Some s) exit m g k e = flag_not_even nothing kernel m Int g
-
-  optional_quiet : (c : ℕ) (e : Option Expression) (scope : Scope) → OptionalFits program F e →
-      NamesInOptional scope e → IsApart c here scope → (m : Made) →
-      Quiet c (optional_code calls here e m).lines (reads c (optional_code calls here e m).value.atom)
-  optional_quiet c None scope h n a m = quiet_none c _ refl
-  optional_quiet c (Some e) scope h n a m = expression_quiet program c calls (set.quiet c) F here e h.0 scope h.1 n a m
-
-  optional_atom : (e : Option Expression) (scope : Scope) (m : Made) → Grown nothing kernel (optional_code calls here e m).made → L scope (λ c. reads c (optional_code calls here e m).value.atom)
-  optional_atom e scope m g = in_atom program kernel at fn calls here set X0 scope (next_cell m)
-      (next_cell (optional_code calls here e m).made) (optional_code calls here e m).value.atom
-      (optional_in nothing kernel calls set.up set.back here set.fresh e m g)
-
-  declared_within : (scope : Scope) (x : ℕ) → x < Size → W scope → W (x ∷ scope)
-  declared_within scope x less w y (inl e) = subst (λ z. z < Size) e less
-  declared_within scope x less w y (inr i) = w y i
-
-  scope_within : (scope : Scope) (s : Statement) → StatementFits program F s → W scope → W (scope_after scope s)
-  scope_within scope (Declare x None) h w = declared_within scope x (slice_get_within F.variables x h.1.0 h.1.1) w
-  scope_within scope (Declare x (Some v)) h w = declared_within scope x (slice_get_within F.variables x h.1.0 h.1.1) w
-  scope_within scope (Do e) h w = w
-  scope_within scope (Fill site array values) h w = w
-  scope_within scope (Block list) h w = w
-  scope_within scope (If site test yes_ no_) h w = w
-  scope_within scope (Loop site first test step body) h w = w
-  scope_within scope (Switch site value arms) h w = w
-  scope_within scope (Break site) h w = w
-  scope_within scope (Continue site) h w = w
-  scope_within scope (Return site value) h w = w
-  scope_within scope (Barrier site) h w = w
-
-  -- a statement before others
-  before_fine : (guarded declared : Test) (way : Option ℕ) (exit : ℕ) (scope : Scope) (lines : Lines) (g : Guarded)
-      (out : ℕ → Test) (b : Test) → ((o : ℕ → Test) → L scope o → Go o lines) →
-      Go (λ c. live_in c g.rest (out c)) g.inside → Go out g.rest
-      → L scope (λ c. live_in c g.inside (live_in c g.rest (out c))) → L scope out →
-      (is_guarded declared way guarded ≡ true → L scope (λ c. live_in c g.rest (out c))) →
-      ((k : ℕ) → way ≡ Some k → L scope (λ c. live_in c (guarded_before k exit g.inside g.rest) (out c)))
-      → ((k : ℕ) → way ≡ Some k → Var exit → ⊥) → G scope b → (b ≡ false → Cutless g.inside)
-      → Go (λ c. live_in c (before_rest exit declared way lines g).rest (out c)) (before_rest exit declared way lines g).inside × Go out (before_rest exit declared way lines g).rest
-  before_fine guarded true way exit scope lines g out b fs r1 r2 l_in live l_rest l_guard no_exit good held = (
-    fine_joined program kernel out (joined_to g.inside g.rest) (fine_joined program kernel out g.rest r2 g.inside r1)
-        lines (fs (λ c. live_in c (joined_to g.inside g.rest) (out c))
-        (in_joined program kernel (XS scope) g.inside g.rest out l_in)),
-    fine_reads program kernel (XS scope) b NoLine out tt live good,
-  )
-  before_fine guarded false None exit scope lines g out b fs r1 r2 l_in live l_rest l_guard no_exit good held =
-      (fine_joined program kernel (λ c. live_in c g.rest (out c)) g.inside r1 lines (fs (λ c. live_in c g.inside (live_in c g.rest (out c))) l_in), r2)
-  before_fine guarded false (Some k) exit scope lines g out b fs r1 r2 l_in live l_rest l_guard no_exit good held =
-      (fs (λ c. live_in c (guarded_before k exit g.inside g.rest) (out c)) (l_guard k refl), (guarded_fine scope b k exit g.inside g.rest out (no_exit k refl) good held (l_rest refl) l_in r1 r2).1)
 
   mutual
     unfolding statement_code
@@ -459,43 +83,58 @@ module _ (program : Program) (kernel : Kernel) (at : Inlining) (fn : ℕ) (calls
         Test) (S : List Variable) (t : Text) → StatementFits program F s → Sound scope s → W scope →
         Grown nothing kernel (statement_code calls here exit s m).made →
         ((k : ℕ) → way_out true true s ≡ Some k → Var exit → ⊥)
-        → A scope S (holds at.inside s) → Ok program kernel S (statement_before at s t) → L (scope_after scope s) out → Go out (statement_code calls here exit s m).lines
-    statement_fine exit (Do e) scope m out S t h n w g no_exit around ok live = do_fine e scope m out S t h n w g around ok live
+        → A scope S (holds at.inside s) → Ok program kernel S (statement_before at s t) → L (scope_after scope s) out →
+        Go out (statement_code calls here exit s m).lines
+    statement_fine exit (Do e) scope m out S t h n w g no_exit around ok live =
+        do_fine program kernel at fn calls here set X0 e scope m out S t h n w g around ok live
     statement_fine exit (Declare x None) scope m out S t h n w g no_exit around ok live =
         let k = slice_get_within F.variables x h.1.0 h.1.1 in
-        let l = in_declared x (constant (pos 0) (type_at here x)).atom scope out k (in_none program kernel at fn calls here set X0 scope) live in (
+        let l = in_declared program kernel at fn calls here set X0 x (constant (pos 0) (type_at here x)).atom scope out
+        k (in_none program kernel at fn calls here set X0 scope) live in (
           (λ v u c d i j a b. (around_good program kernel (XS scope) S false around).meet v u (l v c i a) (l u d j b)),
           (λ v u c d i j a b. (around_good program kernel (XS (x ∷ scope)) S false
-              (around_rest scope (Declare x None) empty S t ok around)).meet v u (live v c i a) (live u d j b)),
+              (around_rest program kernel at fn calls here set X0 scope (Declare x None) empty S t ok around)).meet v u
+              (live v c i a) (live u d j b)),
         )
     statement_fine exit (Declare x (Some e)) scope m out S t h n w g no_exit around ok live =
         let ce = expression_code calls here e m in
         let k = slice_get_within F.variables x h.1.0 h.1.1 in
         let b = holds_in at.inside e in
-        let l = in_declared x ce.value.atom scope out k (in_atom program kernel at fn calls here set X0 scope
+        let l = in_declared program kernel at fn calls here set X0 x ce.value.atom scope out k
+        (in_atom program kernel at fn calls here set X0 scope
         (next_cell m) (next_cell ce.made) ce.value.atom (expression_in nothing kernel calls set.up set.back here
         set.fresh e m g)) live in
-        let behind_ = around_rest scope (Declare x (Some e)) empty S t ok (around_less program kernel (XS scope) S b (b || false) (λ z. same_or b z) around) in
+        let behind_ = around_rest program kernel at fn calls here set X0 scope (Declare x (Some e)) empty S t ok
+        (around_less program kernel (XS scope) S b (b || false) (λ z. same_or program kernel at fn calls here set X0
+        b z) around) in
         fine_joined program kernel out (set_to (here.base + x) ce.value.atom) (
           (λ v u c d i j a y. (around_good program kernel (XS scope) S b around).meet v u (l v c i a) (l u d j y)),
           (λ v u c d i j a y. (around_good program kernel (XS (x ∷ scope)) S false behind_).meet v u
               (live v c i a) (live u d j y)),
         ) ce.lines
-        (expression_fine program kernel at fn calls here set X0 e h.0 scope m (λ c. live_in c (set_to (here.base + x) ce.value.atom) (out c)) S (DeclaredThen (variable_of at x) t) h.2 n.1 w g around ok l)
+        (expression_fine program kernel at fn calls here set X0 e h.0 scope m
+        (λ c. live_in c (set_to (here.base + x) ce.value.atom) (out c)) S (DeclaredThen (variable_of at x) t) h.2
+        n.1 w g around ok l)
     statement_fine exit (Fill site array values) scope m out S t h n w g no_exit around ok live =
         let b = holds_among at.inside values in
         let cv = operands_code calls here values m in
         let k = all_have program F values _ h.3 in
-        let lines = ClearThen (here.arrays + array) (initial_lines site (element_at here array) (here.arrays + array) 0 cv.values) in
-        let r : R scope lines = initial_reads scope site (element_at here array) (here.arrays + array) 0 cv.values
+        let lines = ClearThen (here.arrays + array) (initial_lines site (element_at here array) (here.arrays + array) 0
+        cv.values) in
+        let r : R scope lines = initial_reads program kernel at fn calls here set X0 scope site (element_at here array)
+        (here.arrays + array) 0 cv.values
         (in_values program kernel at fn calls here set X0 scope (next_cell m) (next_cell cv.made) cv.values
         (operands_in nothing kernel calls set.up set.back here set.fresh values m g)) in
-        fine_joined program kernel out lines (fine_reads program kernel (XS scope) b lines out r live (around_good program kernel (XS scope) S b around)) cv.lines
-        (operands_fine program kernel at fn calls here set X0 values k.0 scope m (λ c. live_in c lines (out c)) S t k.1 n w g around ok (in_before program kernel (XS scope) lines out r live))
+        fine_joined program kernel out lines (fine_reads program kernel (XS scope) b lines out r live
+        (around_good program kernel (XS scope) S b around)) cv.lines
+        (operands_fine program kernel at fn calls here set X0 values k.0 scope m (λ c. live_in c lines (out c)) S t k.1
+        n w g around ok (in_before program kernel (XS scope) lines out r live))
     statement_fine exit (Block list) scope m out S t h n w g no_exit around ok live =
         let cl = list_code calls here exit false list m in
         let own = declared_in (statements_before at list NoText) in
-        let r = list_fine exit false list scope m out (own ++ S) NoText h n w g no_exit (record { inside = λ v x. in_right own S v (around.inside v x); block = ok.0; cross = around.cross }) ok.1 live in
+        let r = list_fine exit false list scope m out (own ++ S) NoText h n w g no_exit
+        (record { inside = λ v x. in_right own S v (around.inside v x); block = ok.0; cross = around.cross }) ok.1
+        live in
         fine_joined program kernel out cl.rest r.1 cl.inside r.0
     statement_fine exit (If site test yes_ no_) scope m out S t h n w g no_exit around ok live =
         let b = holds_in at.inside test || (some_holds at.inside yes_ || some_holds at.inside no_) in
@@ -516,22 +155,30 @@ module _ (program : Program) (kernel : Kernel) (at : Inlining) (fn : ℕ) (calls
         let wn = way_out_of_all true true no_ in
         let no_y : (k : ℕ) → wy ≡ Some k → Var exit → ⊥ = λ k e. let z = way_first wy wn k e in no_exit z.0 z.1 in
         let no_n : (k : ℕ) → wn ≡ Some k → Var exit → ⊥ = λ k e. let z = way_second wy wn k e in no_exit z.0 z.1 in
-        let around_y = around_less program kernel (XS scope) S b (some_holds at.inside yes_) (λ z. or_right (holds_in at.inside test) _ (or_left (some_holds at.inside yes_) _ z)) around in
-        let around_n = around_less program kernel (XS scope) S b (some_holds at.inside no_) (λ z. or_right (holds_in at.inside test) _ (or_right (some_holds at.inside yes_) _ z)) around in
+        let around_y = around_less program kernel (XS scope) S b (some_holds at.inside yes_)
+        (λ z. or_right (holds_in at.inside test) _ (or_left (some_holds at.inside yes_) _ z)) around in
+        let around_n = around_less program kernel (XS scope) S b (some_holds at.inside no_)
+        (λ z. or_right (holds_in at.inside test) _ (or_right (some_holds at.inside yes_) _ z)) around in
         let ry = list_fine exit false yes_ scope ct.made out S _ h.1 sy w gy no_y around_y h2 live in
         let rn = list_fine exit false no_ scope cy.made out S _ h.2 sn w g no_n around_n h3 live in
         let fy = fine_joined program kernel out cy.rest ry.1 cy.inside ry.0 in
         let fn_ = fine_joined program kernel out cn.rest rn.1 cn.inside rn.0 in
         let live_y = in_quiet program kernel at fn calls here set X0 ly scope out w
         (λ c v ap_. list_joined c false cy (list_quiet program c calls (set.quiet c) F here exit false yes_ scope
-        h.1 sy ap_ (λ k e. not_cell c exit (no_y k e) v) ct.made)) live in
+        h.1 sy ap_ (λ k e. not_cell program kernel at fn calls here set X0 c exit (no_y k e) v) ct.made)) live in
         let live_n = in_quiet program kernel at fn calls here set X0 ln scope out w
         (λ c v ap_. list_joined c false cn (list_quiet program c calls (set.quiet c) F here exit false no_ scope
-        h.2 sn ap_ (λ k e. not_cell c exit (no_n k e) v) cy.made)) live in
-        let rt = in_atom program kernel at fn calls here set X0 scope (next_cell m) (next_cell ct.made) ct.value.atom (expression_in nothing kernel calls set.up set.back here set.fresh test m gt) in
-        let held = held_by program kernel at fn calls here set X0 b ly ln (λ f. let p = or_parts (holds_in at.inside test) _ f in let q = or_parts (some_holds at.inside yes_) (some_holds at.inside no_) p.1 in
-        (list_joined_cutless cy (list_cutless calls at.inside set.cutless here exit false yes_ q.0 ct.made), list_joined_cutless cn (list_cutless calls at.inside set.cutless here exit false no_ q.1 cy.made))) in
-        let fb = fine_if program kernel (XS scope) b site ct.value.atom ly ln out (around_good program kernel (XS scope) S b around) held rt live live_y live_n fy fn_ in
+        h.2 sn ap_ (λ k e. not_cell program kernel at fn calls here set X0 c exit (no_n k e) v) cy.made)) live in
+        let rt = in_atom program kernel at fn calls here set X0 scope (next_cell m) (next_cell ct.made) ct.value.atom
+        (expression_in nothing kernel calls set.up set.back here set.fresh test m gt) in
+        let held = held_by program kernel at fn calls here set X0 b ly ln
+        (λ f. let p = or_parts (holds_in at.inside test) _ f in
+        let q = or_parts (some_holds at.inside yes_) (some_holds at.inside no_) p.1 in (
+          list_joined_cutless cy (list_cutless calls at.inside set.cutless here exit false yes_ q.0 ct.made),
+          list_joined_cutless cn (list_cutless calls at.inside set.cutless here exit false no_ q.1 cy.made),
+        )) in
+        let fb = fine_if program kernel (XS scope) b site ct.value.atom ly ln out
+        (around_good program kernel (XS scope) S b around) held rt live live_y live_n fy fn_ in
         let lb = in_two program kernel at fn calls here set X0 scope (λ c. reads c ct.value.atom)
         (λ c. live_in c ly (out c) || live_in c ln (out c)) rt (in_two program kernel at fn calls here set X0
         scope (λ c. live_in c ly (out c)) (λ c. live_in c ln (out c)) live_y live_n) in
@@ -553,36 +200,52 @@ module _ (program : Program) (kernel : Kernel) (at : Inlining) (fn : ℕ) (calls
         let gs = statement_back nothing kernel calls set.back here co.exit body cs.made gb in
         let gt = optional_back nothing kernel calls set.back here step ct.made gs in
         let go_ = optional_back nothing kernel calls set.back here test co.made gt in
-        let y_not = opened_not way exit m go_ in
+        let y_not = opened_not program kernel at fn calls here set X0 way exit m go_ in
         let good = around_good program kernel (XS scope) S b around in
-        let parts = loop_parts site first test step body S t ok in
-        let rw = outward_reads scope (way_out false false body) co.exit exit cr.made (λ k e. let z = more_ways body k e in y_not z.0 z.1) g in
+        let parts = loop_parts program kernel at fn calls here set X0 site first test step body S t ok in
+        let rw = outward_reads program kernel at fn calls here set X0 scope (way_out false false body) co.exit exit
+        cr.made (λ k e. let z = more_ways body k e in y_not z.0 z.1) g in
         let live_w = in_before program kernel (XS scope) cw.lines out rw live in
         let fine_w = fine_reads program kernel (XS scope) b cw.lines out rw live good in
         let sb = body_sound scope body n.2 in
-        let free : (c : ℕ) → Var c → IsFree c co.exit way = λ c v k e. not_cell c co.exit (y_not k e) v in
+        let free : (c : ℕ) → Var c → IsFree c co.exit way = λ c v k e. not_cell program kernel at fn calls here set X0 c
+        co.exit (y_not k e) v in
         let qb : (c : ℕ) → Var c → IsApart c here scope → Quiet c cb.lines false =
         λ c v ap_. quiet_less c cb.lines _ (statement_quiet program c calls (set.quiet c) F here co.exit body
         scope h.2 (as_first scope body n.2) ap_ (free c v) cs.made) in
-        let around_b = around_less program kernel (XS scope) S b (holds at.inside body) (λ z. or_right (holds_in_optional at.inside test) _ (or_right (holds_in_optional at.inside step) _ z)) around in
-        let fine_r = round_fine scope b site first way co.exit ct.lines ct.value cs.lines cb.lines cb.made (λ c. live_in c cw.lines (out c)) good y_not (optional_atom test scope co.made gt) gr
-        (λ f. let p = or_parts (holds_in_optional at.inside test) _ f in let q = or_parts (holds_in_optional at.inside step) (holds at.inside body) p.1 in (
+        let around_b = around_less program kernel (XS scope) S b (holds at.inside body)
+        (λ z. or_right (holds_in_optional at.inside test) _ (or_right (holds_in_optional at.inside step) _ z))
+        around in
+        let fine_r = round_fine program kernel at fn calls here set X0 scope b site first way co.exit ct.lines ct.value
+        cs.lines cb.lines cb.made (λ c. live_in c cw.lines (out c)) good y_not
+        (optional_atom program kernel at fn calls here set X0 test scope co.made gt) gr
+        (λ f. let p = or_parts (holds_in_optional at.inside test) _ f in
+        let q = or_parts (holds_in_optional at.inside step) (holds at.inside body) p.1 in (
           optional_cutless calls at.inside set.cutless here test p.0 co.made,
           optional_cutless calls at.inside set.cutless here step q.0 ct.made,
           statement_cutless calls at.inside set.cutless here co.exit body q.1 cs.made,
         ))
-        (λ o l. optional_fine test scope co.made b S parts.0.0 h.0 n.0 w gt (λ z. or_left (holds_in_optional at.inside test) _ z) around parts.0.1 o l)
-        (λ o l. optional_fine step scope ct.made b S parts.1.0 h.1 n.1 w gs (λ z. or_right (holds_in_optional at.inside test) _ (or_left (holds_in_optional at.inside step) _ z)) around parts.1.1 o l)
-        (λ o l. (in_quiet program kernel at fn calls here set X0 cb.lines scope o w qb l, statement_fine co.exit body scope cs.made o S parts.2.0 h.2 sb w gb y_not around_b parts.2.1 (in_after scope body o l)))
+        (λ o l. optional_fine program kernel at fn calls here set X0 test scope co.made b S parts.0.0 h.0 n.0 w gt
+        (λ z. or_left (holds_in_optional at.inside test) _ z) around parts.0.1 o l)
+        (λ o l. optional_fine program kernel at fn calls here set X0 step scope ct.made b S parts.1.0 h.1 n.1 w gs
+        (λ z. or_right (holds_in_optional at.inside test) _ (or_left (holds_in_optional at.inside step) _ z)) around
+        parts.1.1 o l)
+        (λ o l. (
+          in_quiet program kernel at fn calls here set X0 cb.lines scope o w qb l,
+          statement_fine co.exit body
+              scope cs.made o S parts.2.0 h.2 sb w gb y_not around_b parts.2.1
+              (in_after program kernel at fn calls here set X0 scope body o l),
+        ))
         live_w in
         let live_r = in_quiet program kernel at fn calls here set X0 cr.lines scope (λ c. live_in c cw.lines (out c)) w
         (λ c v ap_. round_quiet c site first way co.exit ct.lines ct.value cs.lines cb.lines cb.made (free c v)
-        (optional_quiet c test scope h.0 n.0 ap_ co.made)
-        (quiet_less c cs.lines _ (optional_quiet c step scope h.1 n.1 ap_ ct.made)) (qb c v ap_)) live_w in
+        (optional_quiet program kernel at fn calls here set X0 c test scope h.0 n.0 ap_ co.made)
+        (quiet_less c cs.lines _ (optional_quiet program kernel at fn calls here set X0 c step scope h.1 n.1 ap_
+        ct.made)) (qb c v ap_)) live_w in
         let rest = joined_to cr.lines cw.lines in
         let fine_rest = fine_joined program kernel out cw.lines fine_w cr.lines fine_r in
         fine_joined program kernel out rest fine_rest co.lines (fine_reads program kernel (XS scope) b co.lines
-        (λ c. live_in c rest (out c)) (opened_reads scope way exit m)
+        (λ c. live_in c rest (out c)) (opened_reads program kernel at fn calls here set X0 scope way exit m)
         (in_joined program kernel (XS scope) cr.lines cw.lines out live_r) good)
     statement_fine exit (Switch site value arms) scope m out S t h n w g no_exit around ok live =
         let b = holds_in at.inside value || arms_hold at.inside arms in
@@ -593,42 +256,55 @@ module _ (program : Program) (kernel : Kernel) (at : Inlining) (fn : ℕ) (calls
         let ca = arms_code calls here co.exit site cs.value.atom (int (pos 0)) 0 arms cs.made in
         let cw = outward (way_out_of_arms false true arms) co.exit exit ca.made in
         let ga = outward_back nothing kernel (way_out_of_arms false true arms) co.exit exit ca.made g in
-        let gs = arms_back nothing kernel calls set.back here co.exit site cs.value.atom (int (pos 0)) 0 arms cs.made ga in
+        let gs = arms_back nothing kernel calls set.back here co.exit site cs.value.atom (int (pos 0)) 0 arms cs.made
+        ga in
         let go_ = selected_back nothing kernel site cv.value arms co.made gs in
         let gv = opened_back nothing kernel way exit cv.made go_ in
-        let y_not = opened_not way exit cv.made go_ in
+        let y_not = opened_not program kernel at fn calls here set X0 way exit cv.made go_ in
         let good = around_good program kernel (XS scope) S b around in
         let wide = promoted cv.value.of in
         let k = next_cell co.made in
         let m1 = with_cell co.made OfValue wide in
         let ch = next_cell m1 in
         let m2 = with_cell m1 OfValue Int in
-        let g2 = all_labels_grown site (record { atom = CellAtom k; of = wide }) ch 0 arms m2 gs in
+        let g2 = all_labels_grown program kernel at fn calls here set X0 site (record { atom = CellAtom k; of = wide })
+        ch 0 arms m2 gs in
         let ch_not = value_not_even nothing kernel m1 Int g2 in
         let k_not = value_not_even nothing kernel co.made wide (back_value nothing kernel m1 Int g2) in
-        let labels = all_labels_reads scope site (record { atom = CellAtom k; of = wide }) ch 0 arms m2 (in_cell program kernel at fn calls here set X0 scope k k_not) gs in
-        let ra = in_atom program kernel at fn calls here set X0 scope (next_cell m) (next_cell cv.made) cv.value.atom (expression_in nothing kernel calls set.up set.back here set.fresh value m gv) in
+        let labels = all_labels_reads program kernel at fn calls here set X0 scope site
+        (record { atom = CellAtom k; of = wide }) ch 0 arms m2 (in_cell program kernel at fn calls here set X0 scope
+        k k_not) gs in
+        let ra = in_atom program kernel at fn calls here set X0 scope (next_cell m) (next_cell cv.made) cv.value.atom
+        (expression_in nothing kernel calls set.up set.back here set.fresh value m gv) in
         let rs : R scope cs.lines = (ra, (in_none program kernel at fn calls here set X0 scope, labels.0)) in
         let h1 = ok_cut program kernel S b _ ok in
         let h2 = ok_cut program kernel S b _ (ok_expression program kernel at set.tail S value _ h1) in
-        let rw = outward_reads scope (way_out_of_arms false true arms) co.exit exit ca.made (λ j e. let z = more_ways_arms arms j e in y_not z.0 z.1) g in
+        let rw = outward_reads program kernel at fn calls here set X0 scope (way_out_of_arms false true arms) co.exit
+        exit ca.made (λ j e. let z = more_ways_arms arms j e in y_not z.0 z.1) g in
         let l4 = in_before program kernel (XS scope) cw.lines out rw live in
         let f4 = fine_reads program kernel (XS scope) b cw.lines out rw live good in
         let l3 = in_quiet program kernel at fn calls here set X0 ca.lines scope (λ c. live_in c cw.lines (out c)) w
         (λ c v ap_. arms_quiet program c calls (set.quiet c) F here co.exit site cs.value.atom (int (pos 0)) 0 arms
-        scope h.3 n.1 ap_ (λ j e. not_cell c co.exit (y_not j e) v) (not_cell c ch ch_not v) refl cs.made) l4 in
+        scope h.3 n.1 ap_ (λ j e. not_cell program kernel at fn calls here set X0 c co.exit (y_not j e) v)
+        (not_cell program kernel at fn calls here set X0 c ch ch_not v) refl cs.made) l4 in
         let f3 = fine_joined program kernel out cw.lines f4 ca.lines
-        (arms_fine co.exit site ch (int (pos 0)) 0 arms scope cs.made (λ c. live_in c cw.lines (out c)) S _ h.3 n.1 w ga y_not ch_not (in_none program kernel at fn calls here set X0 scope)
-        (around_less program kernel (XS scope) S b (arms_hold at.inside arms) (λ z. or_right (holds_in at.inside value) _ z) around) h2 l4) in
+        (arms_fine co.exit site ch (int (pos 0)) 0 arms scope cs.made (λ c. live_in c cw.lines (out c)) S _ h.3 n.1 w ga
+        y_not ch_not (in_none program kernel at fn calls here set X0 scope)
+        (around_less program kernel (XS scope) S b (arms_hold at.inside arms)
+        (λ z. or_right (holds_in at.inside value) _ z) around) h2 l4) in
         let t3 = joined_to ca.lines cw.lines in
         let l3' = in_joined program kernel (XS scope) ca.lines cw.lines out l3 in
         let t2 = joined_to cs.lines t3 in
-        let l2 = in_joined program kernel (XS scope) cs.lines t3 out (in_before program kernel (XS scope) cs.lines (λ c. live_in c t3 (out c)) rs l3') in
-        let f2 = fine_joined program kernel out t3 f3 cs.lines (fine_reads program kernel (XS scope) b cs.lines (λ c. live_in c t3 (out c)) rs l3' good) in
+        let l2 = in_joined program kernel (XS scope) cs.lines t3 out (in_before program kernel (XS scope) cs.lines
+        (λ c. live_in c t3 (out c)) rs l3') in
+        let f2 = fine_joined program kernel out t3 f3 cs.lines (fine_reads program kernel (XS scope) b cs.lines
+        (λ c. live_in c t3 (out c)) rs l3' good) in
         let t1 = joined_to co.lines t2 in
-        let ro = opened_reads scope way exit cv.made in
-        let l1 = in_joined program kernel (XS scope) co.lines t2 out (in_before program kernel (XS scope) co.lines (λ c. live_in c t2 (out c)) ro l2) in
-        let f1 = fine_joined program kernel out t2 f2 co.lines (fine_reads program kernel (XS scope) b co.lines (λ c. live_in c t2 (out c)) ro l2 good) in
+        let ro = opened_reads program kernel at fn calls here set X0 scope way exit cv.made in
+        let l1 = in_joined program kernel (XS scope) co.lines t2 out (in_before program kernel (XS scope) co.lines
+        (λ c. live_in c t2 (out c)) ro l2) in
+        let f1 = fine_joined program kernel out t2 f2 co.lines (fine_reads program kernel (XS scope) b co.lines
+        (λ c. live_in c t2 (out c)) ro l2 good) in
         fine_joined program kernel out t1 f1 cv.lines
         (expression_fine program kernel at fn calls here set X0 value h.0.0 scope m (λ c. live_in c t1 (out c)) S _
         h.0.1 n.0 w gv (around_less program kernel (XS scope) S b (holds_in at.inside value)
@@ -659,19 +335,27 @@ module _ (program : Program) (kernel : Kernel) (at : Inlining) (fn : ℕ) (calls
               g),
           (in_none program kernel at fn calls here set X0 scope, tt),
         ) in
-        fine_joined program kernel out lines (fine_reads program kernel (XS scope) b lines out r live (around_good program kernel (XS scope) S b around)) ce.lines
-        (expression_fine program kernel at fn calls here set X0 e kt.0 scope m (λ c. live_in c lines (out c)) S t kt.1 n w g around ok (in_before program kernel (XS scope) lines out r live))
+        fine_joined program kernel out lines (fine_reads program kernel (XS scope) b lines out r live
+        (around_good program kernel (XS scope) S b around)) ce.lines
+        (expression_fine program kernel at fn calls here set X0 e kt.0 scope m (λ c. live_in c lines (out c)) S t kt.1 n
+        w g around ok (in_before program kernel (XS scope) lines out r live))
     statement_fine exit (Barrier site) scope m out S t h n w g no_exit around ok live =
-        let good = around_good program kernel (XS scope) S true around in
-        ((λ v u c d i j a b. good.meet v u (live v c i a) (live u d j b)), (λ v c i a. good.cross refl v (live v c i a)), (λ v u c d i j a b. good.meet v u (live v c i a) (live u d j b)))
+        let good = around_good program kernel (XS scope) S true around in (
+          (λ v u c d i j a b. good.meet v u (live v c i a) (live u d j b)),
+          (λ v c i a. good.cross refl v (live v c i a)),
+          (λ v u c d i j a b. good.meet v u (live v c i a) (live u d j b)),
+        )
 
     pub list_fine : (exit : ℕ) (guarded : Test) (list : Statements) (scope : Scope) (m : Made) (out : ℕ →
         Test) (S : List Variable) (t : Text) → AllFit program F list → IsScopedList scope list → W scope →
         Grown nothing kernel (list_code calls here exit guarded list m).made
-        → ((k : ℕ) → way_out_of_all true true list ≡ Some k → Var exit → ⊥) → A scope S (some_holds at.inside list) → Ok program kernel S (statements_before at list t) → L scope out
-        → Go (λ c. live_in c (list_code calls here exit guarded list m).rest (out c)) (list_code calls here exit guarded list m).inside × Go out (list_code calls here exit guarded list m).rest
+        → ((k : ℕ) → way_out_of_all true true list ≡ Some k → Var exit → ⊥) → A scope S (some_holds at.inside list) →
+        Ok program kernel S (statements_before at list t) → L scope out
+        → Go (λ c. live_in c (list_code calls here exit guarded list m).rest (out c))
+        (list_code calls here exit guarded list m).inside × Go out (list_code calls here exit guarded list m).rest
     list_fine exit guarded empty scope m out S t h n w g no_exit around ok live =
-        let f = fine_reads program kernel (XS scope) false NoLine out tt live (around_good program kernel (XS scope) S false around) in (f, f)
+        let f = fine_reads program kernel (XS scope) false NoLine out tt live
+        (around_good program kernel (XS scope) S false around) in (f, f)
     list_fine exit guarded (also s rest) scope m out S t h n w g no_exit around ok live =
         let scope' = scope_after scope s in
         let b = some_holds at.inside rest in
@@ -681,30 +365,36 @@ module _ (program : Program) (kernel : Kernel) (at : Inlining) (fn : ℕ) (calls
         let inner = is_guarded declared way guarded in
         let cs = statement_code calls here exit s m in
         let cr = list_code calls here exit inner rest cs.made in
-        let gr = rest_grown exit declared way cs.lines cr g in
+        let gr = rest_grown program kernel at fn calls here set X0 exit declared way cs.lines cr g in
         let gs = list_back nothing kernel calls set.back here exit inner rest cs.made gr in
         let names = sound_list scope s rest n in
-        let w' = scope_within scope s h.0 w in
+        let w' = scope_within program kernel at fn calls here set X0 scope s h.0 w in
         let no_s : (k : ℕ) → way ≡ Some k → Var exit → ⊥ = λ k e. let z = way_first way way_r k e in no_exit z.0 z.1 in
-        let no_r : (k : ℕ) → way_r ≡ Some k → Var exit → ⊥ = λ k e. let z = way_second way way_r k e in no_exit z.0 z.1 in
-        let around' = around_rest scope s rest S t ok around in
+        let no_r : (k : ℕ) → way_r ≡ Some k → Var exit → ⊥ = λ k e. let z = way_second way way_r k e in
+        no_exit z.0 z.1 in
+        let around' = around_rest program kernel at fn calls here set X0 scope s rest S t ok around in
         let ok' = ok_statement program kernel at set.tail S s (statements_before at rest t) ok in
-        let live' = in_after scope s out live in
+        let live' = in_after program kernel at fn calls here set X0 scope s out live in
         let r = list_fine exit inner rest scope' cs.made out S t h.1 names.1 w' gr no_r around' ok' live' in
         let quiet_r : (c : ℕ) → Var c → IsApart c here scope' → ListQuiet c inner cr =
         λ c v ap_. list_quiet program c calls (set.quiet c) F here exit inner rest scope' h.1 names.1 ap_
-        (λ k e. not_cell c exit (no_r k e) v) cs.made in
-        let both = in_quiet program kernel at fn calls here set X0 (joined_to cr.inside cr.rest) scope' out w' (λ c v ap_. list_joined c inner cr (quiet_r c v ap_)) live' in
+        (λ k e. not_cell program kernel at fn calls here set X0 c exit (no_r k e) v) cs.made in
+        let both = in_quiet program kernel at fn calls here set X0 (joined_to cr.inside cr.rest) scope' out w'
+        (λ c v ap_. list_joined c inner cr (quiet_r c v ap_)) live' in
         let no_way : declared ≡ true → way ≡ None = λ e. declares_none s true true (declared_declares guarded s e) in
-        before_fine guarded declared way exit scope' cs.lines cr out b
+        before_fine program kernel at fn calls here set X0 guarded declared way exit scope' cs.lines cr out b
         (λ o l. statement_fine exit s scope m o S (statements_before at rest t) h.0 names.0 w gs no_s
         (around_less program kernel (XS scope) S _ (holds at.inside s) (λ z. or_left (holds at.inside s) _ z)
         around) ok l) r.0 r.1
         (λ v c i l. both v c i (live_joined c cr.inside cr.rest (out c) ∙ l)) live'
-        (λ e. in_quiet program kernel at fn calls here set X0 cr.rest scope' out w' (λ c v ap_. (list_parts c inner cr (quiet_r c v ap_) e).1) live')
+        (λ e. in_quiet program kernel at fn calls here set X0 cr.rest scope' out w'
+        (λ c v ap_. (list_parts c inner cr (quiet_r c v ap_) e).1) live')
         (λ k e. in_quiet program kernel at fn calls here set X0 (guarded_before k exit cr.inside cr.rest) scope' out w'
-        (λ c v ap_. let z = list_parts c inner cr (quiet_r c v ap_) (inner_true declared way guarded k e no_way) in guarded_quiet c k exit cr.inside cr.rest (not_cell c exit (no_s k e) v) z.0 z.1) live')
-        no_s (around_good program kernel (XS scope') S b around') (λ f. (list_cutless calls at.inside set.cutless here exit inner rest f cs.made).0)
+        (λ c v ap_. let z = list_parts c inner cr (quiet_r c v ap_) (inner_true declared way guarded k e no_way) in
+        guarded_quiet c k exit cr.inside cr.rest (not_cell program kernel at fn calls here set X0 c exit (no_s k e)
+        v) z.0 z.1) live')
+        no_s (around_good program kernel (XS scope') S b around')
+        (λ f. (list_cutless calls at.inside set.cutless here exit inner rest f cs.made).0)
 
     arms_fine : (exit site ch : ℕ) (fallen : Atom) (k : ℕ) (arms : Arms) (scope : Scope) (m : Made) (out : ℕ →
         Test) (S : List Variable) (t : Text) → ArmsFit program F arms → AreScopedArms scope arms → W scope →
@@ -716,7 +406,8 @@ module _ (program : Program) (kernel : Kernel) (at : Inlining) (fn : ℕ) (calls
     arms_fine exit site ch fallen k no_arm scope m out S t h n w g no_exit ch_not rf around ok live =
         fine_reads program kernel (XS scope) false NoLine out tt live (around_good program kernel (XS scope) S false
         around)
-    arms_fine exit site ch fallen k (arm labels default body rest) scope m out S t h n w g no_exit ch_not rf around ok live =
+    arms_fine exit site ch fallen k (arm labels default body rest) scope m out S t h n w g no_exit ch_not rf around ok
+        live =
         let b = some_holds at.inside body || arms_hold at.inside rest in
         let way = way_out_of_all true true body in
         let way_r = way_out_of_arms true true rest in
@@ -725,7 +416,8 @@ module _ (program : Program) (kernel : Kernel) (at : Inlining) (fn : ℕ) (calls
         let lb = joined_to cl.inside cl.rest in
         let cf = fallen_code way exit ce.value cl.made in
         let cr = arms_code calls here exit site (CellAtom ch) cf.value.atom (k + 1) rest cf.made in
-        let gf = arms_back nothing kernel calls set.back here exit site (CellAtom ch) cf.value.atom (k + 1) rest cf.made g in
+        let gf = arms_back nothing kernel calls set.back here exit site (CellAtom ch) cf.value.atom (k + 1) rest cf.made
+        g in
         let gl = fallen_back nothing kernel way exit ce.value cl.made gf in
         let ge = list_back nothing kernel calls set.back here exit false body ce.made gl in
         let m1 = with_cell m OfValue Int in
@@ -735,13 +427,15 @@ module _ (program : Program) (kernel : Kernel) (at : Inlining) (fn : ℕ) (calls
         let good = around_good program kernel (XS scope) S b around in
         let sb = branch_scoped scope body n.0 in
         let no_b : (j : ℕ) → way ≡ Some j → Var exit → ⊥ = λ j e. let z = way_first way way_r j e in no_exit z.0 z.1 in
-        let no_r : (j : ℕ) → way_r ≡ Some j → Var exit → ⊥ = λ j e. let z = way_second way way_r j e in no_exit z.0 z.1 in
+        let no_r : (j : ℕ) → way_r ≡ Some j → Var exit → ⊥ = λ j e. let z = way_second way way_r j e in
+        no_exit z.0 z.1 in
         let rn1 = in_cell program kernel at fn calls here set X0 scope n1 n1_not in
-        let kf = fallen_reads scope way exit ce.value cl.made no_b rn1 gf in
+        let kf = fallen_reads program kernel at fn calls here set X0 scope way exit ce.value cl.made no_b rn1 gf in
         let not_fallen : (c : ℕ) → Var c → reads c cf.value.atom ≡ false =
         λ c v. elim (true_or_false (reads c cf.value.atom)) [
           | inl e ↦
-              absurd (fallen_not way exit ce.value cl.made (λ z. n1_not z) gf c v e)
+              absurd (fallen_not program kernel at fn calls here set X0 way exit ce.value cl.made (λ z. n1_not z) gf c v
+              e)
           | inr e ↦ e
         ] in
         let ok_r = ok_statements program kernel at set.tail S body _ ok in
@@ -750,7 +444,8 @@ module _ (program : Program) (kernel : Kernel) (at : Inlining) (fn : ℕ) (calls
         (λ z. or_right (some_holds at.inside body) _ z) around) ok_r live in
         let live_r = in_quiet program kernel at fn calls here set X0 cr.lines scope out w
         (λ c v ap_. arms_quiet program c calls (set.quiet c) F here exit site (CellAtom ch) cf.value.atom (k + 1) rest
-        scope h.1 n.1 ap_ (λ j e. not_cell c exit (no_r j e) v) (not_cell c ch ch_not v) (not_fallen c v)
+        scope h.1 n.1 ap_ (λ j e. not_cell program kernel at fn calls here set X0 c exit (no_r j e) v)
+        (not_cell program kernel at fn calls here set X0 c ch ch_not v) (not_fallen c v)
         cf.made) live in
         let out1 : ℕ → Test = λ c. live_in c cr.lines (out c) in
         let live_f = in_before program kernel (XS scope) cf.lines out1 kf.0 live_r in
@@ -762,14 +457,15 @@ module _ (program : Program) (kernel : Kernel) (at : Inlining) (fn : ℕ) (calls
         let fine_b = fine_joined program kernel out2 cl.rest rb.1 cl.inside rb.0 in
         let live_b = in_quiet program kernel at fn calls here set X0 lb scope out2 w
         (λ c v ap_. list_joined c false cl (list_quiet program c calls (set.quiet c) F here exit false body scope
-        h.0 sb ap_ (λ j e. not_cell c exit (no_b j e) v) ce.made)) live_f in
+        h.0 sb ap_ (λ j e. not_cell program kernel at fn calls here set X0 c exit (no_b j e) v) ce.made)) live_f in
         let branch = IfThen site (CellAtom n1) lb NoLine NoLine in
         let held = held_by program kernel at fn calls here set X0 b lb NoLine
         (λ f. let p = or_parts (some_holds at.inside body) (arms_hold at.inside rest) f in (
           list_joined_cutless cl (list_cutless calls at.inside set.cutless here exit false body p.0 ce.made),
           record { is = refl },
         )) in
-        let fine_i = fine_if program kernel (XS scope) b site (CellAtom n1) lb NoLine out2 good held rn1 live_f live_b live_f fine_b (fine_reads program kernel (XS scope) b NoLine out2 tt live_f good) in
+        let fine_i = fine_if program kernel (XS scope) b site (CellAtom n1) lb NoLine out2 good held rn1 live_f live_b
+        live_f fine_b (fine_reads program kernel (XS scope) b NoLine out2 tt live_f good) in
         let live_i = in_two program kernel at fn calls here set X0 scope (λ c. reads c (CellAtom n1))
         (λ c. live_in c lb (out2 c) || out2 c) rn1 (in_two program kernel at fn calls here set X0 scope
         (λ c. live_in c lb (out2 c)) out2 live_b live_f) in
@@ -780,7 +476,13 @@ module _ (program : Program) (kernel : Kernel) (at : Inlining) (fn : ℕ) (calls
           in_two program kernel at fn calls here set X0 scope (λ c. reads c (CellAtom ch)) (λ c. false)
               (in_cell program kernel at fn calls here set X0 scope ch ch_not)
               (in_none program kernel at fn calls here set X0 scope),
-          (in_two program kernel at fn calls here set X0 scope (λ c. reads c fallen) (λ c. reads c (CellAtom (next_cell m))) rf (in_cell program kernel at fn calls here set X0 scope (next_cell m) n0_not), tt),
+          (
+            in_two program kernel at fn calls here set X0 scope (λ c. reads c fallen)
+                (λ c. reads c (CellAtom (next_cell m))) rf (in_cell program kernel at fn calls here set X0 scope
+                (next_cell m) n0_not),
+            tt,
+          ),
         ) in
-        let fine1 = fine_joined program kernel out1 rest2 fine2 ce.lines (fine_reads program kernel (XS scope) b ce.lines (λ c. live_in c rest2 (out1 c)) re live2 good) in
+        let fine1 = fine_joined program kernel out1 rest2 fine2 ce.lines
+        (fine_reads program kernel (XS scope) b ce.lines (λ c. live_in c rest2 (out1 c)) re live2 good) in
         fine_joined program kernel out cr.lines fine_r (joined_to ce.lines rest2) fine1

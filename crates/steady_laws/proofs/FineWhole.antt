@@ -46,7 +46,8 @@ use Rattle.steady_laws.proofs.Fine.{Fine, has_cuts_if_fine}
 use Rattle.steady_laws.proofs.FineRules.{In, ReadsIn, in_before, fine_reads, fine_joined, Ok, all_ok, held_statements}
 use Rattle.steady_laws.proofs.FineCode.{nothing, cell_is_variable, FineLines, Around, around_good, CallsFine}
 use Rattle.steady_laws.proofs.FineCode.{Standing, in_quiet, in_joined}
-use Rattle.steady_laws.proofs.FineStatements.{opened_reads, opened_not, not_cell, list_fine}
+use Rattle.steady_laws.proofs.FineSteps.{opened_reads, opened_not, not_cell}
+use Rattle.steady_laws.proofs.FineStatements.{list_fine}
 use Rattle.steady_laws.proofs.TextSame.{text_deeper}
 
 parameters_cut : (at : Inlining) (n : ℕ) (t : Text) → has_cut t ≡ true → has_cut (parameters_before at n t) ≡ true

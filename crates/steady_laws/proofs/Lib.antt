@@ -17,12 +17,14 @@ pub mod Arms
 pub mod Entries
 pub mod Parts
 pub mod Switches
+pub mod PlainStatements
 pub mod Statements
 pub mod Bodies
 pub mod Wholes
 pub mod Fine
 pub mod FineRules
 pub mod FineCode
+pub mod FineSteps
 pub mod FineStatements
 pub mod TextSame
 pub mod FineWhole

@@ -26,7 +26,8 @@ use Rattle.varying_laws.proofs.Steps.{Quiet, Onto, onto_same, onto_then, onto_ch
 use Rattle.varying_laws.proofs.Steps.{flag_on, left_marked, Apart}
 use Rattle.varying_laws.proofs.Full.{by_itself, by_marks, by_some, by_second, Facts}
 use Rattle.varying_laws.proofs.Scopes.{Cover}
-use Rattle.varying_laws.proofs.FullRounds.{given, Outs, all_full}
+use Rattle.varying_laws.proofs.WaysOut.{given, Outs}
+use Rattle.varying_laws.proofs.FullRounds.{all_full}
 
 -- what the marks obey in a function
 pub record Rules (program : Program) (M : ℕ → Key → Bool) (f : ℕ) : Type 0 where

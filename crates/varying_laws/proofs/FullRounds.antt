@@ -1,10 +1,11 @@
 -- What varies is marked: in a round that adds nothing, what is found in a statement obeys the rules.
-use Rattle.std.proofs.Common.{◌≡◌, ℕ, ℤ, Bool, true, false, ◌||◌, cond, List, [], ◌∷◌, ◌++◌, Option, Some, None, ◌⊎◌, inl, inr, refl, sym, ap, ◌∙◌, subst}
+use Rattle.std.proofs.Common.{◌≡◌, ℕ, Bool, true, false, ◌||◌, cond, List, ◌∷◌, ◌++◌, Option, Some, None, ◌⊎◌, inl, inr}
+use Rattle.std.proofs.Common.{refl, sym, ap, ◌∙◌, subst}
 use Rattle.std.proofs.lemmas.Bool.{eqb-true}
 use Rattle.std.proofs.lemmas.Option.{none-some}
-use Rattle.cl_model.specs.Tree.{Set, Expression, Apply, Expressions, single, Statement, Do, Declare, Fill, Block, If}
-use Rattle.cl_model.specs.Tree.{Loop, Switch, Break, Continue, Return, Barrier, Statements, empty, also, Arms, no_arm}
-use Rattle.cl_model.specs.Tree.{arm, Function, Program}
+use Rattle.cl_model.specs.Tree.{Set, Expression, Apply, single, Statement, Do, Declare, Fill, Block, If, Loop, Switch}
+use Rattle.cl_model.specs.Tree.{Break, Continue, Return, Barrier, Statements, empty, also, Arms, no_arm, arm, Function}
+use Rattle.cl_model.specs.Tree.{Program}
 use Rattle.cl_model.specs.Lists.{IsOneOf}
 use Rattle.cl_model.specs.Calls.{function_at}
 use Rattle.cl_model.specs.Valid.{Scope, Has, IsScopedList, scope_after, sites_in, sites_among, sites_in_optional}
@@ -18,15 +19,15 @@ use Rattle.diverge.specs.declared.known.Entry.{Entry}
 use Rattle.diverge.specs.declared.known.Spot.{Spot}
 use Rattle.diverge.specs.declared.known.Ways.{Ways}
 use Rattle.diverge.specs.Known as known
-use Rattle.diverge.specs.Known.{State, absent, variable_at, result_at, with_variable, same_guard, behind, joined}
-use Rattle.diverge.specs.Rounds.{Seen, seen_in, seen_among, seen_optional, unseen, closed, gone_over, gone_over_all, gone_over_arms}
-use Rattle.cl_agreement.proofs.Keeps.{or_left, or_right, Key, Answer, Cell, HasKey, gives_in, gives_among, gives_optional, gives, some_give, arms_give, has_after}
+use Rattle.diverge.specs.Known.{State, variable_at, result_at, same_guard, behind, joined}
+use Rattle.diverge.specs.Rounds.{Seen, seen_in, seen_among, seen_optional, unseen, closed, gone_over, gone_over_all}
+use Rattle.diverge.specs.Rounds.{gone_over_arms}
+use Rattle.cl_agreement.proofs.Keeps.{or_left, or_right, Key, Answer, Cell, HasKey, gives_in, gives_among}
+use Rattle.cl_agreement.proofs.Keeps.{gives_optional, gives, some_give, arms_give, has_after}
 use Rattle.cl_agreement.proofs.Parts.{in_left, in_right, conditions_also, GoodOptional, GoodRun, GoodList, GoodArms}
 use Rattle.cl_agreement.proofs.Parts.{good_do, good_declare, good_fill, good_block, good_if, good_loop, good_switch}
-use Rattle.cl_agreement.proofs.Parts.{good_return, good_also, good_arm, if_condition, turn_condition}
-use Rattle.cl_agreement.proofs.Parts.{switch_condition}
+use Rattle.cl_agreement.proofs.Parts.{good_return, good_also, good_arm, if_condition, turn_condition, switch_condition}
 use Rattle.cl_agreement.proofs.Values.{InBody, UnderBody, BackBody, cond_gives}
-use Rattle.cl_agreement.proofs.Nesting.{in_either}
 use Rattle.varying_laws.proofs.Slots.{entry, with_key}
 use Rattle.varying_laws.proofs.Sound.{either}
 use Rattle.varying_laws.proofs.Steps.{Onto, onto_same, onto_then, onto_change, onto_declare, landed_here, Final}
@@ -35,9 +36,14 @@ use Rattle.varying_laws.proofs.Steps.{apart_right, apart_rest, apart_on, apart_u
 use Rattle.varying_laws.proofs.Full.{by_marks, Facts, facts_none, facts_both, facts_less, facts_on, facts_node}
 use Rattle.varying_laws.proofs.Full.{facts_condition, facts_inner, sp, fun, assign_onto, assign_marked, seen_full}
 use Rattle.varying_laws.proofs.Full.{among_full}
-use Rattle.varying_laws.proofs.Scopes.{no_exit, no_exit_optional, no_exit_among, Cover, inner_declarations}
-use Rattle.varying_laws.proofs.Scopes.{cover_first, cover_rest, cover_declared, cover_chosen, cover_other, cover_body}
-use Rattle.varying_laws.proofs.Scopes.{cover_arms, cover_arm, cover_arms_rest}
+use Rattle.varying_laws.proofs.Scopes.{no_exit, no_exit_optional, no_exit_among, Cover, inner_declarations, cover_first}
+use Rattle.varying_laws.proofs.Scopes.{cover_rest, cover_declared, cover_chosen, cover_other, cover_body, cover_arms}
+use Rattle.varying_laws.proofs.Scopes.{cover_arm, cover_arms_rest}
+use Rattle.varying_laws.proofs.WaysOut.{given, Outs, outs_quiet, outs_both, behind_held, joined_held, outs_condition}
+use Rattle.varying_laws.proofs.WaysOut.{outs_behind, do_gives, declare_gives, no_gives, lone_declare, lone_break}
+use Rattle.varying_laws.proofs.WaysOut.{lone_continue, lone_barrier, fill_gives, block_gives, if_splits, branch_splits}
+use Rattle.varying_laws.proofs.WaysOut.{switch_splits, arms_given, also_splits, arm_splits, turn_gives, loop_splits}
+use Rattle.varying_laws.proofs.WaysOut.{turn_given, none_given, no_arm_given, value_of_single, swap}
 
 module _ (program : Program) (M : ℕ → Key → Bool) (f : ℕ) where
   abbrev BM : Expression → Bool
@@ -45,170 +51,6 @@ module _ (program : Program) (M : ℕ → Key → Bool) (f : ℕ) where
 
   abbrev FA : Scope → Option ℕ → State → State → List Expression → List Condition → (Key → Bool) → Type 0
   FA = Facts program M f
-
-  abbrev pub given : ℕ → Bool
-  given y = some_assigns (function_at program f).body y
-
-  -- of code with these conditions and returns, and ways out under conditions that vary or not
-  pub record Outs (sc : Scope) (conds : List Condition) (rets : List Expression) (escapes : Bool) : Type 0 where
-    pub out : (c : Condition) → IsOneOf conds c → by_marks program M f c.test ≡ true → c.exits ≡ true → escapes ≡ true
-    pub beside : (c : Condition) → IsOneOf conds c → by_marks program M f c.test ≡ true → c.exits ≡ true → (k : Key) →
-        HasKey c.scope k → some_give (function_at program f).body k ≡ true → HasKey sc k ⊎ (M f k ≡ true)
-    pub back : (e : Expression) → IsOneOf rets e → by_marks program M f e ≡ true → M f Answer ≡ true
-
-  outs_quiet : (sc : Scope) (conds : List Condition) (escapes : Bool) → ((c : Condition) → IsOneOf conds c → c.exits ≡ false) → Outs sc conds [] escapes
-  outs_quiet sc conds escapes lone = record {
-    out = λ c m v x. absurd (let q : true ≡ false = sym x ∙ lone c m in cc q);
-    beside = λ c m v x. absurd (let q : true ≡ false = sym x ∙ lone c m in cc q);
-    back = λ e m. absurd m;
-  }
-
-  outs_both : (sc sc' : Scope) (cs ds : List Condition) (rs qs : List Expression) (one two both : Bool) →
-      (one ≡ true → both ≡ true) → (two ≡ true → both ≡ true) →
-      ((k : Key) → HasKey sc' k → two ≡ true → some_give (function_at program f).body k ≡ true →
-      HasKey sc k ⊎ (M f k ≡ true))
-      → Outs sc cs rs one → Outs sc' ds qs two → Outs sc (cs ++ ds) (rs ++ qs) both
-  outs_both sc sc' cs ds rs qs one two both first second close F G = record {
-    out = λ c i v x. elim (in_either cs ds c i) [ inl j ↦ first (F.out c j v x) | inr j ↦ second (G.out c j v x) ];
-    beside = λ c i v x k has on. elim (in_either cs ds c i) [
-      | inl j ↦ F.beside c j v x k has on
-      | inr j ↦ elim (G.beside c j v x k has on) [ inl h ↦ close k h (G.out c j v x) on | inr h ↦ inr h ]
-    ];
-    back = λ e i. elim (in_either rs qs e i) [ inl j ↦ F.back e j | inr j ↦ G.back e j ];
-  }
-
-  outs_less : (sc : Scope) (cs ds : List Condition) (rs qs : List Expression) (escapes : Bool) →
-      ((c : Condition) → IsOneOf ds c → IsOneOf cs c) → ((e : Expression) → IsOneOf qs e → IsOneOf rs e) →
-      Outs sc cs rs escapes → Outs sc ds qs escapes
-  outs_less sc cs ds rs qs escapes cd rq F = record { out = λ c m. F.out c (cd c m); beside = λ c m. F.beside c (cd c m); back = λ e m. F.back e (rq e m) }
-
-  behind_on : (varies : Bool) (ways : Ways) → (ways.escapes ≡ true → ways.exits ≡ true) → ways.escapes ≡ true → (behind varies ways).escapes ≡ true
-  behind_on true ways held h = held h
-  behind_on false ways held h = h
-
-  behind_held : (varies : Bool) (ways : Ways) → (ways.escapes ≡ true → ways.exits ≡ true) → (behind varies ways).escapes ≡ true → (behind varies ways).exits ≡ true
-  behind_held true ways held h = h
-  behind_held false ways held h = held h
-
-  behind_now : (varies : Bool) (ways : Ways) → varies ≡ true → ways.exits ≡ true → (behind varies ways).escapes ≡ true
-  behind_now true ways v h = h
-  behind_now false ways v h = cc v
-
-  joined_held : (a b : Ways) → (a.escapes ≡ true → a.exits ≡ true) → (b.escapes ≡ true → b.exits ≡ true) → (joined a b).escapes ≡ true → (joined a b).exits ≡ true
-  joined_held a b ha hb h = elim (either a.escapes b.escapes h) [ inl q ↦ or_left a.exits b.exits (ha q) | inr q ↦ or_right a.exits b.exits (hb q) ]
-
-  outs_condition : (sc : Scope) (c : Condition) (cs : List Condition) (rs : List Expression) (varies : Bool)
-      (ways : Ways) → (by_marks program M f c.test ≡ true → varies ≡ true) → (c.exits ≡ true → ways.exits ≡ true) →
-      (ways.escapes ≡ true → ways.exits ≡ true) → ((k : Key) → HasKey c.scope k → HasKey sc k)
-      → Outs sc cs rs ways.escapes → Outs sc (c ∷ cs) rs (behind varies ways).escapes
-  outs_condition sc c cs rs varies ways value out held inside F = record {
-    out = λ d i v x. elim i [
-      | inl q ↦ behind_now varies ways (value (subst (λ (z : Condition). by_marks program M f z.test ≡ true) (sym q) v)) (out (ap (λ (z : Condition). z.exits) q ∙ x))
-      | inr j ↦ behind_on varies ways held (F.out d j v x)
-    ];
-    beside = λ d i v x k has on. elim i [ inl q ↦ inl (inside k (subst (λ (z : Condition). HasKey z.scope k) (sym q) has)) | inr j ↦ F.beside d j v x k has on ];
-    back = F.back;
-  }
-
-  outs_behind : (sc : Scope) (cs : List Condition) (rs : List Expression) (varies : Bool) (ways : Ways) →
-      (ways.escapes ≡ true → ways.exits ≡ true) → Outs sc cs rs ways.escapes →
-      Outs sc cs rs (behind varies ways).escapes
-  outs_behind sc cs rs varies ways held F = record { out = λ d i v x. behind_on varies ways held (F.out d i v x); beside = F.beside; back = F.back }
-
-  -- what gives a value
-
-  do_gives : (e : Expression) (k : Key) → gives (Do e) k ≡ true → gives_in e k ≡ true
-  do_gives e Answer h = cc h
-  do_gives e (Cell x) h = h
-
-  declare_gives : (y : ℕ) (e : Expression) (k : Key) → gives (Declare y (Some e)) k ≡ true → gives_in e k ≡ true
-  declare_gives y e Answer h = cc h
-  declare_gives y e (Cell x) h = h
-
-  no_gives : (s : Statement) (k : Key) → gives s k ≡ gives (Barrier 0) k → gives s k ≡ true → ⊥
-  no_gives s Answer e h = let q : true ≡ false = sym h ∙ e in cc q
-  no_gives s (Cell x) e h = let q : true ≡ false = sym h ∙ e in cc q
-
-  lone_declare : (y : ℕ) (k : Key) → gives (Declare y None) k ≡ gives (Barrier 0) k
-  lone_declare y Answer = refl
-  lone_declare y (Cell x) = refl
-
-  lone_break : (site : ℕ) (k : Key) → gives (Break site) k ≡ gives (Barrier 0) k
-  lone_break site Answer = refl
-  lone_break site (Cell x) = refl
-
-  lone_continue : (site : ℕ) (k : Key) → gives (Continue site) k ≡ gives (Barrier 0) k
-  lone_continue site Answer = refl
-  lone_continue site (Cell x) = refl
-
-  lone_barrier : (site : ℕ) (k : Key) → gives (Barrier site) k ≡ gives (Barrier 0) k
-  lone_barrier site Answer = refl
-  lone_barrier site (Cell x) = refl
-
-  fill_gives : (site array : ℕ) (es : Expressions) (k : Key) → gives (Fill site array es) k ≡ true → gives_among es k ≡ true
-  fill_gives site array es Answer h = cc h
-  fill_gives site array es (Cell x) h = h
-
-  block_gives : (list : Statements) (k : Key) → gives (Block list) k ≡ true → some_give list k ≡ true
-  block_gives list Answer h = h
-  block_gives list (Cell x) h = h
-
-  if_splits : (sc : Scope) (site : ℕ) (t : Expression) (a b : Statements) (k : Key) → gives (If site t a b) k ≡ true →
-      (gives_in t k ≡ true) ⊎ (cond_gives program f (if_condition sc t a b) k ≡ true)
-  if_splits sc site t a b Answer h = inr h
-  if_splits sc site t a b (Cell x) h = either _ _ h
-
-  branch_splits : (sc : Scope) (t : Expression) (a b : Statements) (k : Key) → cond_gives program f (if_condition sc t a b) k ≡ true → (some_give a k ≡ true) ⊎ (some_give b k ≡ true)
-  branch_splits sc t a b Answer h = either _ _ h
-  branch_splits sc t a b (Cell x) h = either _ _ h
-
-  switch_splits : (sc : Scope) (site : ℕ) (v : Expression) (arms : Arms) (k : Key) →
-      gives (Switch site v arms) k ≡ true → (gives_in v k ≡ true) ⊎
-      (cond_gives program f (switch_condition sc v arms) k ≡ true)
-  switch_splits sc site v arms Answer h = inr h
-  switch_splits sc site v arms (Cell x) h = either _ _ h
-
-  arms_given : (sc : Scope) (v : Expression) (arms : Arms) (k : Key) → cond_gives program f (switch_condition sc v arms) k ≡ true → arms_give arms k ≡ true
-  arms_given sc v arms Answer h = h
-  arms_given sc v arms (Cell x) h = h
-
-  also_splits : (s : Statement) (rest : Statements) (k : Key) → some_give (also s rest) k ≡ true → (gives s k ≡ true) ⊎ (some_give rest k ≡ true)
-  also_splits s rest Answer h = either _ _ h
-  also_splits s rest (Cell x) h = either _ _ h
-
-  arm_splits : (labels : List ℤ) (other : Bool) (body : Statements) (rest : Arms) (k : Key) →
-      arms_give (arm labels other body rest) k ≡ true → (some_give body k ≡ true) ⊎ (arms_give rest k ≡ true)
-  arm_splits labels other body rest Answer h = either _ _ h
-  arm_splits labels other body rest (Cell x) h = either _ _ h
-
-  -- the step and the body of a loop
-  abbrev turn_gives : Option Expression → Statement → Key → Bool
-  turn_gives st b k = gives_optional st k || gives b k
-
-  loop_splits : (site : ℕ) (first : Bool) (t st : Option Expression) (b : Statement) (k : Key) → gives (Loop site first t st b) k ≡ true → (gives_optional t k ≡ true) ⊎ (turn_gives st b k ≡ true)
-  loop_splits site first t st b Answer h = inr h
-  loop_splits site first t st b (Cell x) h = either _ _ h
-
-  turn_given : (sc : Scope) (site : ℕ) (first : Bool) (t : Expression) (st : Option Expression) (b : Statement)
-      (k : Key) → cond_gives program f (turn_condition sc t st b) k ≡ true →
-      gives (Loop site first (Some t) st b) k ≡ true
-  turn_given sc site first t st b Answer h = h
-  turn_given sc site first t st b (Cell x) h = h
-
-  none_given : (k : Key) → some_give empty k ≡ true → ⊥
-  none_given Answer h = cc h
-  none_given (Cell x) h = cc h
-
-  no_arm_given : (k : Key) → arms_give no_arm k ≡ true → ⊥
-  no_arm_given Answer h = cc h
-  no_arm_given (Cell x) h = cc h
-
-  value_of_single : (e : Expression) → by_marks program M f (Apply (Set 0) (single e)) ≡ true → by_marks program M f e ≡ true
-  value_of_single e h = elim (either (by_marks program M f e) false h) [ inl q ↦ q | inr q ↦ cc q ]
-
-  swap : (c d : Condition) (xs ys : List Condition) → IsOneOf (c ∷ (xs ++ ys)) d → IsOneOf (xs ++ (c ∷ ys)) d
-  swap c d xs ys (inl q) = in_right xs (c ∷ ys) d (inl q)
-  swap c d xs ys (inr h) = elim (in_either xs ys d h) [ inl i ↦ in_left xs (c ∷ ys) d i | inr i ↦ in_right xs (c ∷ ys) d (inr i) ]
 
   module _ (valid : IsValid program) where
     abbrev S : Option ℕ → Spot
@@ -229,11 +71,12 @@ module _ (program : Program) (M : ℕ → Key → Bool) (f : ℕ) where
     abbrev F' : Function
     F' = fun program M f valid
 
-    optional_full : (e : Option Expression) (sc : Scope) (guard : Option ℕ) (s : State) → GO sc e → Apart f guard s sc (sites_in_optional e)
-        → let r = seen_optional F' (S guard) e s in
+    optional_full : (e : Option Expression) (sc : Scope) (guard : Option ℕ) (s : State) → GO sc e →
+        Apart f guard s sc (sites_in_optional e) → let r = seen_optional F' (S guard) e s in
         Onto f sc s r.state × (Final M r.state → ((x : Expression) → e ≡ Some x → BM x ≡ true → r.varies ≡ true) ×
         FA sc guard s r.state (parts_of_optional e) (conditions_in_optional sc e) (gives_optional e))
-    optional_full None sc guard s ok apart = (onto_same f sc s, λ fin. ((λ x q. cc q), facts_none program M f sc guard s s (gives_optional None) lone))
+    optional_full None sc guard s ok apart =
+        (onto_same f sc s, λ fin. ((λ x q. cc q), facts_none program M f sc guard s s (gives_optional None) lone))
       where
         lone : (k : Key) → gives_optional None k ≡ true → ⊥
         lone Answer h = cc h
@@ -244,7 +87,8 @@ module _ (program : Program) (M : ℕ → Key → Bool) (f : ℕ) where
           r.0,
           λ fin. let F = r.1 fin in (
             (λ x q v. F.0 (some_marks e x q v)),
-            facts_less program M f sc guard s t (parts_of e) (parts_of e) (conditions_in sc e) (conditions_in sc e) (gives_in e) (gives_optional (Some e)) (λ d m. m) (λ d m. m) (given' e) F.1,
+            facts_less program M f sc guard s t (parts_of e) (parts_of e) (conditions_in sc e) (conditions_in sc e)
+                (gives_in e) (gives_optional (Some e)) (λ d m. m) (λ d m. m) (given' e) F.1,
           ),
         )
       where
@@ -256,8 +100,10 @@ module _ (program : Program) (M : ℕ → Key → Bool) (f : ℕ) where
         given' e (Cell x) h = h
 
     -- declarations
-    declare_onto : (sc : Scope) (guard : Option ℕ) (y : ℕ) (varies : Bool) (s : State) → (Has sc y → ⊥) → Onto f sc s (known.declare (S guard) y varies s)
-    declare_onto sc guard y varies s ne = onto_declare f sc y (known.declared guard varies (variable_at s f y)) s (λ h. or_left _ varies h) (λ h. h) ne
+    declare_onto : (sc : Scope) (guard : Option ℕ) (y : ℕ) (varies : Bool) (s : State) → (Has sc y → ⊥) →
+        Onto f sc s (known.declare (S guard) y varies s)
+    declare_onto sc guard y varies s ne =
+        onto_declare f sc y (known.declared guard varies (variable_at s f y)) s (λ h. or_left _ varies h) (λ h. h) ne
 
     -- conditions are apart behind a statement too
     apart_behind : (x : Statement) (sc : Scope) (guard : Option ℕ) (s : State) (sites : List ℕ) → let t =
@@ -284,31 +130,45 @@ module _ (program : Program) (M : ℕ → Key → Bool) (f : ℕ) where
               | inl e ↦ a.around i (sym (ap (λ (x : Entry). x.since) e) ∙ h') m
               | inr e ↦ none-some i (sym (ap (λ (x : Entry). x.since) e) ∙ h')
             ]
-    apart_behind (Do d) sc guard s sites onto a = apart_on f guard s (gone_over F' (S guard) (Do d) s).state sc sites onto a
-    apart_behind (Fill site array es) sc guard s sites onto a = apart_on f guard s (gone_over F' (S guard) (Fill site array es) s).state sc sites onto a
-    apart_behind (Block list) sc guard s sites onto a = apart_on f guard s (gone_over F' (S guard) (Block list) s).state sc sites onto a
-    apart_behind (If site t x y) sc guard s sites onto a = apart_on f guard s (gone_over F' (S guard) (If site t x y) s).state sc sites onto a
-    apart_behind (Loop site first t st b) sc guard s sites onto a = apart_on f guard s (gone_over F' (S guard) (Loop site first t st b) s).state sc sites onto a
-    apart_behind (Switch site v arms) sc guard s sites onto a = apart_on f guard s (gone_over F' (S guard) (Switch site v arms) s).state sc sites onto a
-    apart_behind (Break site) sc guard s sites onto a = apart_on f guard s (gone_over F' (S guard) (Break site) s).state sc sites onto a
-    apart_behind (Continue site) sc guard s sites onto a = apart_on f guard s (gone_over F' (S guard) (Continue site) s).state sc sites onto a
-    apart_behind (Return site value) sc guard s sites onto a = apart_on f guard s (gone_over F' (S guard) (Return site value) s).state sc sites onto a
-    apart_behind (Barrier site) sc guard s sites onto a = apart_on f guard s (gone_over F' (S guard) (Barrier site) s).state sc sites onto a
+    apart_behind (Do d) sc guard s sites onto a =
+        apart_on f guard s (gone_over F' (S guard) (Do d) s).state sc sites onto a
+    apart_behind (Fill site array es) sc guard s sites onto a =
+        apart_on f guard s (gone_over F' (S guard) (Fill site array es) s).state sc sites onto a
+    apart_behind (Block list) sc guard s sites onto a =
+        apart_on f guard s (gone_over F' (S guard) (Block list) s).state sc sites onto a
+    apart_behind (If site t x y) sc guard s sites onto a =
+        apart_on f guard s (gone_over F' (S guard) (If site t x y) s).state sc sites onto a
+    apart_behind (Loop site first t st b) sc guard s sites onto a =
+        apart_on f guard s (gone_over F' (S guard) (Loop site first t st b) s).state sc sites onto a
+    apart_behind (Switch site v arms) sc guard s sites onto a =
+        apart_on f guard s (gone_over F' (S guard) (Switch site v arms) s).state sc sites onto a
+    apart_behind (Break site) sc guard s sites onto a =
+        apart_on f guard s (gone_over F' (S guard) (Break site) s).state sc sites onto a
+    apart_behind (Continue site) sc guard s sites onto a =
+        apart_on f guard s (gone_over F' (S guard) (Continue site) s).state sc sites onto a
+    apart_behind (Return site value) sc guard s sites onto a =
+        apart_on f guard s (gone_over F' (S guard) (Return site value) s).state sc sites onto a
+    apart_behind (Barrier site) sc guard s sites onto a =
+        apart_on f guard s (gone_over F' (S guard) (Barrier site) s).state sc sites onto a
 
     leave_onto : (sc : Scope) (k : Key) (s : State) → Onto f sc s (with_key f k (known.left (entry s f k)) s)
     leave_onto sc k s = onto_change f sc f k (known.left (entry s f k)) s (λ h. or_left _ _ h) (λ h. h) refl
 
     -- the end of the scope of a declaration
-    closed_full : (sc : Scope) (x : Statement) (escapes : Bool) (guard : Option ℕ) (s : State) → let t = closed (S guard) x escapes s in
+    closed_full : (sc : Scope) (x : Statement) (escapes : Bool) (guard : Option ℕ) (s : State) → let t =
+        closed (S guard) x escapes s in
         Onto f sc s t × (Final M t → (k : Key) → HasKey (scope_after sc x) k → escapes ≡ true →
         ((y : ℕ) (value : Option Expression) → x ≡ Declare y value → k ≡ Cell y → Flag M f s (Cell y)) →
         HasKey sc k ⊎ (M f k ≡ true))
-    closed_full sc (Declare y value) true guard s = (leave_onto sc (Cell y) s, λ fin k has e flag. by_key fin k has (flag y value refl))
+    closed_full sc (Declare y value) true guard s =
+        (leave_onto sc (Cell y) s, λ fin k has e flag. by_key fin k has (flag y value refl))
       where
-        by_key : Final M (with_key f (Cell y) (known.left (entry s f (Cell y))) s) → (k : Key) → HasKey (y ∷ sc) k → (k ≡ Cell y → Flag M f s (Cell y)) → HasKey sc k ⊎ (M f k ≡ true)
+        by_key : Final M (with_key f (Cell y) (known.left (entry s f (Cell y))) s) → (k : Key) → HasKey (y ∷ sc) k →
+            (k ≡ Cell y → Flag M f s (Cell y)) → HasKey sc k ⊎ (M f k ≡ true)
         by_key fin Answer has flag = inl tt
         by_key fin (Cell z) (inr has) flag = inl has
-        by_key fin (Cell z) (inl q) flag = inr (subst (λ w. M f (Cell w) ≡ true) q (left_marked M f (Cell y) s fin (flag (ap Cell (sym q)))))
+        by_key fin (Cell z) (inl q) flag =
+            inr (subst (λ w. M f (Cell w) ≡ true) q (left_marked M f (Cell y) s fin (flag (ap Cell (sym q)))))
     closed_full sc (Do d) true guard s = (onto_same f sc s, λ fin k has e flag. inl has)
     closed_full sc (Fill site array es) true guard s = (onto_same f sc s, λ fin k has e flag. inl has)
     closed_full sc (Block list) true guard s = (onto_same f sc s, λ fin k has e flag. inl has)
@@ -325,21 +185,24 @@ module _ (program : Program) (M : ℕ → Key → Bool) (f : ℕ) where
     Gone' sc guard s x =
         let r = gone_over F' (S guard) x s in
         Onto f sc s r.state × (exits x ≡ true → r.ways.exits ≡ true) × (r.ways.escapes ≡ true → r.ways.exits ≡ true)
-        × (Final M r.state → FA sc guard s r.state (expressions_of x) (conditions_of sc x) (gives x) × Outs sc (conditions_of sc x) (returned x) r.ways.escapes)
+        × (Final M r.state → FA sc guard s r.state (expressions_of x) (conditions_of sc x) (gives x)
+        × Outs program M f sc (conditions_of sc x) (returned x) r.ways.escapes)
 
     abbrev GoneAll : Scope → Option ℕ → State → Statements → Type 0
     GoneAll sc guard s list =
         let r = gone_over_all F' (S guard) list s in
-        Onto f sc s r.state × (some_exits list ≡ true → r.ways.exits ≡ true) × (r.ways.escapes ≡ true → r.ways.exits ≡ true)
+        Onto f sc s r.state × (some_exits list ≡ true → r.ways.exits ≡ true) × (r.ways.escapes ≡ true →
+        r.ways.exits ≡ true)
         × (Final M r.state → FA sc guard s r.state (expressions_of_list list) (conditions_of_list sc list)
-        (some_give list) × Outs sc (conditions_of_list sc list) (returned_list list) r.ways.escapes)
+        (some_give list) × Outs program M f sc (conditions_of_list sc list) (returned_list list) r.ways.escapes)
 
     abbrev GoneArms : Scope → Option ℕ → State → Arms → Type 0
     GoneArms sc guard s arms =
         let r = gone_over_arms F' (S guard) arms s in
-        Onto f sc s r.state × (arms_exit arms ≡ true → r.ways.exits ≡ true) × (r.ways.escapes ≡ true → r.ways.exits ≡ true)
+        Onto f sc s r.state × (arms_exit arms ≡ true → r.ways.exits ≡ true) × (r.ways.escapes ≡ true →
+        r.ways.exits ≡ true)
         × (Final M r.state → FA sc guard s r.state (expressions_of_arms arms) (conditions_of_arms sc arms)
-        (arms_give arms) × Outs sc (conditions_of_arms sc arms) (returned_arms arms) r.ways.escapes)
+        (arms_give arms) × Outs program M f sc (conditions_of_arms sc arms) (returned_arms arms) r.ways.escapes)
 
     -- a loop: what stands under its test, with the test
     loop_facts : (sc : Scope) (guard : Option ℕ) (site : ℕ) (ys : List ℕ) (first : Bool) (t st : Option Expression)
@@ -348,17 +211,21 @@ module _ (program : Program) (M : ℕ → Key → Bool) (f : ℕ) where
         → ((x : Expression) → t ≡ Some x → BM x ≡ true → varies ≡ true) →
         FA sc (cond varies (Some site) guard) s u xs cs (gives (Loop site first t st b)) →
         FA sc guard s u xs (loop_condition sc t st b ++ cs) (gives (Loop site first t st b))
-    loop_facts sc guard site ys first None st b varies s u xs cs apart value F = facts_inner program M f sc guard site ys varies s u xs cs (gives (Loop site first None st b)) apart F
+    loop_facts sc guard site ys first None st b varies s u xs cs apart value F =
+        facts_inner program M f sc guard site ys varies s u xs cs (gives (Loop site first None st b)) apart F
     loop_facts sc guard site ys first (Some t) st b varies s u xs cs apart value F =
         facts_condition program M f sc guard site ys varies s u xs (turn_condition sc t st b) cs
-        (gives (Loop site first (Some t) st b)) apart (value t refl) (λ k h. h) (turn_given sc site first t st b) F
+        (gives (Loop site first (Some t) st b)) apart (value t refl) (λ k h. h)
+        (turn_given program M f sc site first t st b) F
 
     loop_outs : (sc : Scope) (t st : Option Expression) (b : Statement) (varies : Bool) (ways : Ways)
         (cs : List Condition) (rs : List Expression) → ((x : Expression) → t ≡ Some x → BM x ≡ true → varies ≡ true) →
         (exits b ≡ true → ways.exits ≡ true) → (ways.escapes ≡ true → ways.exits ≡ true)
-        → Outs sc cs rs ways.escapes → Outs sc (loop_condition sc t st b ++ cs) rs (behind varies ways).escapes
-    loop_outs sc None st b varies ways cs rs value out held F = outs_behind sc cs rs varies ways held F
-    loop_outs sc (Some t) st b varies ways cs rs value out held F = outs_condition sc (turn_condition sc t st b) cs rs varies ways (value t refl) out held (λ k h. h) F
+        → Outs program M f sc cs rs ways.escapes → Outs program M f sc (loop_condition sc t st b ++ cs) rs
+        (behind varies ways).escapes
+    loop_outs sc None st b varies ways cs rs value out held F = outs_behind program M f sc cs rs varies ways held F
+    loop_outs sc (Some t) st b varies ways cs rs value out held F =
+        outs_condition program M f sc (turn_condition sc t st b) cs rs varies ways (value t refl) out held (λ k h. h) F
 
     -- a return gives the answer
     abbrev is_answer : Key → Bool
@@ -369,11 +236,13 @@ module _ (program : Program) (M : ℕ → Key → Bool) (f : ℕ) where
     return_none site Answer h = refl
     return_none site (Cell x) h = cc h
 
-    return_splits : (site : ℕ) (e : Expression) (k : Key) → gives (Return site (Some e)) k ≡ true → (gives_in e k ≡ true) ⊎ (is_answer k ≡ true)
+    return_splits : (site : ℕ) (e : Expression) (k : Key) → gives (Return site (Some e)) k ≡ true →
+        (gives_in e k ≡ true) ⊎ (is_answer k ≡ true)
     return_splits site e Answer h = inr refl
     return_splits site e (Cell x) h = inl h
 
-    answer_facts : (sc : Scope) (guard : Option ℕ) (varies : Bool) (s : State) → Final M (known.give (S guard) varies s) → FA sc guard s (known.give (S guard) varies s) [] [] is_answer
+    answer_facts : (sc : Scope) (guard : Option ℕ) (varies : Bool) (s : State) →
+        Final M (known.give (S guard) varies s) → FA sc guard s (known.give (S guard) varies s) [] [] is_answer
     answer_facts sc guard varies s fin = record {
       assigns = λ a es x m. absurd m;
       passes = λ i g r es m. absurd m;
@@ -392,19 +261,28 @@ module _ (program : Program) (M : ℕ → Key → Bool) (f : ℕ) where
 
     -- what is in scope stays in scope behind a statement
     narrow : (sc : Scope) (x : Statement) (s t : State) → Onto f (scope_after sc x) s t → Onto f sc s t
-    narrow sc x s t onto = record { quiet = onto.quiet; flags = onto.flags; since = λ g k has. onto.since g k (λ q. has_after sc x k (has q)) }
+    narrow sc x s t onto = record {
+      quiet = onto.quiet;
+      flags = onto.flags;
+      since = λ g k has. onto.since g k
+          (λ q. has_after sc x k (has q));
+    }
 
     mutual
-      pub gone_full : (x : Statement) (sc : Scope) (guard : Option ℕ) (s : State) → GR sc x → Cover given (assigns x) (inner_declarations x) → Apart f guard s sc (sites_of x) → Gone' sc guard s x
+      pub gone_full : (x : Statement) (sc : Scope) (guard : Option ℕ) (s : State) → GR sc x →
+          Cover (given program M f) (assigns x) (inner_declarations x) → Apart f guard s sc (sites_of x) →
+          Gone' sc guard s x
       gone_full (Do e) sc guard s ok cover apart =
-          let r = seen_full program M f valid e sc guard s (good_do (InBody program f) (UnderBody program f) (BackBody program f) sc e ok) apart in
+          let r = seen_full program M f valid e sc guard s (good_do (InBody program f) (UnderBody program f)
+          (BackBody program f) sc e ok) apart in
           let t = (seen_in F' (S guard) e s).state in (
             r.0,
             (λ h. cc h),
             (λ h. cc h),
             λ fin. (
-              facts_less program M f sc guard s t (parts_of e) (parts_of e) (conditions_in sc e) (conditions_in sc e) (gives_in e) (gives (Do e)) (λ d m. m) (λ d m. m) (do_gives e) (r.1 fin).1,
-              outs_quiet sc (conditions_in sc e) false (no_exit sc e),
+              facts_less program M f sc guard s t (parts_of e) (parts_of e) (conditions_in sc e) (conditions_in sc e)
+                  (gives_in e) (gives (Do e)) (λ d m. m) (λ d m. m) (do_gives program M f e) (r.1 fin).1,
+              (outs_quiet program M f) sc (conditions_in sc e) false (no_exit sc e),
             ),
           )
       gone_full (Declare y None) sc guard s ok cover apart = (
@@ -413,8 +291,8 @@ module _ (program : Program) (M : ℕ → Key → Bool) (f : ℕ) where
         (λ h. cc h),
         λ fin. (
           facts_none program M f sc guard s (known.declare (S guard) y false s) (gives (Declare y None))
-              (λ k h. no_gives (Declare y None) k (lone_declare y k) h),
-          outs_quiet sc [] false (λ c m. absurd m),
+              (λ k h. no_gives program M f (Declare y None) k (lone_declare program M f y k) h),
+          (outs_quiet program M f) sc [] false (λ c m. absurd m),
         ),
       )
       gone_full (Declare y (Some e)) sc guard s ok cover apart =
@@ -428,20 +306,21 @@ module _ (program : Program) (M : ℕ → Key → Bool) (f : ℕ) where
             (λ h. cc h),
             λ fin.
                 let F = r.1 (final_before M f sc v.state t d fin) in (
-                  facts_node program M f sc guard s t (Apply (Set y) (single e)) (parts_of e) (conditions_in sc e) (gives (Declare y (Some e)))
-                      (λ action es x q h m.
+                  facts_node program M f sc guard s t (Apply (Set y) (single e)) (parts_of e) (conditions_in sc e)
+                      (gives (Declare y (Some e))) (λ action es x q h m.
                       let same : Set y ≡ action = cc q in
                       let at : y ≡ x = eqb-true y x (subst (λ a. sets a x ≡ true) (sym same) h) in
-                      let value : BM e ≡ true = value_of_single e (subst (λ z. BM z ≡ true) (sym q) m) in
+                      let value : BM e ≡ true = value_of_single program M f e (subst (λ z. BM z ≡ true) (sym q) m) in
                       subst (λ z. M f (Cell z) ≡ true) at
                       (marked_new M f (Cell y) (known.declared guard v.varies (variable_at v.state f y)) v.state
                       fin (or_right (variable_at v.state f y).varies v.varies (F.0 value))))
                       (λ i g roots es q. absurd (cc q))
-                      (facts_on program M f sc guard s v.state t (parts_of e) (conditions_in sc e) (gives (Declare y (Some e))) d
+                      (facts_on program M f sc guard s v.state t (parts_of e) (conditions_in sc e)
+                      (gives (Declare y (Some e))) d
                       (facts_less program M f sc guard s v.state (parts_of e) (parts_of e) (conditions_in sc e)
                       (conditions_in sc e) (gives_in e) (gives (Declare y (Some e))) (λ z m. m) (λ z m. m)
-                      (declare_gives y e) F.1)),
-                  outs_quiet sc (conditions_in sc e) false (no_exit sc e),
+                      (declare_gives program M f y e) F.1)),
+                  (outs_quiet program M f) sc (conditions_in sc e) false (no_exit sc e),
                 ),
           )
       gone_full (Fill site array es) sc guard s ok cover apart =
@@ -455,12 +334,13 @@ module _ (program : Program) (M : ℕ → Key → Bool) (f : ℕ) where
             λ fin. (
               facts_less program M f sc guard s t (parts_among es) (parts_among es) (conditions_among sc es)
                   (conditions_among sc es) (gives_among es) (gives (Fill site array es)) (λ d m. m) (λ d m. m)
-                  (fill_gives site array es) (r.1 fin).1,
-              outs_quiet sc (conditions_among sc es) false (no_exit_among sc es),
+                  (fill_gives program M f site array es) (r.1 fin).1,
+              (outs_quiet program M f) sc (conditions_among sc es) false (no_exit_among sc es),
             ),
           )
       gone_full (Block list) sc guard s ok cover apart =
-          let r = all_full list sc guard s (good_block (InBody program f) (UnderBody program f) (BackBody program f) sc list ok) cover apart in
+          let r = all_full list sc guard s (good_block (InBody program f) (UnderBody program f) (BackBody program f) sc
+          list ok) cover apart in
           let t = (gone_over_all F' (S guard) list s).state in (
             r.0,
             r.1,
@@ -468,7 +348,7 @@ module _ (program : Program) (M : ℕ → Key → Bool) (f : ℕ) where
             λ fin. let F = r.3 fin in (
               facts_less program M f sc guard s t (expressions_of_list list) (expressions_of_list list)
                   (conditions_of_list sc list) (conditions_of_list sc list) (some_give list) (gives (Block list))
-                  (λ d m. m) (λ d m. m) (block_gives list) F.0,
+                  (λ d m. m) (λ d m. m) (block_gives program M f list) F.0,
               F.1,
             ),
           )
@@ -483,11 +363,14 @@ module _ (program : Program) (M : ℕ → Key → Bool) (f : ℕ) where
           let y = gone_over_all F' (S inner) a x.state in
           let z = gone_over_all F' (S inner) b y.state in
           let ways = joined y.ways z.ways in
-          let rt = seen_full program M f valid t sc guard s o.1 (apart_left f guard s sc (sites_in t) ab (apart_rest f guard s sc site ys apart)) in
+          let rt = seen_full program M f valid t sc guard s o.1
+          (apart_left f guard s sc (sites_in t) ab (apart_rest f guard s sc site ys apart)) in
           let apart1 : Apart f guard x.state sc (site ∷ ys) = apart_on f guard s x.state sc (site ∷ ys) rt.0 apart in
-          let apart2 : Apart f inner x.state sc ab = apart_right f inner x.state sc (sites_in t) ab (apart_under f guard x.state sc site ys x.varies apart1) in
-          let ra = all_full a sc inner x.state o.2 (cover_chosen sc given site t a b ok.names cover) (apart_left f inner x.state sc (sites_of_all a) (sites_of_all b) apart2) in
-          let rb = all_full b sc inner y.state o.3 (cover_other sc given site t a b ok.names cover)
+          let apart2 : Apart f inner x.state sc ab = apart_right f inner x.state sc (sites_in t) ab
+          (apart_under f guard x.state sc site ys x.varies apart1) in
+          let ra = all_full a sc inner x.state o.2 (cover_chosen sc (given program M f) site t a b ok.names cover)
+          (apart_left f inner x.state sc (sites_of_all a) (sites_of_all b) apart2) in
+          let rb = all_full b sc inner y.state o.3 (cover_other sc (given program M f) site t a b ok.names cover)
           (apart_on f inner x.state y.state sc (sites_of_all b) ra.0
           (apart_right f inner x.state sc (sites_of_all a) (sites_of_all b) apart2)) in
           let both = onto_then f sc x.state y.state z.state ra.0 rb.0 in
@@ -497,10 +380,10 @@ module _ (program : Program) (M : ℕ → Key → Bool) (f : ℕ) where
                 or_left y.ways.exits z.ways.exits (ra.1 q)
             | inr q ↦ or_right y.ways.exits z.ways.exits (rb.1 q)
           ] in
-          let held : ways.escapes ≡ true → ways.exits ≡ true = joined_held y.ways z.ways ra.2 rb.2 in (
+          let held : ways.escapes ≡ true → ways.exits ≡ true = joined_held program M f y.ways z.ways ra.2 rb.2 in (
             onto_then f sc s x.state z.state rt.0 both,
             out,
-            behind_held x.varies ways held,
+            (behind_held program M f) x.varies ways held,
             λ fin.
                 let fy = final_before M f sc y.state z.state rb.0 fin in
                 let Ft = rt.1 (final_before M f sc x.state z.state both fin) in
@@ -508,28 +391,33 @@ module _ (program : Program) (M : ℕ → Key → Bool) (f : ℕ) where
                 let Fb = rb.3 fin in
                 let F2 = facts_both program M f sc sc inner x.state y.state z.state (expressions_of_list a)
                 (expressions_of_list b) (conditions_of_list sc a) (conditions_of_list sc b) (some_give a)
-                (some_give b) there (λ k h. h) ra.0 rb.0 (branch_splits sc t a b) Fa.0 Fb.0 in
+                (some_give b) there (λ k h. h) ra.0 rb.0 (branch_splits program M f sc t a b) Fa.0 Fb.0 in
                 let F3 = facts_condition program M f sc guard site ys x.varies x.state z.state
                 (expressions_of_list a ++ expressions_of_list b) c (conditions_of_list sc a ++
                 conditions_of_list sc b) there apart1 Ft.0 (λ k h. h) (λ k h. h) F2 in
                 let F4 = facts_both program M f sc sc guard s x.state z.state (parts_of t) (expressions_of_list a ++
                 expressions_of_list b) (conditions_in sc t)
                 (c ∷ (conditions_of_list sc a ++ conditions_of_list sc b)) (gives_in t) there
-                (gives (If site t a b)) (λ k h. h) rt.0 both (if_splits sc site t a b) Ft.1 F3 in
-                let O2 = outs_both sc sc (conditions_of_list sc a) (conditions_of_list sc b) (returned_list a)
+                (gives (If site t a b)) (λ k h. h) rt.0 both (if_splits program M f sc site t a b) Ft.1 F3 in
+                let O2 = outs_both program M f sc sc (conditions_of_list sc a) (conditions_of_list sc b)
+                (returned_list a)
                 (returned_list b) y.ways.escapes z.ways.escapes ways.escapes
                 (or_left y.ways.escapes z.ways.escapes) (or_right y.ways.escapes z.ways.escapes) (λ k has e on.
                 inl has) Fa.1 Fb.1 in
-                let O3 = outs_both sc sc (conditions_in sc t) (conditions_of_list sc a ++ conditions_of_list sc b) []
+                let O3 = outs_both program M f sc sc (conditions_in sc t)
+                (conditions_of_list sc a ++ conditions_of_list sc b) []
                 (returned_list a ++ returned_list b) false ways.escapes ways.escapes (λ h. cc h) (λ h. h)
-                (λ k has e on. inl has) (outs_quiet sc (conditions_in sc t) false (no_exit sc t)) O2 in (
+                (λ k has e on. inl has) (outs_quiet program M f sc (conditions_in sc t) false (no_exit sc t)) O2 in (
                   facts_less program M f sc guard s z.state (parts_of t ++
                       (expressions_of_list a ++ expressions_of_list b)) (parts_of t ++
                       (expressions_of_list a ++ expressions_of_list b)) (conditions_in sc t ++
                       (c ∷ (conditions_of_list sc a ++ conditions_of_list sc b))) (conditions_of sc (If site t a b))
                       (gives (If site t a b)) (gives (If site t a b))
-                      (λ d m. m) (λ d m. swap c d (conditions_in sc t) (conditions_of_list sc a ++ conditions_of_list sc b) m) (λ k h. h) F4,
-                  outs_condition sc c (conditions_in sc t ++ (conditions_of_list sc a ++ conditions_of_list sc b)) (returned_list a ++ returned_list b) x.varies ways Ft.0 out held (λ k h. h) O3,
+                      (λ d m. m) (λ d m. swap program M f c d (conditions_in sc t)
+                      (conditions_of_list sc a ++ conditions_of_list sc b) m) (λ k h. h) F4,
+                  (outs_condition program M f) sc c
+                      (conditions_in sc t ++ (conditions_of_list sc a ++ conditions_of_list sc b))
+                      (returned_list a ++ returned_list b) x.varies ways Ft.0 out held (λ k h. h) O3,
                 ),
           )
       gone_full (Loop site first t st b) sc guard s ok cover apart =
@@ -542,20 +430,25 @@ module _ (program : Program) (M : ℕ → Key → Bool) (f : ℕ) where
           let x2 = seen_optional F' (S inner) t x.state in
           let x3 = seen_optional F' (S inner) st x2.state in
           let y = gone_over F' (S inner) b x3.state in
-          let r1 = optional_full t sc guard s o.1 (apart_left f guard s sc (sites_in_optional t) sb (apart_rest f guard s sc site ys apart)) in
+          let r1 = optional_full t sc guard s o.1 (apart_left f guard s sc (sites_in_optional t) sb
+          (apart_rest f guard s sc site ys apart)) in
           let apart1 : Apart f guard x.state sc (site ∷ ys) = apart_on f guard s x.state sc (site ∷ ys) r1.0 apart in
           let apart2 : Apart f inner x.state sc ys = apart_under f guard x.state sc site ys x.varies apart1 in
-          let r2 = optional_full t sc inner x.state o.1 (apart_left f inner x.state sc (sites_in_optional t) sb apart2) in
-          let apart3 : Apart f inner x2.state sc sb = apart_on f inner x.state x2.state sc sb r2.0 (apart_right f inner x.state sc (sites_in_optional t) sb apart2) in
-          let r3 = optional_full st sc inner x2.state o.2 (apart_left f inner x2.state sc (sites_in_optional st) (sites_of b) apart3) in
-          let r4 = gone_full b sc inner x3.state o.3 (cover_body sc given site first t st b ok.names cover)
+          let r2 = optional_full t sc inner x.state o.1 (apart_left f inner x.state sc (sites_in_optional t) sb
+          apart2) in
+          let apart3 : Apart f inner x2.state sc sb = apart_on f inner x.state x2.state sc sb r2.0
+          (apart_right f inner x.state sc (sites_in_optional t) sb apart2) in
+          let r3 = optional_full st sc inner x2.state o.2 (apart_left f inner x2.state sc (sites_in_optional st)
+          (sites_of b) apart3) in
+          let r4 = gone_full b sc inner x3.state o.3 (cover_body sc (given program M f) site first t st b ok.names
+          cover)
           (apart_on f inner x2.state x3.state sc (sites_of b) r3.0
           (apart_right f inner x2.state sc (sites_in_optional st) (sites_of b) apart3)) in
           let onto3 = onto_then f sc x2.state x3.state y.state r3.0 r4.0 in
           let onto2 = onto_then f sc x.state x2.state y.state r2.0 onto3 in (
             onto_then f sc s x.state y.state r1.0 onto2,
             r4.1,
-            behind_held x.varies y.ways r4.2,
+            (behind_held program M f) x.varies y.ways r4.2,
             λ fin.
                 let f3 = final_before M f sc x3.state y.state r4.0 fin in
                 let f2 = final_before M f sc x2.state y.state onto3 fin in
@@ -568,22 +461,27 @@ module _ (program : Program) (M : ℕ → Key → Bool) (f : ℕ) where
                 let cs : List Condition = conditions_in_optional sc st ++ conditions_of sc b in
                 let G3 = facts_both program M f sc sc inner x2.state x3.state y.state (parts_of_optional st)
                 (expressions_of b) (conditions_in_optional sc st) (conditions_of sc b) (gives_optional st)
-                (gives b) (turn_gives st b) (λ k h. h) r3.0 r4.0 (λ k h. either (gives_optional st k) (gives b k)
+                (gives b) (turn_gives program M f st b) (λ k h. h) r3.0 r4.0
+                (λ k h. either (gives_optional st k) (gives b k)
                 h) F3.1 F4.0 in
                 let G2 = facts_both program M f sc sc inner x.state x2.state y.state (parts_of_optional t) ps
-                (conditions_in_optional sc t) cs (gives_optional t) (turn_gives st b) all (λ k h. h) r2.0 onto3
-                (loop_splits site first t st b) F2.1 G3 in
-                let G1 = loop_facts sc guard site ys first t st b x.varies x.state y.state (parts_of_optional t ++ ps) (conditions_in_optional sc t ++ cs) apart1 F1.0 G2 in
+                (conditions_in_optional sc t) cs (gives_optional t) (turn_gives program M f st b) all (λ k h. h) r2.0
+                onto3
+                (loop_splits program M f site first t st b) F2.1 G3 in
+                let G1 = loop_facts sc guard site ys first t st b x.varies x.state y.state (parts_of_optional t ++ ps)
+                (conditions_in_optional sc t ++ cs) apart1 F1.0 G2 in
                 let G0 = facts_both program M f sc sc guard s x.state y.state (parts_of_optional t)
                 (parts_of_optional t ++ ps) (conditions_in_optional sc t) (loop_condition sc t st b ++
                 (conditions_in_optional sc t ++ cs)) (gives_optional t) all all (λ k h. h) r1.0 onto2
                 (λ k h. inr h) F1.1 G1 in
-                let O3 = outs_both sc sc (conditions_in_optional sc st) (conditions_of sc b) [] (returned b) false
+                let O3 = outs_both program M f sc sc (conditions_in_optional sc st) (conditions_of sc b) [] (returned b)
+                false
                 y.ways.escapes y.ways.escapes (λ h. cc h) (λ h. h) (λ k has e on. inl has)
-                (outs_quiet sc (conditions_in_optional sc st) false (no_exit_optional sc st)) F4.1 in
-                let O2 = outs_both sc sc (conditions_in_optional sc t) cs [] (returned b) false y.ways.escapes
+                (outs_quiet program M f sc (conditions_in_optional sc st) false (no_exit_optional sc st)) F4.1 in
+                let O2 = outs_both program M f sc sc (conditions_in_optional sc t) cs [] (returned b) false
+                y.ways.escapes
                 y.ways.escapes (λ h. cc h) (λ h. h) (λ k has e on. inl has)
-                (outs_quiet sc (conditions_in_optional sc t) false (no_exit_optional sc t)) O3 in (
+                (outs_quiet program M f sc (conditions_in_optional sc t) false (no_exit_optional sc t)) O3 in (
                   facts_less program M f sc guard s y.state (parts_of_optional t ++ (parts_of_optional t ++ ps))
                       (parts_of_optional t ++ ps) (conditions_in_optional sc t ++
                       (loop_condition sc t st b ++ (conditions_in_optional sc t ++ cs)))
@@ -591,7 +489,8 @@ module _ (program : Program) (M : ℕ → Key → Bool) (f : ℕ) where
                       (λ d m. in_right (parts_of_optional t) (parts_of_optional t ++ ps) d m)
                       (λ d m. in_right (conditions_in_optional sc t) (loop_condition sc t st b ++
                       (conditions_in_optional sc t ++ cs)) d m) (λ k h. h) G0,
-                  loop_outs sc t st b x.varies y.ways (conditions_in_optional sc t ++ cs) (returned b) F1.0 r4.1 r4.2 O2,
+                  loop_outs sc t st b x.varies y.ways (conditions_in_optional sc t ++ cs) (returned b) F1.0 r4.1 r4.2
+                      O2,
                 ),
           )
       gone_full (Switch site v arms) sc guard s ok cover apart =
@@ -602,34 +501,38 @@ module _ (program : Program) (M : ℕ → Key → Bool) (f : ℕ) where
           let x = seen_in F' (S guard) v s in
           let inner : Option ℕ = cond x.varies (Some site) guard in
           let y = gone_over_arms F' (S inner) arms x.state in
-          let rt = seen_full program M f valid v sc guard s o.1 (apart_left f guard s sc (sites_in v) (sites_of_arms arms) (apart_rest f guard s sc site ys apart)) in
+          let rt = seen_full program M f valid v sc guard s o.1
+          (apart_left f guard s sc (sites_in v) (sites_of_arms arms) (apart_rest f guard s sc site ys apart)) in
           let apart1 : Apart f guard x.state sc (site ∷ ys) = apart_on f guard s x.state sc (site ∷ ys) rt.0 apart in
-          let ra = arms_full arms sc inner x.state o.2 (cover_arms sc given site v arms ok.names cover)
+          let ra = arms_full arms sc inner x.state o.2 (cover_arms sc (given program M f) site v arms ok.names cover)
           (apart_right f inner x.state sc (sites_in v) (sites_of_arms arms)
           (apart_under f guard x.state sc site ys x.varies apart1)) in (
             onto_then f sc s x.state y.state rt.0 ra.0,
             ra.1,
-            behind_held x.varies y.ways ra.2,
+            (behind_held program M f) x.varies y.ways ra.2,
             λ fin.
                 let Ft = rt.1 (final_before M f sc x.state y.state ra.0 fin) in
                 let Fa = ra.3 fin in
                 let F2 = facts_less program M f sc inner x.state y.state (expressions_of_arms arms)
                 (expressions_of_arms arms) (conditions_of_arms sc arms) (conditions_of_arms sc arms)
-                (arms_give arms) there (λ d m. m) (λ d m. m) (arms_given sc v arms) Fa.0 in
+                (arms_give arms) there (λ d m. m) (λ d m. m) (arms_given program M f sc v arms) Fa.0 in
                 let F3 = facts_condition program M f sc guard site ys x.varies x.state y.state
                 (expressions_of_arms arms) c (conditions_of_arms sc arms) there apart1 Ft.0 (λ k h. h) (λ k h. h)
                 F2 in
                 let F4 = facts_both program M f sc sc guard s x.state y.state (parts_of v) (expressions_of_arms arms)
                 (conditions_in sc v) (c ∷ conditions_of_arms sc arms) (gives_in v) there
-                (gives (Switch site v arms)) (λ k h. h) rt.0 ra.0 (switch_splits sc site v arms) Ft.1 F3 in
-                let O3 = outs_both sc sc (conditions_in sc v) (conditions_of_arms sc arms) [] (returned_arms arms)
+                (gives (Switch site v arms)) (λ k h. h) rt.0 ra.0 (switch_splits program M f sc site v arms) Ft.1 F3 in
+                let O3 = outs_both program M f sc sc (conditions_in sc v) (conditions_of_arms sc arms) []
+                (returned_arms arms)
                 false y.ways.escapes y.ways.escapes (λ h. cc h) (λ h. h) (λ k has e on. inl has)
-                (outs_quiet sc (conditions_in sc v) false (no_exit sc v)) Fa.1 in (
+                (outs_quiet program M f sc (conditions_in sc v) false (no_exit sc v)) Fa.1 in (
                   facts_less program M f sc guard s y.state (parts_of v ++ expressions_of_arms arms) (parts_of v ++
                       expressions_of_arms arms) (conditions_in sc v ++ (c ∷ conditions_of_arms sc arms))
                       (conditions_of sc (Switch site v arms)) (gives (Switch site v arms)) (gives (Switch site v arms))
-                      (λ d m. m) (λ d m. swap c d (conditions_in sc v) (conditions_of_arms sc arms) m) (λ k h. h) F4,
-                  outs_condition sc c (conditions_in sc v ++ conditions_of_arms sc arms) (returned_arms arms) x.varies y.ways Ft.0 ra.1 ra.2 (λ k h. h) O3,
+                      (λ d m. m) (λ d m. swap program M f c d (conditions_in sc v) (conditions_of_arms sc arms) m)
+                      (λ k h. h) F4,
+                  (outs_condition program M f) sc c (conditions_in sc v ++ conditions_of_arms sc arms)
+                      (returned_arms arms) x.varies y.ways Ft.0 ra.1 ra.2 (λ k h. h) O3,
                 ),
           )
       gone_full (Break site) sc guard s ok cover apart = (
@@ -638,8 +541,8 @@ module _ (program : Program) (M : ℕ → Key → Bool) (f : ℕ) where
         (λ h. refl),
         λ fin. (
           facts_none program M f sc guard s s (gives (Break site))
-              (λ k h. no_gives (Break site) k (lone_break site k) h),
-          outs_quiet sc [] false (λ c m. absurd m),
+              (λ k h. no_gives program M f (Break site) k (lone_break program M f site k) h),
+          (outs_quiet program M f) sc [] false (λ c m. absurd m),
         ),
       )
       gone_full (Continue site) sc guard s ok cover apart = (
@@ -648,8 +551,8 @@ module _ (program : Program) (M : ℕ → Key → Bool) (f : ℕ) where
         (λ h. refl),
         λ fin. (
           facts_none program M f sc guard s s (gives (Continue site))
-              (λ k h. no_gives (Continue site) k (lone_continue site k) h),
-          outs_quiet sc [] false (λ c m. absurd m),
+              (λ k h. no_gives program M f (Continue site) k (lone_continue program M f site k) h),
+          (outs_quiet program M f) sc [] false (λ c m. absurd m),
         ),
       )
       gone_full (Return site None) sc guard s ok cover apart =
@@ -658,7 +561,8 @@ module _ (program : Program) (M : ℕ → Key → Bool) (f : ℕ) where
             (λ h. refl),
             (λ h. refl),
             λ fin. (
-              facts_less program M f sc guard s t [] [] [] [] is_answer (gives (Return site None)) (λ d m. m) (λ d m. m) (λ k h. return_none site k h) (answer_facts sc guard false s fin),
+              facts_less program M f sc guard s t [] [] [] [] is_answer (gives (Return site None)) (λ d m. m) (λ d m. m)
+                  (λ k h. return_none site k h) (answer_facts sc guard false s fin),
               record { out = λ c m. absurd m; beside = λ c m. absurd m; back = λ e m. absurd m },
             ),
           )
@@ -683,7 +587,11 @@ module _ (program : Program) (M : ℕ → Key → Bool) (f : ℕ) where
                   record {
                     out = λ c m x y. absurd (let q : true ≡ false = sym y ∙ no_exit sc e c m in cc q);
                     beside = λ c m x y. absurd (let q : true ≡ false = sym y ∙ no_exit sc e c m in cc q);
-                    back = λ z m x. elim m [ inl q ↦ assign_marked program M f valid guard Answer v.varies v.state fin (inl (F.0 (subst (λ w. BM w ≡ true) (sym q) x))) | inr i ↦ absurd i ];
+                    back = λ z m x. elim m [
+                      | inl q ↦ assign_marked program M f valid guard Answer v.varies v.state fin
+                          (inl (F.0 (subst (λ w. BM w ≡ true) (sym q) x)))
+                      | inr i ↦ absurd i
+                    ];
                   },
                 ),
           )
@@ -693,21 +601,22 @@ module _ (program : Program) (M : ℕ → Key → Bool) (f : ℕ) where
         (λ h. cc h),
         λ fin. (
           facts_none program M f sc guard s s (gives (Barrier site))
-              (λ k h. no_gives (Barrier site) k (lone_barrier site k) h),
-          outs_quiet sc [] false (λ c m. absurd m),
+              (λ k h. no_gives program M f (Barrier site) k (lone_barrier program M f site k) h),
+          (outs_quiet program M f) sc [] false (λ c m. absurd m),
         ),
       )
 
       pub all_full : (list : Statements) (sc : Scope) (guard : Option ℕ) (s : State) → GL sc list →
-          Cover given (some_assigns list) (all_declarations list) → Apart f guard s sc (sites_of_all list) →
+          Cover (given program M f) (some_assigns list) (all_declarations list) →
+          Apart f guard s sc (sites_of_all list) →
           GoneAll sc guard s list
       all_full empty sc guard s ok cover apart = (
         onto_same f sc s,
         (λ h. cc h),
         (λ h. cc h),
         λ fin. (
-          facts_none program M f sc guard s s (some_give empty) none_given,
-          outs_quiet sc [] false (λ c m. absurd m),
+          facts_none program M f sc guard s s (some_give empty) (none_given program M f),
+          (outs_quiet program M f) sc [] false (λ c m. absurd m),
         ),
       )
       all_full (also x rest) sc guard s ok cover apart =
@@ -716,72 +625,89 @@ module _ (program : Program) (M : ℕ → Key → Bool) (f : ℕ) where
           let a = gone_over F' (S guard) x s in
           let b = gone_over_all F' (S guard) rest a.state in
           let t = closed (S guard) x b.ways.escapes b.state in
-          let ra = gone_full x sc guard s o.0 (cover_first sc given x rest ok.names cover) (apart_left f guard s sc (sites_of x) (sites_of_all rest) apart) in
-          let rb = all_full rest sc' guard a.state o.1 (cover_rest sc given x rest ok.names cover)
+          let ra = gone_full x sc guard s o.0 (cover_first sc (given program M f) x rest ok.names cover)
+          (apart_left f guard s sc (sites_of x) (sites_of_all rest) apart) in
+          let rb = all_full rest sc' guard a.state o.1 (cover_rest sc (given program M f) x rest ok.names cover)
           (apart_behind x sc guard s (sites_of_all rest) ra.0
           (apart_right f guard s sc (sites_of x) (sites_of_all rest) apart)) in
           let rb' : Onto f sc a.state b.state = narrow sc x a.state b.state rb.0 in
           let rc = closed_full sc x b.ways.escapes guard b.state in
           let onto2 = onto_then f sc a.state b.state t rb' rc.0 in (
             onto_then f sc s a.state t ra.0 onto2,
-            (λ h. elim (either (exits x) (some_exits rest) h) [ inl q ↦ or_right b.ways.exits a.ways.exits (ra.1 q) | inr q ↦ or_left b.ways.exits a.ways.exits (rb.1 q) ]),
-            joined_held b.ways a.ways rb.2 ra.2,
+            (λ h. elim (either (exits x) (some_exits rest) h) [
+              | inl q ↦ or_right b.ways.exits a.ways.exits
+                  (ra.1 q)
+              | inr q ↦ or_left b.ways.exits a.ways.exits (rb.1 q)
+            ]),
+            (joined_held program M f) b.ways a.ways rb.2 ra.2,
             λ fin.
                 let fb = final_before M f sc b.state t rc.0 fin in
                 let Fa = ra.3 (final_before M f sc a.state t onto2 fin) in
                 let Fb = rb.3 fb in
                 let F2 = facts_both program M f sc sc' guard s a.state b.state (expressions_of x)
                 (expressions_of_list rest) (conditions_of sc x) (conditions_of_list sc' rest) (gives x)
-                (some_give rest) (some_give (also x rest)) (has_after sc x) ra.0 rb' (also_splits x rest) Fa.0
+                (some_give rest) (some_give (also x rest)) (has_after sc x) ra.0 rb' (also_splits program M f x rest)
+                Fa.0
                 Fb.0 in
                 let F3 = facts_on program M f sc guard s b.state t (expressions_of x ++ expressions_of_list rest)
                 (conditions_of sc x ++ conditions_of_list sc' rest) (some_give (also x rest)) rc.0 F2 in
-                let O2 = outs_both sc sc' (conditions_of sc x) (conditions_of_list sc' rest) (returned x)
+                let O2 = outs_both program M f sc sc' (conditions_of sc x) (conditions_of_list sc' rest) (returned x)
                 (returned_list rest) a.ways.escapes b.ways.escapes (b.ways.escapes || a.ways.escapes)
                 (or_right b.ways.escapes a.ways.escapes) (or_left b.ways.escapes a.ways.escapes)
                 (λ k has e on. rc.1 fin k has e (λ y value q kq.
-                Fb.0.flags (Cell y) (cover_declared sc given y value rest
+                Fb.0.flags (Cell y) (cover_declared sc (given program M f) y value rest
                 (subst (λ z. IsScopedList sc (also z rest)) q ok.names)
-                (subst (λ z. Cover given (some_assigns (also z rest)) (all_declarations (also z rest))) q cover)
+                (subst (λ z. Cover (given program M f) (some_assigns (also z rest)) (all_declarations (also z rest))) q
+                cover)
                 (subst (λ z. some_give (function_at program f).body z ≡ true) kq on))
                 (subst (HasKey sc') kq has))) Fa.1 Fb.1 in (
-                  subst (λ cs. FA sc guard s t (expressions_of x ++ expressions_of_list rest) cs (some_give (also x rest))) (sym (conditions_also sc x rest)) F3,
-                  subst (λ cs. Outs sc cs (returned x ++ returned_list rest) (b.ways.escapes || a.ways.escapes)) (sym (conditions_also sc x rest)) O2,
+                  subst (λ cs. FA sc guard s t (expressions_of x ++ expressions_of_list rest) cs
+                      (some_give (also x rest))) (sym (conditions_also sc x rest)) F3,
+                  subst (λ cs. Outs program M f sc cs (returned x ++ returned_list rest)
+                      (b.ways.escapes || a.ways.escapes)) (sym (conditions_also sc x rest)) O2,
                 ),
           )
 
       arms_full : (arms : Arms) (sc : Scope) (guard : Option ℕ) (s : State) → GM sc arms →
-          Cover given (arms_assign arms) (arms_declarations arms) → Apart f guard s sc (sites_of_arms arms) →
+          Cover (given program M f) (arms_assign arms) (arms_declarations arms) →
+          Apart f guard s sc (sites_of_arms arms) →
           GoneArms sc guard s arms
       arms_full no_arm sc guard s ok cover apart = (
         onto_same f sc s,
         (λ h. cc h),
         (λ h. cc h),
         λ fin. (
-          facts_none program M f sc guard s s (arms_give no_arm) no_arm_given,
-          outs_quiet sc [] false (λ c m. absurd m),
+          facts_none program M f sc guard s s (arms_give no_arm) (no_arm_given program M f),
+          (outs_quiet program M f) sc [] false (λ c m. absurd m),
         ),
       )
       arms_full (arm labels other body rest) sc guard s ok cover apart =
           let o = good_arm (InBody program f) (UnderBody program f) (BackBody program f) sc labels other body rest ok in
           let a = gone_over_all F' (S guard) body s in
           let b = gone_over_arms F' (S guard) rest a.state in
-          let ra = all_full body sc guard s o.0 (cover_arm sc given labels other body rest ok.names cover) (apart_left f guard s sc (sites_of_all body) (sites_of_arms rest) apart) in
-          let rb = arms_full rest sc guard a.state o.1 (cover_arms_rest sc given labels other body rest ok.names
+          let ra = all_full body sc guard s o.0 (cover_arm sc (given program M f) labels other body rest ok.names cover)
+          (apart_left f guard s sc (sites_of_all body) (sites_of_arms rest) apart) in
+          let rb = arms_full rest sc guard a.state o.1 (cover_arms_rest sc (given program M f) labels other body rest
+          ok.names
           cover) (apart_on f guard s a.state sc (sites_of_arms rest) ra.0
           (apart_right f guard s sc (sites_of_all body) (sites_of_arms rest) apart)) in (
             onto_then f sc s a.state b.state ra.0 rb.0,
-            (λ h. elim (either (some_exits body) (arms_exit rest) h) [ inl q ↦ or_right b.ways.exits a.ways.exits (ra.1 q) | inr q ↦ or_left b.ways.exits a.ways.exits (rb.1 q) ]),
-            joined_held b.ways a.ways rb.2 ra.2,
+            (λ h. elim (either (some_exits body) (arms_exit rest) h) [
+              | inl q ↦ or_right b.ways.exits a.ways.exits
+                  (ra.1 q)
+              | inr q ↦ or_left b.ways.exits a.ways.exits (rb.1 q)
+            ]),
+            (joined_held program M f) b.ways a.ways rb.2 ra.2,
             λ fin.
                 let Fa = ra.3 (final_before M f sc a.state b.state rb.0 fin) in
                 let Fb = rb.3 fin in (
                   facts_both program M f sc sc guard s a.state b.state (expressions_of_list body)
                       (expressions_of_arms rest) (conditions_of_list sc body) (conditions_of_arms sc rest)
                       (some_give body) (arms_give rest) (arms_give (arm labels other body rest)) (λ k h. h) ra.0 rb.0
-                      (arm_splits labels other body rest) Fa.0 Fb.0,
-                  outs_both sc sc (conditions_of_list sc body) (conditions_of_arms sc rest) (returned_list body)
-                      (returned_arms rest) a.ways.escapes b.ways.escapes (b.ways.escapes || a.ways.escapes)
+                      (arm_splits program M f labels other body rest) Fa.0 Fb.0,
+                  (outs_both program M f) sc sc (conditions_of_list sc body) (conditions_of_arms sc rest)
+                      (returned_list body) (returned_arms rest) a.ways.escapes b.ways.escapes
+                      (b.ways.escapes || a.ways.escapes)
                       (or_right b.ways.escapes a.ways.escapes) (or_left b.ways.escapes a.ways.escapes) (λ k has e on.
                       inl has) Fa.1 Fb.1,
                 ),

@@ -4,6 +4,7 @@ pub mod SoundRounds
 pub mod Steps
 pub mod Full
 pub mod Scopes
+pub mod WaysOut
 pub mod FullRounds
 pub mod Ranges
 pub mod Exact

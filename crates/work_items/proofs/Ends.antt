@@ -148,8 +148,12 @@ module _ {S P : Type 0} (machine : Machine S P) where
                   (
                     machine.point found.1,
                     record {
-                      some_item =
-                          (found.0, slice_get_within world.items found.0 found.1 found.2, ap machine.group (start found.0));
+                      some_item = (
+                        found.0,
+                        slice_get_within world.items found.0 found.1 found.2,
+                        ap machine.group
+                            (start found.0),
+                      );
                       all_wait = found.3;
                     },
                   ),

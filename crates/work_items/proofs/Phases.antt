@@ -188,7 +188,8 @@ module _ {S P : Type 0} (machine : Machine S P) (plan : Plan S P) (count : ℕ)
                 (follows (fine.phase (machine.group k)) k s (fine.on k s here)) waits in
                 subst (λ b. plan.On (cond b (suc (fine.phase (machine.group k))) (fine.phase (machine.group k))) k
                 (released machine g k s)) (sym (eq-eqb _ _ same))
-                (subst (λ x. plan.On (suc (fine.phase (machine.group k))) k x) (sym (released_in machine g k s same)) f.2)
+                (subst (λ x. plan.On (suc (fine.phase (machine.group k))) k x) (sym (released_in machine g k s same))
+                f.2)
             | inr ne ↦
                 subst (λ b. plan.On (cond b (suc (fine.phase (machine.group k))) (fine.phase (machine.group k))) k
                 (released machine g k s)) (sym (ne_eqb _ _ ne))

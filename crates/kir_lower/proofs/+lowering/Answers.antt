@@ -113,7 +113,8 @@ statements::put_statements-returns-clause-lines t c =
     ∙ ap (λ z. joined_to lines (closed c.loop-s.guard c.args.exit z NoLine)) (join_none inside)))
     c.step_closed-2.ensures.lines
 
-pub statements::put_statement-returns-in-Block-clause-lines : goal.statements::put_statement-returns-in-Block-clause-lines
+pub statements::put_statement-returns-in-Block-clause-lines :
+    goal.statements::put_statement-returns-in-Block-clause-lines
 unfolding statement_code
 statements::put_statement-returns-in-Block-clause-lines t c =
     subst (λ z. OnOk c.put_statements.result (lines_of c.put_statements.new.lines.items ≡
@@ -162,7 +163,8 @@ statements::put_switch-put_cases-requires t c =
     (2 * weight_of_arms (listed_arms c.deref.result.now) + 4) < t = omega (arith, d, e) in
     (less, tt {0})
 
-pub expressions::put_application-returns-in_ok-values-in-Builtin-clause-lines : goal.expressions::put_application-returns-in_ok-values-in-Builtin-clause-lines
+pub expressions::put_application-returns-in_ok-values-in-Builtin-clause-lines :
+    goal.expressions::put_application-returns-in_ok-values-in-Builtin-clause-lines
 unfolding expression_code
 expressions::put_application-returns-in_ok-values-in-Builtin-clause-lines t c =
     let lines = lines_of c.args.lines.now.items in
@@ -187,7 +189,8 @@ expressions::put_application-returns-in_ok-values-in-Builtin-clause-lines t c =
     c.deref.result.now c.in-Builtin.is c.deref.ensures.value))
     c.step_builtin.ensures.lines
 
-pub expressions::put_application-returns-in_ok-values-in-Builtin-clause-value : goal.expressions::put_application-returns-in_ok-values-in-Builtin-clause-value
+pub expressions::put_application-returns-in_ok-values-in-Builtin-clause-value :
+    goal.expressions::put_application-returns-in_ok-values-in-Builtin-clause-value
 unfolding expression_code
 expressions::put_application-returns-in_ok-values-in-Builtin-clause-value t c =
     let lines = lines_of c.args.lines.now.items in
@@ -210,7 +213,8 @@ expressions::put_application-returns-in_ok-values-in-Builtin-clause-value t c =
     c.in-Builtin.is c.deref.ensures.value))
     c.step_builtin.ensures.value
 
-pub expressions::put_application-returns-in_ok-values-in-Builtin-clause-made : goal.expressions::put_application-returns-in_ok-values-in-Builtin-clause-made
+pub expressions::put_application-returns-in_ok-values-in-Builtin-clause-made :
+    goal.expressions::put_application-returns-in_ok-values-in-Builtin-clause-made
 unfolding expression_code
 expressions::put_application-returns-in_ok-values-in-Builtin-clause-made t c =
     let lines = lines_of c.args.lines.now.items in
@@ -233,7 +237,8 @@ expressions::put_application-returns-in_ok-values-in-Builtin-clause-made t c =
     c.in-Builtin.is c.deref.ensures.value))
     c.step_builtin.ensures.made
 
-pub statements::put_switch-returns-in_ok-put_expression-in-Switch-clause-lines : goal.statements::put_switch-returns-in_ok-put_expression-in-Switch-clause-lines
+pub statements::put_switch-returns-in_ok-put_expression-in-Switch-clause-lines :
+    goal.statements::put_switch-returns-in_ok-put_expression-in-Switch-clause-lines
 unfolding statement_code
 statements::put_switch-returns-in_ok-put_expression-in-Switch-clause-lines t c =
     let lines = lines_of c.args.lines.now.items in
@@ -257,7 +262,8 @@ statements::put_switch-returns-in_ok-put_expression-in-Switch-clause-lines t c =
     c.deref.result.now c.in-Switch.is c.deref.ensures.value))
     c.put_cases.ensures.lines
 
-pub statements::put_switch-returns-in_ok-put_expression-in-Switch-clause-made : goal.statements::put_switch-returns-in_ok-put_expression-in-Switch-clause-made
+pub statements::put_switch-returns-in_ok-put_expression-in-Switch-clause-made :
+    goal.statements::put_switch-returns-in_ok-put_expression-in-Switch-clause-made
 unfolding statement_code
 statements::put_switch-returns-in_ok-put_expression-in-Switch-clause-made t c =
     let lines = lines_of c.args.lines.now.items in
@@ -310,7 +316,8 @@ expressions::put_call-put_body-requires t c =
     omega (arith, d, h, k, q, w) in
     (less, tt {0})
 
-pub expressions::put_call-returns-in_ok-put_parameters-in-Call-clause-lines : goal.expressions::put_call-returns-in_ok-put_parameters-in-Call-clause-lines
+pub expressions::put_call-returns-in_ok-put_parameters-in-Call-clause-lines :
+    goal.expressions::put_call-returns-in_ok-put_parameters-in-Call-clause-lines
 unfolding expression_code
 expressions::put_call-returns-in_ok-put_parameters-in-Call-clause-lines t c =
     let lines = lines_of c.args.lines.now.items in
@@ -361,7 +368,8 @@ expressions::put_call-returns-in_ok-put_parameters-in-Call-clause-lines t c =
     c.in-Call.is c.deref-in-Call.ensures.value))
     c.put_body.ensures.lines
 
-pub expressions::put_call-returns-in_ok-put_parameters-in-Call-clause-value : goal.expressions::put_call-returns-in_ok-put_parameters-in-Call-clause-value
+pub expressions::put_call-returns-in_ok-put_parameters-in-Call-clause-value :
+    goal.expressions::put_call-returns-in_ok-put_parameters-in-Call-clause-value
 unfolding expression_code
 expressions::put_call-returns-in_ok-put_parameters-in-Call-clause-value t c =
     let lines = lines_of c.args.lines.now.items in
@@ -409,7 +417,8 @@ expressions::put_call-returns-in_ok-put_parameters-in-Call-clause-value t c =
     c.in-Call.is c.deref-in-Call.ensures.value))
     c.put_body.ensures.value
 
-pub expressions::put_call-returns-in_ok-put_parameters-in-Call-clause-made : goal.expressions::put_call-returns-in_ok-put_parameters-in-Call-clause-made
+pub expressions::put_call-returns-in_ok-put_parameters-in-Call-clause-made :
+    goal.expressions::put_call-returns-in_ok-put_parameters-in-Call-clause-made
 unfolding expression_code
 expressions::put_call-returns-in_ok-put_parameters-in-Call-clause-made t c =
     let lines = lines_of c.args.lines.now.items in

@@ -12,7 +12,8 @@ returns-in-Some-clause-faulted c =
     (λ k token q. at_fault_reported (asked_of c.args.walk.asked.now) (length c.args.walk.places.now)
     c.args.walk.places.now
     c.args.environment.now c.args.role (view c.args.tree.now) c.args.parts.kinds.items c.as_slice-kinds.result.now
-    c.in_ok-judgement.judgement.fault c.in-Some.fault k _ token c.as_slice-kinds.ensures.value c.in_ok-judgement.ensures.fault c.in-Some.is q.0
+    c.in_ok-judgement.judgement.fault c.in-Some.fault k _ token c.as_slice-kinds.ensures.value
+    c.in_ok-judgement.ensures.fault c.in-Some.is q.0
     q.1 (first_is c.args.tree.now))
 
 pub returns-in_ok-piece-in-None-clause-made : goal.returns-in_ok-piece-in-None-clause-made
