@@ -14,9 +14,9 @@ use Rattle.cl_meaning.specs.Visible.{Node}
 use Rattle.cl_meaning.specs.Faults.{Asked, at_fault, looked, Stands, AllSound, FirstFault, token_of}
 use Rattle.cl_meaning.specs.Typed.{Unit'}
 use Rattle.cl_meaning.specs.Meant.{unit_meant}
+use Rattle.cl_meaning.specs.View.{unit_of}
 use Rattle.cl_limits.specs.Heights.{functions_in}
 use Rattle.cl_limits.specs.Kernel.{weights_of, limit_of, sized_of}
-use Rattle.cl_piece.specs.View.{unit_of}
 use Rattle.cl_limits.specs.Judged.{nodes_of, asked_in, limit_in, IsAccepted}
 use Rattle.cl_check.specs.Checked.{starts_in, IsRefused}
 

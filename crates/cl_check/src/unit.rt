@@ -5,10 +5,10 @@ ghost use Rattle.cl_tree.specs.Syntax.{view, views};
 ghost use Rattle.cl_meaning.specs.declared.fault.Fault.{Fault as FaultOf};
 ghost use Rattle.cl_meaning.specs.Faults as faults;
 ghost use Rattle.cl_meaning.specs.Meant as meant;
+ghost use Rattle.cl_meaning.specs.View.{function_of, unit_of};
 ghost use Rattle.cl_scope.specs.View.{signature_of};
 ghost use Rattle.cl_faults.specs.View.{asked_of};
-ghost use Rattle.cl_piece.specs.View.{function_of, what_of, unit_of};
-ghost use Rattle.cl_limits.specs.Heights as limits;
+ghost use Rattle.cl_piece.specs.View.{what_of};
 ghost use Rattle.cl_check.specs.Walk.{IfFault};
 ghost use Rattle.cl_limits.specs.Judged.{nodes_of, asked_in, IsAccepted};
 ghost use Rattle.cl_check.specs.Checked.{starts_in, IsRefused};
@@ -17,12 +17,12 @@ use crate::error::CheckError;
 use crate::gather::{Calls, gather_tree};
 use crate::walk::{Walk, check_tree};
 use cl_faults::{Asked, rows_of};
-use cl_limits::limit_of;
+use cl_limits::{is_function, limit_of};
 use cl_meaning::Role;
 use cl_model::{Function, Program, Table};
 use cl_piece::What;
 use cl_scope::{Environment, Signature, start};
-use cl_tree::{Form, Tree};
+use cl_tree::Tree;
 use std::alloc::Global;
 use wg_num::{Memory, Place, Word};
 
@@ -37,15 +37,6 @@ fn kernel_number(kernel: &[u8], functions: &[Signature]) -> usize
         }
     }
     functions.len()
-}
-
-fn is_function(form: Form) -> bool
-    ensures { result ≡ limits.is_function form }
-{
-    match form {
-        Form::FunctionNode => true,
-        _ => false,
-    }
 }
 
 /// The first token of the function of that number among those that some trees define; 0 where there are fewer.

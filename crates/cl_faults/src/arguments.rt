@@ -1,15 +1,13 @@
 //! The arguments and the results of calls.
 
 ghost use Rattle.std.specs.Prelude.{◌≡◌};
-ghost use Rattle.wg_num.specs.Builtins as builtins;
-ghost use Rattle.cl_model.specs.Valid as valid;
 ghost use Rattle.cl_meaning.specs.Kinds as spec;
 ghost use Rattle.cl_faults.specs.Known.{known};
 
-use crate::kinds::{is_number, number, type_of};
-use cl_meaning::{Each, Intrinsic, Kind, Parameter, Yield, common, same_space};
-use cl_model::Query;
-use wg_num::{Fun, IntType, same_type};
+use crate::kinds::{is_number, number};
+use cl_meaning::{Each, Intrinsic, Kind, Parameter, Yield, common, counted, same_space, type_of};
+use cl_model::{Query, arity_of, query_type};
+use wg_num::{IntType, result_type, same_type};
 
 /// Whether the kinds of all parts are known.
 #[tactic(auto, using(crate::proofs::Known::all_known_more))]
@@ -84,15 +82,6 @@ pub fn all_numbers(kinds: &[Option<Kind>]) -> bool
     true
 }
 
-fn counted(of: IntType) -> IntType
-    ensures { result ≡ spec.counted of }
-{
-    match of {
-        IntType::Bool => IntType::Int,
-        _ => of,
-    }
-}
-
 fn all_of(of: IntType, kinds: &[Option<Kind>]) -> bool
     ensures { result ≡ spec.all_of of (spec.counted_types (known kinds.now)) }
 {
@@ -138,46 +127,6 @@ pub fn builtin_type(kinds: &[Option<Kind>]) -> IntType
     IntType::Int
 }
 
-fn unsigned_of(of: IntType) -> IntType
-    ensures { result ≡ builtins.unsigned_of of }
-{
-    match of {
-        IntType::Bool => IntType::Bool,
-        IntType::Char | IntType::Uchar => IntType::Uchar,
-        IntType::Short | IntType::Ushort => IntType::Ushort,
-        IntType::Int | IntType::Uint => IntType::Uint,
-        IntType::Long | IntType::Ulong => IntType::Ulong,
-    }
-}
-
-fn result_type(function: Fun, of: IntType) -> IntType
-    ensures { result ≡ builtins.result_type function of }
-{
-    match function {
-        Fun::Abs | Fun::AbsDiff => unsigned_of(of),
-        _ => of,
-    }
-}
-
-fn query_type(query: Query) -> IntType
-    ensures { result ≡ valid.query_type query }
-{
-    match query {
-        Query::WorkDim => IntType::Uint,
-        _ => IntType::Ulong,
-    }
-}
-
-fn function_arity(function: Fun) -> usize
-    ensures { result ≡ valid.arity_of function }
-{
-    match function {
-        Fun::Abs | Fun::Clz | Fun::Popcount => 1,
-        Fun::Clamp => 3,
-        _ => 2,
-    }
-}
-
 fn query_arity(query: Query) -> usize
     ensures { result ≡ spec.query_arity query }
 {
@@ -193,7 +142,7 @@ pub fn intrinsic_arity(intrinsic: Intrinsic) -> usize
     ensures { result ≡ spec.intrinsic_arity intrinsic }
 {
     match intrinsic {
-        Intrinsic::Function(function) => function_arity(function),
+        Intrinsic::Function(function) => arity_of(function),
         Intrinsic::Query(query) => query_arity(query),
         Intrinsic::Barrier | Intrinsic::Fence => 1,
     }

@@ -65,16 +65,6 @@ pub fn value_kind(kind: Kind) -> Kind
     }
 }
 
-/// The type of a number; that of a pointer is its offset's.
-pub fn type_of(kind: Kind) -> IntType
-    ensures { result ≡ spec.type_of kind }
-{
-    match kind {
-        Kind::Number { of, .. } => of,
-        _ => IntType::Long,
-    }
-}
-
 /// The kind of a comma (C99, section 6.5.17); `None` where an operand does not fit.
 pub fn comma_kind(left: Kind, right: Kind) -> Option<Kind>
     ensures { result ≡ spec.comma_kind left right }

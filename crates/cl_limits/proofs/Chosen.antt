@@ -5,9 +5,9 @@ use Rattle.cl_model.specs.declared.program.Function as rust_function
 use Rattle.cl_meaning.specs.declared.fault.Fault.{Fault}
 use Rattle.cl_meaning.specs.declared.fault.Fault.TheVariants as faults
 use Rattle.cl_meaning.specs.Faults.{Call}
+use Rattle.cl_meaning.specs.View.{function_of}
 use Rattle.cl_limits.specs.Limits.{whole, private_bytes}
 use Rattle.cl_limits.specs.Kernel.{Sized, at_limit, limit_of, local_bytes_at}
-use Rattle.cl_limits.specs.View.{function_of}
 
 abbrev by_tests : Bool → Bool → Bool → Bool → Option Fault
 by_tests large private deep local =

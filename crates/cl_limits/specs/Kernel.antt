@@ -6,9 +6,9 @@ use Rattle.cl_meaning.specs.declared.fault.Fault.{Fault}
 use Rattle.cl_meaning.specs.declared.fault.Fault.TheVariants as faults
 use Rattle.cl_meaning.specs.Faults.{Call}
 use Rattle.cl_meaning.specs.Typed.{Function}
+use Rattle.cl_meaning.specs.View.{function_of}
 use Rattle.cl_limits.specs.Limits.{count_nodes, whole, private_bytes, local_bytes}
 use Rattle.cl_limits.specs.Heights.{is_function, functions_in, full_height}
-use Rattle.cl_limits.specs.View.{function_of}
 
 -- the nodes of a function's block, its last part
 abbrev pub block_nodes : Forest → ℕ

@@ -1,6 +1,5 @@
 pub mod Limits
 pub mod Heights
-pub mod View
 pub mod Rounds
 pub mod Points
 pub mod Kernel

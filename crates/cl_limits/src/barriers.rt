@@ -6,7 +6,7 @@ ghost use Rattle.cl_limits.specs.Heights.{lifted, functions_among, full_height};
 ghost use Rattle.cl_limits.specs.Rounds as rounds;
 
 use crate::points::{Point, count_functions, points_of};
-use crate::sums::{same_values, zeros};
+use crate::sums::{same_values, value_at, zeros};
 use cl_tree::Tree;
 use std::alloc::Global;
 use wg_num::Memory;
@@ -22,23 +22,13 @@ fn capped_lifted(cap: u64, around: u32, height: u64) -> u64
     }
 }
 
-/// The height of a function; 0 for one that is not there.
-fn height_at(heights: &[u64], function: usize) -> u64
-    ensures { result ≡ slice_index heights.now function }
-{
-    match heights.get(function) {
-        Some(height) => *height,
-        None => 0,
-    }
-}
-
 /// The height of what stands at a point: a barrier, or a call.
 fn point_height(heights: &[u64], called: Option<usize>) -> u64
     ensures { result ≡ rounds.point_height heights.now called }
 {
     match called {
         None => 1,
-        Some(function) => height_at(heights, function),
+        Some(function) => value_at(heights, function),
     }
 }
 

@@ -13,5 +13,5 @@ pub use barriers::heights;
 pub use limit::limit_of;
 pub use memory::{local_bytes, private_bytes};
 pub use nodes::count_nodes;
-pub use points::{Point, points_of};
+pub use points::{Point, is_function, points_of};
 pub use sums::totals;

@@ -6,7 +6,7 @@ ghost use Rattle.cl_limits.specs.Limits.{whole, private_bytes as private_bytes_o
 ghost use Rattle.cl_limits.specs.Heights.{functions_in, full_height};
 ghost use Rattle.cl_limits.specs.Kernel as spec;
 ghost use Rattle.cl_meaning.specs.Calls.{call_of};
-ghost use Rattle.cl_limits.specs.View.{function_of};
+ghost use Rattle.cl_meaning.specs.View.{function_of};
 
 use crate::barriers::heights;
 use crate::memory::{local_bytes, private_bytes};
@@ -67,7 +67,7 @@ fn is_too_large(alloc: Global, unit: &Tree, calls: &[Call], kernel: u32) -> Resu
 {
     let own = weights_of(alloc, unit)?;
     let weights = totals(alloc, 16385, &own, calls)?;
-    Ok(16384 < value_at(&weights, kernel))
+    Ok(16384 < value_at(&weights, kernel as usize))
 }
 
 /// Whether the private memory of a work-item, with that of all that the kernel calls, is above 16,384 bytes.
@@ -82,7 +82,7 @@ fn is_private_over(
 {
     let own = all_private_bytes(alloc, functions)?;
     let bytes = totals(alloc, 16385, &own, calls)?;
-    Ok(16384 < value_at(&bytes, kernel))
+    Ok(16384 < value_at(&bytes, kernel as usize))
 }
 
 /// Whether more than 16 `if`, loop and `switch` statements are around a barrier of the kernel.
@@ -90,7 +90,7 @@ fn is_too_deep(alloc: Global, unit: &Tree, kernel: u32) -> Result<bool, Memory>
     ensures { IfOk result (λ b. b ≡ nat_lt 17 (full_height (functions_in (view unit.now)) kernel)) }
 {
     let heights = heights(alloc, 18, &unit.parts)?;
-    Ok(17 < value_at(&heights, kernel))
+    Ok(17 < value_at(&heights, kernel as usize))
 }
 
 /// Whether the kernel declares more than 65,536 bytes of local memory.

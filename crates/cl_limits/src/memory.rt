@@ -2,11 +2,11 @@
 
 ghost use Rattle.std.specs.Prelude.{◌≡◌, min, map};
 ghost use Rattle.cl_meaning.specs.Declarations.{product};
+ghost use Rattle.cl_meaning.specs.View.{array_of, function_of};
 ghost use Rattle.cl_limits.specs.Limits as spec;
-ghost use Rattle.cl_limits.specs.View.{array_of, function_of};
 
-use cl_meaning::size_of;
 use cl_model::{Array, Function, Space};
+use wg_num::size_of;
 
 fn product_of(lengths: &[u64]) -> u64
     ensures { result ≡ min (product lengths.now) 18446744073709551615 }

@@ -62,6 +62,7 @@ fn entered(at: Spot, form: Form) -> Spot
     if is_branch(form) { deeper(at) } else { at }
 }
 
+/// Whether a node of the form is a function that is defined.
 pub fn is_function(form: Form) -> bool
     ensures { result ≡ heights.is_function form }
 {

@@ -11,10 +11,10 @@ use std::alloc::Global;
 use wg_num::Memory;
 
 /// The value of a function; 0 for one that is not there.
-pub(crate) fn value_at(values: &[u64], function: u32) -> u64
+pub(crate) fn value_at(values: &[u64], function: usize) -> u64
     ensures { result ≡ slice_index values.now function }
 {
-    match values.get(function as usize) {
+    match values.get(function) {
         Some(value) => *value,
         None => 0,
     }
@@ -32,7 +32,7 @@ fn add_call(cap: u64, counts: &[u64], sums: &mut [u64], call: Call)
 {
     let caller = call.caller as usize;
     if caller < sums.len() {
-        sums[caller] = capped_sum(sums[caller], value_at(counts, call.called), cap);
+        sums[caller] = capped_sum(sums[caller], value_at(counts, call.called as usize), cap);
     }
 }
 

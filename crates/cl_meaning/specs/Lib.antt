@@ -13,6 +13,7 @@ pub mod Declarations
 pub mod Visible
 pub mod Faults
 pub mod Typed
+pub mod View
 pub mod Expressions
 pub mod Statements
 pub mod Meant

@@ -5,12 +5,10 @@ ghost use Rattle.wg_num.specs.Wrap.{IsValue};
 ghost use Rattle.cl_tree.specs.Syntax.{view};
 ghost use Rattle.cl_meaning.specs.Constants as spec;
 
-use crate::conversions::{
-    binary_type, common, operand_type, promoted, right_type, size_of, unary_type,
-};
+use crate::conversions::{binary_type, common, operand_type, promoted, right_type, unary_type};
 use crate::{Declared, Prefix, binary_of, declared_of, literal, prefix_of, truth_of};
 use cl_tree::{Form, Tree};
-use wg_num::{Bin, IntType, Un, binary, convert, unary};
+use wg_num::{Bin, IntType, Un, binary, convert, size_of, unary};
 
 /// The type and the value of a constant expression.
 #[derive(Clone, Copy, PartialEq, Eq, Debug)]

@@ -1,11 +1,11 @@
 //! The types in which operators compute.
 
 ghost use Rattle.std.specs.Prelude.{◌≡◌};
-ghost use Rattle.wg_num.specs.Operators as operators;
-ghost use Rattle.wg_num.specs.Bytes as bytes;
 ghost use Rattle.cl_meaning.specs.Conversions as spec;
+ghost use Rattle.cl_meaning.specs.Kinds as kinds;
 
-use wg_num::{Bin, IntType, Un};
+use crate::kind::Kind;
+use wg_num::{Bin, IntType, Un, is_shift};
 
 /// The type to which a value is promoted (C99, section 6.3.1.1).
 pub fn promoted(t: IntType) -> IntType
@@ -19,18 +19,6 @@ pub fn promoted(t: IntType) -> IntType
     }
 }
 
-/// How many bytes a value of the type takes.
-pub fn size_of(t: IntType) -> u32
-    ensures { result ≡ bytes.size_of t }
-{
-    match t {
-        IntType::Bool | IntType::Char | IntType::Uchar => 1,
-        IntType::Short | IntType::Ushort => 2,
-        IntType::Int | IntType::Uint => 4,
-        IntType::Long | IntType::Ulong => 8,
-    }
-}
-
 /// The common type of two operands: of their promoted types the wider one, or of one width the
 /// unsigned one (C99, section 6.3.1.8).
 pub fn common(a: IntType, b: IntType) -> IntType
@@ -41,15 +29,6 @@ pub fn common(a: IntType, b: IntType) -> IntType
         (IntType::Long, _) | (_, IntType::Long) => IntType::Long,
         (IntType::Uint, _) | (_, IntType::Uint) => IntType::Uint,
         _ => IntType::Int,
-    }
-}
-
-fn is_shift(op: Bin) -> bool
-    ensures { result ≡ operators.is_shift op }
-{
-    match op {
-        Bin::Shl | Bin::Shr => true,
-        _ => false,
     }
 }
 
@@ -100,5 +79,25 @@ pub fn unary_type(op: Un, of: IntType) -> IntType
     match op {
         Un::Not => IntType::Int,
         Un::Plus | Un::Minus | Un::Flip => of,
+    }
+}
+
+/// The type of a number; that of a pointer is its offset's.
+pub fn type_of(kind: Kind) -> IntType
+    ensures { result ≡ kinds.type_of kind }
+{
+    match kind {
+        Kind::Number { of, .. } => of,
+        _ => IntType::Long,
+    }
+}
+
+/// A type as that of an argument of a built-in function: `bool` counts as `int` (OpenCL 1.2, section 6.12.3).
+pub fn counted(of: IntType) -> IntType
+    ensures { result ≡ kinds.counted of }
+{
+    match of {
+        IntType::Bool => IntType::Int,
+        other => other,
     }
 }

@@ -20,7 +20,8 @@ pub mod types;
 pub use call::Call;
 pub use constant::{Constant, constant_of};
 pub use conversions::{
-    binary_type, common, is_comparison, operand_type, promoted, right_type, size_of, unary_type,
+    binary_type, common, counted, is_comparison, operand_type, promoted, right_type, type_of,
+    unary_type,
 };
 pub use equal::{same_root, same_space};
 pub use fault::Fault;

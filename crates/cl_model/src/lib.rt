@@ -9,9 +9,11 @@ mod law_programs;
 pub mod laws;
 pub mod program;
 pub mod statement;
+pub mod types;
 
 pub use launch::{Bound, Buffers, Launch};
 pub use program::{
     Arg, Array, Expr, Function, Program, Query, Root, Space, Stmt, SwitchArm, Table, Target, Var,
     VarKind,
 };
+pub use types::{arity_of, query_type};

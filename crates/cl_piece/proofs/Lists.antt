@@ -15,8 +15,9 @@ use Rattle.cl_meaning.specs.Typed.{Function}
 use Rattle.cl_meaning.specs.declared.kind.Parameter.{Parameter}
 use Rattle.cl_meaning.specs.Expressions.{expressions, roots_passed, all_passed}
 use Rattle.cl_meaning.specs.Statements.{followed, last_piece}
+use Rattle.cl_meaning.specs.View.{function_of}
 use Rattle.cl_piece.specs.declared.piece.Piece as rust
-use Rattle.cl_piece.specs.View.{piece_of, function_of}
+use Rattle.cl_piece.specs.View.{piece_of}
 use Rattle.cl_piece.specs.Arms.{arms_then}
 
 -- ---- expressions and statements

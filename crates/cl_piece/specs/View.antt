@@ -1,33 +1,20 @@
--- What a contract sees of a piece, and of a typed program with its names.
+-- What a contract sees of a piece.
 use Rattle.std.specs.Prelude.{List, map, option_map}
 use Rattle.wg_num.specs.declared.types.Place.{Place}
-use Rattle.cl_model.specs.declared.program.Program as rust_program
-use Rattle.cl_model.specs.declared.program.Function as rust_function
 use Rattle.cl_model.specs.declared.program.Target as rust_target
 use Rattle.cl_model.specs.declared.program.Target.TheVariants as rust_targets
 use Rattle.cl_model.specs.View.{expression_of, statement_of, listed_statements}
 use Rattle.cl_piece.specs.declared.piece.What as rust_what
 use Rattle.cl_piece.specs.declared.piece.What.TheVariants as rust
 use Rattle.cl_piece.specs.declared.piece.Piece as rust_piece
-use Rattle.cl_scope.specs.View.{variable_of, array_of, table_of}
-use Rattle.cl_meaning.specs.Typed.{Function, Unit', Target, variable, element, What, nothing, value, target, offset}
+use Rattle.cl_meaning.specs.Typed.{Function, Target, variable, element, What, nothing, value, target, offset}
 use Rattle.cl_meaning.specs.Typed.{values, barrier, fence, lines, statement, labelled, function, functions, Piece}
 use Rattle.cl_meaning.specs.Typed.{Built}
+use Rattle.cl_meaning.specs.View.{function_of}
 
 abbrev pub target_of : rust_target.Target → Target
 target_of (rust_targets.Var x) = variable x
 target_of (rust_targets.Element' site of root p i) = element site of root (expression_of i)
-
-abbrev pub function_of : rust_function.Function → Function
-function_of g = record {
-  name = g.name;
-  parameters = g.params;
-  result = g.result;
-  variables = map variable_of g.vars.items;
-  arrays = map array_of g.arrays.items;
-  body = listed_statements g.body.items;
-  sizes = g.sizes;
-}
 
 abbrev pub what_of : rust_what.What → What
 what_of rust.Nothing = nothing
@@ -49,12 +36,3 @@ piece_of p = record { kind = p.kind; what = what_of p.what }
 -- what a node is made into
 abbrev pub built_of : rust_what.What → List Place → Built
 built_of w sites = record { what = what_of w; sites = sites }
-
--- a typed program with its names
-abbrev pub unit_of : rust_program.Program → Unit'
-unit_of p = record {
-  tables = map table_of p.tables.items;
-  functions = map function_of p.functions.items;
-  kernel = p.kernel;
-  sites = p.sites.items;
-}

@@ -16,7 +16,7 @@ use crate::piece::{Piece, What};
 use crate::sites::take_site;
 use crate::types::type_in;
 use crate::values::{literal, operand, read};
-use cl_meaning::{Intrinsic, Kind, Parameter, common};
+use cl_meaning::{Intrinsic, Kind, Parameter, common, counted};
 use cl_model::{Arg, Expr, Query, expression};
 use std::alloc::Global;
 use wg_num::{Fun, IntType, Memory, Place, push, same_type};
@@ -77,16 +77,6 @@ pub(crate) fn defined_call(
     let site = take_site(sites, place)?;
     let arguments = all_passed(alloc, parameters, pieces)?;
     as_value(alloc, expression::call(site, number, arguments))
-}
-
-/// A type as that of an argument of a built-in function: `bool` counts as `int`.
-fn counted(of: IntType) -> IntType
-    ensures { result ≡ kinds.counted of }
-{
-    match of {
-        IntType::Bool => IntType::Int,
-        other => other,
-    }
 }
 
 /// The types of some arguments of a built-in function.

@@ -20,10 +20,9 @@ use crate::functions::{Inside, function};
 use crate::leaves;
 use crate::piece::{Piece, What};
 use crate::switches::case;
-use cl_meaning::{Constant, Declared, constant_of};
-use cl_model::Space;
+use cl_meaning::{Constant, constant_of};
 use cl_scope::{
-    Body, Callee, Declarator, Environment, Signature, callee_of, is_at_unit, is_flag, meaning_of,
+    Body, Callee, Declarator, Environment, Signature, callee_of, is_flag, kept_in, meaning_of,
     signature_in,
 };
 use cl_tree::Tree;
@@ -109,19 +108,6 @@ pub(crate) fn case_at(
     let constant = first_constant(parts);
     let what = case(alloc, of, constant, pieces)?;
     Ok(what)
-}
-
-/// Where an array or a scalar without a star is kept (OpenCL 1.2, section 6.5).
-fn kept_in(environment: &Environment, declared: Declared) -> Space
-    ensures { result ≡ declarations.kept_in (visible_in environment.now) declared }
-{
-    if is_at_unit(environment) {
-        return Space::Constant;
-    }
-    match declared.space {
-        Some(Space::Local) => Space::Local,
-        _ => Space::Private,
-    }
 }
 
 /// What a declarator stands for (C99, section 6.7.5).

@@ -19,10 +19,10 @@ use crate::piece::{Piece, What};
 use crate::sites::element;
 use crate::types::type_in;
 use crate::values::{literal, logical, moved, read, way};
-use cl_meaning::{Declared, Each, Kind, Postfix, Prefix, promoted, size_of};
+use cl_meaning::{Declared, Each, Kind, Postfix, Prefix, promoted};
 use cl_model::{Expr, Root, Target, expression};
 use std::alloc::Global;
-use wg_num::{Bin, IntType, Memory, Place, Un};
+use wg_num::{Bin, IntType, Memory, Place, Un, size_of};
 
 /// So many elements for each step of an index.
 fn scaled(alloc: Global, index: Expr, count: u64) -> Result<Expr, Memory>

@@ -2,10 +2,10 @@
 
 ghost use Rattle.std.specs.Prelude.{◌≡◌, ◌++◌, IfOk, OnOk, List, map};
 ghost use Rattle.cl_model.specs.View.{statement_of, listed_statements};
-ghost use Rattle.cl_scope.specs.View.{variable_of, array_of};
 ghost use Rattle.cl_meaning.specs.Typed as typed;
 ghost use Rattle.cl_meaning.specs.Statements as meaning;
-ghost use Rattle.cl_piece.specs.View.{piece_of, what_of, function_of};
+ghost use Rattle.cl_meaning.specs.View.{array_of, function_of, variable_of};
+ghost use Rattle.cl_piece.specs.View.{piece_of, what_of};
 
 use crate::declarators::number;
 use crate::lines::last;

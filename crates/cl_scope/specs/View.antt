@@ -4,28 +4,17 @@ use Rattle.std.specs.declared.alloc.Global.{Global}
 use Rattle.std.specs.Str.{bytes_eq}
 use Rattle.indexmap.specs.IndexMap.{IndexMap, get_by}
 use Rattle.wg_num.specs.declared.types.Place.{Place}
-use Rattle.cl_model.specs.declared.program.Var as rust_var
-use Rattle.cl_model.specs.declared.program.Array as rust_array
-use Rattle.cl_model.specs.declared.program.Table as rust_table
 use Rattle.cl_meaning.specs.declared.kind.Entry.{Entry}
 use Rattle.cl_scope.specs.declared.environment.Environment as rust
 use Rattle.cl_scope.specs.declared.environment.Signature as rust_signature
 use Rattle.cl_scope.specs.declared.environment.Owner as rust_owner
 use Rattle.cl_scope.specs.declared.environment.Labels as rust_labels
-use Rattle.cl_meaning.specs.Environment.{Env, Scope, Variable, Array, Table, Signature, Owner, Labels}
+use Rattle.cl_meaning.specs.Environment.{Env, Scope, Signature, Owner, Labels}
+use Rattle.cl_meaning.specs.View.{variable_of, array_of, table_of}
 
 -- the names of a map
 abbrev pub scope_of : {S : Type 0} → IndexMap (Vec ℕ Global) Entry S → Scope
 scope_of m name = get_by (λ k. bytes_eq name k.items) m
-
-abbrev pub variable_of : rust_var.Var → Variable
-variable_of v = record { name = v.name; kind = v.kind; place = v.place }
-
-abbrev pub array_of : rust_array.Array → Array
-array_of a = record { name = a.name; space = a.space; element = a.element; dims = a.dims.items; place = a.place }
-
-abbrev pub table_of : rust_table.Table → Table
-table_of t = record { array = array_of t.array; bytes = t.bytes.items }
 
 abbrev pub signature_of : rust_signature.Signature → Signature
 signature_of g = record { name = g.name; kernel = g.kernel; result = g.result; parameters = g.parameters.items }

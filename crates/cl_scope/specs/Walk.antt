@@ -11,8 +11,9 @@ use Rattle.cl_meaning.specs.Visible.{inside, left, in_block, apart, opened, in_l
 use Rattle.cl_meaning.specs.Visible.{with_default, in_definition, in_prototype}
 use Rattle.cl_meaning.specs.Declarations.{form_of, with_declarator, declarator_in, last_kind, with_parameter}
 use Rattle.cl_meaning.specs.Declarations.{first_type, second_star}
+use Rattle.cl_meaning.specs.View.{array_of, variable_of}
 pub use Rattle.cl_meaning.specs.Kinds.{callee_of}
-use Rattle.cl_scope.specs.View.{variable_of, array_of, owner_of, labels_of}
+use Rattle.cl_scope.specs.View.{owner_of, labels_of}
 use Rattle.cl_scope.specs.declared.walk.Body as rust_body
 use Rattle.cl_scope.specs.declared.walk.Around as rust_around
 use Rattle.cl_scope.specs.declared.walk.Aside as rust_aside

@@ -6,7 +6,6 @@ ghost use Rattle.cl_meaning.specs.Constants as constants;
 ghost use Rattle.cl_tree.specs.Syntax.{view};
 ghost use Rattle.cl_meaning.specs.Declarations.{form_of};
 ghost use Rattle.cl_meaning.specs.Environment as environments;
-ghost use Rattle.cl_meaning.specs.Kinds as kinds;
 ghost use Rattle.cl_meaning.specs.Visible as spec;
 ghost use Rattle.cl_scope.specs.View.{env_of, visible_in, scope_of, signature_of, labels_of, owner_of};
 
@@ -14,21 +13,11 @@ use crate::environment::{Environment, Labels, Names, Owner, Signature};
 use crate::lookup::{function_meaning, is_announced};
 use crate::scopes::{insert, open};
 use crate::signature::{head_sizes, is_kernel_head, yield_of};
-use cl_meaning::{Constant, Entry, Kind, constant_of, declared_of, promoted};
+use cl_meaning::{Constant, Entry, Kind, constant_of, declared_of, promoted, type_of};
 use cl_tree::{Form, Tree};
 use indexmap::IndexMap;
 use std::alloc::Global;
 use wg_num::{IntType, Memory, push, wrap};
-
-/// The type of a number; that of a pointer is its offset's.
-fn type_of(kind: Kind) -> IntType
-    ensures { result ≡ kinds.type_of kind }
-{
-    match kind {
-        Kind::Number { of, .. } => of,
-        _ => IntType::Long,
-    }
-}
 
 /// The type to which the labels of a switch are converted (C99, section 6.8.4.2).
 fn label_type(kind: Option<Kind>) -> IntType

@@ -4,7 +4,8 @@ ghost use Rattle.wg_num.specs.declared.types.Place.{Place};
 ghost use Rattle.cl_tree.specs.Syntax.{views};
 ghost use Rattle.cl_meaning.specs.Environment as environments;
 ghost use Rattle.cl_meaning.specs.Declarations as spec;
-ghost use Rattle.cl_scope.specs.View.{env_of, visible_in, variable_of, array_of, table_of};
+ghost use Rattle.cl_meaning.specs.View.{array_of, table_of, variable_of};
+ghost use Rattle.cl_scope.specs.View.{env_of, visible_in};
 ghost use Rattle.cl_scope.specs.Declarators.{declarator_view, kept_variable, with_variable_at, scalar_at};
 ghost use Rattle.cl_scope.specs.Declarators.{pointer_parameter_at, with_object, with_array_kept, with_table_kept};
 ghost use Rattle.cl_scope.specs.Declarators.{kept_array};
@@ -52,7 +53,7 @@ pub fn pointed_space(declared: Declared) -> Space
 
 /// Where an array or a scalar without a star is kept: constant memory in the unit, local memory where it
 /// is marked so, and else the item's own.
-fn kept_in(environment: &Environment, declared: Declared) -> Space
+pub fn kept_in(environment: &Environment, declared: Declared) -> Space
     ensures { result ≡ spec.kept_in (visible_in environment.now) declared }
 {
     if is_at_unit(environment) {

@@ -18,7 +18,7 @@ pub use declarator::{
     Declarator, MOST_ELEMENTS, declarator_in, dims_of, each_of, first_type, has_list,
     initialiser_count, length_in, second_star, star_in,
 };
-pub use declare::{last_kind, place_of, pointed_space};
+pub use declare::{kept_in, last_kind, place_of, pointed_space};
 pub use environment::{Environment, Labels, Names, Owner, Signature};
 pub use leaving::{leave, start};
 pub use lookup::{

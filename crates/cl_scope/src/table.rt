@@ -8,10 +8,10 @@ ghost use Rattle.cl_meaning.specs.Declarations as spec;
 ghost use Rattle.cl_scope.specs.Declarators.{declarator_view};
 
 use crate::declarator::{Declarator, has_list};
-use cl_meaning::{Declared, constant_of, size_of};
+use cl_meaning::{Declared, constant_of};
 use cl_tree::Tree;
 use std::alloc::Global;
-use wg_num::{IntType, Memory, bits, push, wrap};
+use wg_num::{IntType, Memory, bits, push, wrap, size_of};
 
 /// Pushes the bytes of a value, lowest first.
 fn push_value(bytes: &mut Vec<u8>, of: IntType, value: i128) -> Result<(), Memory>

@@ -48,5 +48,6 @@ pub mod TypeFacts
 pub mod Grammatical
 pub mod Spelled
 pub mod Decimals
+pub mod ErasedPrograms
 pub mod Expanded
 pub mod Example

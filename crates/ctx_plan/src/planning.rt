@@ -18,19 +18,7 @@ use cl_model::{Array, Program, Space};
 use diverge::Varying;
 use kir::Kernel;
 use std::alloc::Global;
-use wg_num::{IntType, Memory};
-
-/// How many bytes a value of the type has.
-fn size_of(of: IntType) -> u64
-    ensures { result ≡ bytes.size_of of }
-{
-    match of {
-        IntType::Bool | IntType::Char | IntType::Uchar => 1,
-        IntType::Short | IntType::Ushort => 2,
-        IntType::Int | IntType::Uint => 4,
-        IntType::Long | IntType::Ulong => 8,
-    }
-}
+use wg_num::{Memory, size_of};
 
 fn product_of(a: u64, b: u64) -> Result<u64, Memory>
     ensures { IfOk result (λ p. p ≡ a * b) }
@@ -45,7 +33,7 @@ fn product_of(a: u64, b: u64) -> Result<u64, Memory>
 fn array_bytes(array: &Array) -> Result<u64, Memory>
     ensures { IfOk result (λ n. n ≡ objects.array_bytes (array_of array.now)) }
 {
-    let mut bytes = size_of(array.element);
+    let mut bytes = size_of(array.element) as u64;
     for dim in &array.dims {
         bytes = product_of(bytes, *dim)?;
     }

@@ -11,26 +11,14 @@ ghost use Rattle.group_run.specs.Ends.{is_done};
 use crate::sizes::items_in_group;
 use cl_model::Launch;
 use lane_code::{GroupProgram, RegionEnd, RunEnd};
-use wg_num::Width;
-
-/// How many lanes a width has.
-fn lanes(width: Width) -> u32
-    ensures { result ≡ lanes_of width }
-{
-    match width {
-        Width::W1 => 1,
-        Width::W4 => 4,
-        Width::W8 => 8,
-        Width::W16 => 16,
-    }
-}
+use wg_num::lanes_of;
 
 /// How many chunks a group has.
 pub(crate) fn chunks_in_group(program: &GroupProgram, launch: &Launch) -> u32
     requires { HasSizes (launch_of launch.now) }
     ensures { result ≡ chunk_count (plain_of program.now) (launch_of launch.now) }
 {
-    let lanes = lanes(program.width);
+    let lanes = lanes_of(program.width);
     (items_in_group(launch) as u32 + (lanes - 1)) / lanes
 }
 
@@ -40,7 +28,7 @@ fn item_in(program: &GroupProgram, launch: &Launch, number: u64, chunk: u32, lan
     requires number { number < 2 ^ 24 }
     ensures { result ≡ number * group_size (launch_of launch.now) + (chunk * (plain_of program.now).width + lane) }
 {
-    let first = chunk as u64 * lanes(program.width) as u64;
+    let first = chunk as u64 * lanes_of(program.width) as u64;
     number * items_in_group(launch) + (first + lane as u64)
 }
 

@@ -9,7 +9,7 @@ ghost use Rattle.item_loops.specs.Built.{is_space, array_sizes};
 
 use cl_model::{Array, Space};
 use std::alloc::Global;
-use wg_num::{IntType, Memory};
+use wg_num::{Memory, size_of};
 
 /// The product of the lengths; `Memory` where it passes 64 bits on the way.
 fn product_of(lengths: &[u64]) -> Result<u64, Memory>
@@ -25,24 +25,14 @@ fn product_of(lengths: &[u64]) -> Result<u64, Memory>
     Ok(so_far)
 }
 
-/// How many bytes a value of the type takes.
-fn bytes_of(t: IntType) -> u64
-    ensures { result ≡ size_of t }
-{
-    match t {
-        IntType::Bool | IntType::Char | IntType::Uchar => 1,
-        IntType::Short | IntType::Ushort => 2,
-        IntType::Int | IntType::Uint => 4,
-        IntType::Long | IntType::Ulong => 8,
-    }
-}
-
 /// How many bytes the array has.
 fn bytes_in(array: &Array) -> Result<u64, Memory>
     ensures { IfOk result (λ n. n ≡ array_bytes (array_of array.now)) }
 {
     let count = product_of(&array.dims)?;
-    count.checked_mul(bytes_of(array.element)).ok_or(Memory)
+    count
+        .checked_mul(size_of(array.element) as u64)
+        .ok_or(Memory)
 }
 
 /// Whether the space is that of private memory, or else that of local memory.

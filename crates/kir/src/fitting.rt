@@ -2,7 +2,6 @@
 //! constant memory.
 
 ghost use Rattle.std.specs.Prelude.{◌≡◌, ◌&&◌, true, IfSome, IsSome, ◌↔◌, length, replicate, slice_get};
-ghost use Rattle.wg_num.specs.Wrap as wrap;
 ghost use Rattle.cl_model.specs.Objects as objects;
 ghost use Rattle.kir.specs.Listed.{lines_of, work_of};
 ghost use Rattle.kir.specs.Tree.{NoLine, LoadThen, StoreThen};
@@ -13,9 +12,9 @@ ghost use Rattle.kir.specs.Fits as fits;
 
 use crate::kernel::{Cell, Kernel};
 use crate::line::{Atom, Line, Work};
-use crate::types::{arity, binary_type, is_shift, kind_type, query_type, result_type, unary_type};
+use cl_model::types::{arity_of, binary_type, kind_type, query_type, unary_type};
 use cl_model::{Array, Root, Space, Table, VarKind};
-use wg_num::{Bin, IntType, Place, same_type};
+use wg_num::{Bin, IntType, Place, highest_of, is_shift, lowest_of, result_type, same_type};
 
 /// The parts of a kernel, valid or not.
 #[derive(Drop)]
@@ -67,40 +66,10 @@ fn has_type(of: IntType, found: Option<IntType>) -> bool
     }
 }
 
-#[tactic(auto, unfolding(wg_num::specs::Wrap::half))]
-fn lowest(of: IntType) -> i128
-    ensures { result ≡ wrap.lowest of }
-{
-    match of {
-        IntType::Bool | IntType::Uchar | IntType::Ushort | IntType::Uint | IntType::Ulong => 0,
-        IntType::Char => -128,
-        IntType::Short => -32_768,
-        IntType::Int => -2_147_483_648,
-        IntType::Long => -9_223_372_036_854_775_808,
-    }
-}
-
-#[tactic(auto, unfolding(wg_num::specs::Wrap::half, wg_num::specs::Wrap::modulus))]
-fn highest(of: IntType) -> i128
-    ensures { result ≡ wrap.highest of }
-{
-    match of {
-        IntType::Bool => 1,
-        IntType::Char => 127,
-        IntType::Uchar => 255,
-        IntType::Short => 32_767,
-        IntType::Ushort => 65_535,
-        IntType::Int => 2_147_483_647,
-        IntType::Uint => 4_294_967_295,
-        IntType::Long => 9_223_372_036_854_775_807,
-        IntType::Ulong => 18_446_744_073_709_551_615,
-    }
-}
-
 fn is_value(of: IntType, value: i128) -> bool
     ensures { result ≡ fits.is_value of value }
 {
-    lowest(of) <= value && value <= highest(of)
+    lowest_of(of) <= value && value <= highest_of(of)
 }
 
 fn cell_type(parts: &KernelParts, cell: u32) -> Option<IntType>
@@ -160,7 +129,7 @@ fn work_fits(parts: &KernelParts, work: &Work) -> bool
             has_type(*of, atom_type(parts, *a)) && right_fits(*op, *of, atom_type(parts, *b))
         }
         Work::Builtin { f, of, args } => {
-            if args.len() == arity(*f) {
+            if args.len() == arity_of(*f) {
                 all_have_type(parts, *of, args)
             } else {
                 false

@@ -7,7 +7,6 @@ pub mod holding;
 pub mod kernel;
 pub mod laws;
 pub mod line;
-pub mod types;
 
 pub use fitting::KernelParts;
 pub use kernel::{Cell, CellKind, Kernel};

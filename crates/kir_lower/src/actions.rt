@@ -13,10 +13,10 @@ ghost use Rattle.kir_lower.specs.View.{made_of, instance_of};
 use crate::emit::{put, put_computed, put_copy, put_if};
 use crate::places::{Instance, Made, Value, add_value, behind, cell_at, constant, int, type_at};
 use cl_model::Root;
-use kir::types::{binary_type, query_type, result_type, unary_type};
+use cl_model::types::{binary_type, query_type, unary_type};
 use kir::{Atom, Line, Work};
 use std::alloc::Global;
-use wg_num::{Bin, Fun, IntType, Memory, Un, push};
+use wg_num::{Bin, Fun, IntType, Memory, Un, push, result_type};
 
 /// A compound assignment, `++` or `--`: it computes in `of` and converts to `back`, and gives the
 /// old value where `old` is set.

@@ -11,7 +11,7 @@ use crate::actions::{put_binary, put_converted};
 use crate::emit::{put_copy, put_if};
 use crate::places::{Made, Value, add_value, behind, constant, int};
 use cl_model::SwitchArm;
-use kir::types::promoted;
+use cl_model::types::promoted;
 use kir::{Atom, Line};
 use std::alloc::Global;
 use wg_num::{Bin, IntType, Memory};

@@ -17,8 +17,8 @@ use crate::places::{
     Callee, Instance, Made, Value, add_arrays, add_value, behind, constant, elements_of,
     longer_calls, longer_places, number, place_at, root_in, types_of,
 };
+use cl_model::types::kind_type;
 use cl_model::{Arg, Function, Program, Root, Var, VarKind};
-use kir::types::kind_type;
 use kir::{Atom, Cell, CellKind, Line, Work};
 use std::alloc::Global;
 use wg_num::{IntType, Memory, Place, push};

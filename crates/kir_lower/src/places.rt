@@ -11,8 +11,8 @@ ghost use Rattle.kir_lower.specs.Made as spec;
 ghost use Rattle.kir_lower.specs.View.{made_of, instance_of, names_in};
 ghost use Rattle.kir_lower.specs.Whole as whole;
 
+use cl_model::types::kind_type;
 use cl_model::{Array, Function, Program, Root, Var};
-use kir::types::kind_type;
 use kir::{Atom, Cell, CellKind};
 use std::alloc::Global;
 use wg_num::{IntType, Memory, Place, push};

@@ -1,13 +1,12 @@
 //! Makes codes and programs of groups from their parts, which it checks.
 
 ghost use Rattle.std.specs.Prelude.{◌≡◌, ◌+◌, ◌&&◌, max, is_some, IfSome, nat_lt};
-ghost use Rattle.wg_num.specs.Wrap.{lowest, highest};
 ghost use Rattle.lane_code.specs.Fits.{is_below, is_value, is_ahead, is_well, is_code, count_of};
 ghost use Rattle.lane_code.specs.Counting.{registers_of, counted_among, counted_in, counted, are_few, make_code};
 
 use crate::code::{Code, Counts};
 use crate::step::{Bank, Reg, Step};
-use wg_num::IntType;
+use wg_num::{IntType, highest_of, lowest_of};
 
 /// One more than the highest number of a register of the bank among these, 0 where there is none.
 fn count_among(bank: Bank, registers: &[Reg]) -> u64
@@ -142,41 +141,11 @@ fn has_three(counts: Counts, x: Reg, y: Reg, z: Reg) -> bool
     has_two(counts, x, y) && has(counts, z)
 }
 
-#[tactic(auto, unfolding(wg_num::specs::Wrap::half))]
-fn least(t: IntType) -> i128
-    ensures { result ≡ lowest t }
-{
-    match t {
-        IntType::Char => -128,
-        IntType::Short => -32768,
-        IntType::Int => -2147483648,
-        IntType::Long => -9223372036854775808,
-        IntType::Bool | IntType::Uchar | IntType::Ushort | IntType::Uint | IntType::Ulong => 0,
-    }
-}
-
-#[tactic(auto, unfolding(wg_num::specs::Wrap::half, wg_num::specs::Wrap::modulus))]
-fn greatest(t: IntType) -> i128
-    ensures { result ≡ highest t }
-{
-    match t {
-        IntType::Bool => 1,
-        IntType::Char => 127,
-        IntType::Uchar => 255,
-        IntType::Short => 32767,
-        IntType::Ushort => 65535,
-        IntType::Int => 2147483647,
-        IntType::Uint => 4294967295,
-        IntType::Long => 9223372036854775807,
-        IntType::Ulong => 18446744073709551615,
-    }
-}
-
 /// Whether the value is one of the type.
 pub(crate) fn is_value_of(t: IntType, value: i128) -> bool
     ensures { result ≡ is_value t value }
 {
-    least(t) <= value && value <= greatest(t)
+    lowest_of(t) <= value && value <= highest_of(t)
 }
 
 /// Whether a jump goes ahead, at most to the end.

@@ -13,7 +13,7 @@ use crate::step::Step;
 use crate::text::{put, put_pieces, put_step};
 use itoa::Buffer;
 use std::alloc::Global;
-use wg_num::{Memory, Width};
+use wg_num::{Memory, lanes_of};
 
 /// The indentation one depth further in.
 fn further(alloc: Global, indent: &[u8]) -> Result<Vec<u8>, Memory>
@@ -154,18 +154,6 @@ fn loop_word(test_first: bool) -> &'static [u8]
     if test_first { b"loop" } else { b"loop after" }
 }
 
-/// How many lanes a width has.
-fn lanes(width: Width) -> u32
-    ensures { result ≡ lanes_of width }
-{
-    match width {
-        Width::W1 => 1,
-        Width::W4 => 4,
-        Width::W8 => 8,
-        Width::W16 => 16,
-    }
-}
-
 /// The text of the program: the kernel's name and the width of a chunk, then what a group does, one
 /// line for each node and each step, indented by two blanks per depth.
 pub fn listing(alloc: Global, program: &GroupProgram) -> Result<Vec<u8>, Memory>
@@ -173,7 +161,7 @@ pub fn listing(alloc: Global, program: &GroupProgram) -> Result<Vec<u8>, Memory>
 {
     let mut out = Vec::new(alloc);
     let mut buffer = Buffer::new();
-    let width = buffer.format(lanes(program.width)).as_bytes();
+    let width = buffer.format(lanes_of(program.width)).as_bytes();
     put_pieces(
         &mut out,
         &[

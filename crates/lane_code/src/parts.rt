@@ -2,7 +2,7 @@
 
 ghost use Rattle.std.specs.Prelude.{◌≡◌, ◌&&◌, ◌||◌, length, is_some, IfSome, slice_get};
 ghost use Rattle.lane_code.specs.Fits.{is_reg, bank_of, holds_lanes, holds_values, holds_numbers, is_mask, is_own_mask};
-ghost use Rattle.lane_code.specs.Fits.{is_pointer, names_object, names_written, holds_argument, type_of_query};
+ghost use Rattle.lane_code.specs.Fits.{is_pointer, names_object, names_written, holds_argument};
 ghost use Rattle.lane_code.specs.Fits.{is_of_group, holds_answer, holds_converted, step_fits, all_steps, code_fits};
 ghost use Rattle.lane_code.specs.Program.{work_of, names_of, work_fits, roots_are_own, is_parameter};
 ghost use Rattle.lane_code.specs.Program.{is_group_program};
@@ -13,7 +13,7 @@ use crate::checking::{goes_ahead, has, is_value_of};
 use crate::code::{Code, Counts, Node};
 use crate::program::GroupProgram;
 use crate::step::{Bank, Reg, Step};
-use cl_model::{Query, Root, Table, VarKind};
+use cl_model::{Query, Root, Table, VarKind, query_type};
 use wg_num::{IntType, Place, Width, Word};
 
 /// The parts of a group program, which need not fit each other.
@@ -146,22 +146,6 @@ fn has_argument(c: Counts, params: &[VarKind], n: u32, to: Reg) -> bool
     }
 }
 
-/// The type of a work-item function's value.
-fn answer_type(what: Query) -> IntType
-    ensures { result ≡ type_of_query what }
-{
-    match what {
-        Query::WorkDim => IntType::Uint,
-        Query::GlobalId
-        | Query::LocalId
-        | Query::GroupId
-        | Query::GlobalSize
-        | Query::LocalSize
-        | Query::NumGroups
-        | Query::GlobalOffset => IntType::Ulong,
-    }
-}
-
 /// Whether the function gives all items of a group one value.
 fn is_one_for_all(what: Query) -> bool
     ensures { result ≡ is_of_group what }
@@ -188,7 +172,7 @@ fn are_scalars(c: Counts, to: Reg, from: Reg) -> bool
 fn has_answer(c: Counts, what: Query, to: Reg, dim: Reg) -> bool
     ensures { result ≡ holds_answer c what to dim }
 {
-    let lanes = has_lanes(c, answer_type(what), to) && is_in(c, Bank::Narrow, dim);
+    let lanes = has_lanes(c, query_type(what), to) && is_in(c, Bank::Narrow, dim);
     lanes || are_scalars(c, to, dim) && is_one_for_all(what)
 }
 

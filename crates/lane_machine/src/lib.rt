@@ -14,7 +14,7 @@ mod moves;
 mod objects;
 mod operators;
 mod own;
-mod queries;
+pub mod queries;
 mod region;
 mod registers;
 mod restart;

@@ -1,5 +1,5 @@
 //! What the work-item functions give an item (OpenCL 1.2, section 6.12.1).
-ghost use Rattle.std.specs.Prelude.{◌≡◌, ◌<◌, ◌≤◌, ◌+◌, ◌*◌, pos, take};
+ghost use Rattle.std.specs.Prelude.{◌≡◌, ◌<◌, ◌≤◌, ◌+◌, ◌*◌, ◌^◌, pos, take};
 ghost use Rattle.cl_model.specs.Sizes.{product, size_at, offset_at, groups_of, groups_at, local_id};
 ghost use Rattle.cl_model.specs.Sizes.{group_id, global_id, answer_within, answer_outside, answer_of};
 ghost use Rattle.cl_model.specs.View.{launch_of, three_of};
@@ -10,10 +10,11 @@ ghost use Rattle.std.specs.Bool.{OnTrue};
 use cl_model::{Launch, Query};
 
 /// The product of three sizes.
-pub(crate) fn whole(sizes: &[u64; 3]) -> u64
+pub fn whole(sizes: &[u64; 3]) -> u64
     requires { AreSizes (three_of sizes.now) }
     ensures value { result ≡ product (three_of sizes.now) }
     ensures some { 0 < result }
+    ensures few { result ≤ 2 ^ 24 }
 {
     sizes[0] * (sizes[1] * sizes[2])
 }
@@ -33,7 +34,7 @@ fn before(sizes: &[u64; 3], d: u32) -> u64
 }
 
 /// The number of groups in each dimension.
-fn groups(launch: &Launch) -> [u64; 3]
+pub fn groups(launch: &Launch) -> [u64; 3]
     requires { HasSizes (launch_of launch.now) }
     ensures counts { three_of result ≡ groups_of (launch_of launch.now) }
     ensures sizes { AreSizes (three_of result) }

@@ -2,13 +2,13 @@
 #![tactic(auto)]
 
 ghost use Rattle.std.specs.Prelude.{◌≡◌, ◌<◌, All, IfOk, Err, Some, map, take, length};
-ghost use Rattle.cl_limits.specs.View.{function_of};
 ghost use Rattle.launch_file.specs.declared.text.LaunchError.TheVariants.{Refused};
 ghost use Rattle.launch_file.specs.Binding as spec;
 ghost use Rattle.launch_file.specs.NeedsView.{needs_of};
 ghost use Rattle.launch_file.specs.Texts.{text_of, part_of};
 ghost use Rattle.launch_file.specs.Values.{HasOneLength};
 ghost use Rattle.launch_bind.specs.Needed.{needs_in, needs_of_kernel};
+ghost use Rattle.cl_meaning.specs.View.{function_of};
 
 use cl_limits::local_bytes;
 use cl_model::{Function, Launch, Program, Var, VarKind};

@@ -7,11 +7,10 @@ ghost use Rattle.regions.specs.View.{region_of};
 ghost use Rattle.mask_lower.specs.Atoms as spec;
 
 use crate::registers::{amount_type, crosses};
-use kir::types::is_shift;
 use kir::{Atom, Line, Work};
 use regions::Region;
 use std::alloc::Global;
-use wg_num::{Bin, IntType, Memory, push, wrap};
+use wg_num::{Bin, IntType, Memory, is_shift, push, wrap};
 
 /// What is read for the amount of a shift: a constant for the other bank is one of this bank.
 fn amount_atom(of: IntType, atom: Atom) -> Atom

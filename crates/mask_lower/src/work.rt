@@ -9,10 +9,10 @@ ghost use Rattle.mask_lower.specs.Lowered as spec;
 use crate::atoms::right_atom;
 use crate::placing::read;
 use crate::registers::{Free, Layout, Operand, amount_type, crosses, register_at};
-use kir::types::{binary_type, is_shift, unary_type};
+use cl_model::types::{binary_type, unary_type};
 use kir::{Atom, Work};
 use lane_code::{Reg, Step};
-use wg_num::{Bin, Fun, IntType, Memory, push};
+use wg_num::{Bin, Fun, IntType, Memory, is_shift, push};
 
 /// Where what is computed in a type goes first, if it is of this kind: to the cell's register, or to
 /// that on the way to the other bank.

@@ -4,9 +4,9 @@ use Rattle.cl_model.specs.declared.program.Program as rust_program
 use Rattle.cl_model.specs.Valid.{IsValid}
 use Rattle.cl_model.specs.View.{program_of}
 use Rattle.cl_prep.specs.declared.prep.Define.{Define}
-use Rattle.cl_piece.specs.View.{unit_of}
 use Rattle.cl_valid.specs.Law.{DefinesFit}
 use Rattle.wg_front.specs.Compiled.{IsCompiled}
+use Rattle.cl_meaning.specs.View.{unit_of}
 
 -- The typed program of a source is valid, where each number that is given for a name fits a `long`.
 abbrev pub ProgramsValid : Type 0

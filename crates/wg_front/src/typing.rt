@@ -4,10 +4,10 @@ ghost use Rattle.cl_token.specs.Places.{place_at};
 ghost use Rattle.cl_token.specs.Cuts.{limit};
 ghost use Rattle.cl_prep.specs.declared.prep.Define.{Define};
 ghost use Rattle.cl_tree.specs.Syntax.{view};
-ghost use Rattle.cl_piece.specs.View.{unit_of};
 ghost use Rattle.wg_front.specs.Front.{IsRefusal, IsSource, place_of_token};
 ghost use Rattle.wg_front.specs.Compiled.{IsCompiled, IsKernelRefusal, IsUnitRefusal, places_of};
 ghost use Rattle.wg_front.specs.declared.front.SourceError.TheVariants as errors;
+ghost use Rattle.cl_meaning.specs.View.{unit_of};
 
 use crate::condition::Condition;
 use crate::front::{SourceError, read_tokens, read_unit};

@@ -2,6 +2,8 @@
 
 ghost use Rattle.std.specs.Prelude.{◌≡◌};
 ghost use Rattle.std.specs.Bool.{OnTrue};
+ghost use Rattle.wg_num.specs.Bytes as bytes;
+ghost use Rattle.wg_num.specs.Operators as operators;
 ghost use Rattle.wg_num.specs.Types as spec;
 
 use thiserror::Error;
@@ -40,6 +42,18 @@ pub fn same_type(a: IntType, b: IntType) -> bool
     }
 }
 
+/// How many bytes a value of the type takes.
+pub fn size_of(t: IntType) -> u32
+    ensures { result ≡ bytes.size_of t }
+{
+    match t {
+        IntType::Bool | IntType::Char | IntType::Uchar => 1,
+        IntType::Short | IntType::Ushort => 2,
+        IntType::Int | IntType::Uint => 4,
+        IntType::Long | IntType::Ulong => 8,
+    }
+}
+
 /// The unary operators `+`, `-`, `~` and `!` (C99, section 6.5.3.3).
 #[derive(Clone, Copy, PartialEq, Eq, Debug)]
 pub enum Un {
@@ -68,6 +82,13 @@ pub enum Bin {
     Le,
     Gt,
     Ge,
+}
+
+/// Whether the operator shifts its left operand by its right one (C99, section 6.5.7).
+pub fn is_shift(op: Bin) -> bool
+    ensures { result ≡ operators.is_shift op }
+{
+    matches!(op, Bin::Shl | Bin::Shr)
 }
 
 /// The built-in integer functions (OpenCL 1.2, section 6.12.3).
@@ -102,6 +123,18 @@ pub enum Width {
     W4,
     W8,
     W16,
+}
+
+/// How many lanes a chunk of the width has.
+pub fn lanes_of(width: Width) -> u32
+    ensures { result ≡ operators.lanes_of width }
+{
+    match width {
+        Width::W1 => 1,
+        Width::W4 => 4,
+        Width::W8 => 8,
+        Width::W16 => 16,
+    }
 }
 
 /// Memory was refused.

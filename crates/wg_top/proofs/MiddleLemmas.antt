@@ -1,8 +1,8 @@
 -- What the passes leave of a unit.
 use Rattle.std.proofs.Common.{◌≡◌, ℕ, zero, suc, List, [], ◌∷◌, map, refl, sym, ◌∙◌, ap}
 use Rattle.std.specs.Prelude.{slice_get, unwrap_or}
-use Rattle.cl_piece.specs.View.{unit_of}
 use Rattle.cl_meaning.specs.Typed.{Unit', Function}
+use Rattle.cl_meaning.specs.View.{unit_of}
 use Rattle.cl_valid.specs.Erased.{program_of, function_of}
 use Rattle.cl_model.specs.Calls.{kernel_of, no_function}
 use Rattle.cl_model.specs.Valid.{parameter_kinds}

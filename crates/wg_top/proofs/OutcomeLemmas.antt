@@ -21,7 +21,7 @@ use Rattle.cl_model.specs.Fitting.{ArgumentsFit, DimensionFits, FitsProgram, Fit
 use Rattle.cl_model.specs.Meaning.{EndsDone, EndsRange, EndsParted, EndsTurns}
 use Rattle.cl_model.specs.View.{launch_of}
 use Rattle.cl_meaning.specs.Typed.{Unit'}
-use Rattle.cl_piece.specs.View.{unit_of}
+use Rattle.cl_meaning.specs.View.{unit_of}
 use Rattle.cl_valid.specs.Erased.{program_of}
 use Rattle.group_run.specs.declared.launcher.Launcher.{Launcher}
 use Rattle.group_run.proofs.LengthLaws.{program_keeps}

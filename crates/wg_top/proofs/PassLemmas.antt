@@ -6,7 +6,6 @@ use Rattle.wg_num.specs.declared.types.Width.{Width}
 use Rattle.wg_num.specs.Operators.{lanes_of}
 use Rattle.cl_model.specs.declared.program.Program.{Program}
 use Rattle.cl_model.specs.View.{program_of}
-use Rattle.cl_piece.specs.View.{unit_of}
 use Rattle.kir.specs.Tree.{Kernel}
 use Rattle.kir.specs.Lowering.{names_of}
 use Rattle.kir_lower.specs.Whole.{lowered_of}
@@ -24,7 +23,9 @@ use Rattle.item_loops.specs.Program.{IsBuilt}
 use Rattle.item_loops.specs.Built.{built_of}
 use Rattle.wg_top.specs.Middle.{kernel_in, plan_in, group_with, group_in, IsLike}
 use Rattle.wg_top.proofs.MeaningLemmas.{one_chain}
-use Rattle.wg_top.proofs.ErasedLemmas.{program_same, names_same}
+use Rattle.cl_valid.proofs.ErasedPrograms.{program_same}
+use Rattle.wg_top.proofs.ErasedLemmas.{names_same}
+use Rattle.cl_meaning.specs.View.{unit_of}
 
 -- what follows from two things that are said where there is a value
 pub if_both : {T E : Type 0} (r : Result T E) (P Q R : T → Type 0) → IfOk r P → IfOk r Q →

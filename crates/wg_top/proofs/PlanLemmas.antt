@@ -4,7 +4,7 @@ use Rattle.cl_model.specs.declared.program.Program.{Program}
 use Rattle.cl_model.specs.Valid.{IsValid}
 use Rattle.cl_model.specs.View as model
 use Rattle.cl_meaning.specs.Typed.{Unit'}
-use Rattle.cl_piece.specs.View.{unit_of}
+use Rattle.cl_meaning.specs.View.{unit_of}
 use Rattle.cl_valid.specs.Erased.{program_of}
 use Rattle.kir.specs.Tree.{Kernel}
 use Rattle.kir.specs.Lowering.{HasCells}
@@ -21,7 +21,7 @@ use Rattle.plan_lines.proofs.Meant.{lines_meant, crossing_differ}
 use Rattle.wg_top.specs.Middle.{names_in, kernel_in, plan_in}
 use Rattle.wg_top.specs.Shown.{IsPlanText}
 use Rattle.wg_top.proofs.DescribedLemmas.{named_as}
-use Rattle.wg_top.proofs.ErasedLemmas.{program_same}
+use Rattle.cl_valid.proofs.ErasedPrograms.{program_same}
 
 -- the kernel of a valid unit has the cells of its program, and its plan is what the definitions say
 cells_in : (u : Unit') → IsValid (program_of u) → HasCells (program_of u) (names_in u) (kernel_in u)

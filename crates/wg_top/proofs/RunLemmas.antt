@@ -24,7 +24,7 @@ use Rattle.cl_valid.specs.Erased.{program_of}
 use Rattle.cl_model.specs.Valid.{IsValid}
 use Rattle.wg_front.specs.Compiled.{IsCompiled}
 use Rattle.wg_front.proofs.ValidLemmas.{compiled_valid}
-use Rattle.wg_top.proofs.ErasedLemmas.{program_same}
+use Rattle.cl_valid.proofs.ErasedPrograms.{program_same}
 use Rattle.launch_file.specs.Refusals.{saved_again, saved_twice, is_this}
 use Rattle.launch_file.specs.Values.{HasTexts, HasNumber}
 use Rattle.lane_code.specs.Program.{Plain}
@@ -34,7 +34,7 @@ use Rattle.wg_top.specs.declared.RunError.TheVariants.{Range, Parted, Turns}
 use Rattle.wg_top.specs.declared.Summary.{Summary}
 use Rattle.wg_top.specs.declared.compile.Compiled.{Compiled}
 use Rattle.cl_meaning.specs.Typed.{Unit'}
-use Rattle.cl_piece.specs.View.{unit_of}
+use Rattle.cl_meaning.specs.View.{unit_of}
 use Rattle.wg_top.specs.Middle.{group_in, programs_in}
 use Rattle.wg_top.specs.Described.{IsCompiledAt}
 use Rattle.wg_top.specs.Units.{AreCompiled, bind_refusal}

@@ -8,7 +8,6 @@ use Rattle.cl_model.specs.Sizes.{Launch}
 use Rattle.cl_model.specs.Fitting.{FitsProgram}
 use Rattle.cl_model.specs.Agreement.{Agrees, AgreesInRuns}
 use Rattle.cl_model.specs.Valid.{IsValid}
-use Rattle.cl_piece.specs.View.{unit_of}
 use Rattle.cl_valid.specs.Erased.{program_of}
 use Rattle.kir.specs.Tree.{Variable, Kernel}
 use Rattle.kir.specs.Homes.{IsCellOf}
@@ -23,6 +22,7 @@ use Rattle.lane_code.specs.View.{plain_of}
 use Rattle.wg_top.specs.declared.compile.Compiled.{Compiled}
 use Rattle.wg_top.specs.Middle.{names_in, kernel_in, plan_in, group_in, IsLike}
 use Rattle.wg_top.specs.Compiled.{IsPlanned, IsShaped, IsCompiledFrom}
+use Rattle.cl_meaning.specs.View.{unit_of}
 
 -- it is said which variables vary, each cell has its home, and the program of a group has the plan's columns and slots
 abbrev pub IsPlannedAt : Width → Compiled → Type 0

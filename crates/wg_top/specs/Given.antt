@@ -1,7 +1,6 @@
 -- What is known of a launch file that was read, and of its kernels.
 use Rattle.std.specs.Prelude.{◌≡◌, ◌≤◌, All, false, length, map}
 use Rattle.cl_model.specs.Valid.{IsValid}
-use Rattle.cl_piece.specs.View.{unit_of}
 use Rattle.cl_valid.specs.Erased.{program_of}
 use Rattle.launch_file.specs.Texts.{text_of, part_of}
 use Rattle.launch_file.specs.Values.{HasTexts, HasOneLength, HasNumber}
@@ -9,6 +8,7 @@ use Rattle.launch_file.specs.Refusals.{saved_twice}
 use Rattle.launch_file.specs.declared.text.LaunchText.{LaunchText}
 use Rattle.wg_top.specs.declared.reading.Given.{Given}
 use Rattle.wg_top.specs.Described.{IsCompiledAt}
+use Rattle.cl_meaning.specs.View.{unit_of}
 
 -- the names of its files are texts, the numbers of given names are below 2^63, no file is saved twice, and it has
 -- from 1 to 16 launches, each in 1 to 3 dimensions

@@ -3,7 +3,6 @@
 ghost use Rattle.std.specs.Prelude.{◌≡◌, IfOk, false};
 ghost use Rattle.wg_num.specs.Operators.{lanes_of};
 ghost use Rattle.cl_model.specs.Valid.{IsValid};
-ghost use Rattle.cl_piece.specs.View.{unit_of};
 ghost use Rattle.cl_valid.specs.Erased.{program_of};
 ghost use Rattle.kir.specs.Cuts.{holds_barrier};
 ghost use Rattle.kir.specs.View.{kernel_of};
@@ -12,6 +11,7 @@ ghost use Rattle.lane_code.specs.View.{plain_of};
 ghost use Rattle.item_loops.specs.Program.{HasPartsOf, IsOneCode};
 ghost use Rattle.wg_top.specs.Middle.{IsLike, group_with};
 ghost use Rattle.wg_top.specs.Described.{IsShapedAs, IsPlannedAt, KeepsOnce, IsLowered, IsCompiledAs, IsCompiledAt};
+ghost use Rattle.cl_meaning.specs.View.{unit_of};
 
 use cl_model::Program;
 use ctx_plan::Plan;

@@ -5,7 +5,6 @@ ghost use Rattle.cl_model.specs.View.{launch_of, buffers_of};
 ghost use Rattle.cl_model.specs.Sizes.{group_count, item_count};
 ghost use Rattle.cl_model.specs.Fitting.{FitBuffers};
 ghost use Rattle.cl_model.specs.Objects.{local_arguments};
-ghost use Rattle.cl_piece.specs.View.{unit_of};
 ghost use Rattle.lane_code.specs.View.{plain_of};
 ghost use Rattle.lane_code.specs.Fits.{LaunchFits};
 ghost use Rattle.launch_file.specs.Texts.{text_of};
@@ -15,6 +14,7 @@ ghost use Rattle.wg_top.specs.Given.{IsText};
 ghost use Rattle.wg_top.specs.Stages.{BindCause};
 ghost use Rattle.wg_top.specs.Launches.{launches_in, HasLimits, IsReady, AllFit, LaunchesRan, EndsSo, refusal_of};
 ghost use Rattle.wg_top.specs.Launches.{start_place, all_groups, all_items};
+ghost use Rattle.cl_meaning.specs.View.{unit_of};
 
 use crate::compile::Compiled;
 use crate::shared::SharedKernel;

@@ -4,13 +4,13 @@ ghost use Rattle.wg_num.specs.Operators.{lanes_of};
 ghost use Rattle.cl_tree.specs.Syntax.{view};
 ghost use Rattle.cl_token.specs.Places.{place_at};
 ghost use Rattle.cl_prep.specs.declared.prep.Define.{Define};
-ghost use Rattle.cl_piece.specs.View.{unit_of};
 ghost use Rattle.launch_file.specs.Texts.{Text, text_of, part_of};
 ghost use Rattle.wg_front.specs.Front.{HasUnit, IsRefusal, IsSource};
 ghost use Rattle.wg_front.specs.Compiled.{IsCompiled, IsUnitRefusal, places_of};
 ghost use Rattle.wg_top.specs.Described.{IsCompiledAt};
 ghost use Rattle.wg_top.specs.Units.{AreCompiled};
 ghost use Rattle.wg_top.specs.Stages.{ProgramCause, KernelCause, KernelsCause};
+ghost use Rattle.cl_meaning.specs.View.{unit_of};
 
 use crate::RunError;
 use crate::compile::compile_program;

@@ -1,11 +1,11 @@
 // The first steps of each command that has a source and a launch file.
 ghost use Rattle.std.specs.Prelude.{◌≡◌, IfOk, IfErr, map};
-ghost use Rattle.cl_piece.specs.View.{unit_of};
 ghost use Rattle.launch_file.specs.Texts.{text_of};
 ghost use Rattle.wg_top.specs.Causes.{standing, HasNoFewer, ReadingCause, RunRead};
 ghost use Rattle.wg_top.specs.Stages.{TextRead, LaunchCause};
 ghost use Rattle.wg_top.specs.Given.{IsText, IsGiven};
 ghost use Rattle.wg_top.specs.Ends.{asked};
+ghost use Rattle.cl_meaning.specs.View.{unit_of};
 
 use crate::RunError;
 use crate::programs::compile_all;

@@ -2,9 +2,9 @@
 ghost use Rattle.std.specs.Prelude.{◌≡◌, All, List, None, IfOk, IfErr, length, map};
 ghost use Rattle.cl_model.specs.View.{launch_of};
 ghost use Rattle.cl_model.specs.Valid.{IsValid};
-ghost use Rattle.cl_piece.specs.View.{unit_of};
 ghost use Rattle.cl_valid.specs.Erased.{program_of};
 ghost use Rattle.cl_meaning.specs.Typed.{Unit'};
+ghost use Rattle.cl_meaning.specs.View.{unit_of};
 ghost use Rattle.launch_file.specs.Texts.{Text, text_of};
 ghost use Rattle.wg_outside.specs.Counts.{Rose};
 ghost use Rattle.wg_top.specs.declared.RunError.TheVariants as refusals;

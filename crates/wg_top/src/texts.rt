@@ -1,7 +1,6 @@
 // What the commands that run nothing print.
 ghost use Rattle.std.specs.Prelude.{◌≡◌, ◌++◌, ℕ, IfOk, IfErr, OnOk, map};
 ghost use Rattle.cl_model.specs.Valid.{IsValid};
-ghost use Rattle.cl_piece.specs.View.{unit_of};
 ghost use Rattle.cl_valid.specs.Erased.{program_of};
 ghost use Rattle.launch_file.specs.Texts.{text_of};
 ghost use Rattle.wg_top.specs.Causes.{standing, ReadingCause};
@@ -10,6 +9,7 @@ ghost use Rattle.wg_top.specs.Given.{IsGiven};
 ghost use Rattle.wg_top.specs.Shown.{showing, head_of, Shows};
 ghost use Rattle.wg_top.specs.Ends.{ShownRead};
 ghost use Rattle.command_words.specs.Command.{files_of};
+ghost use Rattle.cl_meaning.specs.View.{unit_of};
 
 use crate::RunError;
 use crate::compile::Compiled;

@@ -1,7 +1,7 @@
 use Rattle.std.proofs.Common.{◌≡◌, map, take}
-use Rattle.cl_limits.specs.View.{variable_of}
 use Rattle.launch_bind.proofs.FirstKinds.{first_kinds}
 use Rattle.launch_bind.proofs.needs_of.Goals as goal
+use Rattle.cl_meaning.specs.View.{variable_of}
 
 pub returns : goal.returns
 returns c =

@@ -1,7 +1,7 @@
 use Rattle.std.proofs.Common.{List, ℕ, map, slice_index, ap, ◌∙◌, arith}
 use Rattle.cl_limits.specs.Limits.{private_bytes}
 use Rattle.cl_meaning.specs.Calls.{call_of}
-use Rattle.cl_limits.specs.View.{function_of}
+use Rattle.cl_meaning.specs.View.{function_of}
 use Rattle.cl_limits.proofs.Over.{above_whole}
 use Rattle.cl_limits.proofs.limit.is_private_over.Goals as goal
 

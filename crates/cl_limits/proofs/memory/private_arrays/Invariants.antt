@@ -1,7 +1,7 @@
 use Rattle.std.proofs.Common.{◌≡◌, ◌+◌, ◌≤◌, min, map, drop}
 use Rattle.cl_limits.specs.Limits.{private_arrays}
-use Rattle.cl_limits.specs.View.{array_of}
 use Rattle.cl_limits.proofs.memory.private_arrays.Given as goal
+use Rattle.cl_meaning.specs.View.{array_of}
 
 abbrev pub invariant-loop-array : goal.invariant-loop-array
 invariant-loop-array l = record {

@@ -3,7 +3,8 @@ use Rattle.std.proofs.Math.ListN.{length-map}
 use Rattle.cl_tree.specs.Syntax.{view}
 use Rattle.cl_meaning.specs.declared.types.Declared.{Declared}
 use Rattle.cl_meaning.specs.Statements.{declarator_made}
-use Rattle.cl_scope.specs.View.{visible_in, variable_of, array_of}
+use Rattle.cl_meaning.specs.View.{array_of, variable_of}
+use Rattle.cl_scope.specs.View.{visible_in}
 use Rattle.cl_scope.specs.Declarators.{declarator_view}
 use Rattle.cl_piece.specs.View.{piece_of}
 use Rattle.cl_piece.proofs.Declaring.{declarator_is, some_is, some_mapped}

@@ -2,7 +2,8 @@ use Rattle.std.proofs.Common.{◌≡◌, [], ◌++◌, map, sym, ap, ◌∙◌, 
 use Rattle.std.proofs.lemmas.Grind.{common_steps}
 use Rattle.std.specs.Vec.Iter.{into_iter_items}
 use Rattle.cl_meaning.specs.Statements.{functions_in}
-use Rattle.cl_piece.specs.View.{piece_of, function_of}
+use Rattle.cl_meaning.specs.View.{function_of}
+use Rattle.cl_piece.specs.View.{piece_of}
 use Rattle.cl_piece.proofs.functions.functions.Goals as goal
 
 pub returns : goal.returns

@@ -1,7 +1,8 @@
 use Rattle.std.proofs.Common.{◌≡◌, ◌++◌, map}
 use Rattle.std.specs.Vec.Iter.{into_iter_items}
 use Rattle.cl_meaning.specs.Statements.{functions_in}
-use Rattle.cl_piece.specs.View.{piece_of, function_of}
+use Rattle.cl_meaning.specs.View.{function_of}
+use Rattle.cl_piece.specs.View.{piece_of}
 use Rattle.cl_piece.proofs.functions.functions.Given as goal
 
 abbrev pub invariant-loop-piece : goal.invariant-loop-piece

@@ -3,7 +3,8 @@ use Rattle.std.proofs.lemmas.Result.{on_ok_weaker}
 use Rattle.wg_num.specs.declared.types.Place.{Place}
 use Rattle.cl_meaning.specs.Environment.{Env, declare}
 use Rattle.cl_meaning.specs.Declarations.{table_bytes, firm}
-use Rattle.cl_scope.specs.View.{env_of, array_of}
+use Rattle.cl_meaning.specs.View.{array_of}
+use Rattle.cl_scope.specs.View.{env_of}
 use Rattle.cl_scope.specs.Declarators.{declarator_view, kept_array}
 use Rattle.cl_scope.proofs.Declaring.{with_array_is}
 use Rattle.cl_scope.proofs.declare.add_array.Goals as goal

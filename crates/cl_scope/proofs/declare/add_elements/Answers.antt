@@ -2,7 +2,8 @@ use Rattle.std.proofs.Common.{◌∙◌, ap}
 use Rattle.std.proofs.lemmas.Result.{on_ok_weaker}
 use Rattle.cl_meaning.specs.Environment.{Array}
 use Rattle.cl_meaning.specs.Declarations.{each_of}
-use Rattle.cl_scope.specs.View.{env_of, array_of}
+use Rattle.cl_meaning.specs.View.{array_of}
+use Rattle.cl_scope.specs.View.{env_of}
 use Rattle.cl_scope.specs.Declarators.{declarator_view}
 use Rattle.cl_scope.proofs.Declaring.{elements_are, next_root_same}
 use Rattle.cl_scope.proofs.declare.add_elements.Goals as goal

@@ -3,7 +3,8 @@ use Rattle.std.proofs.lemmas.Result.{on_ok_weaker}
 use Rattle.wg_num.specs.declared.types.Place.{Place}
 use Rattle.cl_model.specs.declared.program.VarKind.TheVariants as var_kinds
 use Rattle.cl_meaning.specs.declared.kind.Meaning.TheVariants as meanings
-use Rattle.cl_scope.specs.View.{env_of, variable_of}
+use Rattle.cl_meaning.specs.View.{variable_of}
+use Rattle.cl_scope.specs.View.{env_of}
 use Rattle.cl_scope.specs.Declarators.{with_variable_at}
 use Rattle.cl_scope.proofs.Declaring.{counted}
 use Rattle.cl_scope.proofs.declare.add_number.Goals as goal

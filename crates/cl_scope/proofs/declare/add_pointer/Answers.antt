@@ -1,8 +1,9 @@
 use Rattle.std.proofs.Common.{◌∙◌, arith}
 use Rattle.std.proofs.lemmas.Result.{on_ok_weaker}
-use Rattle.cl_scope.specs.View.{env_of, variable_of}
+use Rattle.cl_scope.specs.View.{env_of}
 use Rattle.cl_scope.proofs.Declaring.{counted, pointer_is}
 use Rattle.cl_scope.proofs.declare.add_pointer.Goals as goal
+use Rattle.cl_meaning.specs.View.{variable_of}
 
 pub returns : goal.returns
 returns c = on_ok_weaker c.add_variable.result

@@ -2,7 +2,8 @@ use Rattle.std.proofs.Common.{ℕ, List, ◌∙◌, sym, ap}
 use Rattle.std.proofs.lemmas.Result.{on_ok_weaker}
 use Rattle.wg_num.specs.declared.types.Place.{Place}
 use Rattle.cl_meaning.specs.Declarations.{table_bytes}
-use Rattle.cl_scope.specs.View.{env_of, array_of}
+use Rattle.cl_meaning.specs.View.{array_of}
+use Rattle.cl_scope.specs.View.{env_of}
 use Rattle.cl_scope.specs.Declarators.{declarator_view, with_table_kept}
 use Rattle.cl_scope.proofs.Declaring.{kept_at_unit, kept_in_function}
 use Rattle.cl_scope.proofs.declare.keep_array.Goals as goal

@@ -1,5 +1,4 @@
 use Rattle.std.proofs.Common.{◌≡◌, refl, subst, true}
-use Rattle.cl_piece.specs.View.{unit_of}
 use Rattle.kir.specs.Tree.{Kernel}
 use Rattle.kir.specs.View.{kernel_of}
 use Rattle.kir.specs.Fits.{is_kernel}
@@ -17,6 +16,7 @@ use Rattle.wg_top.proofs.CompiledLemmas.{compiled_in}
 use Rattle.wg_top.proofs.LoweredLemmas.{lowered_in}
 use Rattle.wg_top.proofs.OutcomeLemmas.{fits_program}
 use Rattle.wg_top.proofs.compile.compile_program.Goals as goal
+use Rattle.cl_meaning.specs.View.{unit_of}
 
 pub returns-clause-shaped : goal.returns-clause-shaped
 returns-clause-shaped c =

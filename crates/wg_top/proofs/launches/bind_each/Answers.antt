@@ -3,13 +3,13 @@ use Rattle.std.specs.Prelude.{Err}
 use Rattle.std.proofs.lemmas.List.{length-map, get_or_default}
 use Rattle.cl_model.specs.View.{launch_of}
 use Rattle.cl_model.specs.declared.program.VarKind.{VarKind}
-use Rattle.cl_piece.specs.View.{unit_of}
 use Rattle.lane_code.specs.Fits.{LaunchFits}
 use Rattle.lane_code.specs.View.{plain_of}
 use Rattle.launch_file.specs.Binding.{part_at}
 use Rattle.launch_file.specs.Texts.{Part, part_of, text_of}
 use Rattle.launch_file.specs.Values.{HasOneLength}
 use Rattle.cl_meaning.specs.Typed.{Unit'}
+use Rattle.cl_meaning.specs.View.{unit_of}
 use Rattle.wg_top.specs.declared.compile.Compiled.{Compiled}
 use Rattle.wg_top.specs.Described.{IsCompiledAt}
 use Rattle.wg_top.specs.Units.{needs_in}

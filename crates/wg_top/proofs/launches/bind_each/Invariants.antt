@@ -1,12 +1,12 @@
 use Rattle.std.proofs.Common.{◌≡◌, map, drop, take}
 use Rattle.std.specs.Prelude.{All}
 use Rattle.cl_model.specs.View.{launch_of}
-use Rattle.cl_piece.specs.View.{unit_of}
 use Rattle.launch_file.specs.Binding.{launch_in}
 use Rattle.launch_file.specs.Texts.{part_of}
 use Rattle.wg_top.specs.Units.{first_refusal}
 use Rattle.wg_top.specs.Launches.{IsReady, AllFit}
 use Rattle.wg_top.proofs.launches.bind_each.Given as goal
+use Rattle.cl_meaning.specs.View.{unit_of}
 
 abbrev pub invariant-loop-which : goal.invariant-loop-which
 invariant-loop-which l = record {

@@ -4,13 +4,13 @@ use Rattle.std.proofs.lemmas.List.Elements.{All-push}
 use Rattle.wg_num.specs.Operators.{lanes_of}
 use Rattle.launch_file.specs.declared.text.LaunchPart.{LaunchPart}
 use Rattle.launch_file.specs.Texts.{part_of}
-use Rattle.cl_piece.specs.View.{unit_of}
 use Rattle.wg_front.specs.Compiled.{IsCompiled}
 use Rattle.wg_top.specs.declared.compile.Compiled.{Compiled}
 use Rattle.wg_top.specs.Described.{IsCompiledAt}
 use Rattle.wg_top.specs.Stages.{KernelCause}
 use Rattle.wg_top.proofs.ProgramLemmas.{one_compiled, one_refused, more_of, pushed_of}
 use Rattle.wg_top.proofs.programs.compile_each.Goals as goal
+use Rattle.cl_meaning.specs.View.{unit_of}
 
 pub kernel_for-requires-clause-compiled : goal.kernel_for-requires-clause-compiled
 kernel_for-requires-clause-compiled c = λ bytes defines is placed.

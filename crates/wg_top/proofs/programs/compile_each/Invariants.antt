@@ -3,13 +3,13 @@ use Rattle.std.specs.Prelude.{All}
 use Rattle.wg_num.specs.Operators.{lanes_of}
 use Rattle.cl_prep.specs.declared.prep.Define.{Define}
 use Rattle.cl_tree.specs.Syntax.{view}
-use Rattle.cl_piece.specs.View.{unit_of}
 use Rattle.launch_file.specs.Texts.{part_of}
 use Rattle.wg_front.specs.Front.{IsSource}
 use Rattle.wg_front.specs.Compiled.{IsCompiled, places_of}
 use Rattle.wg_top.specs.Described.{IsCompiledAt}
 use Rattle.wg_top.specs.Units.{AreCompiled}
 use Rattle.wg_top.proofs.programs.compile_each.Given as goal
+use Rattle.cl_meaning.specs.View.{unit_of}
 
 abbrev pub invariant-loop-which : goal.invariant-loop-which
 invariant-loop-which l = record {

@@ -1,10 +1,10 @@
 use Rattle.std.proofs.Common.{◌≡◌, ◌<◌, ◌∙◌, ℕ, List, length, sym, ap, subst, arith}
 use Rattle.std.specs.Cmp.Lexicographic.{same_text}
-use Rattle.cl_piece.specs.View.{unit_of}
 use Rattle.wg_front.specs.Compiled.{IsCompiled}
 use Rattle.wg_top.specs.declared.compile.Compiled.{Compiled}
 use Rattle.wg_top.proofs.LaunchLemmas.{holds_at}
 use Rattle.wg_top.proofs.programs.kernel_for.Goals as goal
+use Rattle.cl_meaning.specs.View.{unit_of}
 
 pub returns-in-Ok-clause-compiled : goal.returns-in-Ok-clause-compiled
 returns-in-Ok-clause-compiled c = λ bytes defines is placed.

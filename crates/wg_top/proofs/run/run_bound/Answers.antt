@@ -6,7 +6,7 @@ use Rattle.cl_model.specs.declared.launch.Launch.{Launch as Bindings}
 use Rattle.cl_model.specs.Sizes.{Launch}
 use Rattle.cl_model.specs.View.{launch_of, buffers_of}
 use Rattle.cl_meaning.specs.Typed.{Unit'}
-use Rattle.cl_piece.specs.View.{unit_of}
+use Rattle.cl_meaning.specs.View.{unit_of}
 use Rattle.group_run.specs.declared.launcher.Launcher.{Launcher}
 use Rattle.lane_code.specs.Program.{Plain}
 use Rattle.lane_code.specs.View.{plain_of}

@@ -1,6 +1,5 @@
 use Rattle.std.proofs.Common.{sym, subst}
 use Rattle.std.proofs.lemmas.Result.{IfOk-weaker}
-use Rattle.cl_piece.specs.View.{unit_of}
 use Rattle.kir.specs.View.{kernel_of}
 use Rattle.ctx_plan.specs.View.{planned_of}
 use Rattle.wg_top.specs.declared.texts.Shown.{Shown}
@@ -8,6 +7,7 @@ use Rattle.wg_top.specs.Shown.{showing}
 use Rattle.wg_top.proofs.OutcomeLemmas.{code_text_of}
 use Rattle.wg_top.proofs.PlanLemmas.{plan_text_of}
 use Rattle.wg_top.proofs.texts.kernel_text.Goals as goal
+use Rattle.cl_meaning.specs.View.{unit_of}
 
 pub returns-in-Plan : goal.returns-in-Plan
 returns-in-Plan c =

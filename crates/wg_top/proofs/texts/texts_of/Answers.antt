@@ -2,8 +2,8 @@ use Rattle.std.proofs.Common.{◌≡◌, ℕ, ◌+◌, ◌<◌, ◌≤◌, ◌++
 use Rattle.std.proofs.Common.{append-nil, arith}
 use Rattle.std.proofs.lemmas.List.{length-map, get_or_default}
 use Rattle.cl_meaning.specs.Typed.{Unit'}
+use Rattle.cl_meaning.specs.View.{unit_of}
 use Rattle.cl_model.specs.Valid.{IsValid}
-use Rattle.cl_piece.specs.View.{unit_of}
 use Rattle.cl_valid.specs.Erased.{program_of}
 use Rattle.launch_file.specs.Binding.{part_at}
 use Rattle.launch_file.specs.Texts.{Part, text_of}

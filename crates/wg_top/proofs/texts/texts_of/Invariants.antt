@@ -1,8 +1,8 @@
 use Rattle.std.proofs.Common.{ℕ, suc, ◌++◌, List, map, drop}
-use Rattle.cl_piece.specs.View.{unit_of}
 use Rattle.launch_file.specs.Texts.{text_of}
 use Rattle.wg_top.specs.Shown.{showing, AreTexts}
 use Rattle.wg_top.proofs.texts.texts_of.Given as goal
+use Rattle.cl_meaning.specs.View.{unit_of}
 
 abbrev pub invariant-loop-k : goal.invariant-loop-k
 invariant-loop-k l =

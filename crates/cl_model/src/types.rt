@@ -1,11 +1,9 @@
-//! The types of what operators and functions give.
+//! The types of what operators and functions give, and of what variables hold.
 
 ghost use Rattle.std.specs.Prelude.{◌≡◌};
-ghost use Rattle.wg_num.specs.Operators as operators;
-ghost use Rattle.wg_num.specs.Builtins as builtins;
 ghost use Rattle.cl_model.specs.Valid as valid;
 
-use cl_model::{Query, VarKind};
+use crate::program::{Query, VarKind};
 use wg_num::{Bin, Fun, IntType, Un};
 
 /// The type to which a value is promoted (C99, section 6.3.1.1).
@@ -54,47 +52,8 @@ pub fn binary_type(op: Bin, of: IntType) -> IntType
     }
 }
 
-/// The operator shifts its left operand by its right one.
-pub fn is_shift(op: Bin) -> bool
-    ensures { result ≡ operators.is_shift op }
-{
-    matches!(op, Bin::Shl | Bin::Shr)
-}
-
-fn unsigned_of(of: IntType) -> IntType
-    ensures { result ≡ builtins.unsigned_of of }
-{
-    match of {
-        IntType::Bool => IntType::Bool,
-        IntType::Char | IntType::Uchar => IntType::Uchar,
-        IntType::Short | IntType::Ushort => IntType::Ushort,
-        IntType::Int | IntType::Uint => IntType::Uint,
-        IntType::Long | IntType::Ulong => IntType::Ulong,
-    }
-}
-
-/// The type of what a built-in function gives that computes in a type.
-pub fn result_type(f: Fun, of: IntType) -> IntType
-    ensures { result ≡ builtins.result_type f of }
-{
-    match f {
-        Fun::Abs | Fun::AbsDiff => unsigned_of(of),
-        Fun::Min
-        | Fun::Max
-        | Fun::Clamp
-        | Fun::AddSat
-        | Fun::SubSat
-        | Fun::Hadd
-        | Fun::Rhadd
-        | Fun::MulHi
-        | Fun::Rotate
-        | Fun::Clz
-        | Fun::Popcount => of,
-    }
-}
-
-/// How many arguments a built-in function takes.
-pub fn arity(f: Fun) -> usize
+/// How many arguments a built-in function takes (OpenCL 1.2, section 6.12.3).
+pub fn arity_of(f: Fun) -> usize
     ensures { result ≡ valid.arity_of f }
 {
     match f {
@@ -112,7 +71,7 @@ pub fn arity(f: Fun) -> usize
     }
 }
 
-/// The type of what a work-item function gives.
+/// The type of what a work-item function gives (OpenCL 1.2, section 6.12.1).
 pub fn query_type(what: Query) -> IntType
     ensures { result ≡ valid.query_type what }
 {
