@@ -14,9 +14,10 @@ use Rattle.cl_model.specs.Sizes.{product}
 use Rattle.cl_model.specs.Tree.{Expression, Expressions, more}
 use Rattle.cl_model.specs.Calls.{CallSite, calls_in, calls_among}
 use Rattle.cl_model.specs.View.{expression_of, argument_of, listed_expressions, statement_of}
+use Rattle.cl_model.specs.Listed.{listed_arguments}
 use Rattle.ctx_plan.specs.declared.outline.Piece.{Piece}
 use Rattle.ctx_plan.specs.declared.outline.Piece.TheVariants as piece
-use Rattle.ctx_plan.specs.Points.{calls_onto, points_onto, arms_onto, listed_arguments, listed_arms}
+use Rattle.ctx_plan.specs.Points.{calls_onto, points_onto, arms_onto, listed_arms}
 use Rattle.ctx_plan.proofs.Rows.{call_calls, builtin_listed, switch_listed}
 
 pub calls_onto_both : (xs ys : List CallSite) (pieces : List Piece) →

@@ -19,7 +19,8 @@ use Rattle.cl_model.specs.Tree as tree
 use Rattle.cl_model.specs.Calls.{calls_in, calls_among}
 use Rattle.cl_model.specs.View.{expression_of, expressions_of, arguments_of, argument_of, listed_expressions}
 use Rattle.cl_model.specs.View.{statement_of, statements_of, arms_of, listed_statements}
-use Rattle.ctx_plan.specs.Points.{listed_arguments, listed_arms}
+use Rattle.cl_model.specs.Listed.{listed_arguments}
+use Rattle.ctx_plan.specs.Points.{listed_arms}
 
 -- ---- expressions
 

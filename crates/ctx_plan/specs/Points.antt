@@ -1,19 +1,13 @@
 -- The points of a statement: its calls and its barriers, in the order of the text.
 use Rattle.std.specs.Prelude.{ℕ, List, [], ◌∷◌, ◌++◌, ◌||◌, slice_index_or}
 use Rattle.std.specs.Prelude.{Bool as Test, true, false}
-use Rattle.cl_model.specs.declared.program.Arg.{Arg}
 use Rattle.cl_model.specs.declared.program.SwitchArm.{SwitchArm}
-use Rattle.cl_model.specs.Tree.{Expressions, none, more, Statement, Do, Declare, Fill, Block, If, Loop, Switch, Break}
+use Rattle.cl_model.specs.Tree.{Statement, Do, Declare, Fill, Block, If, Loop, Switch, Break}
 use Rattle.cl_model.specs.Tree.{Continue, Return, Barrier, Statements, empty, also, Arms, no_arm, arm}
-use Rattle.cl_model.specs.View.{argument_of, listed_statements}
+use Rattle.cl_model.specs.View.{listed_statements}
 use Rattle.cl_model.specs.Calls.{CallSite, calls_in, calls_among, calls_in_optional}
 use Rattle.ctx_plan.specs.declared.outline.Piece.{Piece}
 use Rattle.ctx_plan.specs.declared.outline.Piece.TheVariants as piece
-
--- the arguments of a Vec
-abbrev pub listed_arguments : List Arg → Expressions
-listed_arguments [] = none
-listed_arguments (a ∷ as') = more (argument_of a) (listed_arguments as')
 
 -- the arms of a Vec
 abbrev pub listed_arms : List SwitchArm → Arms

@@ -4,10 +4,11 @@ ghost use Rattle.std.specs.Prelude.{◌≡◌, ◌∷◌, [], IfOk, OnOk};
 ghost use Rattle.cl_model.specs.Calls.{calls_in, calls_among, calls_in_optional};
 ghost use Rattle.cl_model.specs.View.{expression_of, argument_of, listed_expressions, optional_expression};
 ghost use Rattle.cl_model.specs.View.{statement_of, listed_statements, function_of};
+ghost use Rattle.cl_model.specs.Listed.{listed_arguments};
 ghost use Rattle.ctx_plan.specs.Outline.{Outline, NoPiece, cut_then};
 ghost use Rattle.ctx_plan.specs.Outline.{calls_then, outline_then, outlines_then, outlines_of_arms, parameters_then};
 ghost use Rattle.ctx_plan.specs.Outline.{function_outline, piece_then, pieces_then};
-ghost use Rattle.ctx_plan.specs.Points.{calls_onto, listed_arguments, listed_arms, entry};
+ghost use Rattle.ctx_plan.specs.Points.{calls_onto, listed_arms, entry};
 
 use crate::holding::statement_holds;
 use cl_model::{Arg, Expr, Function, Stmt, SwitchArm, Target};

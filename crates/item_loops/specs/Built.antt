@@ -8,7 +8,6 @@ use Rattle.cl_model.specs.Tree.{Array, Table}
 use Rattle.cl_model.specs.Objects.{array_bytes, is_local, is_private}
 use Rattle.kir.specs.Tree.{Kernel}
 use Rattle.lane_code.specs.Program.{PlainCode, Work, Items, Seq, Vote, Loop, Works, idle, then_work, Plain}
-use Rattle.ctx_plan.specs.declared.plan.Plan.{Plan}
 use Rattle.ctx_plan.specs.Planned.{Planned}
 use Rattle.regions.specs.declared.region.RegionTree.{RegionTree, Row_of-RegionTree, end_of-RegionTree}
 use Rattle.regions.specs.declared.region.RegionTree.{more_of-RegionTree}
@@ -16,10 +15,6 @@ use Rattle.regions.specs.declared.region.RegionTree.TheVariants as rows
 use Rattle.regions.specs.Tree.{RegionOf}
 use Rattle.regions.specs.View.{region_of}
 use Rattle.mask_lower.specs.Lowered.{region_code}
-
--- the plain view of a plan
-abbrev pub planned_of : Plan → Planned
-planned_of p = record { homes = p.homes.items; columns = p.columns; slots = p.slots; private_bytes = p.private_bytes }
 
 -- a space of private memory, or of local memory
 abbrev pub is_space : (private : Test) → Space → Test

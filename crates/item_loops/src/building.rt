@@ -11,7 +11,8 @@ ghost use Rattle.regions.specs.Tree.{NoRegion};
 ghost use Rattle.regions.specs.View.{tree_before, IsOneRegion};
 ghost use Rattle.mask_lower.specs.Lowered.{region_code};
 ghost use Rattle.item_loops.specs.Program.{IsBuilt, IsOneCode, HasPartsOf};
-ghost use Rattle.item_loops.specs.Built.{planned_of, array_sizes, built_work, built_of};
+ghost use Rattle.item_loops.specs.Built.{array_sizes, built_work, built_of};
+ghost use Rattle.ctx_plan.specs.View.{planned_of};
 
 use crate::arrays::sizes_in;
 use crate::copying::{copy_list, copy_tables};

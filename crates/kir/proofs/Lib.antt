@@ -15,3 +15,4 @@ pub mod NamedOrLive
 pub mod LiveCuts
 pub mod Kept
 pub mod FirstLines
+pub mod CellTypes

@@ -1,6 +1,7 @@
 pub mod Tree
 pub mod Listed
 pub mod Fits
+pub mod CellTypes
 pub mod View
 pub mod Places
 pub mod Steps

@@ -14,7 +14,7 @@ use crate::kernel::{Cell, Kernel};
 use crate::line::{Atom, Line, Work};
 use cl_model::types::{arity_of, binary_type, kind_type, query_type, unary_type};
 use cl_model::{Array, Root, Space, Table, VarKind};
-use wg_num::{Bin, IntType, Place, highest_of, is_shift, lowest_of, result_type, same_type};
+use wg_num::{Bin, IntType, Place, is_shift, is_value, result_type, same_type};
 
 /// The parts of a kernel, valid or not.
 #[derive(Drop)]
@@ -64,12 +64,6 @@ fn has_type(of: IntType, found: Option<IntType>) -> bool
         None => false,
         Some(t) => same_type(of, t),
     }
-}
-
-fn is_value(of: IntType, value: i128) -> bool
-    ensures { result ≡ fits.is_value of value }
-{
-    lowest_of(of) <= value && value <= highest_of(of)
 }
 
 fn cell_type(parts: &KernelParts, cell: u32) -> Option<IntType>

@@ -1,12 +1,13 @@
 //! Makes codes and programs of groups from their parts, which it checks.
 
 ghost use Rattle.std.specs.Prelude.{◌≡◌, ◌+◌, ◌&&◌, max, is_some, IfSome, nat_lt};
-ghost use Rattle.lane_code.specs.Fits.{is_below, is_value, is_ahead, is_well, is_code, count_of};
+ghost use Rattle.lane_code.specs.Fits.{is_below, is_ahead, is_well, is_code, count_of};
 ghost use Rattle.lane_code.specs.Counting.{registers_of, counted_among, counted_in, counted, are_few, make_code};
+ghost use Rattle.wg_num.specs.Types.{is_value};
 
 use crate::code::{Code, Counts};
 use crate::step::{Bank, Reg, Step};
-use wg_num::{IntType, highest_of, lowest_of};
+use wg_num::is_value;
 
 /// One more than the highest number of a register of the bank among these, 0 where there is none.
 fn count_among(bank: Bank, registers: &[Reg]) -> u64
@@ -141,13 +142,6 @@ fn has_three(counts: Counts, x: Reg, y: Reg, z: Reg) -> bool
     has_two(counts, x, y) && has(counts, z)
 }
 
-/// Whether the value is one of the type.
-pub(crate) fn is_value_of(t: IntType, value: i128) -> bool
-    ensures { result ≡ is_value t value }
-{
-    lowest_of(t) <= value && value <= highest_of(t)
-}
-
 /// Whether a jump goes ahead, at most to the end.
 pub(crate) fn goes_ahead(end: usize, place: usize, target: u32) -> bool
     ensures { result ≡ is_ahead end place target }
@@ -160,7 +154,7 @@ fn is_well_at(c: Counts, end: usize, place: usize, step: Step) -> bool
     ensures { result ≡ is_well c end place step }
 {
     match step {
-        Step::Const { to, of, value } => has(c, to) && is_value_of(of, value),
+        Step::Const { to, of, value } => has(c, to) && is_value(of, value),
         Step::Copy { to, from, mask } => has_three(c, to, from, mask),
         Step::Unary { to, a, mask, .. } => has_three(c, to, a, mask),
         Step::Binary { to, a, b, mask, .. } => has_three(c, to, a, b) && has(c, mask),

@@ -9,12 +9,12 @@ ghost use Rattle.lane_code.specs.Program.{is_group_program};
 ghost use Rattle.lane_code.specs.View.{plain_of};
 ghost use Rattle.lane_code.specs.Parts.{parts_of, nodes_fit, root_is_own};
 
-use crate::checking::{goes_ahead, has, is_value_of};
+use crate::checking::{goes_ahead, has};
 use crate::code::{Code, Counts, Node};
 use crate::program::GroupProgram;
 use crate::step::{Bank, Reg, Step};
 use cl_model::{Query, Root, Table, VarKind, query_type};
-use wg_num::{IntType, Place, Width, Word};
+use wg_num::{IntType, Place, Width, Word, is_value};
 
 /// The parts of a group program, which need not fit each other.
 #[derive(Drop)]
@@ -205,7 +205,7 @@ fn fits_at(parts: &GroupParts, c: Counts, end: usize, place: usize, step: Step) 
     ensures { result ≡ step_fits (names_of (parts_of parts.now)) c end place step }
 {
     match step {
-        Step::Const { to, of, value } => has_values(c, of, to) && is_value_of(of, value),
+        Step::Const { to, of, value } => has_values(c, of, to) && is_value(of, value),
         Step::Copy { to, from, mask } => {
             (has_numbers(c, to) || is_in(c, Bank::Scalar, to))
                 && beside(c, to, from)

@@ -5,9 +5,10 @@ ghost use Rattle.wg_num.specs.declared.types.IntType.TheVariants.{Uint};
 ghost use Rattle.wg_num.specs.Wrap.{value_of};
 ghost use Rattle.cl_model.specs.Sizes.{answer_of, local_id, size_at};
 ghost use Rattle.cl_model.specs.View.{launch_of};
+ghost use Rattle.cl_model.specs.Meaning.{argument_value};
 ghost use Rattle.lane_values.specs.Lanes.{lane};
 ghost use Rattle.lane_code.specs.Registers.{written, lanes_of, bits_in, lane_count};
-ghost use Rattle.lane_code.specs.Acts.{answers, bound_value};
+ghost use Rattle.lane_code.specs.Acts.{answers};
 ghost use Rattle.lane_code.specs.declared.step.Bank.TheVariants.{Narrow, Wide, Mask, Scalar};
 ghost use Rattle.lane_machine.specs.Sizes.{HasSizes};
 ghost use Rattle.lane_machine.specs.State.{IsIn, FitsAsk};
@@ -169,7 +170,7 @@ pub(crate) fn ask_step<const W: usize>(
 
 /// The value that is bound to a parameter, 0 for a pointer.
 fn value_bound(args: &Vec<Bound>, number: u32) -> i128
-    ensures { result ≡ bound_value (slice_get args.now.items number) }
+    ensures { result ≡ argument_value (slice_get args.now.items number) }
 {
     match args.get(number as usize) {
         Some(Bound::Value(value)) => *value,
@@ -191,7 +192,7 @@ pub(crate) fn argument_step<const W: usize>(
     requires mask { mask.number < length r.old.plain.masks }
     ensures written { r.new.plain ≡
         written r.old.plain to mask (replicate (lane_count W to.bank)
-        (lane (bits_in to.bank) (bound_value (slice_get args.now.items number)))) }
+        (lane (bits_in to.bank) (argument_value (slice_get args.now.items number)))) }
     ensures room { r.new.room ≡ r.old.room }
 {
     let value = value_bound(args, number);

@@ -9,6 +9,7 @@ use Rattle.std.proofs.lemmas.Bool.{and_parts, eqb-true}
 use Rattle.std.proofs.lemmas.Option.{none-some, same_Some}
 use Rattle.wg_num.specs.declared.types.IntType.TheVariants.{Int}
 use Rattle.wg_num.specs.Wrap.{IsValue, half, modulus}
+use Rattle.wg_num.specs.Types.{is_value}
 use Rattle.cl_model.specs.Agreement.{Owned, owned_by, HasOwned, IsInScope, IsInBody, IsScopedAt}
 use Rattle.cl_model.specs.Calls.{calls_in, calls_of_arms}
 use Rattle.cl_model.specs.Steps.{Entry, nowhere, entry, entry_of, entry_tasks}
@@ -22,7 +23,8 @@ use Rattle.kir.specs.Tree.{Copy, Lines, NoLine, SetThen, LoadThen, StoreThen, Cl
 use Rattle.kir.specs.Tree.{BarrierThen, Cell, Kernel, OfFlag, OfValue, joined_to}
 use Rattle.kir.specs.Places.{Behind, Place, Tasks, LinesAt, begun_in}
 use Rattle.kir.specs.Steps.{Item, atom_value}
-use Rattle.kir.specs.Fits.{is_value, has_type, lines_fit, atom_type}
+use Rattle.kir.specs.Fits.{has_type, lines_fit, atom_type}
+use Rattle.kir.proofs.CellTypes.{is_value_is}
 use Rattle.kir_lower.specs.declared.places.Value.{Value}
 use Rattle.kir_lower.specs.Made.{Made, next_cell, with_cell, int}
 use Rattle.kir_lower.specs.Ways.{way_out_of_all, way_out_of_arms}
@@ -54,7 +56,6 @@ use Rattle.matching_laws.proofs.Containing.{exit_more, arms_grow}
 use Rattle.matching_laws.proofs.Statements.{answer_kept, at_kept, at_set, StatementDone, StatementFollows}
 use Rattle.matching_laws.proofs.Loops.{own_cell, kept_inner}
 use Rattle.matching_laws.proofs.Turning.{exits_opened, has_opened}
-use Rattle.matching_laws.proofs.CellTypes.{is_value_is}
 use Rattle.matching_laws.proofs.Switches.{IsEntry, ArmsFollow, waiting}
 use Rattle.matching_laws.proofs.Selecting.{last_number, chosen_entry, all_labels_grow, selected_follows}
 

@@ -14,6 +14,7 @@ use Rattle.wg_num.specs.declared.types.Bin.TheVariants.{Eq}
 use Rattle.wg_num.specs.Operators.{binary_of}
 use Rattle.wg_num.specs.Wrap.{IsValue, wrap_of, half, modulus}
 use Rattle.wg_num.proofs.WrapLaws.{wrap_value}
+use Rattle.wg_num.specs.Types.{is_value}
 use Rattle.cl_model.specs.Lists.{IsOneOf, AllDiffer}
 use Rattle.cl_model.specs.Steps.{has_label, Entry, nowhere, entry, labelled, defaulted, or_else, entry_of}
 use Rattle.cl_model.specs.Task.{Item as ProgramItem}
@@ -29,7 +30,8 @@ use Rattle.kir.specs.Steps.{Item, atom_value}
 use Rattle.kir_lower.specs.declared.places.Value.{Value}
 use Rattle.kir_lower.specs.Made.{Made, next_cell, with_cell, int}
 use Rattle.kir_lower.specs.Actions.{set_to, default_number, label_code, labels_code, all_labels_code, selected}
-use Rattle.kir.specs.Fits.{is_value, has_some_type, work_fits}
+use Rattle.kir.specs.Fits.{has_some_type, work_fits}
+use Rattle.kir.proofs.CellTypes.{is_value_is}
 use Rattle.lowering_laws.specs.Marks.{Way, Marks, MarkThen, FormThen, marks_then, all_marked, marks_behind, marks_at}
 use Rattle.matching_laws.specs.Setting.{Setting, Store, updated, kernel_item, Activation}
 use Rattle.matching_laws.specs.Held.{Within, IsFixedAtom, IsFixed}
@@ -42,7 +44,6 @@ use Rattle.matching_laws.proofs.Actions.{not_equal, equal_value}
 use Rattle.matching_laws.proofs.Expressions.{marks_assoc, at_lines}
 use Rattle.matching_laws.proofs.Guards.{KeptBut}
 use Rattle.matching_laws.proofs.Switches.{IsEntry}
-use Rattle.matching_laws.proofs.CellTypes.{is_value_is}
 
 -- ---- types
 

@@ -12,7 +12,8 @@ use Rattle.wg_num.specs.declared.types.IntType.{IntType}
 use Rattle.wg_num.specs.declared.types.Fun.{Fun}
 use Rattle.cl_model.specs.Calls.{CallSite, calls_in, calls_among}
 use Rattle.cl_model.specs.View.{expression_of, listed_expressions, statement_of, listed_statements}
-use Rattle.ctx_plan.specs.Points.{listed_arguments, listed_arms}
+use Rattle.cl_model.specs.Listed.{listed_arguments}
+use Rattle.ctx_plan.specs.Points.{listed_arms}
 use Rattle.ctx_plan.proofs.Rows.{call_calls, builtin_listed, block_listed, switch_listed}
 use Rattle.plan_lines.specs.declared.outline.Entry.{Entry}
 use Rattle.plan_lines.specs.declared.outline.Entry.TheVariants as entry

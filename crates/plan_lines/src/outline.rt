@@ -4,7 +4,8 @@ ghost use Rattle.std.specs.Prelude.{◌≡◌, ◌∷◌, [], ◌++◌, IfOk, On
 ghost use Rattle.cl_model.specs.Calls.{calls_in, calls_among, calls_in_optional};
 ghost use Rattle.cl_model.specs.View.{expression_of, argument_of, listed_expressions, optional_expression};
 ghost use Rattle.cl_model.specs.View.{statement_of, listed_statements, function_of};
-ghost use Rattle.ctx_plan.specs.Points.{listed_arguments, listed_arms};
+ghost use Rattle.cl_model.specs.Listed.{listed_arguments};
+ghost use Rattle.ctx_plan.specs.Points.{listed_arms};
 ghost use Rattle.plan_lines.specs.Entries.{call_entries, statement_entries, all_entries, arm_entries, function_entries};
 
 use cl_model::{Arg, Expr, Function, Stmt, SwitchArm, Target};

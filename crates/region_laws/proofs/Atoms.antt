@@ -6,12 +6,14 @@ use Rattle.std.specs.Prelude.{Bool as Test, true, false}
 use Rattle.std.proofs.lemmas.Bool.{eq-eqb}
 use Rattle.std.proofs.lemmas.Option.{none-some, same_Some, slice_get_within}
 use Rattle.wg_num.specs.declared.types.IntType.{IntType}
+use Rattle.wg_num.specs.Types.{is_value}
 use Rattle.kir.specs.declared.line.Atom.{Atom}
 use Rattle.kir.specs.declared.line.Atom.TheVariants.{Const, Cell as CellAtom}
 use Rattle.kir.specs.Tree.{Cell, Kernel}
 use Rattle.kir.specs.Live.{reads, some_reads}
 use Rattle.kir.specs.Steps.{atom_value}
-use Rattle.kir.specs.Fits.{is_value, atom_type, type_of_cell}
+use Rattle.kir.specs.Fits.{atom_type, type_of_cell}
+use Rattle.kir.proofs.CellTypes.{type_of_is}
 use Rattle.lane_code.specs.declared.step.Step.{Step}
 use Rattle.lane_code.specs.declared.step.Reg.{Reg}
 use Rattle.lane_code.specs.declared.code.Counts.{Counts}
@@ -28,7 +30,6 @@ use Rattle.mask_lower.specs.Registers.{Frame, cell_at, operand, nowhere}
 use Rattle.region_laws.specs.View.{value_at, is_lane, Differ, Shaped, Wrote}
 use Rattle.region_laws.specs.Framed.{number_in, IsFramed, HeldAt}
 use Rattle.region_laws.specs.Sim.{Above}
-use Rattle.region_laws.proofs.CellValues.{type_of_is}
 use Rattle.region_laws.proofs.LaneValues.{lane_in}
 use Rattle.region_laws.proofs.View.{writes_wrote}
 use Rattle.region_laws.proofs.Frames.{register_bank, register_number, type_lane}

@@ -11,6 +11,7 @@ use Rattle.std.proofs.lemmas.Option.{none-some, same_Some}
 use Rattle.wg_num.specs.declared.types.IntType.{IntType}
 use Rattle.wg_num.specs.Wrap.{bits_of}
 use Rattle.wg_num.proofs.WrapLaws.{bits-lt}
+use Rattle.wg_num.specs.Types.{is_value}
 use Rattle.kir.specs.declared.line.Atom.{Atom}
 use Rattle.kir.specs.declared.line.Atom.TheVariants.{Const, Cell as CellAtom}
 use Rattle.kir.specs.Tree.{Kernel}
@@ -24,7 +25,7 @@ use Rattle.lane_code.specs.declared.step.Step.TheVariants as step
 use Rattle.lane_code.specs.declared.step.Reg.{Reg}
 use Rattle.lane_code.specs.declared.code.Counts.{Counts}
 use Rattle.lane_code.specs.Registers.{Registers, bits_in, lane_count, lanes_in, with_scalar}
-use Rattle.lane_code.specs.Fits.{bank_of, is_below, is_code, is_value}
+use Rattle.lane_code.specs.Fits.{bank_of, is_below, is_code}
 use Rattle.lane_code.specs.Groups.{Group, window}
 use Rattle.lane_code.specs.Acts.{Chunk, State, with_registers, column_lanes}
 use Rattle.lane_code.specs.Meaning.{Ended, code_end}

@@ -21,7 +21,7 @@ use Rattle.lane_code.specs.declared.step.Bank.TheVariants.{Narrow, Wide}
 use Rattle.lane_code.specs.Fits.{bank_of}
 use Rattle.lane_code.specs.Registers.{bits_in}
 use Rattle.mask_lower.specs.Banks.{is_wide, crosses, amount_type}
-use Rattle.region_laws.proofs.CellValues.{zero_wraps}
+use Rattle.kir.proofs.CellTypes.{zero_wraps}
 
 -- how many bits a lane of the type's bank has
 abbrev pub bits_for : IntType → ℕ

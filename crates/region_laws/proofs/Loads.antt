@@ -28,6 +28,8 @@ use Rattle.kir.specs.Live.{reads, some_reads, live_now}
 use Rattle.kir.specs.Fits.{is_site, can_load, has_type, atom_type, cell_takes}
 use Rattle.kir.specs.Steps.{shell_of, Item, with_cell, atom_value, object_at, access_at, tasks_next}
 use Rattle.kir.specs.Meaning.{machine_of}
+use Rattle.kir.proofs.CellTypes.{has_type_is}
+use Rattle.kir.proofs.CellTypes.{atom_typed}
 use Rattle.lane_code.specs.declared.step.Step.{Step}
 use Rattle.lane_code.specs.declared.step.Step.TheVariants as step
 use Rattle.lane_code.specs.declared.step.Reg.{Reg}
@@ -54,7 +56,6 @@ use Rattle.mask_lower.specs.Registers.{Frame, places_from, cell_at, operand, roo
 use Rattle.region_laws.specs.View.{value_at, is_lane, Wrote}
 use Rattle.region_laws.specs.Framed.{IsFramed}
 use Rattle.region_laws.specs.Sim.{Ground, IsGood, Agrees, Sim, Closed}
-use Rattle.region_laws.proofs.CellValues.{has_type_is, atom_typed}
 use Rattle.region_laws.proofs.LaneValues.{lane_in}
 use Rattle.region_laws.proofs.View.{code_well, lanes_length, mask_length}
 use Rattle.region_laws.proofs.Standing.{cond_set, cond_unset, sim_move}

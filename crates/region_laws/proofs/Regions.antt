@@ -23,6 +23,7 @@ use Rattle.kir.specs.Live.{reads, some_reads, live_now, live_in, live_behind}
 use Rattle.kir.specs.Steps.{Item, with_tasks, atom_value, tasks_next}
 use Rattle.kir.specs.Fits.{atom_type, lines_fit, has_some_type}
 use Rattle.kir.specs.Meaning.{machine_of}
+use Rattle.kir.specs.CellTypes.{type_of}
 use Rattle.ctx_plan.specs.Planned.{Planned}
 use Rattle.ctx_plan.specs.Asks.{Suits}
 use Rattle.lane_code.specs.declared.step.Bank.{Bank}
@@ -51,7 +52,7 @@ use Rattle.mask_lower.specs.declared.registers.Operand.{Operand}
 use Rattle.mask_lower.specs.Banks.{register_at, advanced, mask_reg}
 use Rattle.mask_lower.specs.Atoms.{atoms_in, atoms_voted, cell_atom, region_atoms}
 use Rattle.mask_lower.specs.Layout.{kernel_chunk, HasShape, Mirrors, OtherGroupsStay}
-use Rattle.mask_lower.specs.Standing.{type_of, HasLive, AtHome, LanesStand, LanesVoted}
+use Rattle.mask_lower.specs.Standing.{HasLive, AtHome, LanesStand, LanesVoted}
 use Rattle.mask_lower.specs.Following.{ChunkOf, ChunkSays, ReadsVote}
 use Rattle.mask_lower.specs.Homes.{entry_code, exit_code}
 use Rattle.mask_lower.specs.Registers.{Frame, frame_for, first_constants, constants, past}

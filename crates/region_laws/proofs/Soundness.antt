@@ -20,6 +20,7 @@ use Rattle.kir.specs.Live.{reads, some_reads, live_now}
 use Rattle.kir.specs.Counts.{barrier_lines, once_if}
 use Rattle.kir.specs.Fits.{lines_fit, has_some_type, atom_type, work_fits, work_type, cell_takes}
 use Rattle.kir.specs.Steps.{Item, with_cell, atom_value, work_value, tasks_next}
+use Rattle.kir.proofs.CellTypes.{atom_typed}
 use Rattle.lane_code.specs.declared.step.Step.{Step}
 use Rattle.lane_code.specs.declared.step.Step.TheVariants as step
 use Rattle.lane_code.specs.declared.step.Reg.{Reg}
@@ -51,7 +52,6 @@ use Rattle.mask_lower.specs.Lowered.{work_code, test_step, lines_code}
 use Rattle.region_laws.specs.View.{value_at, is_lane, Shaped, Masked}
 use Rattle.region_laws.specs.Framed.{IsFramed, Held}
 use Rattle.region_laws.specs.Sim.{Ground, IsGood, Agrees, Sim, Closed}
-use Rattle.region_laws.proofs.CellValues.{atom_typed}
 use Rattle.region_laws.proofs.LaneValues.{lane_in, zero_lane}
 use Rattle.region_laws.proofs.View.{code_well, lanes_length, mask_length, mask_masked}
 use Rattle.region_laws.proofs.Frames.{type_lane, some_left, some_right, held_left, held_right}

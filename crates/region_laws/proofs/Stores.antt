@@ -25,6 +25,8 @@ use Rattle.kir.specs.Live.{reads, live_now}
 use Rattle.kir.specs.Fits.{is_site, has_type, atom_type, can_store}
 use Rattle.kir.specs.Steps.{shell_of, Item, atom_value, object_at, tasks_next, with_tasks}
 use Rattle.kir.specs.Meaning.{machine_of}
+use Rattle.kir.proofs.CellTypes.{has_type_is}
+use Rattle.kir.proofs.CellTypes.{atom_typed}
 use Rattle.lane_code.specs.declared.step.Step.{Step}
 use Rattle.lane_code.specs.declared.step.Step.TheVariants as step
 use Rattle.lane_code.specs.declared.step.Reg.{Reg}
@@ -50,7 +52,6 @@ use Rattle.mask_lower.specs.Registers.{Frame, places_from, operand, root_at, pas
 use Rattle.region_laws.specs.View.{value_at, is_lane, Shaped}
 use Rattle.region_laws.specs.Framed.{IsFramed}
 use Rattle.region_laws.specs.Sim.{Ground, IsGood, Agrees, Above, Sim, Closed}
-use Rattle.region_laws.proofs.CellValues.{has_type_is, atom_typed}
 use Rattle.region_laws.proofs.LaneValues.{lane_in}
 use Rattle.region_laws.proofs.View.{code_well, lanes_length, mask_length}
 use Rattle.region_laws.proofs.Frames.{type_lane}

@@ -23,6 +23,11 @@ use Rattle.kir.specs.Tree as kir
 use Rattle.kir.specs.Live.{reads, some_reads, work_reads}
 use Rattle.kir.specs.Steps.{Item, atom_value, work_value}
 use Rattle.kir.specs.Fits.{has_type, atom_type, type_of_cell, work_fits, work_type, cell_takes}
+use Rattle.kir.specs.CellTypes.{HoldTypes}
+use Rattle.kir.proofs.CellTypes.{has_type_is}
+use Rattle.kir.proofs.CellTypes.{atom_typed}
+use Rattle.kir.proofs.CellTypes.{binary_value}
+use Rattle.kir.proofs.CellTypes.{unary_value}
 use Rattle.lane_values.specs.Lanes.{lane, unary_lane, binary_lane, convert_lane}
 use Rattle.lane_code.specs.declared.step.Step.{Step}
 use Rattle.lane_code.specs.declared.step.Step.TheVariants as step
@@ -42,10 +47,8 @@ use Rattle.mask_lower.specs.Layout.{kernel_chunk}
 use Rattle.mask_lower.specs.Registers.{Frame, cell_at, operand, past_atom}
 use Rattle.mask_lower.specs.Lowered.{result_at, brought, moves, work_code}
 use Rattle.region_laws.specs.View.{value_at, is_lane, Differ, Shaped, Wrote}
-use Rattle.region_laws.specs.Values.{HoldTypes}
 use Rattle.region_laws.specs.Framed.{IsEntry, IsFramed, HeldAt, Held}
 use Rattle.region_laws.specs.Sim.{IsGood, Above}
-use Rattle.region_laws.proofs.CellValues.{has_type_is, atom_typed, binary_value, unary_value}
 use Rattle.region_laws.proofs.LaneValues.{lane_in, bits_for, same_bank, value_lane, unary_is, binary_is}
 use Rattle.region_laws.proofs.LaneValues.{binary_amount, amount_lane, amount_wrap, right_raw}
 use Rattle.region_laws.proofs.View.{code_well, lanes_length}

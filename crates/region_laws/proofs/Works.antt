@@ -1,7 +1,7 @@
 -- The code of each other line that computes: a built-in function, a conversion, a work-item function, an argument, a
 -- copy.
-use Rattle.std.proofs.Common.{◌≡◌, ℕ, zero, suc, ◌+◌, ◌*◌, ◌<◌, ℤ, pos, List, [], ◌∷◌, length, map, replicate, Option}
-use Rattle.std.proofs.Common.{Some, None, slice_get, refl, sym, ap, ap₂, ◌∙◌, subst, ⊎_elim, inl, inr, ◌⊎◌, arith}
+use Rattle.std.proofs.Common.{◌≡◌, ℕ, zero, suc, ◌+◌, ◌*◌, ◌<◌, ℤ, pos, List, [], ◌∷◌, length, map, replicate}
+use Rattle.std.proofs.Common.{Some, slice_get, refl, sym, ap, ap₂, ◌∙◌, subst, ⊎_elim, inl, inr, ◌⊎◌, arith}
 use Rattle.std.specs.Prelude.{slice_index_or, ◌&&◌, ◌||◌}
 use Rattle.std.specs.Prelude.{true, false}
 use Rattle.std.proofs.lemmas.Bool.{true≢false, and_parts, or_left, or_right}
@@ -12,8 +12,6 @@ use Rattle.wg_num.specs.declared.types.Fun.{Fun}
 use Rattle.wg_num.specs.declared.types.Fun.TheVariants as fun
 use Rattle.wg_num.specs.Wrap.{value_of, wrap_of}
 use Rattle.wg_num.specs.Builtins.{unsigned_of, result_type, builtin_of}
-use Rattle.cl_model.specs.declared.launch.Bound.{Bound}
-use Rattle.cl_model.specs.declared.launch.Bound.TheVariants as bound
 use Rattle.cl_model.specs.declared.program.Query.{Query}
 use Rattle.cl_model.specs.Sizes.{Launch, group_size, answer_of}
 use Rattle.cl_model.specs.Valid.{arity_of, query_type}
@@ -24,6 +22,8 @@ use Rattle.kir.specs.Tree as kir
 use Rattle.kir.specs.Live.{reads, some_reads}
 use Rattle.kir.specs.Steps.{atom_value}
 use Rattle.kir.specs.Fits.{has_type, have_types, atom_type, type_of_parameter, cell_takes}
+use Rattle.kir.proofs.CellTypes.{has_type_is}
+use Rattle.kir.proofs.CellTypes.{atom_typed}
 use Rattle.lane_values.specs.Lanes.{lane, builtin_lane, convert_lane, zip3}
 use Rattle.lane_code.specs.declared.step.Step.{Step}
 use Rattle.lane_code.specs.declared.step.Step.TheVariants as step
@@ -31,7 +31,7 @@ use Rattle.lane_code.specs.declared.step.Reg.{Reg}
 use Rattle.lane_code.specs.declared.code.Counts.{Counts}
 use Rattle.lane_code.specs.Registers.{Registers, bits_in, lanes_of, lane_count}
 use Rattle.lane_code.specs.Fits.{bank_of, is_below, is_code}
-use Rattle.lane_code.specs.Acts.{State, act, writes, with_registers, answers, bound_value}
+use Rattle.lane_code.specs.Acts.{State, act, writes, with_registers, answers}
 use Rattle.lane_code.specs.Meaning.{Ended, code_end}
 use Rattle.lane_laws.specs.Places.{HasAt}
 use Rattle.lane_laws.specs.Reading.{mask_at}
@@ -42,7 +42,6 @@ use Rattle.mask_lower.specs.Lowered.{work_code}
 use Rattle.region_laws.specs.View.{value_at, is_lane, Shaped}
 use Rattle.region_laws.specs.Framed.{IsFramed, Held}
 use Rattle.region_laws.specs.Sim.{Above}
-use Rattle.region_laws.proofs.CellValues.{has_type_is, atom_typed}
 use Rattle.region_laws.proofs.LaneValues.{lane_in, value_lane}
 use Rattle.region_laws.proofs.View.{code_well, lanes_length, lane_count_is, zip3_read, zip3_length}
 use Rattle.region_laws.proofs.Frames.{type_lane}
@@ -67,12 +66,6 @@ pub answers_length : (bits : ℕ) (launch : Launch) (item : ℕ) (what : Query) 
     length (answers bits launch item what dims) ≡ length dims
 answers_length bits launch item what [] = refl
 answers_length bits launch item what (d ∷ dims) = ap suc (answers_length bits launch (suc item) what dims)
-
-bound_is : (o : Option Bound) → bound_value o ≡ argument_value o
-bound_is None = refl
-bound_is (Some (bound.Buffer b)) = refl
-bound_is (Some (bound.Value v)) = refl
-bound_is (Some (bound.Local n)) = refl
 
 -- ---- built-in functions
 
@@ -284,14 +277,14 @@ module _ (kernel : Kernel) (launch : Launch) (width group first : ℕ) (f : Fram
       let w =
       and_parts (is_below counts toreg) (is_below counts (mask_reg m)) (code_well counts code p s valid has.0) in
       let count = lane_count_is width toreg.bank (ap is_lane tg.bank ∙ type_lane ty.0) in
-      let v = lane (bits_in toreg.bank) (bound_value (slice_get launch.args number)) in
+      let v = lane (bits_in toreg.bank) (argument_value (slice_get launch.args number)) in
       direct_runs (GivesIt st.registers (kir.Argument number)) ty.0 to tg m t p st s
       (replicate (lane_count width toreg.bank) v) has.0 refl shape w.0 w.1
       (length-replicate (lane_count width toreg.bank) v ∙ count)
       (λ l z ltl on g.
       get_or-replicate (lane_count width toreg.bank) l v 0 (let h = count in omega arith)
-      ∙ ap (λ b. lane (bits_in b) (bound_value (slice_get launch.args number))) tg.bank ∙
-      ap (lane_in ty.0) (bound_is (slice_get launch.args number) ∙ g.3))
+      ∙ ap (λ b. lane (bits_in b) (argument_value (slice_get launch.args number))) tg.bank ∙
+      ap (lane_in ty.0) g.3)
       go
 
   -- the step of a built-in function, where it leaves the lanes of these values

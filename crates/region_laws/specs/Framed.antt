@@ -4,6 +4,7 @@ use Rattle.kir.specs.declared.line.Atom.{Atom}
 use Rattle.kir.specs.declared.line.Atom.TheVariants.{Const, Cell as CellAtom}
 use Rattle.kir.specs.Tree.{Kernel}
 use Rattle.kir.specs.Live.{some_reads}
+use Rattle.kir.specs.CellTypes.{type_of}
 use Rattle.lane_values.specs.Lanes.{lane}
 use Rattle.lane_code.specs.declared.step.Bank.{Bank}
 use Rattle.lane_code.specs.declared.step.Bank.TheVariants.{Narrow, Wide, Mask, Scalar}
@@ -11,7 +12,6 @@ use Rattle.lane_code.specs.Fits.{bank_of}
 use Rattle.lane_code.specs.Registers.{Registers, bits_in}
 use Rattle.mask_lower.specs.declared.registers.Free.{Free}
 use Rattle.mask_lower.specs.declared.registers.Operand.{Operand}
-use Rattle.mask_lower.specs.Standing.{type_of}
 use Rattle.mask_lower.specs.Banks.{register_at}
 use Rattle.mask_lower.specs.Registers.{Frame, past_atom}
 use Rattle.region_laws.specs.View.{value_at, Differ}

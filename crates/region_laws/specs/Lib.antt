@@ -1,4 +1,3 @@
-pub mod Values
 pub mod View
 pub mod Framed
 pub mod Sim

@@ -10,6 +10,7 @@ use Rattle.kir.specs.Live.{live_now}
 use Rattle.kir.specs.Fits.{lines_fit}
 use Rattle.kir.specs.Steps.{shell_of, Item, item_next}
 use Rattle.kir.specs.Meaning.{machine_of}
+use Rattle.kir.specs.CellTypes.{HoldTypes}
 use Rattle.lane_values.specs.Lanes.{lane}
 use Rattle.lane_code.specs.declared.code.Counts.{Counts}
 use Rattle.lane_code.specs.declared.step.Reg.{Reg}
@@ -27,7 +28,6 @@ use Rattle.mask_lower.specs.declared.registers.Operand.{Operand}
 use Rattle.mask_lower.specs.Layout.{HasSizes, Mirrors, OtherGroupsStay}
 use Rattle.mask_lower.specs.Following.{ChunkOf}
 use Rattle.mask_lower.specs.Registers.{Frame}
-use Rattle.region_laws.specs.Values.{HoldTypes}
 use Rattle.region_laws.specs.View.{value_at, is_lane, Shaped}
 use Rattle.region_laws.specs.Framed.{number_in}
 

@@ -1,7 +1,9 @@
--- Whether two types are one, as a test.
+-- Whether two types are one, and whether a number is a value of a type, as tests.
+use Rattle.std.specs.Prelude.{ℤ, ◌&&◌, int_le}
 use Rattle.std.specs.Prelude.{Bool as Test, true, false}
 use Rattle.wg_num.specs.declared.types.IntType.{IntType}
 use Rattle.wg_num.specs.declared.types.IntType.TheVariants as types
+use Rattle.wg_num.specs.Wrap.{lowest, highest}
 
 abbrev pub same_type : IntType → IntType → Test
 same_type types.Bool types.Bool = true
@@ -14,3 +16,6 @@ same_type types.Uint types.Uint = true
 same_type types.Long types.Long = true
 same_type types.Ulong types.Ulong = true
 same_type _ _ = false
+
+abbrev pub is_value : IntType → ℤ → Test
+is_value t z = int_le (lowest t) z && int_le z (highest t)

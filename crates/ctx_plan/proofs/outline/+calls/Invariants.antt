@@ -1,7 +1,8 @@
 use Rattle.std.proofs.Common.{◌≡◌, drop}
 use Rattle.cl_model.specs.Calls.{calls_among}
 use Rattle.cl_model.specs.View.{listed_expressions}
-use Rattle.ctx_plan.specs.Points.{calls_onto, listed_arguments}
+use Rattle.cl_model.specs.Listed.{listed_arguments}
+use Rattle.ctx_plan.specs.Points.{calls_onto}
 use Rattle.ctx_plan.proofs.outline.+calls.Given as goal
 
 abbrev pub invariant-put_expressions-loop-e : goal.invariant-put_expressions-loop-e

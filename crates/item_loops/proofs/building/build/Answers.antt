@@ -6,9 +6,9 @@ use Rattle.mask_lower.specs.Lowered.{region_code}
 use Rattle.regions.specs.Tree.{NoRegion}
 use Rattle.regions.specs.View.{tree_before}
 use Rattle.item_loops.specs.Program.{IsBuilt, IsOneCode, HasPartsOf}
-use Rattle.item_loops.specs.Built.{planned_of}
 use Rattle.item_loops.proofs.BuiltLaws.{has_parts, one_code, built_before}
 use Rattle.item_loops.proofs.building.build.Goals as goal
+use Rattle.ctx_plan.specs.View.{planned_of}
 
 pub returns-in-Some-clause-parts : goal.returns-in-Some-clause-parts
 returns-in-Some-clause-parts c =

@@ -3,9 +3,10 @@ use Rattle.std.proofs.lemmas.Simd.{map-map}
 use Rattle.cl_model.specs.Tree.{Table}
 use Rattle.cl_model.specs.View.{table_of}
 use Rattle.kir.specs.View.{kernel_of}
-use Rattle.item_loops.specs.Built.{planned_of, built_of}
+use Rattle.item_loops.specs.Built.{built_of}
 use Rattle.item_loops.proofs.BuiltLaws.{same_parts}
 use Rattle.item_loops.proofs.building.parts_for.Goals as goal
+use Rattle.ctx_plan.specs.View.{planned_of}
 
 pub returns-clause-plain : goal.returns-clause-plain
 returns-clause-plain c =

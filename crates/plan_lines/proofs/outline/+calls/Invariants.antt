@@ -1,7 +1,7 @@
 use Rattle.std.proofs.Common.{◌≡◌, ◌++◌, drop}
 use Rattle.cl_model.specs.Calls.{calls_among}
 use Rattle.cl_model.specs.View.{listed_expressions}
-use Rattle.ctx_plan.specs.Points.{listed_arguments}
+use Rattle.cl_model.specs.Listed.{listed_arguments}
 use Rattle.plan_lines.specs.Entries.{call_entries}
 use Rattle.plan_lines.proofs.outline.+calls.Given as goal
 
