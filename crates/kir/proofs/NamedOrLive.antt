@@ -1,6 +1,6 @@
 -- What is live before lines is named in them or live behind them: lines that do not name a cell leave it as live as
 -- it is behind them.
-use Rattle.std.proofs.Common.{◌≡◌, ℕ, List, ◌∷◌, ◌++◌, refl, sym, ap, ◌∙◌, ◌⊎◌, ⊎_elim, inl, inr, true, false}
+use Rattle.std.proofs.Common.{◌≡◌, ℕ, List, [], ◌∷◌, ◌++◌, refl, sym, ap, ◌∙◌, ◌⊎◌, ⊎_elim, inl, inr, true, false}
 use Rattle.std.proofs.Common.{Bool as Test}
 use Rattle.std.specs.Prelude.{not, ◌&&◌, ◌||◌, nat_eq}
 use Rattle.std.proofs.lemmas.Bool.{or_cases, or_left, or_right, and_parts, and_from}
@@ -15,9 +15,6 @@ use Rattle.kir.specs.Keeps.{Piece, Names, named_by, named_by_all, named_by_work,
 use Rattle.kir.proofs.Across.{or-false, or-self, or_no, or_more, yes_or_no, Named, names-append}
 
 module _ (c : ℕ) where
-  abbrev n : Lines → Test
-  n L = names_cell c (pieces_of L)
-
   -- ---- lines and what they name
 
   abbrev n : Lines → Test
