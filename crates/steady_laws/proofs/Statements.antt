@@ -63,6 +63,8 @@ use Rattle.steady_laws.proofs.Parts.{inner_true, list_parts, declared_declares, 
 use Rattle.steady_laws.proofs.Parts.{part_right, part_behind, all_settled, covers_first, covers_all}
 use Rattle.steady_laws.proofs.PlainStatements.{answer_above, stores_together, bound_set, rest_grown, branches_unset}
 use Rattle.steady_laws.proofs.PlainStatements.{list_all_unset, cover_after, return_result, list_from, fallen_in}
+use Rattle.steady_laws.proofs.PlainStatements.{expression_outside, do_together, exit_together}
+use Rattle.steady_laws.proofs.PlainStatements as plain
 
 module _ (program : Program) (kernel : Kernel) (one other : Who) (fn : ℕ) (calls : Calls) (here : Instance)
     (set : Setting program kernel one other fn calls here) where
@@ -93,6 +95,9 @@ module _ (program : Program) (kernel : Kernel) (one other : Who) (fn : ℕ) (cal
   abbrev B : Scope → (ℕ → Test) → Type 0
   B scope out = Bound program kernel here scope out
 
+  abbrev Ends : Type 0 → ℕ → Scope → Statement → Cells → Cells → Type 0
+  Ends = plain.Ends program kernel one other fn calls here set
+
   mutual
     unfolding statement_code expression_code
 
@@ -104,7 +109,7 @@ module _ (program : Program) (kernel : Kernel) (one other : Who) (fn : ℕ) (cal
         StatementGo program kernel one other fn calls here set W exit scope s
         (statement_code calls here exit s m).lines
     statement_together W exit (Do e) scope m h good part within low pend opens g =
-        do_together W exit e scope m h good within low pend g
+        do_together program kernel one other fn calls here set W exit e scope m h good within low pend g
     statement_together W exit (Declare x None) scope m h good part within low pend opens g =
         λ out p q bound al x0 ans.
         let less = slice_get_within F.variables x h.1.0 h.1.1 in
@@ -131,7 +136,8 @@ module _ (program : Program) (kernel : Kernel) (one other : Who) (fn : ℕ) (cal
         (λ al'. expression_together program kernel one other fn calls here set e h.0 scope m
         (λ c. live_in c (set_to to ce.value.atom) (out c)) p q h.2 k.1 within low g
         (bound_set program kernel one other fn calls here set x ce.value.atom scope out nr bound) al')
-        (λ a b d1 d2 al1 same. let o = expression_outside W exit e scope m p q a b (inl (h.0, h.2)) pend d1 d2
+        (λ a b d1 d2 al1 same. let o = expression_outside program kernel one other fn calls here set W exit e scope m p
+        q a b (inl (h.0, h.2)) pend d1 d2
         (x0, ans) in
         together_set E one other out to (Copy ce.value.atom) (Ends W exit scope (Declare x (Some e))) a b al1
         (λ ev l. same (λ v. set.marked x less ev (assigned k.0 (same_self x) (operand refl (inl refl) v)))) (
@@ -226,7 +232,8 @@ module _ (program : Program) (kernel : Kernel) (one other : Who) (fn : ℕ) (cal
         (λ c. live_in c branch (out c)) p q h.0.1 k.1 within low gt
         (bound_before program kernel here branch scope out quiet bound) al')
         (λ a1 b1 d1 e1 al1 s1.
-        let o = expression_outside W exit test scope m p q a1 b1 (inl h.0) pend d1 e1 (x0, ans) in
+        let o = expression_outside program kernel one other fn calls here set W exit test scope m p q a1 b1 (inl h.0)
+        pend d1 e1 (x0, ans) in
         together_if E one other out site ct.value.atom ly ln Q a1 b1 al1
         (λ nx ny al2. together_then E one other out ly
         (λ x y. (AllSettled program kernel one other fn calls here set scope yes_ → W → x exit ≡ y exit) × Ans x y)
@@ -390,13 +397,16 @@ module _ (program : Program) (kernel : Kernel) (one other : Who) (fn : ℕ) (cal
         (covers_given program kernel one other fn calls here set (Unit {0}) scope tt) (λ y has nv asg v.
         nv (assigned_under cond k.0 v has asg)) (λ r nv v. nv (return_under cond k.0 v r)))
     statement_together W exit (Break site) scope m h good part within low pend opens g =
-        λ out p q bound al x0 ans. exit_together W exit scope (Break site) 2 (next_cell m) (opens site refl) pend out
+        λ out p q bound al x0 ans. exit_together program kernel one other fn calls here set W exit scope (Break site) 2
+        (next_cell m) (opens site refl) pend out
         p q al ans
     statement_together W exit (Continue site) scope m h good part within low pend opens g =
-        λ out p q bound al x0 ans. exit_together W exit scope (Continue site) 1 (next_cell m) (opens site refl) pend
+        λ out p q bound al x0 ans. exit_together program kernel one other fn calls here set W exit scope (Continue site)
+        1 (next_cell m) (opens site refl) pend
         out p q al ans
     statement_together W exit (Return site None) scope m h good part within low pend opens g =
-        λ out p q bound al x0 ans. exit_together W exit scope (Return site None) 3 (next_cell m) (opens site refl)
+        λ out p q bound al x0 ans. exit_together program kernel one other fn calls here set W exit scope
+        (Return site None) 3 (next_cell m) (opens site refl)
         pend out p q al ans
     statement_together W exit (Return site (Some e)) scope m h good part within low pend opens g =
         λ out p q bound al x0 ans.
@@ -424,7 +434,8 @@ module _ (program : Program) (kernel : Kernel) (one other : Who) (fn : ℕ) (cal
         (λ t r nv. put_here a1 here.answer here.answer (atom_value a1 ce.value.atom) (same_self here.answer) ∙
         (same (λ v. nv (returning k.0 v)) ∙
         sym (put_here b1 here.answer here.answer (atom_value b1 ce.value.atom) (same_self here.answer)))))
-        (λ a2 b2 d2 e2 al2 an. exit_together W exit scope (Return site (Some e)) 3 (next_cell m) w pend out a2 b2 al2
+        (λ a2 b2 d2 e2 al2 an. exit_together program kernel one other fn calls here set W exit scope
+        (Return site (Some e)) 3 (next_cell m) w pend out a2 b2 al2
         an))
     statement_together W exit (Barrier site) scope m h good part within low pend opens g =
         λ out p q bound al x0 ans. (al, (al, ((λ st. x0), ans)))
