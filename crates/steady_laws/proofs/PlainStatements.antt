@@ -141,14 +141,14 @@ module _ (program : Program) (kernel : Kernel) (one other : Who) (fn : ℕ) (cal
         (λ a b. ValueEqual program kernel one other fn calls here set e
         (expression_code calls here e m).value.atom a b) (Ends scope (Do e)) p q
         (expression_together program kernel one other fn calls here set e h.0 scope m out p q h.1
-        (good_do (InBody program fn) (UnderBody program fn) (BackBody program fn) scope e good) within low g
-        bound al)
+        (good_do (InBody program fn) (UnderBody program fn) (BackBody program fn) scope e good) within
+        low g bound al)
         (λ a b d k z t. let o = expression_outside e scope m p q a b (inl h) pend d k (x0, ans) in ((λ st. o.0), o.1))
     do_together e scope m (inr h) good within low pend g out p q bound al x0 ans =
         together_then E one other out (expression_code calls here e m).lines Anything (Ends scope (Do e)) p q
         (plain_together program kernel one other fn calls here set e scope m out p q h
-        (good_do (InBody program fn) (UnderBody program fn) (BackBody program fn) scope e good) within low g
-        bound al)
+        (good_do (InBody program fn) (UnderBody program fn) (BackBody program fn) scope e good) within
+        low g bound al)
         (λ a b d k z t. let o = expression_outside e scope m p q a b (inr h) pend d k (x0, ans) in ((λ st. o.0), o.1))
 
     -- a way out becomes pending
