@@ -1,8 +1,5 @@
 //! Errors of the checker.
 
-ghost use Rattle.std.specs.Prelude.{◌≡◌};
-ghost use Rattle.cl_check.specs.declared.error.CheckError.TheVariants as errors;
-
 use cl_meaning::Fault;
 use thiserror::Error;
 use wg_num::Memory;
@@ -19,10 +16,12 @@ pub enum CheckError {
 }
 
 impl From<Memory> for CheckError {
-    fn from(error: Memory) -> CheckError
-        ensures { result ≡ errors.Memory }
-    {
-        let _ = error;
+    ghost use Rattle.std.specs.Prelude.{◌≡◌};
+    ghost use Rattle.cl_check.specs.declared.error.CheckError.TheVariants.{Memory as OutOfMemory};
+
+    ghost from_gives = { λ _ e. e ≡ OutOfMemory };
+
+    fn from(_memory: Memory) -> CheckError {
         CheckError::Memory
     }
 }

@@ -121,14 +121,8 @@ fn typed(alloc: Global, unit: &Tree, places: &[Place], asked: &Asked) -> Result<
     ensures faulted { IfFault result (faults.FirstFault (asked_of asked.now) (length places.now)
         (nodes_of places.now (view unit.now))) }
 {
-    let mut environment = match start(alloc, unit) {
-        Ok(environment) => environment,
-        Err(_) => return Err(CheckError::Memory),
-    };
-    let kernel = match kernel_of(asked.kernel.bytes(), &environment) {
-        Ok(kernel) => kernel,
-        Err(_) => return Err(CheckError::Memory),
-    };
+    let mut environment = start(alloc, unit)?;
+    let kernel = kernel_of(asked.kernel.bytes(), &environment)?;
     let mut sites = Vec::new(alloc);
     let walk = Walk {
         alloc,
@@ -167,16 +161,12 @@ pub fn check(
     ensures only { IfFault result (λ k token. (j : FaultOf) (other : ℕ) →
         IsRefused places.now kernel.now (view unit.now) j other → (j ≡ k) × (other ≡ token)) }
 {
-    let asked = match asked_for(alloc, unit, places, kernel) {
-        Ok(asked) => asked,
-        Err(_) => return Err(CheckError::Memory),
-    };
+    let asked = asked_for(alloc, unit, places, kernel)?;
     match typed(alloc, unit, places, &asked) {
         Err(e) => Err(e),
-        Ok(program) => match limit_of(alloc, unit, &asked.calls, &program) {
-            Err(_) => Err(CheckError::Memory),
-            Ok(None) => Ok(program),
-            Ok(Some(fault)) => Err(CheckError::Fault {
+        Ok(program) => match limit_of(alloc, unit, &asked.calls, &program)? {
+            None => Ok(program),
+            Some(fault) => Err(CheckError::Fault {
                 fault,
                 token: start_token(&unit.parts, program.kernel),
             }),

@@ -26,7 +26,7 @@ use cl_piece::make::make;
 use cl_scope::{Environment, Inner, enter, later, leave, restore};
 use cl_tree::{Form, Tree};
 use std::alloc::Global;
-use wg_num::{Memory, Place};
+use wg_num::{Memory, Place, push};
 
 /// What a walk goes by: what nodes are judged by, and the places of the tokens.
 #[derive(Clone, Copy)]
@@ -95,14 +95,8 @@ fn add_part(parts: &mut Parts, last: u32, piece: Piece) -> Result<(), Memory>
     ensures last { OnOk result (parts.new.last ≡ Some last) }
 {
     parts.last = Some(last);
-    match parts.kinds.push(piece.kind) {
-        Ok(()) => {}
-        Err(_) => return Err(Memory),
-    }
-    match parts.pieces.push(piece) {
-        Ok(()) => Ok(()),
-        Err(_) => Err(Memory),
-    }
+    push(&mut parts.kinds, piece.kind)?;
+    push(&mut parts.pieces, piece)
 }
 
 /// Goes behind a part.
@@ -237,18 +231,14 @@ fn judge(
         (first_of (view tree.now)) k token) }
 {
     let kinds = parts.kinds.as_slice();
-    match look(walk.alloc, walk.asked, environment, role, tree, kinds) {
-        Err(_) => Err(CheckError::Memory),
-        Ok(judgement) => match judgement.fault {
-            Some(fault) => Err(fault_of(walk.places, fault, tree.first)),
-            None => {
-                let kind = judgement.kind;
-                match build(walk, environment, sites, tree, inner, parts, kind) {
-                    Err(_) => Err(CheckError::Memory),
-                    Ok(piece) => Ok(piece),
-                }
-            }
-        },
+    let judgement = look(walk.alloc, walk.asked, environment, role, tree, kinds)?;
+    match judgement.fault {
+        Some(fault) => Err(fault_of(walk.places, fault, tree.first)),
+        None => {
+            let kind = judgement.kind;
+            let piece = build(walk, environment, sites, tree, inner, parts, kind)?;
+            Ok(piece)
+        }
     }
 }
 
@@ -277,10 +267,7 @@ fn check_parts(
         let role = role_of(form, parts.last, part);
         match check_tree(walk, environment, sites, role, part) {
             Err(e) => return Err(e),
-            Ok(piece) => match go_behind(walk.alloc, environment, form, part, &mut parts, piece) {
-                Err(_) => return Err(CheckError::Memory),
-                Ok(()) => {}
-            },
+            Ok(piece) => go_behind(walk.alloc, environment, form, part, &mut parts, piece)?,
         }
     }
     Ok(parts)
@@ -302,14 +289,12 @@ pub(crate) fn check_tree(
     ensures faulted { IfFault result (Faulted (asked_of walk.entry.asked.now) (length walk.entry.places.now)
         (env_of walk.entry.places.now environment.old) role (view tree.now)) }
 {
-    match enter(walk.alloc, environment, tree) {
-        Err(_) => Err(CheckError::Memory),
-        Ok(saved) => match check_parts(walk, environment, sites, tree.form, tree.parts.as_slice()) {
-            Err(e) => Err(e),
-            Ok(parts) => {
-                let inner = restore(environment, saved);
-                judge(walk, environment, sites, role, tree, inner, parts)
-            }
-        },
+    let saved = enter(walk.alloc, environment, tree)?;
+    match check_parts(walk, environment, sites, tree.form, tree.parts.as_slice()) {
+        Err(e) => Err(e),
+        Ok(parts) => {
+            let inner = restore(environment, saved);
+            judge(walk, environment, sites, role, tree, inner, parts)
+        }
     }
 }

@@ -20,7 +20,7 @@ use crate::task::Item;
 use crate::tree::{Arms, Array, Expression, Expressions, Program, Statement, Statements};
 use cl_model::{Bound, Launch, Root, Space};
 use std::alloc::Global;
-use wg_num::Memory;
+use wg_num::{Memory, push};
 
 /// A call: its site and the function that it calls.
 #[derive(Clone, Copy)]
@@ -62,10 +62,7 @@ fn calls_in(calls: &mut Vec<CallSite>, e: &Expression) -> Result<(), Memory>
                 site: *site,
                 function: *function,
             };
-            match calls.push(call) {
-                Ok(()) => Ok(()),
-                Err(_) => Err(Memory),
-            }
+            push(calls, call)
         }
     }
 }
@@ -201,10 +198,7 @@ fn put_instance(
         record { path = path.now; function = function } ∷ []) }
 {
     let path = same_numbers(alloc, path)?;
-    match instances.push(Instance { path, function }) {
-        Ok(()) => Ok(()),
-        Err(_) => Err(Memory),
-    }
+    push(instances, Instance { path, function })
 }
 
 /// The calls of the function with this number, none where there is no such function.

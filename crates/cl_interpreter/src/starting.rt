@@ -23,7 +23,7 @@ use crate::tree::{Program, Statement, Statements, Table};
 use cl_model::{Bound, Buffers, Launch};
 use std::alloc::Global;
 use std::collections::VecDeque;
-use wg_num::Memory;
+use wg_num::{Memory, push};
 
 /// The value of an argument of the kernel, 0 for a pointer.
 fn argument_value(bound: Bound) -> i128
@@ -134,20 +134,7 @@ pub(crate) fn start_items(
 fn put_object(memory: &mut Vec<Vec<u8>>, bytes: Vec<u8>) -> Result<(), Memory>
     ensures { OnOk result (bytes_in memory.new.items ≡ bytes_in memory.old.items ++ bytes.items ∷ []) }
 {
-    match memory.push(bytes) {
-        Ok(()) => Ok(()),
-        Err(_) => Err(Memory),
-    }
-}
-
-/// A size behind others.
-fn put_size(sizes: &mut Vec<u64>, size: u64) -> Result<(), Memory>
-    ensures { OnOk result (sizes.new.items ≡ sizes.old.items ++ size ∷ []) }
-{
-    match sizes.push(size) {
-        Ok(()) => Ok(()),
-        Err(_) => Err(Memory),
-    }
+    push(memory, bytes)
 }
 
 /// How many bytes each of these arrays has, behind other sizes.
@@ -156,7 +143,7 @@ fn put_array_sizes(sizes: &mut Vec<u64>, arrays: &[PlacedArray]) -> Result<(), M
         map (λ (a : objects.PlacedArray). objects.array_bytes a.array) (map placed_of arrays.now)) }
 {
     for placed in arrays {
-        put_size(sizes, array_bytes(placed.array)?)?;
+        push(sizes, array_bytes(placed.array)?)?;
     }
     Ok(())
 }
@@ -167,7 +154,7 @@ fn put_argument_sizes(sizes: &mut Vec<u64>, args: &[Bound]) -> Result<(), Memory
 {
     for bound in args {
         if let Bound::Local(size) = bound {
-            put_size(sizes, *size)?;
+            push(sizes, *size)?;
         }
     }
     Ok(())

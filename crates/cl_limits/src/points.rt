@@ -10,7 +10,7 @@ ghost use Rattle.cl_limits.specs.Points as spec;
 use cl_meaning::{Intrinsic, intrinsic_of, name_of};
 use cl_tree::{Form, Tree};
 use std::alloc::Global;
-use wg_num::Memory;
+use wg_num::{Memory, push};
 
 /// A place in the function `caller` at which a barrier stands, or a call of the function `called`; `around` is how
 /// many `if`, loop and `switch` statements of the function are around it, as far as a cap.
@@ -117,10 +117,7 @@ fn put(points: &mut Vec<Point>, at: Spot, called: Option<usize>) -> Result<(), M
         around: at.around,
         called,
     };
-    match points.push(point) {
-        Ok(()) => Ok(()),
-        Err(_) => Err(Memory),
-    }
+    push(points, point)
 }
 
 /// Puts the point of a call of that name behind the points; `unit` are the trees of the unit.

@@ -18,7 +18,7 @@ use cl_meaning::{Constant, Entry, Kind, constant_of, declared_of, promoted};
 use cl_tree::{Form, Tree};
 use indexmap::IndexMap;
 use std::alloc::Global;
-use wg_num::{IntType, Memory, wrap};
+use wg_num::{IntType, Memory, push, wrap};
 
 /// The type of a number; that of a pointer is its offset's.
 fn type_of(kind: Kind) -> IntType
@@ -137,10 +137,7 @@ fn push_scope(environment: &mut Environment, scope: Names) -> Result<(), Memory>
               scope_of scope ∷ [];
         }) }
 {
-    match environment.scopes.push(scope) {
-        Ok(()) => Ok(()),
-        Err(_) => Err(Memory),
-    }
+    push(&mut environment.scopes, scope)
 }
 
 /// Opens the scope of the own name of the function that is around.
@@ -237,10 +234,7 @@ fn push_label(labels: &mut Labels, constant: Constant) -> Result<(), Memory>
     ensures { OnOk result (Some (labels_of labels.new) ≡ spec.with_label (Some (labels_of labels.old))
         (Some constant)) }
 {
-    match labels.values.push(wrap(labels.of, constant.value)) {
-        Ok(()) => Ok(()),
-        Err(_) => Err(Memory),
-    }
+    push(&mut labels.values, wrap(labels.of, constant.value))
 }
 
 fn add_label(labels: &mut Option<Labels>, tree: &Tree) -> Result<(), Memory>

@@ -1,6 +1,6 @@
 //! Declarators, and the lengths of arrays.
-ghost use Rattle.std.specs.Prelude.{◌≡◌, ◌≤◌, ◌&&◌, ◌++◌, ◌∷◌, [], map, option_map, nat_le};
-ghost use Rattle.std.specs.Prelude.{length, IfOk, IfSome, OnOk};
+ghost use Rattle.std.specs.Prelude.{◌≡◌, ◌≤◌, ◌&&◌, ◌∷◌, [], map, option_map, nat_le};
+ghost use Rattle.std.specs.Prelude.{length, IfOk, IfSome};
 ghost use Rattle.std.specs.List.{All};
 ghost use Rattle.cl_tree.specs.Syntax.{view, views};
 ghost use Rattle.cl_meaning.specs.Declarations as spec;
@@ -10,7 +10,7 @@ use cl_meaning::types::Declared;
 use cl_meaning::{Each, constant_of, declared_of, dimensions_of, is_const, is_set, name_of};
 use cl_tree::{Form, Tree};
 use std::alloc::Global;
-use wg_num::Memory;
+use wg_num::{Memory, push};
 
 /// The most elements that an array has, and its greatest length.
 pub const MOST_ELEMENTS: u64 = 1_048_576;
@@ -140,15 +140,6 @@ pub fn length_in(tree: &Tree) -> Option<u64>
     Some(constant.value as u64)
 }
 
-fn push_length(lengths: &mut Vec<u64>, length: u64) -> Result<(), Memory>
-    ensures { OnOk result (lengths.new.items ≡ lengths.old.items ++ length ∷ []) }
-{
-    match lengths.push(length) {
-        Ok(()) => Ok(()),
-        Err(_) => Err(Memory),
-    }
-}
-
 fn lengths_in(alloc: Global, trees: &[Tree]) -> Result<Option<Vec<u64>>, Memory>
     ensures same { IfOk result (λ o. option_map (λ v. v.items) o ≡ spec.lengths_in (map view trees.now)) }
     ensures most { IfOk result (λ o. IfSome o (λ v. All (λ n. n ≤ 1048576) v.items)) }
@@ -156,7 +147,7 @@ fn lengths_in(alloc: Global, trees: &[Tree]) -> Result<Option<Vec<u64>>, Memory>
     let mut lengths = Vec::new(alloc);
     for tree in trees {
         match length_in(tree) {
-            Some(length) => push_length(&mut lengths, length)?,
+            Some(length) => push(&mut lengths, length)?,
             None => return Ok(None),
         }
     }
@@ -229,7 +220,7 @@ fn counted_length(alloc: Global, declarator: &Declarator) -> Result<Option<Vec<u
         return Ok(None);
     }
     let mut lengths = Vec::new(alloc);
-    push_length(&mut lengths, count as u64)?;
+    push(&mut lengths, count as u64)?;
     Ok(Some(lengths))
 }
 
@@ -248,7 +239,7 @@ pub(crate) fn one_length(alloc: Global) -> Result<Vec<u64>, Memory>
     ensures { IfOk result (λ v. v.items ≡ 1 ∷ []) }
 {
     let mut lengths = Vec::new(alloc);
-    push_length(&mut lengths, 1)?;
+    push(&mut lengths, 1)?;
     Ok(lengths)
 }
 

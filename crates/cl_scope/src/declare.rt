@@ -19,7 +19,7 @@ use cl_meaning::{Declared, Entry, Kind, Meaning};
 use cl_model::{Array, Root, Space, Table, Var, VarKind};
 use cl_tree::Tree;
 use std::alloc::Global;
-use wg_num::{Memory, Place, Word};
+use wg_num::{Memory, Place, Word, push};
 
 /// The place of a token; the start of the source where there is no such token.
 pub fn place_of(places: &[Place], token: u32) -> Place
@@ -99,10 +99,7 @@ fn push_variable(environment: &mut Environment, variable: Var) -> Result<(), Mem
     ensures { OnOk result ((places : List Place) →
         env_of places environment.new ≡ kept_variable (env_of places environment.old) (variable_of variable)) }
 {
-    match environment.variables.push(variable) {
-        Ok(()) => Ok(()),
-        Err(_) => Err(Memory),
-    }
+    push(&mut environment.variables, variable)
 }
 
 /// One more variable of the function, which the name stands for.
@@ -139,20 +136,14 @@ fn push_array(environment: &mut Environment, array: Array) -> Result<(), Memory>
     ensures { OnOk result ((places : List Place) →
         env_of places environment.new ≡ with_array_kept (env_of places environment.old) (array_of array)) }
 {
-    match environment.arrays.push(array) {
-        Ok(()) => Ok(()),
-        Err(_) => Err(Memory),
-    }
+    push(&mut environment.arrays, array)
 }
 
 fn push_table(environment: &mut Environment, table: Table) -> Result<(), Memory>
     ensures { OnOk result ((places : List Place) →
         env_of places environment.new ≡ with_table_kept (env_of places environment.old) (table_of table)) }
 {
-    match environment.tables.push(table) {
-        Ok(()) => Ok(()),
-        Err(_) => Err(Memory),
-    }
+    push(&mut environment.tables, table)
 }
 
 /// One more array of the function, or table of the unit.

@@ -9,7 +9,7 @@ use crate::environment::{Environment, Names};
 use cl_meaning::Entry;
 use indexmap::IndexMap;
 use std::alloc::Global;
-use wg_num::Memory;
+use wg_num::{Memory, push};
 
 fn key_of(alloc: Global, name: &[u8]) -> Result<Vec<u8>, Memory>
     ensures { IfOk result (λ v. v.items ≡ name.now) }
@@ -69,8 +69,5 @@ pub(crate) fn open(alloc: Global, environment: &mut Environment) -> Result<(), M
     ensures { OnOk result ((places : List Place) →
         env_of places environment.new ≡ visible.opened (env_of places environment.old)) }
 {
-    match environment.scopes.push(IndexMap::new(alloc)) {
-        Ok(()) => Ok(()),
-        Err(_) => Err(Memory),
-    }
+    push(&mut environment.scopes, IndexMap::new(alloc))
 }

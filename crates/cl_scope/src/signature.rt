@@ -12,7 +12,7 @@ use crate::environment::Signature;
 use cl_meaning::{Parameter, Yield, constant_of, declared_of, is_kernel, name_of, requires_size};
 use cl_tree::{Form, Tree};
 use std::alloc::Global;
-use wg_num::{Memory, Word};
+use wg_num::{Memory, Word, push};
 
 /// What a result says: `void`, or a type.
 pub fn yield_of(parts: &[Tree]) -> Yield
@@ -44,21 +44,12 @@ pub fn parameter_of(parts: &[Tree]) -> Parameter
     }
 }
 
-fn push_parameter(parameters: &mut Vec<Parameter>, parameter: Parameter) -> Result<(), Memory>
-    ensures { OnOk result (parameters.new.items ≡ parameters.old.items ++ parameter ∷ []) }
-{
-    match parameters.push(parameter) {
-        Ok(()) => Ok(()),
-        Err(_) => Err(Memory),
-    }
-}
-
 fn parameters_of(alloc: Global, parts: &[Tree]) -> Result<Vec<Parameter>, Memory>
     ensures { IfOk result (λ v. v.items ≡ spec.parameters_of (views parts.now)) }
 {
     let mut parameters = Vec::new(alloc);
     for part in parts {
-        push_parameter(&mut parameters, parameter_of(&part.parts))?;
+        push(&mut parameters, parameter_of(&part.parts))?;
     }
     Ok(parameters)
 }
@@ -114,10 +105,7 @@ fn push_signature(signatures: &mut Vec<Signature>, signature: Signature) -> Resu
     ensures { OnOk result (map signature_of signatures.new.items ≡ map signature_of signatures.old.items ++
         signature_of signature ∷ []) }
 {
-    match signatures.push(signature) {
-        Ok(()) => Ok(()),
-        Err(_) => Err(Memory),
-    }
+    push(signatures, signature)
 }
 
 /// Notes what a part of a unit defines, if it is a function.

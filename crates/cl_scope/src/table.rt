@@ -1,5 +1,5 @@
 //! The bytes of the constant tables of a unit.
-ghost use Rattle.std.specs.Prelude.{◌≡◌, ◌++◌, ◌∷◌, ◌*◌, [], map, OnOk, IfOk};
+ghost use Rattle.std.specs.Prelude.{◌≡◌, ◌++◌, ◌*◌, [], map, OnOk, IfOk};
 ghost use Rattle.cl_tree.specs.Syntax.{view};
 ghost use Rattle.wg_num.specs.Wrap.{IsValue};
 ghost use Rattle.wg_num.specs.Bytes.{bytes_of, size_of as bytes_in};
@@ -11,16 +11,7 @@ use crate::declarator::{Declarator, has_list};
 use cl_meaning::{Declared, constant_of, size_of};
 use cl_tree::Tree;
 use std::alloc::Global;
-use wg_num::{IntType, Memory, bits, wrap};
-
-fn push_byte(bytes: &mut Vec<u8>, byte: u8) -> Result<(), Memory>
-    ensures { OnOk result (bytes.new.items ≡ bytes.old.items ++ byte ∷ []) }
-{
-    match bytes.push(byte) {
-        Ok(()) => Ok(()),
-        Err(_) => Err(Memory),
-    }
-}
+use wg_num::{IntType, Memory, bits, push, wrap};
 
 /// Pushes the bytes of a value, lowest first.
 fn push_value(bytes: &mut Vec<u8>, of: IntType, value: i128) -> Result<(), Memory>
@@ -29,7 +20,7 @@ fn push_value(bytes: &mut Vec<u8>, of: IntType, value: i128) -> Result<(), Memor
 {
     let mut rest = bits(of, value);
     for _place in 0..size_of(of) {
-        push_byte(bytes, (rest % 256) as u8)?;
+        push(bytes, (rest % 256) as u8)?;
         rest /= 256;
     }
     Ok(())

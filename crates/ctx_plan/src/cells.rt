@@ -14,7 +14,7 @@ use crate::sharing::{Sharing, sum_of, varying_in};
 use diverge::Varying;
 use kir::{Cell, CellKind};
 use std::alloc::Global;
-use wg_num::Memory;
+use wg_num::{Memory, push};
 
 /// What is kept of a variable: nothing, one value for the group, or one for each item in the column
 /// with this number.
@@ -145,10 +145,7 @@ fn add_home(homes: &mut Homes, home: Home) -> Result<(), Memory>
       slots = homes.old.slots;
     }) }
 {
-    match homes.list.push(home) {
-        Ok(()) => Ok(()),
-        Err(_) => Err(Memory),
-    }
+    push(&mut homes.list, home)
 }
 
 /// A slot of its own.

@@ -1,16 +1,16 @@
 //! Which functions, statements and lines hold a barrier after inlining.
 
-ghost use Rattle.std.specs.Prelude.{◌≡◌, ◌∷◌, [], ◌++◌, false, map, replicate, IsTrue, IfOk};
+ghost use Rattle.std.specs.Prelude.{◌≡◌, [], false, map, replicate, IsTrue, IfOk};
 ghost use Rattle.std.specs.Prelude.{OnOk};
 ghost use Rattle.cl_model.specs.View.{statement_of, listed_statements, function_of};
 ghost use Rattle.kir.specs.Inlined.{holds, some_holds};
 ghost use Rattle.ctx_plan.specs.Points.{points_onto, all_onto, arms_onto, listed_arms, entry, point_holds, points_hold};
 ghost use Rattle.ctx_plan.specs.Sharing.{holding_of, bodies_after};
 
-use crate::outline::{Piece, put, put_expression, put_expressions, put_optional};
+use crate::outline::{Piece, put_expression, put_expressions, put_optional};
 use cl_model::{Function, Stmt, SwitchArm};
 use std::alloc::Global;
-use wg_num::Memory;
+use wg_num::{Memory, push};
 
 /// The entry of a list with this number; false where there is none.
 pub(crate) fn entry_of(list: &[bool], number: u32) -> bool
@@ -76,7 +76,7 @@ fn put_points(s: &Stmt, points: &mut Vec<Piece>) -> Result<(), Memory>
             put_arm_points(arms, points)
         }
         Stmt::Break { .. } | Stmt::Continue { .. } => Ok(()),
-        Stmt::Barrier { .. } => put(points, Piece::Cut),
+        Stmt::Barrier { .. } => push(points, Piece::Cut),
     }
 }
 
@@ -130,18 +130,9 @@ fn bodies_hold(alloc: Global, inside: &[bool], functions: &[Function]) -> Result
     let mut list = Vec::new(alloc);
     for function in functions {
         let holds = statements_hold(alloc, inside, &function.body)?;
-        add_entry(&mut list, holds)?;
+        push(&mut list, holds)?;
     }
     Ok(list)
-}
-
-pub(crate) fn add_entry(list: &mut Vec<bool>, entry: bool) -> Result<(), Memory>
-    ensures { OnOk result (list.new.items ≡ list.old.items ++ entry ∷ []) }
-{
-    match list.push(entry) {
-        Ok(()) => Ok(()),
-        Err(_) => Err(Memory),
-    }
 }
 
 /// So many entries that are false.
@@ -150,7 +141,7 @@ pub(crate) fn no_entries(alloc: Global, count: usize) -> Result<Vec<bool>, Memor
 {
     let mut list = Vec::new(alloc);
     for _entry in 0..count {
-        add_entry(&mut list, false)?;
+        push(&mut list, false)?;
     }
     Ok(list)
 }

@@ -1,6 +1,6 @@
 //! The outline of a function: where its variables are declared, its cuts, its calls and its blocks.
 
-ghost use Rattle.std.specs.Prelude.{◌≡◌, ◌∷◌, [], ◌++◌, IfOk, OnOk};
+ghost use Rattle.std.specs.Prelude.{◌≡◌, ◌∷◌, [], IfOk, OnOk};
 ghost use Rattle.cl_model.specs.Calls.{calls_in, calls_among, calls_in_optional};
 ghost use Rattle.cl_model.specs.View.{expression_of, argument_of, listed_expressions, optional_expression};
 ghost use Rattle.cl_model.specs.View.{statement_of, listed_statements, function_of};
@@ -12,7 +12,7 @@ ghost use Rattle.ctx_plan.specs.Points.{calls_onto, listed_arguments, listed_arm
 use crate::holding::statement_holds;
 use cl_model::{Arg, Expr, Function, Stmt, SwitchArm, Target};
 use std::alloc::Global;
-use wg_num::Memory;
+use wg_num::{Memory, push};
 
 /// A piece of an outline: a declaration, whose scope is the rest of the block; a cut; a call, in
 /// whose place the block of the called function stands; a block.
@@ -24,20 +24,11 @@ pub enum Piece {
     Block(Vec<Piece>),
 }
 
-pub(crate) fn put(pieces: &mut Vec<Piece>, piece: Piece) -> Result<(), Memory>
-    ensures { OnOk result (pieces.new.items ≡ pieces.old.items ++ piece ∷ []) }
-{
-    match pieces.push(piece) {
-        Ok(()) => Ok(()),
-        Err(_) => Err(Memory),
-    }
-}
-
 fn put_call(pieces: &mut Vec<Piece>, site: u32, function: u32) -> Result<(), Memory>
     ensures { OnOk result (pieces.new.items ≡ calls_onto (record { site = site; function = function } ∷ [])
         pieces.old.items) }
 {
-    put(pieces, Piece::Calls(site, function))
+    push(pieces, Piece::Calls(site, function))
 }
 
 #[cycle(calls)]
@@ -138,7 +129,7 @@ fn put_piece(pieces: &mut Vec<Piece>, piece: Piece) -> Result<(), Memory>
     ensures { OnOk result ((rest : Outline) →
         pieces_then pieces.new.items rest ≡ pieces_then pieces.old.items (piece_then piece rest)) }
 {
-    put(pieces, piece)
+    push(pieces, piece)
 }
 
 fn put_calls(pieces: &mut Vec<Piece>, e: &Expr) -> Result<(), Memory>

@@ -10,12 +10,12 @@ ghost use Rattle.ctx_plan.specs.Points.{entry};
 ghost use Rattle.ctx_plan.specs.Sharing as spec;
 ghost use Rattle.ctx_plan.specs.View.{varying_of, shares_of, plain_columns};
 
-use crate::holding::{add_entry, entry_of, no_entries};
+use crate::holding::{entry_of, no_entries};
 use crate::outline::{Piece, outline_of};
 use cl_model::{Function, Program};
 use diverge::Varying;
 use std::alloc::Global;
-use wg_num::Memory;
+use wg_num::{Memory, push};
 
 /// Of each function and each of its variables: whether it crosses, and the number of its column
 /// among those that the function takes. Of each site of a call: how many columns the blocks of the
@@ -194,18 +194,9 @@ fn zeros(alloc: Global, count: usize) -> Result<Vec<u32>, Memory>
 {
     let mut list = Vec::new(alloc);
     for _zero in 0..count {
-        add_number(&mut list, 0)?;
+        push(&mut list, 0)?;
     }
     Ok(list)
-}
-
-fn add_number(list: &mut Vec<u32>, number: u32) -> Result<(), Memory>
-    ensures { OnOk result (list.new.items ≡ list.old.items ++ number ∷ []) }
-{
-    match list.push(number) {
-        Ok(()) => Ok(()),
-        Err(_) => Err(Memory),
-    }
 }
 
 /// The entries that both lists have, as many as the first.
@@ -216,7 +207,7 @@ fn both(alloc: Global, first: &[bool], second: &[bool]) -> Result<Vec<bool>, Mem
     let mut number: u32 = 0;
     for entry in first {
         let common = *entry && entry_of(second, number);
-        add_entry(&mut list, common)?;
+        push(&mut list, common)?;
         number = sum_of(number, 1)?;
     }
     Ok(list)

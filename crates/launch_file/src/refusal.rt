@@ -6,22 +6,39 @@ ghost use Rattle.launch_file.specs.Numbers.{number_of, text_of};
 /// against what the launch's kernel asks. `docs/LAUNCH_FILES.md` says when each stands.
 #[derive(Clone, Copy, PartialEq, Eq, Debug)]
 pub enum Refusal {
+    /// L1: the file is no TOML document, or longer than 1,048,576 bytes.
     NotToml,
+    /// L2: a table has a key that its format does not name.
     UnknownKey,
+    /// L3: a needed key is missing, or a value has another kind.
     KeyMissing,
+    /// L4: a size or an offset is none that a launch can have (OpenCL 1.2, section 5.8).
     Sizes,
+    /// L5: there are not as many arguments as kernel parameters.
     ArgumentCount,
+    /// L6: an argument is not what its parameter takes.
     ArgumentKind,
+    /// L7: a value lies outside its parameter's type.
     ValueOutOfRange,
+    /// L8: an argument names a buffer that is not listed.
     UnknownBuffer,
+    /// L9: two buffers have one name.
     BufferNamedTwice,
+    /// L10: two buffers are saved to one file.
     SavedTwice,
+    /// L11: a buffer is bound to a constant and to a global parameter.
     ConstantBufferShared,
+    /// L12: the kernel requires another work-group size (OpenCL 1.2, section 6.7.2).
     RequiredSize,
+    /// L13: local bytes are below 0, or together above 65,536.
     LocalMemory,
+    /// L14: a buffer's length is below 0 or too large, or there are too many buffers or bytes.
     Buffers,
+    /// L15: the lanes are not 1, 4, 8 or 16.
     Lanes,
+    /// L16: the turns are below 0 or above 10^12.
     Turns,
+    /// L17: a file lists no launch, or more than 16.
     Launches,
 }
 

@@ -6,12 +6,12 @@ ghost use Rattle.kir.specs.Listed.{line_before, lines_of, work_of};
 ghost use Rattle.regions.specs.View.{region_of};
 ghost use Rattle.mask_lower.specs.Atoms as spec;
 
-use crate::registers::{amount_type, crosses, put};
+use crate::registers::{amount_type, crosses};
 use kir::types::is_shift;
 use kir::{Atom, Line, Work};
 use regions::Region;
 use std::alloc::Global;
-use wg_num::{Bin, IntType, Memory, wrap};
+use wg_num::{Bin, IntType, Memory, push, wrap};
 
 /// What is read for the amount of a shift: a constant for the other bank is one of this bank.
 fn amount_atom(of: IntType, atom: Atom) -> Atom
@@ -56,12 +56,12 @@ fn list_work(atoms: &mut Vec<Atom>, work: &Work) -> Result<(), Memory>
 {
     match work {
         Work::Unary { a, .. } | Work::Convert { a, .. } | Work::Copy(a) => {
-            put(atoms, *a)?;
+            push(atoms, *a)?;
             Ok(())
         }
         Work::Binary { op, of, a, b } => {
-            put(atoms, *a)?;
-            put(atoms, right_atom(*op, *of, *b))?;
+            push(atoms, *a)?;
+            push(atoms, right_atom(*op, *of, *b))?;
             Ok(())
         }
         Work::Builtin { args, .. } => {
@@ -69,7 +69,7 @@ fn list_work(atoms: &mut Vec<Atom>, work: &Work) -> Result<(), Memory>
             Ok(())
         }
         Work::Ask { dim, .. } => {
-            put(atoms, *dim)?;
+            push(atoms, *dim)?;
             Ok(())
         }
         Work::Argument(_) => Ok(()),
@@ -95,23 +95,23 @@ fn list_line(atoms: &mut Vec<Atom>, line: &Line) -> Result<(), Memory>
 {
     match line {
         Line::Set { to, work } => {
-            put(atoms, Atom::Cell(*to))?;
+            push(atoms, Atom::Cell(*to))?;
             list_work(atoms, work)?;
             Ok(())
         }
         Line::Load { to, index, .. } => {
-            put(atoms, Atom::Cell(*to))?;
-            put(atoms, *index)?;
+            push(atoms, Atom::Cell(*to))?;
+            push(atoms, *index)?;
             Ok(())
         }
         Line::Store { index, from, .. } => {
-            put(atoms, *index)?;
-            put(atoms, *from)?;
+            push(atoms, *index)?;
+            push(atoms, *from)?;
             Ok(())
         }
         Line::Clear { .. } | Line::Barrier { .. } => Ok(()),
         Line::If { test, yes, no, .. } => {
-            put(atoms, *test)?;
+            push(atoms, *test)?;
             list_lines(atoms, yes)?;
             list_lines(atoms, no)?;
             Ok(())
@@ -124,7 +124,7 @@ fn list_line(atoms: &mut Vec<Atom>, line: &Line) -> Result<(), Memory>
         } => {
             list_lines(atoms, body)?;
             list_lines(atoms, test)?;
-            put(atoms, *answer)?;
+            push(atoms, *answer)?;
             Ok(())
         }
     }
@@ -137,7 +137,7 @@ fn list_answer(atoms: &mut Vec<Atom>, answer: Option<Atom>) -> Result<(), Memory
     match answer {
         None => Ok(()),
         Some(answer) => {
-            put(atoms, answer)?;
+            push(atoms, answer)?;
             Ok(())
         }
     }
@@ -148,7 +148,7 @@ fn list_cells(atoms: &mut Vec<Atom>, cells: &Vec<u32>) -> Result<(), Memory>
     ensures { OnOk result (atoms.new.items ≡ atoms.old.items ++ map spec.cell_atom cells.now.items) }
 {
     for cell in cells {
-        put(atoms, Atom::Cell(*cell))?;
+        push(atoms, Atom::Cell(*cell))?;
     }
     Ok(())
 }

@@ -7,11 +7,11 @@ ghost use Rattle.mask_lower.specs.Lowered.{vote_code};
 
 use crate::masks::lower_test;
 use crate::placing::cell_at;
-use crate::registers::{Free, Layout, Operand, mask_reg, put, slot_reg};
+use crate::registers::{Free, Layout, Operand, mask_reg, slot_reg};
 use ctx_plan::Home;
 use kir::Atom;
 use lane_code::{Reg, Step};
-use wg_num::Memory;
+use wg_num::{Memory, push};
 
 /// The home of a cell.
 fn home_of(homes: &Vec<Home>, cell: usize) -> Option<Home>
@@ -27,18 +27,18 @@ fn lower_get(code: &mut Vec<Step>, to: Reg, home: Option<Home>) -> Result<(), Me
     match home {
         None | Some(Home::Register) => Ok(()),
         Some(Home::Column(column)) => {
-            put(code, Step::ColumnGet { column, to })?;
+            push(code, Step::ColumnGet { column, to })?;
             Ok(())
         }
         Some(Home::Once(slot)) => {
-            put(
+            push(
                 code,
                 Step::OnceGet {
                     slot,
                     to: slot_reg(),
                 },
             )?;
-            put(
+            push(
                 code,
                 Step::Spread {
                     to,
@@ -86,7 +86,7 @@ fn lower_put(code: &mut Vec<Step>, cell: Operand, home: Option<Home>) -> Result<
     match home {
         None | Some(Home::Register) => Ok(()),
         Some(Home::Column(column)) => {
-            put(
+            push(
                 code,
                 Step::ColumnPut {
                     column,
@@ -97,7 +97,7 @@ fn lower_put(code: &mut Vec<Step>, cell: Operand, home: Option<Home>) -> Result<
             Ok(())
         }
         Some(Home::Once(slot)) => {
-            put(
+            push(
                 code,
                 Step::First {
                     to: slot_reg(),
@@ -106,7 +106,7 @@ fn lower_put(code: &mut Vec<Step>, cell: Operand, home: Option<Home>) -> Result<
                     mask: mask_reg(0),
                 },
             )?;
-            put(
+            push(
                 code,
                 Step::OncePut {
                     slot,
@@ -148,7 +148,7 @@ pub(crate) fn lower_vote(
         None => Ok(()),
         Some(answer) => {
             let _after = lower_test(code, layout, next, answer, 1, 0)?;
-            put(
+            push(
                 code,
                 Step::VotePut {
                     from: mask_reg(1),

@@ -9,11 +9,11 @@ ghost use Rattle.mask_lower.specs.Lowered as spec;
 
 use crate::masks::{lower_test, lower_turn, place, put_and, put_less, put_skip, skip_to_end};
 use crate::placing::{array_at, cell_at, read, root_at};
-use crate::registers::{Free, Layout, mask_reg, more, put};
+use crate::registers::{Free, Layout, mask_reg, more};
 use crate::work::lower_work;
 use kir::Line;
 use lane_code::Step;
-use wg_num::Memory;
+use wg_num::{Memory, push};
 
 /// Where lines are lowered: the mask of the active lanes, the first mask that is not in use, and the
 /// registers that are free for constants.
@@ -55,7 +55,7 @@ fn lower_plain(
             let to = cell_at(&layout.cells, *to)?;
             let (index, next) = read(&layout.cells, at.next, *index)?;
             let root = root_at(&layout.arrays, *root)?;
-            put(
+            push(
                 code,
                 Step::Load {
                     site: *site,
@@ -78,7 +78,7 @@ fn lower_plain(
             let (index, next) = read(&layout.cells, at.next, *index)?;
             let (from, next) = read(&layout.cells, next, *from)?;
             let root = root_at(&layout.arrays, *root)?;
-            put(
+            push(
                 code,
                 Step::Store {
                     site: *site,
@@ -93,11 +93,11 @@ fn lower_plain(
         }
         Line::Clear { array } => {
             let array = array_at(&layout.arrays, *array)?;
-            put(code, Step::Clear { array, mask })?;
+            push(code, Step::Clear { array, mask })?;
             Ok(at.next)
         }
         Line::Barrier { site } => {
-            put(code, Step::Mark { site: *site, mask })?;
+            push(code, Step::Mark { site: *site, mask })?;
             Ok(at.next)
         }
         Line::If { .. } | Line::Loop { .. } => Err(Memory),
@@ -260,7 +260,7 @@ fn lower_loop(code: &mut Vec<Step>, line: &Line, layout: &Layout, at: Scope) -> 
     let free = more(at.free, 1)?;
     put_and(code, at.free, at.mask, at.mask)?;
     let jump = code.len();
-    put(code, Step::Jump { target: 0 })?;
+    push(code, Step::Jump { target: 0 })?;
     let start = place(code)?;
     let mut inner = Scope {
         mask: at.free,
@@ -298,10 +298,10 @@ pub(crate) fn lower_rest(
     else {
         return Err(Memory);
     };
-    put(code, Step::VoteGet { to: mask_reg(1) })?;
+    push(code, Step::VoteGet { to: mask_reg(1) })?;
     put_and(code, 1, 0, 1)?;
     let jump = code.len();
-    put(code, Step::Jump { target: 0 })?;
+    push(code, Step::Jump { target: 0 })?;
     let start = place(code)?;
     let mut inner = Scope {
         mask: 1,

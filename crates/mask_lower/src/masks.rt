@@ -8,10 +8,10 @@ ghost use Rattle.mask_lower.specs.Registers.{frame_of, past_atom};
 ghost use Rattle.mask_lower.specs.Lowered as spec;
 
 use crate::placing::read;
-use crate::registers::{Free, Layout, mask_reg, put};
+use crate::registers::{Free, Layout, mask_reg};
 use kir::Atom;
 use lane_code::Step;
-use wg_num::Memory;
+use wg_num::{Memory, push};
 
 /// The number of the next step.
 pub(crate) fn place(code: &Vec<Step>) -> Result<u32, Memory>
@@ -35,7 +35,7 @@ pub(crate) fn lower_test(
     ensures next { IfOk result (λ after. after ≡ past_atom next atom) }
 {
     let (from, after) = read(&layout.cells, next, atom)?;
-    put(
+    push(
         code,
         Step::Test {
             to: mask_reg(to),
@@ -51,7 +51,7 @@ pub(crate) fn put_and(code: &mut Vec<Step>, to: u32, a: u32, b: u32) -> Result<(
     ensures { OnOk result (code.new.items ≡ code.old.items ++ step.MaskAnd (mask_at to) (mask_at a) (mask_at b) ∷
         []) }
 {
-    put(
+    push(
         code,
         Step::MaskAnd {
             to: mask_reg(to),
@@ -67,7 +67,7 @@ pub(crate) fn put_less(code: &mut Vec<Step>, to: u32, a: u32, b: u32) -> Result<
     ensures { OnOk result (code.new.items ≡ code.old.items ++ step.MaskLess (mask_at to) (mask_at a) (mask_at b) ∷
         []) }
 {
-    put(
+    push(
         code,
         Step::MaskLess {
             to: mask_reg(to),
@@ -82,7 +82,7 @@ pub(crate) fn put_less(code: &mut Vec<Step>, to: u32, a: u32, b: u32) -> Result<
 pub(crate) fn put_skip(code: &mut Vec<Step>, mask: u32) -> Result<(), Memory>
     ensures { OnOk result (code.new.items ≡ code.old.items ++ step.SkipNone (mask_at mask) 0 ∷ []) }
 {
-    put(
+    push(
         code,
         Step::SkipNone {
             mask: mask_reg(mask),
@@ -122,7 +122,7 @@ pub(crate) fn lower_turn(
 {
     let after = lower_test(code, layout, next, answer, mask, mask)?;
     let turn_at = place(code)?;
-    put(
+    push(
         code,
         Step::Turn {
             mask: mask_reg(mask),

@@ -8,12 +8,12 @@ ghost use Rattle.kir.specs.View.{kernel_of};
 ghost use Rattle.cl_model.specs.View.{array_of};
 ghost use Rattle.mask_lower.specs.Registers as spec;
 
-use crate::registers::{Free, Layout, Operand, advanced, more, put, register_at};
+use crate::registers::{Free, Layout, Operand, advanced, more, register_at};
 use cl_model::{Array, Root, Space};
 use kir::{Atom, Cell, Kernel};
 use lane_code::Step;
 use std::alloc::Global;
-use wg_num::Memory;
+use wg_num::{Memory, push};
 
 /// A table of cells, none of which is marked.
 fn unmarked(alloc: Global, cells: &Vec<Cell>) -> Result<Vec<bool>, Memory>
@@ -21,7 +21,7 @@ fn unmarked(alloc: Global, cells: &Vec<Cell>) -> Result<Vec<bool>, Memory>
 {
     let mut marks = Vec::new(alloc);
     for _cell in cells {
-        put(&mut marks, false)?;
+        push(&mut marks, false)?;
     }
     Ok(marks)
 }
@@ -80,10 +80,10 @@ fn place_cells(
                 of: cell.of,
                 at: register_at(next, cell.of),
             };
-            put(&mut placed, Some(operand))?;
+            push(&mut placed, Some(operand))?;
             next = advanced(next, cell.of)?;
         } else {
-            put(&mut placed, None)?;
+            push(&mut placed, None)?;
         }
         number += 1;
     }
@@ -100,15 +100,15 @@ fn place_arrays(alloc: Global, arrays: &Vec<Array>) -> Result<Vec<u32>, Memory>
     for array in arrays {
         match array.space {
             Space::Local => {
-                put(&mut places, locals)?;
+                push(&mut places, locals)?;
                 locals = more(locals, 1)?;
             }
             Space::Private => {
-                put(&mut places, privates)?;
+                push(&mut places, privates)?;
                 privates = more(privates, 1)?;
             }
             Space::Global | Space::Constant => {
-                put(&mut places, privates)?;
+                push(&mut places, privates)?;
             }
         }
     }
@@ -207,7 +207,7 @@ fn lower_constant(code: &mut Vec<Step>, next: Free, atom: Atom) -> Result<Free, 
 {
     match atom {
         Atom::Const { value, of } => {
-            put(
+            push(
                 code,
                 Step::Const {
                     to: register_at(next, of),

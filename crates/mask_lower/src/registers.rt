@@ -1,6 +1,6 @@
 //! The registers of a region.
 
-ghost use Rattle.std.specs.Prelude.{◌≡◌, ◌+◌, ◌++◌, ◌∷◌, [], IfOk, OnOk};
+ghost use Rattle.std.specs.Prelude.{◌≡◌, ◌+◌, [], IfOk};
 ghost use Rattle.mask_lower.specs.Banks as banks;
 
 use lane_code::{Bank, Reg};
@@ -129,14 +129,4 @@ pub(crate) fn more(n: u32, by: u32) -> Result<u32, Memory>
     ensures { IfOk result (λ m. m ≡ n + by) }
 {
     n.checked_add(by).ok_or(Memory)
-}
-
-/// One more entry.
-pub(crate) fn put<T: Copy>(list: &mut Vec<T>, entry: T) -> Result<(), Memory>
-    ensures { OnOk result (list.new.items ≡ list.old.items ++ entry ∷ []) }
-{
-    match list.push(entry) {
-        Ok(()) => Ok(()),
-        Err(_) => Err(Memory),
-    }
 }

@@ -8,11 +8,11 @@ ghost use Rattle.mask_lower.specs.Lowered as spec;
 
 use crate::atoms::right_atom;
 use crate::placing::read;
-use crate::registers::{Free, Layout, Operand, amount_type, crosses, put, register_at};
+use crate::registers::{Free, Layout, Operand, amount_type, crosses, register_at};
 use kir::types::{binary_type, is_shift, unary_type};
 use kir::{Atom, Work};
 use lane_code::{Reg, Step};
-use wg_num::{Bin, Fun, IntType, Memory};
+use wg_num::{Bin, Fun, IntType, Memory, push};
 
 /// Where what is computed in a type goes first, if it is of this kind: to the cell's register, or to
 /// that on the way to the other bank.
@@ -38,7 +38,7 @@ fn bring(
     ensures { OnOk result (code.new.items ≡ code.old.items ++ spec.brought (frame_of layout.now) of kind to mask) }
 {
     if crosses(of, kind) {
-        put(
+        push(
             code,
             Step::Convert {
                 to,
@@ -71,7 +71,7 @@ fn move_amount(
     ensures { OnOk result (code.new.items ≡ code.old.items ++ spec.amount_moved (frame_of layout.now) op of b mask) }
 {
     if moves(op, of, b) {
-        put(
+        push(
             code,
             Step::Convert {
                 to: register_at(layout.scratch, of),
@@ -118,7 +118,7 @@ fn lower_binary(
     let Operation { op, of, a, b } = what;
     let kind = binary_type(op, of);
     move_amount(code, layout, op, of, b, mask)?;
-    put(
+    push(
         code,
         Step::Binary {
             op,
@@ -187,7 +187,7 @@ fn lower_builtin(
     let (a, next) = argument(layout, next, to, atom_of(args, 0))?;
     let (b, next) = argument(layout, next, to, atom_of(args, 1))?;
     let (c, next) = argument(layout, next, to, atom_of(args, 2))?;
-    put(
+    push(
         code,
         Step::Builtin {
             f: what.f,
@@ -220,7 +220,7 @@ pub(crate) fn lower_work(
         Work::Unary { op, of, a } => {
             let (a, next) = read(&layout.cells, next, *a)?;
             let kind = unary_type(*op, *of);
-            put(
+            push(
                 code,
                 Step::Unary {
                     op: *op,
@@ -252,7 +252,7 @@ pub(crate) fn lower_work(
         }
         Work::Convert { to: kind, a } => {
             let (a, next) = read(&layout.cells, next, *a)?;
-            put(
+            push(
                 code,
                 Step::Convert {
                     to,
@@ -266,7 +266,7 @@ pub(crate) fn lower_work(
         }
         Work::Ask { what, dim } => {
             let (dim, next) = read(&layout.cells, next, *dim)?;
-            put(
+            push(
                 code,
                 Step::Ask {
                     what: *what,
@@ -278,7 +278,7 @@ pub(crate) fn lower_work(
             Ok(next)
         }
         Work::Argument(number) => {
-            put(
+            push(
                 code,
                 Step::Argument {
                     number: *number,
@@ -290,7 +290,7 @@ pub(crate) fn lower_work(
         }
         Work::Copy(a) => {
             let (a, next) = read(&layout.cells, next, *a)?;
-            put(
+            push(
                 code,
                 Step::Copy {
                     to,

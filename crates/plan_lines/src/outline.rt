@@ -9,7 +9,7 @@ ghost use Rattle.plan_lines.specs.Entries.{call_entries, statement_entries, all_
 
 use cl_model::{Arg, Expr, Function, Stmt, SwitchArm, Target};
 use std::alloc::Global;
-use wg_num::Memory;
+use wg_num::{Memory, push};
 
 /// A declaration of a variable of the function, or a call that stands in its text.
 #[derive(Clone, Copy)]
@@ -18,22 +18,13 @@ pub(crate) enum Entry {
     Calls { site: u32, function: u32 },
 }
 
-fn put(entries: &mut Vec<Entry>, entry: Entry) -> Result<(), Memory>
-    ensures { OnOk result (entries.new.items ≡ entries.old.items ++ entry ∷ []) }
-{
-    match entries.push(entry) {
-        Ok(()) => Ok(()),
-        Err(_) => Err(Memory),
-    }
-}
-
 fn put_call(entries: &mut Vec<Entry>, site: u32, function: u32) -> Result<(), Memory>
     ensures { OnOk result (entries.new.items ≡ entries.old.items ++ call_entries (record {
       site = site;
       function = function;
     } ∷ [])) }
 {
-    put(entries, Entry::Calls { site, function })
+    push(entries, Entry::Calls { site, function })
 }
 
 #[cycle(calls)]
@@ -148,7 +139,7 @@ fn put_statement(entries: &mut Vec<Entry>, s: &Stmt) -> Result<(), Memory>
         Stmt::Do(e) => put_expression(entries, e),
         Stmt::Declare { var, value } => {
             put_optional(entries, value)?;
-            put(entries, Entry::Declares(*var))
+            push(entries, Entry::Declares(*var))
         }
         Stmt::Return { value, .. } => put_optional(entries, value),
         Stmt::Fill { values, .. } => put_expressions(entries, values),
@@ -192,7 +183,7 @@ pub(crate) fn outline_of(alloc: Global, function: &Function) -> Result<Vec<Entry
 {
     let mut entries = Vec::new(alloc);
     for parameter in 0..function.params {
-        put(&mut entries, Entry::Declares(parameter))?;
+        push(&mut entries, Entry::Declares(parameter))?;
     }
     put_statements(&mut entries, &function.body)?;
     Ok(entries)

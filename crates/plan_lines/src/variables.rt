@@ -10,7 +10,7 @@ ghost use Rattle.plan_lines.specs.Entries.{variable_of, function_entries};
 use crate::outline::{Entry, outline_of};
 use cl_model::Program;
 use std::alloc::Global;
-use wg_num::Memory;
+use wg_num::{Memory, push};
 
 /// A variable of the inlined kernel: the sites of the calls that lead to its function, that
 /// function, and its number there.
@@ -45,10 +45,7 @@ fn put(list: &mut Vec<Variable>, variable: Variable) -> Result<(), Memory>
     ensures { OnOk result (map variable_of list.new.items ≡ map variable_of list.old.items ++
         variable_of variable ∷ []) }
 {
-    match list.push(variable) {
-        Ok(()) => Ok(()),
-        Err(_) => Err(Memory),
-    }
+    push(list, variable)
 }
 
 // The outline of the function with this number.

@@ -1,12 +1,12 @@
 //! Copies of lines.
 
-ghost use Rattle.std.specs.Prelude.{◌≡◌, ◌∷◌, [], ◌++◌, IfOk, OnOk};
+ghost use Rattle.std.specs.Prelude.{◌≡◌, [], IfOk, OnOk};
 ghost use Rattle.kir.specs.Tree.{Lines, IfThen, LoopThen, joined_to};
 ghost use Rattle.kir.specs.Listed.{line_before, lines_of, work_of};
 
 use kir::{Atom, Line, Work};
 use std::alloc::Global;
-use wg_num::Memory;
+use wg_num::{Memory, push};
 
 /// The same atoms.
 fn copy_atoms(alloc: Global, atoms: &Vec<Atom>) -> Result<Vec<Atom>, Memory>
@@ -52,16 +52,6 @@ pub(crate) fn copy_work(alloc: Global, work: &Work) -> Result<Work, Memory>
     }
 }
 
-/// The list with one line more.
-pub(crate) fn add_line(lines: &mut Vec<Line>, line: Line) -> Result<(), Memory>
-    ensures { OnOk result (lines.new.items ≡ lines.old.items ++ line ∷ []) }
-{
-    match lines.push(line) {
-        Ok(()) => Ok(()),
-        Err(_) => Err(Memory),
-    }
-}
-
 /// The list with an `if` more.
 #[inline(never)]
 fn add_if(
@@ -81,7 +71,7 @@ fn add_if(
         yes,
         no,
     };
-    add_line(copied, line)?;
+    push(copied, line)?;
     Ok(())
 }
 
@@ -106,7 +96,7 @@ fn add_loop(
         answer,
         body,
     };
-    add_line(copied, line)?;
+    push(copied, line)?;
     Ok(())
 }
 
@@ -159,7 +149,7 @@ fn add_plain(alloc: Global, copied: &mut Vec<Line>, line: &Line) -> Result<(), M
         (line_before line.now rest)) }
 {
     let line = copy_plain(alloc, line)?;
-    add_line(copied, line)?;
+    push(copied, line)?;
     Ok(())
 }
 

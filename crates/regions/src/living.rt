@@ -9,7 +9,7 @@ ghost use Rattle.regions.specs.Living.{those, Becomes, IsPassing, through, befor
 
 use kir::{Atom, Line, Work};
 use std::alloc::Global;
-use wg_num::Memory;
+use wg_num::{Memory, push};
 
 /// What lines make of the cells that are live behind them: whether each cell is live before the
 /// lines where it is dead behind them, and where it is live there.
@@ -19,22 +19,13 @@ pub(crate) struct Passing {
     pub(crate) live: Vec<bool>,
 }
 
-fn add_entry(set: &mut Vec<bool>, live: bool) -> Result<(), Memory>
-    ensures { OnOk result (set.new.items ≡ set.old.items ++ live ∷ []) }
-{
-    match set.push(live) {
-        Ok(()) => Ok(()),
-        Err(_) => Err(Memory),
-    }
-}
-
 /// So many cells, all live or all dead.
 pub(crate) fn all_cells(alloc: Global, cells: usize, live: bool) -> Result<Vec<bool>, Memory>
     ensures { IfOk result (λ set. set.items ≡ replicate cells live) }
 {
     let mut set = Vec::new(alloc);
     for _cell in 0..cells {
-        add_entry(&mut set, live)?;
+        push(&mut set, live)?;
     }
     Ok(set)
 }
@@ -53,10 +44,7 @@ fn add_cell(list: &mut Vec<u32>, cell: usize) -> Result<(), Memory>
     ensures { OnOk result (list.new.items ≡ list.old.items ++ cell ∷ []) }
 {
     match u32::try_from(cell) {
-        Ok(cell) => match list.push(cell) {
-            Ok(()) => Ok(()),
-            Err(_) => Err(Memory),
-        },
+        Ok(cell) => push(list, cell),
         Err(_) => Err(Memory),
     }
 }

@@ -1,7 +1,7 @@
 //! The cutting of a kernel into its regions.
 
-ghost use Rattle.std.specs.Prelude.{◌≡◌, ℕ, ◌+◌, ◌-◌, ◌≤◌, ◌<◌, ◌∷◌, [], ◌++◌};
-ghost use Rattle.std.specs.Prelude.{◌||◌, true, false, List, Option, None, IfOk, OnOk, length, take, drop};
+ghost use Rattle.std.specs.Prelude.{◌≡◌, ℕ, ◌+◌, ◌-◌, ◌≤◌, ◌<◌, ◌∷◌, []};
+ghost use Rattle.std.specs.Prelude.{◌||◌, true, false, List, Option, None, IfOk, length, take, drop};
 ghost use Rattle.std.specs.Prelude.{Bool as Test};
 ghost use Rattle.kir.specs.Tree.{Lines, NoLine};
 ghost use Rattle.kir.specs.Places.{Behind, Place, Tasks, LinesAt};
@@ -17,7 +17,7 @@ ghost use Rattle.regions.specs.TreeRun.{RunsInterleave};
 ghost use Rattle.regions.specs.Living.{those, IsSet, answer_live};
 ghost use Rattle.regions.specs.Cutting.{region_with, stacked, ended_by, ended, cut_by, AreLiveAt};
 
-use crate::copying::{add_line, copy_line, copy_lines};
+use crate::copying::{copy_line, copy_lines};
 use crate::living::{
     all_cells, listed_cells, live_at_answer, live_before, live_in_either, pass_line, pass_lines,
     pass_none,
@@ -26,7 +26,7 @@ use crate::region::{Region, RegionTree};
 use kir::holding::{line_holds, lines_hold};
 use kir::{Atom, Kernel, Line};
 use std::alloc::Global;
-use wg_num::Memory;
+use wg_num::{Memory, push};
 
 /// A branch that the group takes on a vote: what is done where all items vote yes, where all vote
 /// no, and the plain twin.
@@ -272,7 +272,7 @@ fn twin(alloc: Global, line: &Line, now: &[bool], from_vote: bool) -> Result<Reg
     let live = listed_cells(alloc, now)?;
     let line = copy_line(alloc, line)?;
     let mut lines = Vec::new(alloc);
-    add_line(&mut lines, line)?;
+    push(&mut lines, line)?;
     Ok(Region {
         lines,
         answer: None,
@@ -375,17 +375,8 @@ fn loop_before(round: Round, mut trees: Vec<RegionTree>) -> Result<Vec<RegionTre
         body,
         rest,
     };
-    add_tree(&mut trees, tree)?;
+    push(&mut trees, tree)?;
     Ok(trees)
-}
-
-fn add_tree(trees: &mut Vec<RegionTree>, tree: RegionTree) -> Result<(), Memory>
-    ensures { OnOk result (trees.new.items ≡ trees.old.items ++ tree ∷ []) }
-{
-    match trees.push(tree) {
-        Ok(()) => Ok(()),
-        Err(_) => Err(Memory),
-    }
 }
 
 /// The region from the line with this number to its end, before the trees behind it.
@@ -411,7 +402,7 @@ fn close(
         region_of_lines(alloc, &lines[number..end], answer, live),
         choice,
     )?;
-    add_tree(&mut behind, with_choice(region, choice))?;
+    push(&mut behind, with_choice(region, choice))?;
     Ok(behind)
 }
 

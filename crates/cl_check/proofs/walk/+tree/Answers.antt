@@ -33,21 +33,21 @@ check_parts-loop-part-preserved t c =
     (env_of c.args.walk.places.now c.go_behind.new.environment) c.go_behind.new.parts.last
     (map piece_of c.go_behind.new.parts.pieces.items) c.go_behind.new.parts.kinds.items c.role_of-role.result
     c.loop-part.invariant c.loop-part-test.true c.part-item.is c.role_of-role.ensures c.in-Ok.ensures.walked
-    (c.in-Ok-go_behind.ensures.environment c.args.walk.places.now) c.in-Ok-go_behind.ensures.last
-    c.in-Ok-go_behind.ensures.pieces c.in-Ok-go_behind.ensures.kinds
+    (c.in_ok-go_behind-in-Ok.ensures.environment c.args.walk.places.now) c.in_ok-go_behind-in-Ok.ensures.last
+    c.in_ok-go_behind-in-Ok.ensures.pieces c.in_ok-go_behind-in-Ok.ensures.kinds
 
-pub check_tree-returns-in-Err-check_parts-clause-faulted : goal.check_tree-returns-in-Err-check_parts-clause-faulted
-check_tree-returns-in-Err-check_parts-clause-faulted t c =
-    fault_then Parts Piece c.in-Err-check_parts.e _ _ c.in-Err-check_parts.ensures.faulted
+pub check_tree-returns-in-Err-clause-faulted : goal.check_tree-returns-in-Err-clause-faulted
+check_tree-returns-in-Err-clause-faulted t c =
+    fault_then Parts Piece c.in-Err.e _ _ c.in-Err.ensures.faulted
     (λ k token x. tree_in_parts (asked_of c.args.walk.asked.now) (length c.args.walk.places.now)
     (env_of c.args.walk.places.now c.args.environment.now) c.args.role (view c.args.tree.now)
     (out-Tree c.args.tree.now).form
     (env_of c.args.walk.places.now c.enter.new.environment) (views c.as_slice.result.now) k token
-    (form_is c.args.tree.now) (c.in-Ok.ensures.inside c.args.walk.places.now) (ap views c.as_slice.ensures.value ∙
+    (form_is c.args.tree.now) (c.in_ok-saved.ensures.inside c.args.walk.places.now) (ap views c.as_slice.ensures.value ∙
     parts_is c.args.tree.now) x)
 
-pub check_tree-returns-in-Ok-check_parts-clause-walked : goal.check_tree-returns-in-Ok-check_parts-clause-walked
-check_tree-returns-in-Ok-check_parts-clause-walked t c =
+pub check_tree-returns-in-Ok-clause-walked : goal.check_tree-returns-in-Ok-clause-walked
+check_tree-returns-in-Ok-clause-walked t c =
     let form = form_of (view c.args.tree.now) in
     let before = env_of c.args.walk.places.now c.args.environment.now in
     ok_onto c.judge.result _ _ c.judge.ensures.made
@@ -56,17 +56,17 @@ check_tree-returns-in-Ok-check_parts-clause-walked t c =
     (view c.args.tree.now) (out-Tree c.args.tree.now).form
     (env_of c.args.walk.places.now c.enter.new.environment) (views c.as_slice.result.now)
     (env_of c.args.walk.places.now c.check_parts.new.environment) c.check_parts.new.sites.items
-    c.in-Ok-check_parts.parts.last (map piece_of c.in-Ok-check_parts.parts.pieces.items)
-    c.in-Ok-check_parts.parts.kinds.items
+    c.in-Ok.parts.last (map piece_of c.in-Ok.parts.pieces.items)
+    c.in-Ok.parts.kinds.items
     (env_of c.args.walk.places.now c.restore-inner.new.environment) (inner_of c.restore-inner.result)
     (env_of c.args.walk.places.now c.judge.new.environment) c.judge.new.sites.items (piece_of p)
-    (form_is c.args.tree.now) (c.in-Ok.ensures.inside c.args.walk.places.now) (ap views c.as_slice.ensures.value ∙
-    parts_is c.args.tree.now) c.in-Ok-check_parts.ensures.done
-    (c.restore-inner.ensures.restored c.args.walk.places.now form before (c.in-Ok.ensures.saved c.args.walk.places.now))
-    (c.restore-inner.ensures.inner c.args.walk.places.now form before (c.in-Ok.ensures.saved c.args.walk.places.now)) j)
+    (form_is c.args.tree.now) (c.in_ok-saved.ensures.inside c.args.walk.places.now) (ap views c.as_slice.ensures.value ∙
+    parts_is c.args.tree.now) c.in-Ok.ensures.done
+    (c.restore-inner.ensures.restored c.args.walk.places.now form before (c.in_ok-saved.ensures.saved c.args.walk.places.now))
+    (c.restore-inner.ensures.inner c.args.walk.places.now form before (c.in_ok-saved.ensures.saved c.args.walk.places.now)) j)
 
-pub check_tree-returns-in-Ok-check_parts-clause-faulted : goal.check_tree-returns-in-Ok-check_parts-clause-faulted
-check_tree-returns-in-Ok-check_parts-clause-faulted t c =
+pub check_tree-returns-in-Ok-clause-faulted : goal.check_tree-returns-in-Ok-clause-faulted
+check_tree-returns-in-Ok-clause-faulted t c =
     let form = form_of (view c.args.tree.now) in
     let before = env_of c.args.walk.places.now c.args.environment.now in
     fault_onto c.judge.result _ _ c.judge.ensures.faulted
@@ -75,10 +75,10 @@ check_tree-returns-in-Ok-check_parts-clause-faulted t c =
     c.args.role (view c.args.tree.now) (out-Tree c.args.tree.now).form
     (env_of c.args.walk.places.now c.enter.new.environment) (views c.as_slice.result.now)
     (env_of c.args.walk.places.now c.check_parts.new.environment) c.check_parts.new.sites.items
-    c.in-Ok-check_parts.parts.last (map piece_of c.in-Ok-check_parts.parts.pieces.items)
-    c.in-Ok-check_parts.parts.kinds.items
+    c.in-Ok.parts.last (map piece_of c.in-Ok.parts.pieces.items)
+    c.in-Ok.parts.kinds.items
     (env_of c.args.walk.places.now c.restore-inner.new.environment) k token
-    (form_is c.args.tree.now) (c.in-Ok.ensures.inside c.args.walk.places.now) (ap views c.as_slice.ensures.value ∙
-    parts_is c.args.tree.now) c.in-Ok-check_parts.ensures.done
+    (form_is c.args.tree.now) (c.in_ok-saved.ensures.inside c.args.walk.places.now) (ap views c.as_slice.ensures.value ∙
+    parts_is c.args.tree.now) c.in-Ok.ensures.done
     (c.restore-inner.ensures.restored c.args.walk.places.now form before
-    (c.in-Ok.ensures.saved c.args.walk.places.now)) x)
+    (c.in_ok-saved.ensures.saved c.args.walk.places.now)) x)

@@ -12,15 +12,15 @@ returns-in-Some-clause-faulted c =
     (λ k token q. at_fault_reported (asked_of c.args.walk.asked.now) (length c.args.walk.places.now)
     c.args.walk.places.now
     c.args.environment.now c.args.role (view c.args.tree.now) c.args.parts.kinds.items c.as_slice-kinds.result.now
-    c.in-Ok.judgement.fault c.in-Some.fault k _ token c.as_slice-kinds.ensures.value c.in-Ok.ensures.fault
-    c.in-Some.is q.0
+    c.in_ok-judgement.judgement.fault c.in-Some.fault k _ token c.as_slice-kinds.ensures.value
+    c.in_ok-judgement.ensures.fault c.in-Some.is q.0
     q.1 (first_is c.args.tree.now))
 
-pub returns-in-Ok-build-clause-made : goal.returns-in-Ok-build-clause-made
-returns-in-Ok-build-clause-made c = λ end h.
+pub returns-in_ok-piece-in-None-clause-made : goal.returns-in_ok-piece-in-None-clause-made
+returns-in_ok-piece-in-None-clause-made c = λ end h.
     judged (asked_of c.args.walk.asked.now) c.args.walk.places.now c.args.environment.now end c.args.sites.now.items
     c.args.role
     (view c.args.tree.now) (map piece_of c.args.parts.pieces.items) c.args.parts.kinds.items c.as_slice-kinds.result.now
     c.args.parts.kinds.items
-    c.in-Ok.judgement.fault c.in-Ok.judgement.kind _ _ _ c.as_slice-kinds.ensures.value refl
-    c.in-Ok.ensures.fault c.in-None.is c.in-Ok.ensures.kind (c.in-Ok-build.ensures end h)
+    c.in_ok-judgement.judgement.fault c.in_ok-judgement.judgement.kind _ _ _ c.as_slice-kinds.ensures.value refl
+    c.in_ok-judgement.ensures.fault c.in-None.is c.in_ok-judgement.ensures.kind (c.in_ok-piece-in-None.ensures end h)

@@ -4,6 +4,6 @@ use Rattle.cl_scope.proofs.Products.{byte_pushed}
 use Rattle.cl_scope.proofs.table.push_value.Goals as goal
 
 pub loop-place-preserved : goal.loop-place-preserved
-loop-place-preserved c = byte_pushed _ c.loop-place.bytes.items c.push_byte.new.bytes.items (size_of c.args.of)
+loop-place-preserved c = byte_pushed _ c.loop-place.bytes.items c.push.new.list.items (size_of c.args.of)
     c.loop-place._place c.loop-place.rest (omega (arith, c.size_of-place-end.ensures)) c.loop-place.invariant
-    c.in_ok-push_byte.ensures
+    c.in_ok-push.ensures

@@ -28,8 +28,8 @@ launch_of-requires-clause-one_length c =
     subst (λ p. HasOneLength (part_of p)) (sym c.index-part.ensures)
     (c.requires.lengths c.args.which c.index-part.result.now c.requires.within)
 
-pub returns-in-Ok-clause-bound : goal.returns-in-Ok-clause-bound
-returns-in-Ok-clause-bound c =
+pub returns-in_ok-launch-clause-bound : goal.returns-in_ok-launch-clause-bound
+returns-in_ok-launch-clause-bound c =
     let part : part_of c.index-part.result.now ≡ spec.part_at (text_of c.args.text.now) c.args.which =
     part_there part_of c.args.text.now.list.items c.args.which c.index-part.result.now _ c.requires.within
     c.index-part.ensures in
@@ -38,6 +38,6 @@ returns-in-Ok-clause-bound c =
           (part_of c.index-part.result.now) (spec.part_at (text_of c.args.text.now) c.args.which) None None
           c.as_slice-buffers.ensures.value part refl c.in_default.ensures.none;
       is_its = same_launch c.args.text.now.turns c.as_slice-buffers.result.now c.args.text.now.buffers.items
-          (part_of c.index-part.result.now) (spec.part_at (text_of c.args.text.now) c.args.which) c.in-Ok.launch
-          c.as_slice-buffers.ensures.value part c.in-Ok.ensures.is_its;
+          (part_of c.index-part.result.now) (spec.part_at (text_of c.args.text.now) c.args.which) c.in_ok-launch.launch
+          c.as_slice-buffers.ensures.value part c.in_ok-launch.ensures.is_its;
     }

@@ -60,7 +60,7 @@ lower_loop-returns-clause-code t c = λ rest.
     ∙ loop_grown f at.mask at.free c.in_ok-free.free i.site i.test_first at.next c.in_ok-inner.field-0
     c.in_ok-inner-2.field-0 c.in_ok-turn_at.after (lines_of i.test.items) i.answer (lines_of i.body.items) rest
     c.len-jump.result c.in_ok-start.start c.in_ok-test_at.test_at c.in_ok-turn_at.turn_at _ _ _ _ _ _ _
-    c.in_ok-free.ensures c.in_ok-put_and.ensures (c.len-jump.ensures ∙ c.put_and.new.code.ok.0) c.in_ok-put.ensures
+    c.in_ok-free.ensures c.in_ok-put_and.ensures (c.len-jump.ensures ∙ c.put_and.new.code.ok.0) c.in_ok-push.ensures
     c.in_ok-start.ensures c.in_ok-inner.ensures.code c.in_ok-inner.ensures.next c.in_ok-test_at.ensures
     c.in_ok-inner-2.ensures.code c.in_ok-inner-2.ensures.next
     c.in_ok-turn_at.ensures.code c.in_ok-turn_at.ensures.next.0 c.in_ok-turn_at.ensures.next.1

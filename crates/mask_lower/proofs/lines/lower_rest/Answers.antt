@@ -17,8 +17,8 @@ returns-clause-code c =
     let f = frame_of c.args.layout.now in
     rest_grown f i.site i.test_first c.args.next c.in_ok-inner.field-0 c.in_ok-inner-2.field-0 (lines_of i.test.items)
     i.answer (lines_of i.body.items) c.len-jump.result c.in_ok-start.start c.in_ok-turn_at.turn_at _ _ _ _ _ _ _ _
-    (c.in_ok-put.ensures ∙ ap (λ r. c.args.code.now.items ++ VoteGet r ∷ []) c.mask_reg.ensures)
-    c.in_ok-put_and.ensures (c.len-jump.ensures ∙ c.put_and.new.code.ok.0) c.in_ok-put-2.ensures
+    (c.in_ok-push.ensures ∙ ap (λ r. c.args.code.now.items ++ VoteGet r ∷ []) c.mask_reg.ensures)
+    c.in_ok-put_and.ensures (c.len-jump.ensures ∙ c.put_and.new.code.ok.0) c.in_ok-push-2.ensures
     c.in_ok-start.ensures c.in_ok-inner.ensures.code c.in_ok-inner.ensures.next c.in_ok-inner-2.ensures.code
     c.in_ok-inner-2.ensures.next
     c.in_ok-turn_at.ensures.code c.in_ok-turn_at.ensures.next.0 refl

@@ -10,4 +10,4 @@ returns c =
     c.args.what.of c.args.args.now.items c.args.to c.args.mask c.in_ok-a.a c.in_ok-b.b c.in_ok-c.c
     c.atom_of.result c.atom_of-2.result c.atom_of-3.result c.args.code.now.items _
     few c.atom_of.ensures c.atom_of-2.ensures c.atom_of-3.ensures c.in_ok-a.ensures c.in_ok-b.ensures
-    c.in_ok-c.ensures c.in_ok-put.ensures
+    c.in_ok-c.ensures c.in_ok-push.ensures

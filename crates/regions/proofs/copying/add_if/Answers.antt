@@ -8,6 +8,6 @@ use Rattle.regions.proofs.copying.add_if.Goals as goal
 
 pub returns : goal.returns
 returns c = λ rest.
-    added c.args.copied.now.items c.add_line.new.lines.items (line.If c.args.site c.args.test c.args.yes c.args.no)
-    c.in_ok-add_line.ensures rest ∙
+    added c.args.copied.now.items c.push.new.list.items (line.If c.args.site c.args.test c.args.yes c.args.no)
+    c.in_ok-push.ensures rest ∙
     ap (joined_to (lines_of c.args.copied.now.items)) (if_listed c.args.site c.args.test c.args.yes c.args.no rest)

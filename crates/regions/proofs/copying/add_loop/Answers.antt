@@ -8,7 +8,7 @@ use Rattle.regions.proofs.copying.add_loop.Goals as goal
 
 pub returns : goal.returns
 returns c = λ rest.
-    added c.args.copied.now.items c.add_line.new.lines.items (line.Loop c.args.site c.args.test_first c.args.test
-    c.args.answer c.args.body) c.in_ok-add_line.ensures rest ∙
+    added c.args.copied.now.items c.push.new.list.items (line.Loop c.args.site c.args.test_first c.args.test
+    c.args.answer c.args.body) c.in_ok-push.ensures rest ∙
     ap (joined_to (lines_of c.args.copied.now.items)) (loop_listed c.args.site c.args.test_first c.args.test
     c.args.answer c.args.body rest)

@@ -6,5 +6,5 @@ use Rattle.regions.proofs.copying.add_plain.Goals as goal
 
 pub returns : goal.returns
 returns c = λ rest.
-    added c.args.copied.now.items c.add_line.new.lines.items c.in_ok-line.line c.in_ok-add_line.ensures rest ∙
+    added c.args.copied.now.items c.push.new.list.items c.in_ok-line.line c.in_ok-push.ensures rest ∙
     ap (joined_to (lines_of c.args.copied.now.items)) (c.in_ok-line.ensures rest)

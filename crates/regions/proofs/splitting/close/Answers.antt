@@ -13,7 +13,7 @@ returns c =
     let is : region_of c.in_ok-region.region ≡ region_with L e.answer e.live.items =
     subst (λ r. IfOk r (λ x. region_of x ≡ region_with L e.answer e.live.items)) c.in_ok-region.ensures.made
     c.region_of_lines.ensures in
-    ap (λ xs. stacked xs NoRegion) c.in_ok-add_tree.ensures
+    ap (λ xs. stacked xs NoRegion) c.in_ok-push.ensures
     ∙ (stacked_push e.behind.items c.with_choice.result NoRegion
     ∙ (c.with_choice.ensures L e.answer e.live.items (stacked e.behind.items NoRegion) is
     ∙ ap (λ o. ended_by o L e.answer e.live.items (stacked e.behind.items NoRegion)) c.in_ok-region.ensures.kept))

@@ -6,7 +6,7 @@ use Rattle.regions.proofs.splitting.loop_before.Goals as goal
 
 pub returns : goal.returns
 returns c =
-    ap (λ xs. stacked xs NoRegion) c.in_ok-add_tree.ensures
+    ap (λ xs. stacked xs NoRegion) c.in_ok-push.ensures
     ∙ (stacked_push c.args.trees.items _ NoRegion
     ∙ loop_tree c.args.round.test_first c.args.round.test c.args.round.body c.args.round.rest
     (stacked c.args.trees.items NoRegion))
