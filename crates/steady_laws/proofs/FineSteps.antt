@@ -1,6 +1,5 @@
 -- The code that a statement has beside its parts is fine: guards and rounds, labels and declarations, calls of
--- functions
--- that give none, and what stands in a list before the statements behind.
+-- functions that give none, and what stands in a list before the statements behind.
 use Rattle.std.proofs.Common.{◌≡◌, ℕ, ◌+◌, ◌<◌, ℤ, pos, length, List, [], ◌∷◌, Option, Some, None, refl, sym, ap, ◌∙◌}
 use Rattle.std.proofs.Common.{subst, inl, inr, if◌then◌else◌}
 use Rattle.std.proofs.Common.{Bool as Test, true, false}
