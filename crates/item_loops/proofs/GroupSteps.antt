@@ -1,6 +1,5 @@
 -- What the items of a group do together by one part of its program: where they stand, what an end says of them, and
--- that
--- a region on all chunks, one step of all items and a release of all keep it.
+-- that a region on all chunks, one step of all items and a release of all keep it.
 use Rattle.std.proofs.Common.{◌≡◌, ℕ, ◌+◌, ◌*◌, ◌<◌, ◌≤◌, List, ◌∷◌, length, Option, Some, refl, sym, ap, ◌∙◌, subst}
 use Rattle.std.proofs.Common.{arith}
 use Rattle.std.specs.Prelude.{slice_index_or, not}

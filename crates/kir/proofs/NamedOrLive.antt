@@ -1,6 +1,6 @@
 -- What is live before lines is named in them or live behind them: lines that do not name a cell leave it as live as
 -- it is behind them.
-use Rattle.std.proofs.Common.{◌≡◌, ℕ, List, ◌∷◌, ◌++◌, refl, sym, ap, ◌∙◌, ◌⊎◌, ⊎_elim, inl, inr, true, false}
+use Rattle.std.proofs.Common.{◌≡◌, ℕ, List, [], ◌∷◌, ◌++◌, refl, sym, ap, ◌∙◌, ◌⊎◌, ⊎_elim, inl, inr, true, false}
 use Rattle.std.proofs.Common.{Bool as Test}
 use Rattle.std.specs.Prelude.{not, ◌&&◌, ◌||◌, nat_eq}
 use Rattle.std.proofs.lemmas.Bool.{or_cases, or_left, or_right, and_parts, and_from}
@@ -15,9 +15,6 @@ use Rattle.kir.specs.Keeps.{Piece, Names, named_by, named_by_all, named_by_work,
 use Rattle.kir.proofs.Across.{or-false, or-self, or_no, or_more, yes_or_no, Named, names-append}
 
 module _ (c : ℕ) where
-  abbrev n : Lines → Test
-  n L = names_cell c (pieces_of L)
-
   -- ---- lines and what they name
 
   abbrev n : Lines → Test
@@ -111,8 +108,8 @@ module _ (c : ℕ) where
   unnamed (StoreThen site element root index from rest) a e =
       let p = or_no (names_cell c (named_by index)) (names_cell c (named_by from ++ pieces_of rest))
       (sym ((names-append c) (named_by index) (named_by from ++ pieces_of rest)) ∙ e) in
-      let q = or_no (names_cell c (named_by from)) (n rest) (sym ((names-append c) (named_by from) (pieces_of rest))
-      ∙ p.1) in
+      let q = or_no (names_cell c (named_by from)) (n rest)
+      (sym ((names-append c) (named_by from) (pieces_of rest)) ∙ p.1) in
       ap (λ b. (b || reads c from) || live_in c rest a) (sym (atom_names index) ∙ p.0)
       ∙ ap (λ b. b || live_in c rest a) (sym (atom_names from) ∙ q.0) ∙ unnamed rest a q.1
   unnamed (ClearThen array rest) a e = unnamed rest a e
@@ -122,8 +119,8 @@ module _ (c : ℕ) where
       (pieces_of other) (pieces_of rest)) ∙ e) in
       let q = or_no (n chosen) (n other || n rest) p.1 in
       let r = or_no (n other) (n rest) q.1 in
-      ap (λ b. b || (live_in c chosen (live_in c rest a) || live_in c other (live_in c rest a))) (sym (atom_names test)
-      ∙ p.0)
+      ap (λ b. b || (live_in c chosen (live_in c rest a) || live_in c other (live_in c rest a)))
+      (sym (atom_names test) ∙ p.0)
       ∙ ap (λ b. b || live_in c other (live_in c rest a)) (unnamed chosen (live_in c rest a) q.0)
       ∙ ap (λ b. live_in c rest a || b) (unnamed other (live_in c rest a) r.0)
       ∙ or-self (live_in c rest a)
@@ -173,8 +170,8 @@ module _ (c : ℕ) where
   live_more (LoopThen site true test answer body rest) a b f e =
       live_more test _ _ (λ h. answer_more test answer body rest a b (live_more rest a b f) h) e
   live_more (LoopThen site false test answer body rest) a b f e =
-      live_more body _ _ (λ k. live_more test _ _ (λ h. answer_more test answer body rest a b (live_more rest a b f) h)
-      k) e
+      live_more body _ _ (λ k. live_more test _ _
+      (λ h. answer_more test answer body rest a b (live_more rest a b f) h) k) e
   live_more (BarrierThen site rest) a b f e = live_more rest a b f e
 
   -- ---- lines that are passed where they do not name the cell
@@ -182,8 +179,8 @@ module _ (c : ℕ) where
   pub if_pass : (site : ℕ) (test : Atom) (chosen other rest : Lines) (a : Test) → names_cell c (named_by test) ≡ false →
       n chosen ≡ false → n other ≡ false → live_in c (IfThen site test chosen other rest) a ≡ live_in c rest a
   if_pass site test chosen other rest a e f g =
-      ap (λ b. b || (live_in c chosen (live_in c rest a) || live_in c other (live_in c rest a))) (sym (atom_names test)
-      ∙ e)
+      ap (λ b. b || (live_in c chosen (live_in c rest a) || live_in c other (live_in c rest a)))
+      (sym (atom_names test) ∙ e)
       ∙ ap (λ b. b || live_in c other (live_in c rest a)) (unnamed chosen (live_in c rest a) f)
       ∙ ap (λ b. live_in c rest a || b) (unnamed other (live_in c rest a) g)
       ∙ or-self (live_in c rest a)

@@ -1,6 +1,6 @@
 -- The masked code of an if is sound: each branch runs for the lanes that take it, and is passed over where none does.
-use Rattle.std.proofs.Common.{◌≡◌, ℕ, suc, ◌+◌, ◌<◌, List, ◌∷◌, ◌++◌, length, refl, sym, ap, ap₂, ◌∙◌, subst, ⊎_elim}
-use Rattle.std.proofs.Common.{arith, cond, IsTrue, length-append}
+use Rattle.std.proofs.Common.{◌≡◌, ℕ, suc, ◌+◌, ◌<◌, List, [], ◌∷◌, ◌++◌, length, refl, sym, ap, ap₂, ◌∙◌, subst}
+use Rattle.std.proofs.Common.{⊎_elim, arith, cond, IsTrue, length-append}
 use Rattle.std.specs.Prelude.{nat_lt, ◌&&◌, not, if◌then◌else◌}
 use Rattle.std.specs.Prelude.{Bool as Test, true, false}
 use Rattle.std.specs.Simd.Lanes.{zip2}
@@ -57,20 +57,20 @@ module _ (kernel : Kernel) (launch : Launch) (width : ℕ) (chunk : ChunkOf kern
     (Good : Ended → Type 0) (Sites : ℕ → Type 0) (Goal : Tasks) (closed : Closed kernel launch width chunk turns w0
     Sites Goal Good) where
   abbrev Whole : Lines → Type 0
-  Whole = soundness.Whole kernel launch width chunk turns w0 g0 f counts r0 ground atoms framed code valid Good Sites
-      Goal closed
+  Whole = soundness.Whole kernel launch width chunk turns w0 g0 f counts r0 ground atoms framed code valid Good
+      Sites Goal closed
 
   abbrev Fit : Lines → Free → Type 0
-  Fit = soundness.Fit kernel launch width chunk turns w0 g0 f counts r0 ground atoms framed code valid Good Sites Goal
-      closed
+  Fit = soundness.Fit kernel launch width chunk turns w0 g0 f counts r0 ground atoms framed code valid Good
+      Sites Goal closed
 
   abbrev Lanes : ℕ → ℕ → (ℕ → Test) → (ℕ → Tasks) → Tasks → State → Stage Item → Type 0
-  Lanes = soundness.Lanes kernel launch width chunk turns w0 g0 f counts r0 ground atoms framed code valid Good Sites
-      Goal closed
+  Lanes = soundness.Lanes kernel launch width chunk turns w0 g0 f counts r0 ground atoms framed code valid Good
+      Sites Goal closed
 
   abbrev Onward : (ℕ → Test) → Tasks → (ℕ → Tasks) → ℕ → State → ℕ → ℕ → Type 0
-  Onward = soundness.Onward kernel launch width chunk turns w0 g0 f counts r0 ground atoms framed code valid Good Sites
-      Goal closed
+  Onward = soundness.Onward kernel launch width chunk turns w0 g0 f counts r0 ground atoms framed code valid
+      Good Sites Goal closed
 
   abbrev end_from : ℕ → ℕ → State → Ended
   end_from = soundness.end_from kernel launch width chunk turns w0 g0 f counts r0 ground atoms framed code valid Good
@@ -81,16 +81,16 @@ module _ (kernel : Kernel) (launch : Launch) (width : ℕ) (chunk : ChunkOf kern
       Sites Goal closed
 
   abbrev At : ℕ → (ℕ → Tasks) → State → Stage Item → Type 0
-  At = soundness.At kernel launch width chunk turns w0 g0 f counts r0 ground atoms framed code valid Good Sites Goal
-      closed
+  At = soundness.At kernel launch width chunk turns w0 g0 f counts r0 ground atoms framed code valid Good
+      Sites Goal closed
 
   abbrev Sound : Lines → Type 0
-  Sound = soundness.Sound kernel launch width chunk turns w0 g0 f counts r0 ground atoms framed code valid Good Sites
-      Goal closed
+  Sound = soundness.Sound kernel launch width chunk turns w0 g0 f counts r0 ground atoms framed code valid Good
+      Sites Goal closed
 
   abbrev yes_at : State → Reg → ℕ → Test
-  yes_at = soundness.yes_at kernel launch width chunk turns w0 g0 f counts r0 ground atoms framed code valid Good Sites
-      Goal closed
+  yes_at = soundness.yes_at kernel launch width chunk turns w0 g0 f counts r0 ground atoms framed code valid
+      Good Sites Goal closed
 
   -- the code of a branch behind the step that passes it over where no lane takes it
   branch_lines : (L : Lines) → Whole L → (m free q t : ℕ) (next : Free) (b : ℕ → Test) (T : ℕ → Tasks) (at : Place)
@@ -249,8 +249,8 @@ module _ (kernel : Kernel) (launch : Launch) (width : ℕ) (chunk : ChunkOf kern
         Goal closed (atom_type kernel test) (and_parts (Rattle.kir.specs.Fits.is_site kernel site)
         (has_some_type (atom_type kernel test)) f3.0).1 in
         let names1 = λ (c : ℕ) (e : some_reads c (atoms_in chosen ++ (atoms_in other ++ atoms_in rest)) ≡ true).
-        fit.names c (or_right (reads c test) (some_reads c (atoms_in chosen ++ (atoms_in other ++ atoms_in rest)))
-        e) in
+        fit.names c (or_right (reads c test) (some_reads c
+        (atoms_in chosen ++ (atoms_in other ++ atoms_in rest))) e) in
         let fit_y : Fit chosen next1 =
         record {
           fits = f3.1;
@@ -339,8 +339,8 @@ module _ (kernel : Kernel) (launch : Launch) (width : ℕ) (chunk : ChunkOf kern
         ) in
         let kept = masks_then kernel launch width chunk turns w0 g0 f counts r0 ground atoms framed code valid Good
         Sites Goal closed free st st1 st5 kept1 (masks_then kernel launch width chunk turns w0 g0 f counts r0 ground
-        atoms framed code valid Good Sites Goal closed free st1 st4 st5 (λ r l lt ltl. masks4 r l (omega arith) ltl)
-        masks5) in
+        atoms framed code valid Good Sites Goal closed free st1 st4 st5
+        (λ r l lt ltl. masks4 r l (omega arith) ltl) masks5) in
         rest_sound kernel launch width chunk turns w0 g0 f counts r0 ground atoms framed code valid Good Sites Goal
         closed rest sound m free q3 t5 t (p + length (test_step f next test free m ∷ (yc ++ (nc ++ rc)))) next3 a T
         (λ l. cond (b_no l) K (T2 l)) (Behind ∷ at) tail k st st5 w5

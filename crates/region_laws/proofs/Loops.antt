@@ -60,36 +60,36 @@ module _ (kernel : Kernel) (launch : Launch) (width : ℕ) (chunk : ChunkOf kern
     (Good : Ended → Type 0) (Sites : ℕ → Type 0) (Goal : Tasks) (closed : Closed kernel launch width chunk turns w0
     Sites Goal Good) where
   abbrev Fit : Lines → Free → Type 0
-  Fit = soundness.Fit kernel launch width chunk turns w0 g0 f counts r0 ground atoms framed code valid Good Sites Goal
-      closed
+  Fit = soundness.Fit kernel launch width chunk turns w0 g0 f counts r0 ground atoms framed code valid Good
+      Sites Goal closed
 
   abbrev Lanes : ℕ → ℕ → (ℕ → Test) → (ℕ → Tasks) → Tasks → State → Stage Item → Type 0
-  Lanes = soundness.Lanes kernel launch width chunk turns w0 g0 f counts r0 ground atoms framed code valid Good Sites
-      Goal closed
+  Lanes = soundness.Lanes kernel launch width chunk turns w0 g0 f counts r0 ground atoms framed code valid Good
+      Sites Goal closed
 
   abbrev Onward : (ℕ → Test) → Tasks → (ℕ → Tasks) → ℕ → State → ℕ → ℕ → Type 0
-  Onward = soundness.Onward kernel launch width chunk turns w0 g0 f counts r0 ground atoms framed code valid Good Sites
-      Goal closed
+  Onward = soundness.Onward kernel launch width chunk turns w0 g0 f counts r0 ground atoms framed code valid
+      Good Sites Goal closed
 
   abbrev end_from : ℕ → ℕ → State → Ended
   end_from = soundness.end_from kernel launch width chunk turns w0 g0 f counts r0 ground atoms framed code valid Good
       Sites Goal closed
 
   abbrev Whole : Lines → Type 0
-  Whole = soundness.Whole kernel launch width chunk turns w0 g0 f counts r0 ground atoms framed code valid Good Sites
-      Goal closed
+  Whole = soundness.Whole kernel launch width chunk turns w0 g0 f counts r0 ground atoms framed code valid Good
+      Sites Goal closed
 
   abbrev At : ℕ → (ℕ → Tasks) → State → Stage Item → Type 0
-  At = soundness.At kernel launch width chunk turns w0 g0 f counts r0 ground atoms framed code valid Good Sites Goal
-      closed
+  At = soundness.At kernel launch width chunk turns w0 g0 f counts r0 ground atoms framed code valid Good
+      Sites Goal closed
 
   abbrev yes_at : State → Reg → ℕ → Test
-  yes_at = soundness.yes_at kernel launch width chunk turns w0 g0 f counts r0 ground atoms framed code valid Good Sites
-      Goal closed
+  yes_at = soundness.yes_at kernel launch width chunk turns w0 g0 f counts r0 ground atoms framed code valid
+      Good Sites Goal closed
 
   abbrev Sound : Lines → Type 0
-  Sound = soundness.Sound kernel launch width chunk turns w0 g0 f counts r0 ground atoms framed code valid Good Sites
-      Goal closed
+  Sound = soundness.Sound kernel launch width chunk turns w0 g0 f counts r0 ground atoms framed code valid Good
+      Sites Goal closed
 
   -- the parts of a loop in the code: its body stands at p1, its test behind the body
   abbrev pub test_place : (body : Lines) (next : Free) (free p1 : ℕ) → ℕ
@@ -110,8 +110,8 @@ module _ (kernel : Kernel) (launch : Launch) (width : ℕ) (chunk : ChunkOf kern
     pub fit_test : Fit test (past next (atoms_in body))
     pub typed : (ty : IntType) × (atom_type kernel answer ≡ Some ty)
     pub names : (c : ℕ) → reads c answer ≡ true → some_reads c atoms ≡ true
-    pub held : Rattle.region_laws.specs.Framed.HeldAt f width r0 (past (past next (atoms_in body)) (atoms_in test))
-        answer
+    pub held : Rattle.region_laws.specs.Framed.HeldAt f width r0
+        (past (past next (atoms_in body)) (atoms_in test)) answer
 
   module _ (test : Lines) (answer : Atom) (body : Lines) (next : Free) (free p1 : ℕ) (at : Place) (k : Tasks)
       (ahead : ComesTo Goal k) where
@@ -331,8 +331,8 @@ module _ (kernel : Kernel) (launch : Launch) (width : ℕ) (chunk : ChunkOf kern
         (some_below width c ≡ true → w0.begun + turns < w.begun + t) → Onward c k T free st t (ask_at + 1 + 1) →
         Good (end_from t (ask_at + 1) st)
     turn_enter sound_t sound_b has n t c T st w ready strict go =
-        turn_sound sound_b has n t (λ t' lt. loop_from sound_t sound_b has t t' lt) c T st w t (omega arith) ready
-        strict go
+        turn_sound sound_b has n t (λ t' lt. loop_from sound_t sound_b has t t' lt) c T st w t
+        (omega arith) ready strict go
 
     -- from where a loop is entered
     pub enter_sound : Whole test → Whole body → HasLoop test answer body next free p1 →
@@ -385,8 +385,8 @@ module _ (kernel : Kernel) (launch : Launch) (width : ℕ) (chunk : ChunkOf kern
             let there = where_is refl in
             begins (with_tasks s (Beginning 1)) (ap (tasks_next kernel launch s) (h ∙ there)
             ∙ ap (λ x. Begins (with_tasks s
-            (LinesAt (IntoBody ∷ at) body (LinesAt (IntoTest ∷ at) test (AnswerAt at test answer body 1 x)))))
-            (sym e)) (
+            (LinesAt (IntoBody ∷ at) body (LinesAt (IntoTest ∷ at) test
+            (AnswerAt at test answer body 1 x))))) (sym e)) (
               refl,
               λ c op i live. ag c op i (ap (live_now c) there ∙
                   live_leads c (LinesAt at (LoopThen site false test answer body rest) K)
@@ -469,8 +469,8 @@ module _ (kernel : Kernel) (launch : Launch) (width : ℕ) (chunk : ChunkOf kern
         Sites Goal closed free free st _ after (omega arith) k1 in
         ahead_step mine code Good t (p + 1) entry (step.Jump entry) st1 st1 has.1.0 refl
         (past_head first p2 (y + 1) (p + 1) (omega arith) (omega arith))
-        (enter_sound test answer body next free p1 at K on sound_t sound_b loop first site (joined_to rest tail) k refl
-        t a T st1 w
+        (enter_sound test answer body next free p1 at K on sound_t sound_b loop first site
+        (joined_to rest tail) k refl t a T st1 w
         (record {
           mask = λ l lt. k1.here l lt ∙ get_or-zip2 fn ms ms l false false false (let h = lm in
               omega arith) (let h = lm in omega arith) ∙ and_same (mask_at st.registers m l) ∙ lanes.mask l lt;

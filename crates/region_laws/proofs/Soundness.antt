@@ -1,7 +1,7 @@
 -- The masked code of lines does what the items of its active lanes do, in some order of their moves: what is shown of
 -- lines, and that lines that compute, accesses, masks, tests of lanes and barriers are sound.
-use Rattle.std.proofs.Common.{◌≡◌, ℕ, ◌+◌, ◌<◌, ◌≤◌, List, ◌∷◌, ◌++◌, length, Option, Some, None, refl, sym, ap, ◌∙◌}
-use Rattle.std.proofs.Common.{subst, arith, cond, IsTrue, length-append}
+use Rattle.std.proofs.Common.{◌≡◌, ℕ, ◌+◌, ◌<◌, ◌≤◌, List, [], ◌∷◌, ◌++◌, length, Option, Some, None, refl, sym, ap}
+use Rattle.std.proofs.Common.{◌∙◌, subst, arith, cond, IsTrue, length-append}
 use Rattle.std.specs.Prelude.{slice_get, slice_index_or, nat_eq, nat_lt, ◌&&◌, not}
 use Rattle.std.specs.Prelude.{Bool as Test, true, false}
 use Rattle.std.specs.Simd.Lanes.{zip2}
@@ -292,8 +292,8 @@ module _ (kernel : Kernel) (launch : Launch) (width : ℕ) (chunk : ChunkOf kern
               (cond b (work_value launch s work) (s.cells c))
           by true same =
               let is : to ≡ c = eqb-true to c same in
-              let is_op : cell_at f.cells to ≡ op = same_Some _ _ (sym entry ∙ ap (λ n. slice_index_or f.cells n None)
-              is ∙ e) in
+              let is_op : cell_at f.cells to ≡ op = same_Some _ _
+              (sym entry ∙ ap (λ n. slice_index_or f.cells n None) is ∙ e) in
               let first = chunk.is_chunk.first_is in
               subst (λ (o : Operand). value_at st1.registers o.at l ≡ lane_in o.of (work_value launch s work)) is_op
               (done.here l (work_value launch s work) lt on (
@@ -363,8 +363,8 @@ module _ (kernel : Kernel) (launch : Launch) (width : ℕ) (chunk : ChunkOf kern
   masks_step t p to s st lanes at does shape lt len go =
       on_step (kernel_chunk kernel launch width chunk.group chunk.first) code Good t p s st
       (with_registers st (with_mask st.registers (mask_reg to) lanes)) at does
-      (go (with_mask st.registers (mask_reg to) lanes) (mask_masked counts width st.registers shape to lanes lt
-      len))
+      (go (with_mask st.registers (mask_reg to) lanes)
+      (mask_masked counts width st.registers shape to lanes lt len))
 
   pub masked_sim : (t to : ℕ) (T : ℕ → Tasks) (st : State) (w : Stage Item) (value : ℕ → Test) (after : Registers) →
       Masked counts width st.registers to value after → At t T st w → At t T (with_registers st after) w
@@ -460,8 +460,8 @@ module _ (kernel : Kernel) (launch : Launch) (width : ℕ) (chunk : ChunkOf kern
       marked m free p t next a T at tail k st w has fit below lanes ahead go (Some lane) e =
           let low = lowest_is (mask_of st.registers (mask_reg m)) lane e in
           let w1 = and_parts (is_below counts (mask_reg m)) true
-          (and_from_one (is_below counts (mask_reg m)) (code_well counts code p (step.Mark site (mask_reg m)) valid
-          has.0)) in
+          (and_from_one (is_below counts (mask_reg m))
+          (code_well counts code p (step.Mark site (mask_reg m)) valid has.0)) in
           let within : lane < width = let len = mask_length counts width st.registers lanes.sim.shape m w1.0 in
           let lt = low.within in omega arith in
           let set : a lane ≡ true = sym (lanes.mask lane within) ∙ low.set in

@@ -133,8 +133,11 @@ module _ (program : Program) (kernel : Kernel) (at : Inlining) (fn : ℕ) (calls
         let cl = list_code calls here exit false list m in
         let own = declared_in (statements_before at list NoText) in
         let r = list_fine exit false list scope m out (own ++ S) NoText h n w g no_exit
-        (record { inside = λ v x. in_right own S v (around.inside v x); block = ok.0; cross = around.cross }) ok.1
-        live in
+        (record {
+          inside = λ v x. in_right own S v (around.inside v x);
+          block = ok.0;
+          cross = around.cross;
+        }) ok.1 live in
         fine_joined program kernel out cl.rest r.1 cl.inside r.0
     statement_fine exit (If site test yes_ no_) scope m out S t h n w g no_exit around ok live =
         let b = holds_in at.inside test || (some_holds at.inside yes_ || some_holds at.inside no_) in
@@ -214,8 +217,8 @@ module _ (program : Program) (kernel : Kernel) (at : Inlining) (fn : ℕ) (calls
         λ c v ap_. quiet_less c cb.lines _ (statement_quiet program c calls (set.quiet c) F here co.exit body
         scope h.2 (as_first scope body n.2) ap_ (free c v) cs.made) in
         let around_b = around_less program kernel (XS scope) S b (holds at.inside body)
-        (λ z. or_right (holds_in_optional at.inside test) _ (or_right (holds_in_optional at.inside step) _ z))
-        around in
+        (λ z. or_right (holds_in_optional at.inside test) _
+        (or_right (holds_in_optional at.inside step) _ z)) around in
         let fine_r = round_fine program kernel at fn calls here set X0 scope b site first way co.exit ct.lines ct.value
         cs.lines cb.lines cb.made (λ c. live_in c cw.lines (out c)) good y_not
         (optional_atom program kernel at fn calls here set X0 test scope co.made gt) gr
@@ -256,8 +259,8 @@ module _ (program : Program) (kernel : Kernel) (at : Inlining) (fn : ℕ) (calls
         let ca = arms_code calls here co.exit site cs.value.atom (int (pos 0)) 0 arms cs.made in
         let cw = outward (way_out_of_arms false true arms) co.exit exit ca.made in
         let ga = outward_back nothing kernel (way_out_of_arms false true arms) co.exit exit ca.made g in
-        let gs = arms_back nothing kernel calls set.back here co.exit site cs.value.atom (int (pos 0)) 0 arms cs.made
-        ga in
+        let gs = arms_back nothing kernel calls set.back here co.exit site cs.value.atom
+        (int (pos 0)) 0 arms cs.made ga in
         let go_ = selected_back nothing kernel site cv.value arms co.made gs in
         let gv = opened_back nothing kernel way exit cv.made go_ in
         let y_not = opened_not program kernel at fn calls here set X0 way exit cv.made go_ in
@@ -404,8 +407,8 @@ module _ (program : Program) (kernel : Kernel) (at : Inlining) (fn : ℕ) (calls
         Ok program kernel S (arms_before at arms t) → L scope out →
         Go out (arms_code calls here exit site (CellAtom ch) fallen k arms m).lines
     arms_fine exit site ch fallen k no_arm scope m out S t h n w g no_exit ch_not rf around ok live =
-        fine_reads program kernel (XS scope) false NoLine out tt live (around_good program kernel (XS scope) S false
-        around)
+        fine_reads program kernel (XS scope) false NoLine out tt live
+        (around_good program kernel (XS scope) S false around)
     arms_fine exit site ch fallen k (arm labels default body rest) scope m out S t h n w g no_exit ch_not rf around ok
         live =
         let b = some_holds at.inside body || arms_hold at.inside rest in
@@ -416,8 +419,8 @@ module _ (program : Program) (kernel : Kernel) (at : Inlining) (fn : ℕ) (calls
         let lb = joined_to cl.inside cl.rest in
         let cf = fallen_code way exit ce.value cl.made in
         let cr = arms_code calls here exit site (CellAtom ch) cf.value.atom (k + 1) rest cf.made in
-        let gf = arms_back nothing kernel calls set.back here exit site (CellAtom ch) cf.value.atom (k + 1) rest cf.made
-        g in
+        let gf = arms_back nothing kernel calls set.back here exit site (CellAtom ch) cf.value.atom
+        (k + 1) rest cf.made g in
         let gl = fallen_back nothing kernel way exit ce.value cl.made gf in
         let ge = list_back nothing kernel calls set.back here exit false body ce.made gl in
         let m1 = with_cell m OfValue Int in
@@ -434,8 +437,8 @@ module _ (program : Program) (kernel : Kernel) (at : Inlining) (fn : ℕ) (calls
         let not_fallen : (c : ℕ) → Var c → reads c cf.value.atom ≡ false =
         λ c v. elim (true_or_false (reads c cf.value.atom)) [
           | inl e ↦
-              absurd (fallen_not program kernel at fn calls here set X0 way exit ce.value cl.made (λ z. n1_not z) gf c v
-              e)
+              absurd (fallen_not program kernel at fn calls here set X0 way exit ce.value cl.made
+              (λ z. n1_not z) gf c v e)
           | inr e ↦ e
         ] in
         let ok_r = ok_statements program kernel at set.tail S body _ ok in

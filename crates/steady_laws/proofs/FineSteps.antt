@@ -1,7 +1,6 @@
 -- The code that a statement has beside its parts is fine: guards and rounds, labels and declarations, calls of
--- functions
--- that give none, and what stands in a list before the statements behind.
-use Rattle.std.proofs.Common.{◌≡◌, ℕ, ◌+◌, ◌<◌, ℤ, pos, length, List, ◌∷◌, Option, Some, None, refl, sym, ap, ◌∙◌}
+-- functions that give none, and what stands in a list before the statements behind.
+use Rattle.std.proofs.Common.{◌≡◌, ℕ, ◌+◌, ◌<◌, ℤ, pos, length, List, [], ◌∷◌, Option, Some, None, refl, sym, ap, ◌∙◌}
 use Rattle.std.proofs.Common.{subst, inl, inr, if◌then◌else◌}
 use Rattle.std.proofs.Common.{Bool as Test, true, false}
 use Rattle.std.specs.Prelude.{nat_eq, not, ◌||◌}
@@ -169,11 +168,11 @@ module _ (program : Program) (kernel : Kernel) (at : Inlining) (fn : ℕ) (calls
       let l0 = in_before program kernel (XS scope) set_answer o rs l in
       let k = ft (λ c. live_in c set_answer (o c)) l0 in
       let ll = in_joined program kernel (XS scope) lt set_answer o k.0 in
-      let fl = fine_joined program kernel o set_answer (fine_reads program kernel (XS scope) b set_answer o rs l good)
-      lt k.1 in
+      let fl = fine_joined program kernel o set_answer
+      (fine_reads program kernel (XS scope) b set_answer o rs l good) lt k.1 in
       let fb_ = fine_if program kernel (XS scope) b way (CellAtom Y) NoLine lines o good
-      (λ e. held_one b lines cut_lines e) rY l l ll (fine_reads program kernel (XS scope) b NoLine o tt l good)
-      fl in
+      (λ e. held_one b lines cut_lines e) rY l l ll
+      (fine_reads program kernel (XS scope) b NoLine o tt l good) fl in
       let lb_ = in_two program kernel at fn calls here set X0 scope (λ c. reads c (CellAtom Y))
       (λ c. o c || live_in c lines (o c)) rY (in_two program kernel at fn calls here set X0 scope o
       (λ c. live_in c lines (o c)) l ll) in (
@@ -380,8 +379,8 @@ module _ (program : Program) (kernel : Kernel) (at : Inlining) (fn : ℕ) (calls
   around_rest scope (If site test yes_ no_) rest S t ok h =
       around_less program kernel (XS scope) S _ _ (λ z. or_right (holds at.inside (If site test yes_ no_)) _ z) h
   around_rest scope (Loop site first test step body) rest S t ok h =
-      around_less program kernel (XS scope) S _ _ (λ z. or_right (holds at.inside (Loop site first test step body)) _ z)
-      h
+      around_less program kernel (XS scope) S _ _
+      (λ z. or_right (holds at.inside (Loop site first test step body)) _ z) h
   around_rest scope (Switch site value arms) rest S t ok h =
       around_less program kernel (XS scope) S _ _ (λ z. or_right (holds at.inside (Switch site value arms)) _ z) h
   around_rest scope (Break site) rest S t ok h = around_less program kernel (XS scope) S _ _ (λ z. z) h
@@ -453,8 +452,8 @@ module _ (program : Program) (kernel : Kernel) (at : Inlining) (fn : ℕ) (calls
       ∙ argument_count program F (parameter_kinds (function_at program g_)) roots h.1.0 h.1.2 in
       let live1 = in_quiet program kernel at fn calls here set X0 cl.lines scope out w
       (λ c e ap_. quiet_less c cl.lines _ (set.quiet c here site g_ (argument_roots here roots) ca.values ca.made
-      h.0.within count (values_not_read nothing kernel (next_cell m) (next_cell ca.made) ca.values c all e)))
-      live in
+      h.0.within count (values_not_read nothing kernel (next_cell m) (next_cell ca.made) ca.values c
+      all e))) live in
       let ok1 = ok_expressions program kernel at set.tail S arguments (at.called site g_ t) ok in
       fine_joined program kernel out cl.lines
       (set.call site g_ (argument_roots here roots) ca.values (next_cell m) ca.made out (XS scope) S t h.0.within
@@ -474,8 +473,7 @@ module _ (program : Program) (kernel : Kernel) (at : Inlining) (fn : ℕ) (calls
   pub not_cell : (c d : ℕ) → (Var d → ⊥) → Var c → nat_eq c d ≡ false
   not_cell c d h v = elim (true_or_false (nat_eq c d)) [
     | inl t ↦ absurd (h (subst Var (same_number c d t) v))
-    | inr
-        t ↦ t
+    | inr t ↦ t
   ]
 
   pub opened_not : (way : Option ℕ) (exit : ℕ) (m : Made) → Grown nothing kernel (opened way exit m).made → (k : ℕ) →

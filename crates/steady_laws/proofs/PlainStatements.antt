@@ -1,6 +1,6 @@
 -- Both go together through what a statement has beside its parts: expressions as statements, the stores of a filled
 -- array, ways out that become pending, and the lines of a list up to its first way out and behind it.
-use Rattle.std.proofs.Common.{◌≡◌, ℕ, ◌+◌, ◌<◌, ◌≤◌, pos, length, List, ◌∷◌, Option, Some, None, refl, sym, ap, ◌∙◌}
+use Rattle.std.proofs.Common.{◌≡◌, ℕ, ◌+◌, ◌<◌, ◌≤◌, pos, length, List, [], ◌∷◌, Option, Some, None, refl, sym, ap, ◌∙◌}
 use Rattle.std.proofs.Common.{subst, arith, inl, inr}
 use Rattle.std.proofs.Common.{Bool as Test, true, false}
 use Rattle.std.specs.Prelude.{nat_eq, not, ◌&&◌, ◌||◌}
@@ -109,12 +109,12 @@ module _ (program : Program) (kernel : Kernel) (one other : Who) (fn : ℕ) (cal
   -- ---- expressions as statements
 
   module _ (W : Type 0) (exit : ℕ) where
-    abbrev Ends : Scope → Statement → Cells → Cells → Type 0
+    abbrev pub Ends : Scope → Statement → Cells → Cells → Type 0
     Ends scope s a b = (Settled program kernel one other fn calls here set scope s → W → a exit ≡ b exit)
         × AnswerEqual program kernel one other fn calls here set a b
 
     -- an expression leaves what is pending and the result
-    expression_outside : (e : Expression) (scope : Scope) (m : Made) (p q a b : Cells) →
+    pub expression_outside : (e : Expression) (scope : Scope) (m : Made) (p q a b : Cells) →
         StatementFits program F (Do e) → Pend W exit (next_cell m) →
         Does one (expression_code calls here e m).lines p a → Does other (expression_code calls here e m).lines q b
         → Outside program kernel one other fn calls here set W exit p q → Outside program kernel one other fn calls here
@@ -131,7 +131,7 @@ module _ (program : Program) (kernel : Kernel) (one other : Who) (fn : ℕ) (cal
         by (inr h) c l u = (plain_unset program c calls set.up (set.unset c) F here e h
             (off_above c Size here (assigns_in e) l) m (out_below c _ _ u)).is
 
-    do_together : (e : Expression) (scope : Scope) (m : Made) → StatementFits program F (Do e) →
+    pub do_together : (e : Expression) (scope : Scope) (m : Made) → StatementFits program F (Do e) →
         GR program kernel one other fn calls here set scope (Do e) → Within scope → here.base + Size ≤ next_cell m →
         Pend W exit (next_cell m) → Grown program kernel (expression_code calls here e m).made
         → StatementGo program kernel one other fn calls here set W exit scope (Do e)
@@ -141,18 +141,18 @@ module _ (program : Program) (kernel : Kernel) (one other : Who) (fn : ℕ) (cal
         (λ a b. ValueEqual program kernel one other fn calls here set e
         (expression_code calls here e m).value.atom a b) (Ends scope (Do e)) p q
         (expression_together program kernel one other fn calls here set e h.0 scope m out p q h.1
-        (good_do (InBody program fn) (UnderBody program fn) (BackBody program fn) scope e good) within low g
-        bound al)
+        (good_do (InBody program fn) (UnderBody program fn) (BackBody program fn) scope e good) within
+        low g bound al)
         (λ a b d k z t. let o = expression_outside e scope m p q a b (inl h) pend d k (x0, ans) in ((λ st. o.0), o.1))
     do_together e scope m (inr h) good within low pend g out p q bound al x0 ans =
         together_then E one other out (expression_code calls here e m).lines Anything (Ends scope (Do e)) p q
         (plain_together program kernel one other fn calls here set e scope m out p q h
-        (good_do (InBody program fn) (UnderBody program fn) (BackBody program fn) scope e good) within low g
-        bound al)
+        (good_do (InBody program fn) (UnderBody program fn) (BackBody program fn) scope e good) within
+        low g bound al)
         (λ a b d k z t. let o = expression_outside e scope m p q a b (inr h) pend d k (x0, ans) in ((λ st. o.0), o.1))
 
     -- a way out becomes pending
-    exit_together : (scope : Scope) (s : Statement) (k n : ℕ) → W → Pend W exit n → (out : ℕ → Test) (p q : Cells) →
+    pub exit_together : (scope : Scope) (s : Statement) (k n : ℕ) → W → Pend W exit n → (out : ℕ → Test) (p q : Cells) →
         Equal E (λ c. live_in c (set_exit exit k) (out c)) p q → Ans p q → Go out (set_exit exit k) (Ends scope s) p q
     exit_together scope s k n w pend out p q al ans =
         together_set E one other out exit (Copy (int (pos k))) (Ends scope s) p q al (λ e l. absurd (pend.plain w e)) (

@@ -63,6 +63,8 @@ use Rattle.steady_laws.proofs.Parts.{inner_true, list_parts, declared_declares, 
 use Rattle.steady_laws.proofs.Parts.{part_right, part_behind, all_settled, covers_first, covers_all}
 use Rattle.steady_laws.proofs.PlainStatements.{answer_above, stores_together, bound_set, rest_grown, branches_unset}
 use Rattle.steady_laws.proofs.PlainStatements.{list_all_unset, cover_after, return_result, list_from, fallen_in}
+use Rattle.steady_laws.proofs.PlainStatements.{expression_outside, do_together, exit_together}
+use Rattle.steady_laws.proofs.PlainStatements as plain
 
 module _ (program : Program) (kernel : Kernel) (one other : Who) (fn : ℕ) (calls : Calls) (here : Instance)
     (set : Setting program kernel one other fn calls here) where
@@ -93,6 +95,9 @@ module _ (program : Program) (kernel : Kernel) (one other : Who) (fn : ℕ) (cal
   abbrev B : Scope → (ℕ → Test) → Type 0
   B scope out = Bound program kernel here scope out
 
+  abbrev Ends : Type 0 → ℕ → Scope → Statement → Cells → Cells → Type 0
+  Ends = plain.Ends program kernel one other fn calls here set
+
   mutual
     unfolding statement_code expression_code
 
@@ -104,7 +109,7 @@ module _ (program : Program) (kernel : Kernel) (one other : Who) (fn : ℕ) (cal
         StatementGo program kernel one other fn calls here set W exit scope s
         (statement_code calls here exit s m).lines
     statement_together W exit (Do e) scope m h good part within low pend opens g =
-        do_together W exit e scope m h good within low pend g
+        do_together program kernel one other fn calls here set W exit e scope m h good within low pend g
     statement_together W exit (Declare x None) scope m h good part within low pend opens g =
         λ out p q bound al x0 ans.
         let less = slice_get_within F.variables x h.1.0 h.1.1 in
@@ -131,7 +136,8 @@ module _ (program : Program) (kernel : Kernel) (one other : Who) (fn : ℕ) (cal
         (λ al'. expression_together program kernel one other fn calls here set e h.0 scope m
         (λ c. live_in c (set_to to ce.value.atom) (out c)) p q h.2 k.1 within low g
         (bound_set program kernel one other fn calls here set x ce.value.atom scope out nr bound) al')
-        (λ a b d1 d2 al1 same. let o = expression_outside W exit e scope m p q a b (inl (h.0, h.2)) pend d1 d2
+        (λ a b d1 d2 al1 same. let o = expression_outside program kernel one other fn calls here set W exit e scope m p
+        q a b (inl (h.0, h.2)) pend d1 d2
         (x0, ans) in
         together_set E one other out to (Copy ce.value.atom) (Ends W exit scope (Declare x (Some e))) a b al1
         (λ ev l. same (λ v. set.marked x less ev (assigned k.0 (same_self x) (operand refl (inl refl) v)))) (
@@ -199,8 +205,8 @@ module _ (program : Program) (kernel : Kernel) (one other : Who) (fn : ℕ) (cal
         let gt = list_back program kernel calls set.back here exit false yes_ ct.made gy in
         let a = expression_up calls set.up here test m in
         let b = list_up calls set.up here exit false yes_ ct.made in
-        let k = good_if (InBody program fn) (UnderBody program fn) (BackBody program fn) scope site test yes_ no_
-        good in
+        let k = good_if (InBody program fn) (UnderBody program fn) (BackBody program fn) scope site test
+        yes_ no_ good in
         let cond = if_condition scope test yes_ no_ in
         let part' = part_behind program kernel one other fn calls here set (assigns_in test)
         (λ x. some_assigns yes_ x || some_assigns no_ x) (some_returns yes_ || some_returns no_) part in
@@ -215,8 +221,8 @@ module _ (program : Program) (kernel : Kernel) (one other : Who) (fn : ℕ) (cal
         (free_first c exit _ _ (free c e)) ct.made))
         (list_joined c false cn (list_quiet program c calls (set.quiet c) F here exit false no_ scope h.2 k.3.names
         ap_ (free_second c exit (way_out_of_all true true yes_) _ (free c e)) cy.made)) in
-        let pend_t = pending_more program kernel one other fn calls here set W exit (next_cell m) (next_cell ct.made) a
-        pend in
+        let pend_t = pending_more program kernel one other fn calls here set W exit (next_cell m)
+        (next_cell ct.made) a pend in
         let pend_y = pending_more program kernel one other fn calls here set W exit (next_cell m) (next_cell cy.made)
         (omega (arith, a, b)) pend in
         let Q = Ends W exit scope (If site test yes_ no_) in
@@ -226,11 +232,12 @@ module _ (program : Program) (kernel : Kernel) (one other : Who) (fn : ℕ) (cal
         (λ c. live_in c branch (out c)) p q h.0.1 k.1 within low gt
         (bound_before program kernel here branch scope out quiet bound) al')
         (λ a1 b1 d1 e1 al1 s1.
-        let o = expression_outside W exit test scope m p q a1 b1 (inl h.0) pend d1 e1 (x0, ans) in
+        let o = expression_outside program kernel one other fn calls here set W exit test scope m p q a1 b1 (inl h.0)
+        pend d1 e1 (x0, ans) in
         together_if E one other out site ct.value.atom ly ln Q a1 b1 al1
         (λ nx ny al2. together_then E one other out ly
-        (λ x y. (AllSettled program kernel one other fn calls here set scope yes_ → W → x exit ≡ y exit) × Ans x y)
-        Q a1 b1
+        (λ x y. (AllSettled program kernel one other fn calls here set scope yes_ → W → x exit ≡ y exit)
+        × Ans x y) Q a1 b1
         (list_from program kernel one other fn calls here set W exit yes_ scope ct.made out a1 b1 al2
         (λ al_. inside_together W exit false yes_ scope ct.made h.1 k.2
         (part_left program kernel one other fn calls here set (some_assigns yes_) (some_assigns no_)
@@ -251,8 +258,8 @@ module _ (program : Program) (kernel : Kernel) (one other : Who) (fn : ℕ) (cal
           t.1,
         )))
         (λ nx ny al2. together_then E one other out ln
-        (λ x y. (AllSettled program kernel one other fn calls here set scope no_ → W → x exit ≡ y exit) × Ans x y) Q
-        a1 b1
+        (λ x y. (AllSettled program kernel one other fn calls here set scope no_ → W → x exit ≡ y exit)
+        × Ans x y) Q a1 b1
         (list_from program kernel one other fn calls here set W exit no_ scope cy.made out a1 b1 al2
         (λ al_. inside_together W exit false no_ scope cy.made h.2 k.3
         (part_right program kernel one other fn calls here set (some_assigns yes_) (some_assigns no_)
@@ -298,8 +305,8 @@ module _ (program : Program) (kernel : Kernel) (one other : Who) (fn : ℕ) (cal
           (λ t r nv. elim (true_or_false (some_returns yes_ || some_returns no_)) [
             | inl rr ↦ absurd (df (s1 (λ v. nv (return_under cond k.0 v rr))))
             | inr rr ↦
-                let u = branches_unset program kernel one other fn calls here set exit yes_ no_ ct.made here.answer h.1
-                h.2
+                let u = branches_unset program kernel one other fn calls here set exit yes_ no_ ct.made
+                here.answer h.1 h.2
                 (λ s w'. apart_is program kernel one other fn calls here set here.answer exit
                 (λ z. pend.no_result (opens s w') t r (sym z)))
                 (above_clear program kernel one other fn calls here set here.answer (λ x. some_assigns yes_ x ||
@@ -345,14 +352,14 @@ module _ (program : Program) (kernel : Kernel) (one other : Who) (fn : ℕ) (cal
         let cs = selected site cv.value arms co.made in
         let ca = arms_code calls here co.exit site cs.value.atom (int (pos 0)) 0 arms cs.made in
         let ga = outward_back program kernel (way_out_of_arms false true arms) co.exit exit ca.made g in
-        let gs = arms_back program kernel calls set.back here co.exit site cs.value.atom (int (pos 0)) 0 arms cs.made
-        ga in
+        let gs = arms_back program kernel calls set.back here co.exit site cs.value.atom
+        (int (pos 0)) 0 arms cs.made ga in
         let go_ = selected_back program kernel site cv.value arms co.made gs in
         let a = expression_up calls set.up here value m in
         let b = opened_up way exit cv.made in
         let d = selected_up site cv.value arms co.made in
-        let k = good_switch (InBody program fn) (UnderBody program fn) (BackBody program fn) scope site value arms
-        good in
+        let k = good_switch (InBody program fn) (UnderBody program fn) (BackBody program fn) scope site
+        value arms good in
         let pend_o = pending_opened program kernel one other fn calls here set W exit way cv.made (omega (
           arith,
           low,
@@ -373,8 +380,8 @@ module _ (program : Program) (kernel : Kernel) (one other : Who) (fn : ℕ) (cal
         let g2 = all_back program kernel one other fn calls here set site
         (record { atom = CellAtom (next_cell co.made); of = promoted cv.value.of }) ch 0 arms
         (with_cell m1 OfValue Int) gs in
-        switch_together program kernel one other fn calls here set W exit site value arms scope m h good within low pend
-        opens g
+        switch_together program kernel one other fn calls here set W exit site value arms scope m h good within
+        low pend opens g
         (λ c l u fr an. (arms_unset program c calls set.up (set.unset c) F here co.exit site cs.value.atom (int (pos 0))
         0 arms h.3 fr
         (above_clear program kernel one other fn calls here set c (arms_assign arms) (arms_declarations arms)
@@ -390,13 +397,16 @@ module _ (program : Program) (kernel : Kernel) (one other : Who) (fn : ℕ) (cal
         (covers_given program kernel one other fn calls here set (Unit {0}) scope tt) (λ y has nv asg v.
         nv (assigned_under cond k.0 v has asg)) (λ r nv v. nv (return_under cond k.0 v r)))
     statement_together W exit (Break site) scope m h good part within low pend opens g =
-        λ out p q bound al x0 ans. exit_together W exit scope (Break site) 2 (next_cell m) (opens site refl) pend out
+        λ out p q bound al x0 ans. exit_together program kernel one other fn calls here set W exit scope (Break site) 2
+        (next_cell m) (opens site refl) pend out
         p q al ans
     statement_together W exit (Continue site) scope m h good part within low pend opens g =
-        λ out p q bound al x0 ans. exit_together W exit scope (Continue site) 1 (next_cell m) (opens site refl) pend
+        λ out p q bound al x0 ans. exit_together program kernel one other fn calls here set W exit scope (Continue site)
+        1 (next_cell m) (opens site refl) pend
         out p q al ans
     statement_together W exit (Return site None) scope m h good part within low pend opens g =
-        λ out p q bound al x0 ans. exit_together W exit scope (Return site None) 3 (next_cell m) (opens site refl)
+        λ out p q bound al x0 ans. exit_together program kernel one other fn calls here set W exit scope
+        (Return site None) 3 (next_cell m) (opens site refl)
         pend out p q al ans
     statement_together W exit (Return site (Some e)) scope m h good part within low pend opens g =
         λ out p q bound al x0 ans.
@@ -424,7 +434,8 @@ module _ (program : Program) (kernel : Kernel) (one other : Who) (fn : ℕ) (cal
         (λ t r nv. put_here a1 here.answer here.answer (atom_value a1 ce.value.atom) (same_self here.answer) ∙
         (same (λ v. nv (returning k.0 v)) ∙
         sym (put_here b1 here.answer here.answer (atom_value b1 ce.value.atom) (same_self here.answer)))))
-        (λ a2 b2 d2 e2 al2 an. exit_together W exit scope (Return site (Some e)) 3 (next_cell m) w pend out a2 b2 al2
+        (λ a2 b2 d2 e2 al2 an. exit_together program kernel one other fn calls here set W exit scope
+        (Return site (Some e)) 3 (next_cell m) w pend out a2 b2 al2
         an))
     statement_together W exit (Barrier site) scope m h good part within low pend opens g =
         λ out p q bound al x0 ans. (al, (al, ((λ st. x0), ans)))
@@ -465,8 +476,8 @@ module _ (program : Program) (kernel : Kernel) (one other : Who) (fn : ℕ) (cal
         w in opens z.0 z.1 in
         let opens_r : (site : ℕ) → way_out_of_all true true rest ≡ Some site →
         W = λ t w. let z = way_second way (way_out_of_all true true rest) t w in opens z.0 z.1 in
-        let pend_r = pending_more program kernel one other fn calls here set W exit (next_cell m) (next_cell cs.made) a
-        pend in
+        let pend_r = pending_more program kernel one other fn calls here set W exit (next_cell m)
+        (next_cell cs.made) a pend in
         let bound' = bound_after program kernel one other fn calls here set scope s out bound in
         let free_r : (c : ℕ) → E c → IsFree c exit (way_out_of_all true true rest) =
         λ c e t w. free_even program kernel one other fn calls here set exit c (pend.plain (opens_r t w)) e in
@@ -556,8 +567,8 @@ module _ (program : Program) (kernel : Kernel) (one other : Who) (fn : ℕ) (cal
         w in opens z.0 z.1 in
         let opens_r : (site : ℕ) → way_out_of_all true true rest ≡ Some site →
         W = λ t w. let z = way_second way (way_out_of_all true true rest) t w in opens z.0 z.1 in
-        let pend_r = pending_more program kernel one other fn calls here set W exit (next_cell m) (next_cell cs.made) a
-        pend in
+        let pend_r = pending_more program kernel one other fn calls here set W exit (next_cell m)
+        (next_cell cs.made) a pend in
         let bound' = bound_after program kernel one other fn calls here set scope s out bound in
         let free_r : (c : ℕ) → E c → IsFree c exit (way_out_of_all true true rest) =
         λ c e t w. free_even program kernel one other fn calls here set exit c (pend.plain (opens_r t w)) e in
@@ -608,8 +619,8 @@ module _ (program : Program) (kernel : Kernel) (one other : Who) (fn : ℕ) (cal
         (omega (arith, low, a)) pend_r opens_r gr out p' q' bound' al' ex an)
         (λ C' free' cover' p' q' al' pre' an. behind_together W exit inner rest scope' cs.made h.1 k.1 part_r within'
         (omega (arith, low, a)) pend_r opens_r gr out C' free' cover' p' q' bound' al' pre' an)
-        C free (λ nd. cover_after program kernel one other fn calls here set guarded scope s C free nd cover) p q al pre
-        ans
+        C free (λ nd. cover_after program kernel one other fn calls here set guarded scope s C free nd cover)
+        p q al pre ans
 
     arms_together : (W' : Type 0) (Y ch : ℕ) (R : Type 0) (site : ℕ) (arms : Arms) (scope : Scope) (k : ℕ) (x : Atom)
         (m : Made) (C : Type 0) → ArmsFit program F arms → GM program kernel one other fn calls here set scope arms →
@@ -637,8 +648,8 @@ module _ (program : Program) (kernel : Kernel) (one other : Who) (fn : ℕ) (cal
         let cf = fallen_code way Y ce.value cl.made in
         let ca = around_arm site Y way ce (in_order cl) in
         let cr = arms_code calls here Y site (CellAtom ch) cf.value.atom (k + 1) rest cf.made in
-        let gf = arms_back program kernel calls set.back here Y site (CellAtom ch) cf.value.atom (k + 1) rest cf.made
-        g in
+        let gf = arms_back program kernel calls set.back here Y site (CellAtom ch) cf.value.atom
+        (k + 1) rest cf.made g in
         let gl = fallen_back program kernel way Y ce.value cl.made gf in
         let ge = list_back program kernel calls set.back here Y false body ce.made gl in
         let a = entry_up (CellAtom ch) x k m in
@@ -696,8 +707,8 @@ module _ (program : Program) (kernel : Kernel) (one other : Who) (fn : ℕ) (cal
         (λ t r nr. cells_free here.answer (answer_above program kernel one other fn calls here set)
         (let z = pend.result_below t r in
         omega (arith, z, a)) (λ s w. apart_is program kernel one other fn calls here set here.answer Y
-        (λ z. pend.no_result (opens_first s w) t r (sym z))) (λ z. absurd (let y : true ≡ false = sym z ∙
-        nr in cc)))
+        (λ z. pend.no_result (opens_first s w) t r (sym z)))
+        (λ z. absurd (let y : true ≡ false = sym z ∙ nr in cc)))
         (cells_free ch ch_above (omega (arith, ch_low, a)) (λ s w. apart_is program kernel one other fn calls here set
         ch Y (ch_y (opens_first s w))) (λ z t r. apart_is program kernel one other fn calls here set ch
         here.answer (ch_answer t r)))
@@ -709,8 +720,8 @@ module _ (program : Program) (kernel : Kernel) (one other : Who) (fn : ℕ) (cal
         (λ none_ w. cells_free Y (pend.above w) (let z = pend.below w in
         omega (arith, z, a)) (λ s w2. absurd (none-some s (sym none_ ∙ w2)))
         (λ z t r. apart_is program kernel one other fn calls here set Y here.answer (pend.no_result w t r)))
-        (λ out' p' q' bd al2 ex an. list_from program kernel one other fn calls here set W' Y body scope ce.made out' p'
-        q' al2
+        (λ out' p' q' bd al2 ex an. list_from program kernel one other fn calls here set W' Y body scope
+        ce.made out' p' q' al2
         (λ al_. inside_together W' Y false body scope ce.made h.0 kg.0 part_b within (omega (arith, low, a))
         (pending_more program kernel one other fn calls here set W' Y (next_cell m) (next_cell ce.made) a pend)
         opens_first gl out' p' q' bd al_ ex an)

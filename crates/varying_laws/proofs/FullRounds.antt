@@ -1,6 +1,6 @@
 -- What varies is marked: in a round that adds nothing, what is found in a statement obeys the rules.
-use Rattle.std.proofs.Common.{◌≡◌, ℕ, Bool, true, false, ◌||◌, cond, List, ◌∷◌, ◌++◌, Option, Some, None, ◌⊎◌, inl, inr}
-use Rattle.std.proofs.Common.{refl, sym, ap, ◌∙◌, subst}
+use Rattle.std.proofs.Common.{◌≡◌, ℕ, Bool, true, false, ◌||◌, cond, List, [], ◌∷◌, ◌++◌, Option, Some, None, ◌⊎◌, inl}
+use Rattle.std.proofs.Common.{inr, refl, sym, ap, ◌∙◌, subst}
 use Rattle.std.proofs.lemmas.Bool.{eqb-true}
 use Rattle.std.proofs.lemmas.Option.{none-some}
 use Rattle.cl_model.specs.Tree.{Set, Expression, Apply, single, Statement, Do, Declare, Fill, Block, If, Loop, Switch}
@@ -434,14 +434,14 @@ module _ (program : Program) (M : ℕ → Key → Bool) (f : ℕ) where
           (apart_rest f guard s sc site ys apart)) in
           let apart1 : Apart f guard x.state sc (site ∷ ys) = apart_on f guard s x.state sc (site ∷ ys) r1.0 apart in
           let apart2 : Apart f inner x.state sc ys = apart_under f guard x.state sc site ys x.varies apart1 in
-          let r2 = optional_full t sc inner x.state o.1 (apart_left f inner x.state sc (sites_in_optional t) sb
-          apart2) in
+          let r2 = optional_full t sc inner x.state o.1
+          (apart_left f inner x.state sc (sites_in_optional t) sb apart2) in
           let apart3 : Apart f inner x2.state sc sb = apart_on f inner x.state x2.state sc sb r2.0
           (apart_right f inner x.state sc (sites_in_optional t) sb apart2) in
           let r3 = optional_full st sc inner x2.state o.2 (apart_left f inner x2.state sc (sites_in_optional st)
           (sites_of b) apart3) in
-          let r4 = gone_full b sc inner x3.state o.3 (cover_body sc (given program M f) site first t st b ok.names
-          cover)
+          let r4 = gone_full b sc inner x3.state o.3
+          (cover_body sc (given program M f) site first t st b ok.names cover)
           (apart_on f inner x2.state x3.state sc (sites_of b) r3.0
           (apart_right f inner x2.state sc (sites_in_optional st) (sites_of b) apart3)) in
           let onto3 = onto_then f sc x2.state x3.state y.state r3.0 r4.0 in
@@ -465,8 +465,8 @@ module _ (program : Program) (M : ℕ → Key → Bool) (f : ℕ) where
                 (λ k h. either (gives_optional st k) (gives b k)
                 h) F3.1 F4.0 in
                 let G2 = facts_both program M f sc sc inner x.state x2.state y.state (parts_of_optional t) ps
-                (conditions_in_optional sc t) cs (gives_optional t) (turn_gives program M f st b) all (λ k h. h) r2.0
-                onto3
+                (conditions_in_optional sc t) cs (gives_optional t) (turn_gives program M f st b) all
+                (λ k h. h) r2.0 onto3
                 (loop_splits program M f site first t st b) F2.1 G3 in
                 let G1 = loop_facts sc guard site ys first t st b x.varies x.state y.state (parts_of_optional t ++ ps)
                 (conditions_in_optional sc t ++ cs) apart1 F1.0 G2 in
@@ -474,8 +474,8 @@ module _ (program : Program) (M : ℕ → Key → Bool) (f : ℕ) where
                 (parts_of_optional t ++ ps) (conditions_in_optional sc t) (loop_condition sc t st b ++
                 (conditions_in_optional sc t ++ cs)) (gives_optional t) all all (λ k h. h) r1.0 onto2
                 (λ k h. inr h) F1.1 G1 in
-                let O3 = outs_both program M f sc sc (conditions_in_optional sc st) (conditions_of sc b) [] (returned b)
-                false
+                let O3 = outs_both program M f sc sc (conditions_in_optional sc st) (conditions_of sc b) []
+                (returned b) false
                 y.ways.escapes y.ways.escapes (λ h. cc h) (λ h. h) (λ k has e on. inl has)
                 (outs_quiet program M f sc (conditions_in_optional sc st) false (no_exit_optional sc st)) F4.1 in
                 let O2 = outs_both program M f sc sc (conditions_in_optional sc t) cs [] (returned b) false
@@ -517,8 +517,8 @@ module _ (program : Program) (M : ℕ → Key → Bool) (f : ℕ) where
                 (expressions_of_arms arms) (conditions_of_arms sc arms) (conditions_of_arms sc arms)
                 (arms_give arms) there (λ d m. m) (λ d m. m) (arms_given program M f sc v arms) Fa.0 in
                 let F3 = facts_condition program M f sc guard site ys x.varies x.state y.state
-                (expressions_of_arms arms) c (conditions_of_arms sc arms) there apart1 Ft.0 (λ k h. h) (λ k h. h)
-                F2 in
+                (expressions_of_arms arms) c (conditions_of_arms sc arms) there apart1 Ft.0 (λ k h. h)
+                (λ k h. h) F2 in
                 let F4 = facts_both program M f sc sc guard s x.state y.state (parts_of v) (expressions_of_arms arms)
                 (conditions_in sc v) (c ∷ conditions_of_arms sc arms) (gives_in v) there
                 (gives (Switch site v arms)) (λ k h. h) rt.0 ra.0 (switch_splits program M f sc site v arms) Ft.1 F3 in
@@ -579,8 +579,8 @@ module _ (program : Program) (M : ℕ → Key → Bool) (f : ℕ) where
                 let F = r.1 (final_before M f sc v.state t d fin) in
                 let A = answer_facts sc guard v.varies v.state fin in
                 let B = facts_both program M f sc sc guard s v.state t (parts_of e) [] (conditions_in sc e) []
-                (gives_in e) is_answer (gives (Return site (Some e))) (λ k h. h) r.0 d (return_splits site e) F.1
-                A in (
+                (gives_in e) is_answer (gives (Return site (Some e))) (λ k h. h) r.0 d
+                (return_splits site e) F.1 A in (
                   facts_less program M f sc guard s t (parts_of e ++ []) (parts_of e) (conditions_in sc e ++ [])
                       (conditions_in sc e) (gives (Return site (Some e))) (gives (Return site (Some e)))
                       (λ z m. in_left (parts_of e) [] z m) (λ z m. in_left (conditions_in sc e) [] z m) (λ k h. h) B,
@@ -646,8 +646,8 @@ module _ (program : Program) (M : ℕ → Key → Bool) (f : ℕ) where
                 let Fb = rb.3 fb in
                 let F2 = facts_both program M f sc sc' guard s a.state b.state (expressions_of x)
                 (expressions_of_list rest) (conditions_of sc x) (conditions_of_list sc' rest) (gives x)
-                (some_give rest) (some_give (also x rest)) (has_after sc x) ra.0 rb' (also_splits program M f x rest)
-                Fa.0
+                (some_give rest) (some_give (also x rest)) (has_after sc x) ra.0 rb'
+                (also_splits program M f x rest) Fa.0
                 Fb.0 in
                 let F3 = facts_on program M f sc guard s b.state t (expressions_of x ++ expressions_of_list rest)
                 (conditions_of sc x ++ conditions_of_list sc' rest) (some_give (also x rest)) rc.0 F2 in
@@ -657,8 +657,8 @@ module _ (program : Program) (M : ℕ → Key → Bool) (f : ℕ) where
                 (λ k has e on. rc.1 fin k has e (λ y value q kq.
                 Fb.0.flags (Cell y) (cover_declared sc (given program M f) y value rest
                 (subst (λ z. IsScopedList sc (also z rest)) q ok.names)
-                (subst (λ z. Cover (given program M f) (some_assigns (also z rest)) (all_declarations (also z rest))) q
-                cover)
+                (subst (λ z. Cover (given program M f) (some_assigns (also z rest))
+                (all_declarations (also z rest))) q cover)
                 (subst (λ z. some_give (function_at program f).body z ≡ true) kq on))
                 (subst (HasKey sc') kq has))) Fa.1 Fb.1 in (
                   subst (λ cs. FA sc guard s t (expressions_of x ++ expressions_of_list rest) cs
@@ -687,8 +687,8 @@ module _ (program : Program) (M : ℕ → Key → Bool) (f : ℕ) where
           let b = gone_over_arms F' (S guard) rest a.state in
           let ra = all_full body sc guard s o.0 (cover_arm sc (given program M f) labels other body rest ok.names cover)
           (apart_left f guard s sc (sites_of_all body) (sites_of_arms rest) apart) in
-          let rb = arms_full rest sc guard a.state o.1 (cover_arms_rest sc (given program M f) labels other body rest
-          ok.names
+          let rb = arms_full rest sc guard a.state o.1
+          (cover_arms_rest sc (given program M f) labels other body rest ok.names
           cover) (apart_on f guard s a.state sc (sites_of_arms rest) ra.0
           (apart_right f guard s sc (sites_of_all body) (sites_of_arms rest) apart)) in (
             onto_then f sc s a.state b.state ra.0 rb.0,

@@ -1,7 +1,7 @@
 -- The ways out of code under conditions that vary, and which parts of a statement give a value: what is needed of them
 -- where code is put together.
-use Rattle.std.proofs.Common.{◌≡◌, ℕ, ℤ, Bool, true, false, ◌||◌, List, ◌∷◌, ◌++◌, Option, Some, None, ◌⊎◌, inl, inr}
-use Rattle.std.proofs.Common.{refl, sym, ap, ◌∙◌, subst}
+use Rattle.std.proofs.Common.{◌≡◌, ℕ, ℤ, Bool, true, false, ◌||◌, List, [], ◌∷◌, ◌++◌, Option, Some, None, ◌⊎◌, inl}
+use Rattle.std.proofs.Common.{inr, refl, sym, ap, ◌∙◌, subst}
 use Rattle.cl_model.specs.Tree.{Set, Expression, Apply, Expressions, single, Statement, Do, Declare, Fill, Block, If}
 use Rattle.cl_model.specs.Tree.{Loop, Switch, Break, Continue, Barrier, Statements, empty, also, Arms, no_arm, arm}
 use Rattle.cl_model.specs.Tree.{Program}

@@ -34,5 +34,6 @@ returns-in-Ok-clause-program c =
     (map table_of c.tables_of.result.items) (map function_of c.functions_of.result.items) c.in_ok-kernel.kernel
     (c.in_ok-environment.ensures c.args.places.now) c.new-sites.ensures.items c.in-Ok.ensures.walked
     (ap (λ v. map table_of v.items) c.tables_of.ensures) c.functions_of.ensures
-    (c.in_ok-kernel.ensures ∙ ap (λ z. kernel_from z 0 (map signature_of c.in_ok-environment.environment.functions.items))
+    (c.in_ok-kernel.ensures ∙ ap (λ z. kernel_from z 0
+    (map signature_of c.in_ok-environment.environment.functions.items))
     c.bytes.ensures)

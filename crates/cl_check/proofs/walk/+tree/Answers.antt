@@ -62,8 +62,10 @@ check_tree-returns-in-Ok-clause-walked t c =
     (env_of c.args.walk.places.now c.judge.new.environment) c.judge.new.sites.items (piece_of p)
     (form_is c.args.tree.now) (c.in_ok-saved.ensures.inside c.args.walk.places.now) (ap views c.as_slice.ensures.value ∙
     parts_is c.args.tree.now) c.in-Ok.ensures.done
-    (c.restore-inner.ensures.restored c.args.walk.places.now form before (c.in_ok-saved.ensures.saved c.args.walk.places.now))
-    (c.restore-inner.ensures.inner c.args.walk.places.now form before (c.in_ok-saved.ensures.saved c.args.walk.places.now)) j)
+    (c.restore-inner.ensures.restored c.args.walk.places.now form before
+    (c.in_ok-saved.ensures.saved c.args.walk.places.now))
+    (c.restore-inner.ensures.inner c.args.walk.places.now form before
+    (c.in_ok-saved.ensures.saved c.args.walk.places.now)) j)
 
 pub check_tree-returns-in-Ok-clause-faulted : goal.check_tree-returns-in-Ok-clause-faulted
 check_tree-returns-in-Ok-clause-faulted t c =
