@@ -288,11 +288,13 @@ set_typed kernel i tasks to t v holds takes is c of e = go (nat_eq to c) refl
         subst (λ u. IsValue u v) is_of is
     go false ne = holds c of e
 
-pub cell_type_there : (kernel : Kernel) (to : ℕ) (o : Option IntType) → cell_takes kernel to o ≡ true → (t : IntType) × (o ≡ Some t)
+pub cell_type_there : (kernel : Kernel) (to : ℕ) (o : Option IntType) → cell_takes kernel to o ≡ true →
+    (t : IntType) × (o ≡ Some t)
 cell_type_there kernel to None h = absurd (true≢false (sym h))
 cell_type_there kernel to (Some t) h = (t, refl)
 
-module _ (kernel : Kernel) (launch : Launch) (fits : FitsProgram (shell_of kernel) launch) (sizes : HasGlobalSizes launch)
+module _ (kernel : Kernel) (launch : Launch) (fits : FitsProgram (shell_of kernel) launch)
+    (sizes : HasGlobalSizes launch)
   where
     pub work_typed : (i : Item) (work : Work) (t : IntType) → HoldTypes kernel i.cells → work_fits kernel work ≡ true →
         work_type kernel work ≡ Some t → IsValue t (work_value launch i work)

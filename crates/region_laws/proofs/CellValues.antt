@@ -43,7 +43,8 @@ module _ (kernel : Kernel) (launch : Launch) (fits : FitsProgram (shell_of kerne
         subst Keeps h (
           (a.1, f.1),
           set_typed kernel s (LinesAt (Behind ∷ at) rest k) to ty.0 (work_value launch s work)
-              holds (subst (λ o. cell_takes kernel to o ≡ true) ty.1 b.1) (work_typed kernel launch fits sizes.global s work ty.0 holds b.0 ty.1),
+              holds (subst (λ o. cell_takes kernel to o ≡ true) ty.1 b.1)
+              (work_typed kernel launch fits sizes.global s work ty.0 holds b.0 ty.1),
         )
     keep s (LinesAt at (LoadThen site to element root index rest) k) t f holds h =
         let a = and_parts _ _ f.0 in
