@@ -6,8 +6,8 @@ use Rattle.kir.specs.Listed.{work_of}
 use Rattle.kir.proofs.FirstLines.{other_count}
 use Rattle.kir.proofs.fitting.work_fits.Goals as goal
 
-pub returns-else-len-arity : goal.returns-else-len-arity
-returns-else-len-arity c =
+pub returns-else-len-arity_of : goal.returns-else-len-arity_of
+returns-else-len-arity_of c =
     other_count (parts_of c.args.parts.now) c.in-Builtin.of (arity_of c.in-Builtin.f) c.in-Builtin.args.items
-    (λ e. c.if-len-arity.false (c.len.ensures ∙ c.in-Builtin.args.ok.0 ∙ sym (c.arity.ensures ∙ e)))
+    (λ e. c.if-len-arity_of.false (c.len.ensures ∙ c.in-Builtin.args.ok.0 ∙ sym (c.arity_of.ensures ∙ e)))
     ∙ sym (ap (λ w. work_fits (parts_of c.args.parts.now) (work_of w)) c.in-Builtin.is)
