@@ -23,7 +23,7 @@ use Rattle.kir_moves.specs.Stand.{start_stage, ItemsLead}
 use Rattle.kir_moves.proofs.Own.{any_goes_on}
 use Rattle.kir_moves.proofs.Told.{TasksFit}
 use Rattle.mask_lower.specs.Layout.{HasSizes}
-use Rattle.kir.proofs.CellTypes.{set_typed, work_typed, cell_type_there}
+use Rattle.kir.proofs.CellTypes.{zero_value, set_typed, work_typed, cell_type_there}
 
 module _ (kernel : Kernel) (launch : Launch) (fits : FitsProgram (shell_of kernel) launch) (sizes : HasSizes launch)
   where

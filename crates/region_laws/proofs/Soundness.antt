@@ -20,7 +20,7 @@ use Rattle.kir.specs.Live.{reads, some_reads, live_now}
 use Rattle.kir.specs.Counts.{barrier_lines, once_if}
 use Rattle.kir.specs.Fits.{lines_fit, has_some_type, atom_type, work_fits, work_type, cell_takes}
 use Rattle.kir.specs.Steps.{Item, with_cell, atom_value, work_value, tasks_next}
-use Rattle.kir.proofs.CellTypes.{atom_typed}
+use Rattle.kir.proofs.CellTypes.{has_type_is, atom_typed}
 use Rattle.lane_code.specs.declared.step.Step.{Step}
 use Rattle.lane_code.specs.declared.step.Step.TheVariants as step
 use Rattle.lane_code.specs.declared.step.Reg.{Reg}
@@ -273,8 +273,7 @@ module _ (kernel : Kernel) (launch : Launch) (width : ℕ) (chunk : ChunkOf kern
           by : (o : Option IntType) → cell_takes kernel to o ≡ true →
               slice_index_or f.cells to None ≡ Some (cell_at f.cells to)
           by None h = absurd (true≢false (sym h))
-          by (Some ty) h = cell_entry kernel width f atoms counts r0 framed to ty
-              (Rattle.region_laws.proofs.CellValues.has_type_is ty _ h) known
+          by (Some ty) h = cell_entry kernel width f atoms counts r0 framed to ty (has_type_is ty _ h) known
 
       set_cell : (m : ℕ) (at : Place) (k : Tasks) (behind : Lines) (to : ℕ) (work : Work) (st st1 : State) →
           Worked kernel launch width chunk.group chunk.first f atoms counts r0 framed code valid Good
