@@ -11,7 +11,7 @@ use crate::declarator::{Declarator, has_list};
 use cl_meaning::{Declared, constant_of};
 use cl_tree::Tree;
 use std::alloc::Global;
-use wg_num::{IntType, Memory, bits, push, wrap, size_of};
+use wg_num::{IntType, Memory, bits, push, size_of, wrap};
 
 /// Pushes the bytes of a value, lowest first.
 fn push_value(bytes: &mut Vec<u8>, of: IntType, value: i128) -> Result<(), Memory>

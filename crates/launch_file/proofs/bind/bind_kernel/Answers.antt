@@ -28,8 +28,8 @@ launch_of-requires-clause-one_length c =
     subst (λ p. HasOneLength (part_of p)) (sym c.index-part.ensures)
     (c.requires.lengths c.args.which c.index-part.result.now c.requires.within)
 
-pub returns-in_ok-launch-clause-bound : goal.returns-in_ok-launch-clause-bound
-returns-in_ok-launch-clause-bound c =
+pub returns-clause-bound : goal.returns-clause-bound
+returns-clause-bound c =
     let part : part_of c.index-part.result.now ≡ spec.part_at (text_of c.args.text.now) c.args.which =
     part_there part_of c.args.text.now.list.items c.args.which c.index-part.result.now _ c.requires.within
     c.index-part.ensures in
