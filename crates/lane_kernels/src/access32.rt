@@ -30,8 +30,9 @@ pub fn gather32<const W: usize>(
         (IsLowest (faults (size_of t) (length bytes.now) mask.entry index.entry)) }
     ensures counted { tally.new ≡ min (tally.old + 1) (2 ^ 64 - 1) }
 {
+    let gathered = gather_narrow(bytes, t, index.to_array(), mask);
     tally.raise();
-    match gather_narrow(bytes, t, index.to_array(), mask) {
+    match gathered {
         Ok(numbers) => Ok(extend32(t, Simd::from_array(numbers)).to_array()),
         Err(lane) => Err(lane),
     }

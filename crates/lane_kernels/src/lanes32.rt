@@ -95,6 +95,7 @@ fn divisors<const W: usize>(bias: u32, b: Simd<u32, W>) -> Simd<u32, W>
     size.simd_eq(Simd::splat(0)).select(Simd::splat(1), size)
 }
 
+#[inline(never)]
 fn quotients<const W: usize>(bias: u32, a: Simd<u32, W>, b: Simd<u32, W>) -> Simd<u32, W>
     ensures { result ≡ zip2 (quotient_lane 32 bias) a.entry b.entry }
 {
@@ -103,6 +104,7 @@ fn quotients<const W: usize>(bias: u32, a: Simd<u32, W>, b: Simd<u32, W>) -> Sim
     b.simd_eq(Simd::splat(0)).select(Simd::splat(0), quotient)
 }
 
+#[inline(never)]
 fn rests<const W: usize>(bias: u32, a: Simd<u32, W>, b: Simd<u32, W>) -> Simd<u32, W>
     ensures { result ≡ zip2 (rest_lane 32 bias) a.entry b.entry }
 {
@@ -146,6 +148,7 @@ fn shifted_right<const W: usize>(t: IntType, a: Simd<u32, W>, b: Simd<u32, W>) -
 }
 
 /// Numbers whose low bits have the values that the operator gives.
+#[inline(always)]
 fn numbers32<const W: usize>(op: Bin, t: IntType, a: Simd<u32, W>, b: Simd<u32, W>) -> Simd<u32, W>
     requires narrow { FitsLane 32 t }
     requires left { Each1 (IsLane 32 t) a }
@@ -177,6 +180,7 @@ fn numbers32<const W: usize>(op: Bin, t: IntType, a: Simd<u32, W>, b: Simd<u32, 
 }
 
 /// The operator on lanes that hold values of the type.
+#[inline(always)]
 fn values32<const W: usize>(op: Bin, t: IntType, a: Simd<u32, W>, b: Simd<u32, W>) -> Simd<u32, W>
     requires narrow { FitsLane 32 t }
     requires left { Each1 (IsLane 32 t) a }

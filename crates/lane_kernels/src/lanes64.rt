@@ -97,6 +97,7 @@ fn divisors<const W: usize>(bias: u64, b: Simd<u64, W>) -> Simd<u64, W>
     size.simd_eq(Simd::splat(0)).select(Simd::splat(1), size)
 }
 
+#[inline(never)]
 fn quotients<const W: usize>(bias: u64, a: Simd<u64, W>, b: Simd<u64, W>) -> Simd<u64, W>
     ensures { result ≡ zip2 (quotient_lane 64 bias) a.entry b.entry }
 {
@@ -105,6 +106,7 @@ fn quotients<const W: usize>(bias: u64, a: Simd<u64, W>, b: Simd<u64, W>) -> Sim
     b.simd_eq(Simd::splat(0)).select(Simd::splat(0), quotient)
 }
 
+#[inline(never)]
 fn rests<const W: usize>(bias: u64, a: Simd<u64, W>, b: Simd<u64, W>) -> Simd<u64, W>
     ensures { result ≡ zip2 (rest_lane 64 bias) a.entry b.entry }
 {
@@ -149,6 +151,7 @@ fn shifted_right<const W: usize>(t: IntType, a: Simd<u64, W>, b: Simd<u64, W>) -
 }
 
 /// Numbers whose low bits have the values that the operator gives.
+#[inline(always)]
 fn numbers64<const W: usize>(op: Bin, t: IntType, a: Simd<u64, W>, b: Simd<u64, W>) -> Simd<u64, W>
     requires narrow { FitsLane 64 t }
     requires left { Each1 (IsLane 64 t) a }
@@ -180,6 +183,7 @@ fn numbers64<const W: usize>(op: Bin, t: IntType, a: Simd<u64, W>, b: Simd<u64, 
 }
 
 /// The operator on lanes that hold values of the type.
+#[inline(always)]
 fn values64<const W: usize>(op: Bin, t: IntType, a: Simd<u64, W>, b: Simd<u64, W>) -> Simd<u64, W>
     requires narrow { FitsLane 64 t }
     requires left { Each1 (IsLane 64 t) a }
