@@ -213,7 +213,6 @@ pub(crate) fn load<const W: usize>(
 }
 
 /// The store of a step, by the root that it names.
-#[inline(never)]
 pub(crate) fn store<const W: usize>(
     r: &Registers<W>,
     root: Root,

@@ -127,7 +127,6 @@ fn answers64<const W: usize>(
 }
 
 /// A work-item function in lanes or in a scalar.
-#[inline(never)]
 pub(crate) fn ask_step<const W: usize>(
     r: &mut Registers<W>,
     what: Query,
@@ -179,7 +178,6 @@ fn value_bound(args: &Vec<Bound>, number: u32) -> i128
 }
 
 /// The value of a kernel parameter in lanes or in a scalar.
-#[inline(never)]
 pub(crate) fn argument_step<const W: usize>(
     r: &mut Registers<W>,
     number: u32,

@@ -387,7 +387,6 @@ fn builtin_scalar<const W: usize>(
 }
 
 /// The step on lanes or on a scalar, by the bank of its result.
-#[inline(never)]
 pub(crate) fn builtin_step<const W: usize>(
     r: &mut Registers<W>,
     f: Fun,
