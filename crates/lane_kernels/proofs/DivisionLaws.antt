@@ -49,24 +49,30 @@ module _ (W H : ℕ) (twice : 2 ^ W ≡ H + H) (high : H ≡ 2 ^ (W - 1)) (big :
   signed_as : Bool → ℤ → ℤ
   signed_as s z = cond s (neg_ℤ z) z
 
-  congruent_signed : {a b : ℤ} (s : Bool) → IsCongruent (2 ^ W) a b → IsCongruent (2 ^ W) (signed_as s a) (signed_as s b)
+  congruent_signed : {a b : ℤ} (s : Bool) → IsCongruent (2 ^ W) a b →
+      IsCongruent (2 ^ W) (signed_as s a) (signed_as s b)
   unfolding signed_as
   congruent_signed true e = K.congruent-neg W H twice high big most e
   congruent_signed false e = e
 
   -- the lane's sign is that of its value
-  sign_lane : (t : IntType) (p : ℕ) → FitsLane W t → IsLane W t p → nat_lt (raised W (bias_of W t) p) (bias_of W t) ≡ int_lt (value_of t p) (pos 0)
-  sign_lane t p n l = K.lt_raised W H twice high big most (raised W (bias_of W t) p) (bias_of W t) (bias_of W t) (value_of t p) (pos 0) (K.raise_is W H twice high big most t p n l) (omega (arith, ints))
+  sign_lane : (t : IntType) (p : ℕ) → FitsLane W t → IsLane W t p → nat_lt (raised W (bias_of W t) p) (bias_of W t) ≡
+      int_lt (value_of t p) (pos 0)
+  sign_lane t p n l = K.lt_raised W H twice high big most (raised W (bias_of W t) p) (bias_of W t) (bias_of W t)
+      (value_of t p) (pos 0) (K.raise_is W H twice high big most t p n l) (omega (arith, ints))
 
   signed_congruent : (t : IntType) (p x : ℕ) → FitsLane W t → IsLane W t p → x ≤ 2 ^ W →
       IsCongruent (2 ^ W) (pos (signed_by W (bias_of W t) p x)) (signed_as (int_lt (value_of t p) (pos 0)) (pos x))
   unfolding signed_as
   signed_congruent t p x n l h = by (int_lt (value_of t p) (pos 0)) (sign_lane t p n l)
     where
-      by : (s : Bool) → nat_lt (raised W (bias_of W t) p) (bias_of W t) ≡ s → IsCongruent (2 ^ W) (pos (signed_by W (bias_of W t) p x)) (cond s (neg_ℤ (pos x)) (pos x))
+      by : (s : Bool) → nat_lt (raised W (bias_of W t) p) (bias_of W t) ≡ s →
+          IsCongruent (2 ^ W) (pos (signed_by W (bias_of W t) p x)) (cond s (neg_ℤ (pos x)) (pos x))
       by true e = subst (λ b. IsCongruent (2 ^ W) (pos (cond b ((0 + (2 ^ W - x)) % 2 ^ W) x)) (neg_ℤ (pos x))) (sym e)
-          (congruent_trans (mod_congruent (0 + (2 ^ W - x))) (record { more = 0; less = 1; same = omega (arith, ints) }))
-      by false e = subst (λ b. IsCongruent (2 ^ W) (pos (cond b ((0 + (2 ^ W - x)) % 2 ^ W) x)) (pos x)) (sym e) (congruent_refl (2 ^ W) (pos x))
+          (congruent_trans (mod_congruent (0 + (2 ^ W - x)))
+          (record { more = 0; less = 1; same = omega (arith, ints) }))
+      by false e = subst (λ b. IsCongruent (2 ^ W) (pos (cond b ((0 + (2 ^ W - x)) % 2 ^ W) x)) (pos x)) (sym e)
+          (congruent_refl (2 ^ W) (pos x))
 
   signed-lt : (bias s x : ℕ) → x < 2 ^ W → signed_by W bias s x < 2 ^ W
   signed-lt bias s x h = by (nat_lt (raised W bias s) bias)
@@ -82,7 +88,8 @@ module _ (W H : ℕ) (twice : 2 ^ W ≡ H + H) (high : H ≡ 2 ^ (W - 1)) (big :
   abs_signed (negsuc n) = refl
 
   -- the magnitude of a lane is that of its value
-  magnitude : (t : IntType) (p : ℕ) → FitsLane W t → IsLane W t p → signed_by W (bias_of W t) p p ≡ unsigned_abs (value_of t p)
+  magnitude : (t : IntType) (p : ℕ) → FitsLane W t → IsLane W t p → signed_by W (bias_of W t) p p ≡
+      unsigned_abs (value_of t p)
   magnitude t p n l =
       let v = value_of t p in
       let s = int_lt v (pos 0) in
@@ -93,8 +100,10 @@ module _ (W H : ℕ) (twice : 2 ^ W ≡ H + H) (high : H ≡ 2 ^ (W - 1)) (big :
       (congruent_signed s (lane_congruent t p l))) in
       let r = value_range t v n (IsValue-value t p) in
       let top = lane_range t n in
-      sym (residue_unique (signed_by W (bias_of W t) p p) (pos (unsigned_abs v)) (2 ^ W) (signed-lt (bias_of W t) p p small) e)
-      ∙ residue_unique (unsigned_abs v) (pos (unsigned_abs v)) (2 ^ W) (omega (arith, ints, r.0, r.1, top.2)) (congruent_refl (2 ^ W) (pos (unsigned_abs v)))
+      sym (residue_unique (signed_by W (bias_of W t) p p) (pos (unsigned_abs v)) (2 ^ W)
+      (signed-lt (bias_of W t) p p small) e)
+      ∙ residue_unique (unsigned_abs v) (pos (unsigned_abs v)) (2 ^ W) (omega (arith, ints, r.0, r.1, top.2))
+      (congruent_refl (2 ^ W) (pos (unsigned_abs v)))
 
   not_negative : (a : ℕ) (z : ℤ) → signed_as (ltb a 0) z ≡ z
   unfolding signed_as
@@ -104,7 +113,8 @@ module _ (W H : ℕ) (twice : 2 ^ W ≡ H + H) (high : H ≡ 2 ^ (W - 1)) (big :
       by true e = absurd (omega (arith, ltb-true a 0 e))
       by false e = ap (λ b. cond b (neg_ℤ z) z) e
 
-  div_signed : (v w : ℤ) → signed_as (int_lt w (pos 0)) (signed_as (int_lt v (pos 0)) (pos (unsigned_abs v / unsigned_abs w))) ≡ int_div v w
+  div_signed : (v w : ℤ) → signed_as (int_lt w (pos 0))
+      (signed_as (int_lt v (pos 0)) (pos (unsigned_abs v / unsigned_abs w))) ≡ int_div v w
   unfolding signed_as
   div_signed (pos a) (pos b) = not_negative b (signed_as (ltb a 0) (pos (a / b))) ∙ not_negative a (pos (a / b))
   div_signed (pos a) (negsuc b) = ap neg_ℤ (not_negative a (pos (a / suc b)))
@@ -120,10 +130,12 @@ module _ (W H : ℕ) (twice : 2 ^ W ≡ H + H) (high : H ≡ 2 ^ (W - 1)) (big :
   abs_zero w e = omega (arith, ints, e)
 
   -- where the value is not 0
-  divisor_is : (t : IntType) (q : ℕ) → FitsLane W t → IsLane W t q → int_eq (value_of t q) (pos 0) ≡ false → divisor_of W (bias_of W t) q ≡ unsigned_abs (value_of t q)
+  divisor_is : (t : IntType) (q : ℕ) → FitsLane W t → IsLane W t q → int_eq (value_of t q) (pos 0) ≡ false →
+      divisor_of W (bias_of W t) q ≡ unsigned_abs (value_of t q)
   divisor_is t q n r e = by (nat_eq (signed_by W (bias_of W t) q q) 0) refl
     where
-      by : (b : Bool) → nat_eq (signed_by W (bias_of W t) q q) 0 ≡ b → divisor_of W (bias_of W t) q ≡ unsigned_abs (value_of t q)
+      by : (b : Bool) → nat_eq (signed_by W (bias_of W t) q q) 0 ≡ b → divisor_of W (bias_of W t) q ≡
+          unsigned_abs (value_of t q)
       by true h =
           absurd (true≢false (sym ((Decides-int_eq (value_of t q) (pos 0)).1
           (abs_zero (value_of t q) (sym (magnitude t q n r) ∙ eqb-true (signed_by W (bias_of W t) q q) 0 h))) ∙
@@ -141,20 +153,36 @@ module _ (W H : ℕ) (twice : 2 ^ W ≡ H + H) (high : H ≡ 2 ^ (W - 1)) (big :
       let w = value_of t q in
       let z = unsigned_abs v / unsigned_abs w in
       let y = signed_by W (bias_of W t) p z in
-      let is = ap₂ (λ a d. signed_by W (bias_of W t) q (signed_by W (bias_of W t) p (a / d))) (magnitude t p n l) (divisor_is t q n r e) in
-      let small : z < 2 ^ W = omega (arith, div-le_self (unsigned_abs v) (unsigned_abs w), magnitude t p n l, signed-lt (bias_of W t) p p (lane-lt t p l)) in
+      let is = ap₂ (λ a d. signed_by W (bias_of W t) q (signed_by W (bias_of W t) p (a / d))) (magnitude t p n l)
+      (divisor_is t q n r e) in
+      let small : z < 2 ^ W = omega (
+        arith,
+        div-le_self (unsigned_abs v) (unsigned_abs w),
+        magnitude t p n l,
+        signed-lt
+            (bias_of W t) p p (lane-lt t p l),
+      ) in
       let least = signed-lt (bias_of W t) p z small in
       subst₂ (λ a c. IsCongruent (2 ^ W) (pos a) c) (sym is) (div_signed v w)
-      (congruent_trans (signed_congruent t q y n r (omega arith)) (congruent_signed (int_lt w (pos 0)) (signed_congruent t p z n l (omega arith))))
+      (congruent_trans (signed_congruent t q y n r (omega arith))
+      (congruent_signed (int_lt w (pos 0)) (signed_congruent t p z n l (omega arith))))
 
-  left_over : (t : IntType) (p q : ℕ) → FitsLane W t → IsLane W t p → IsLane W t q → int_eq (value_of t q) (pos 0) ≡ false
-      → IsCongruent (2 ^ W) (pos (signed_by W (bias_of W t) p (signed_by W (bias_of W t) p p % divisor_of W (bias_of W t) q))) (int_rem (value_of t p) (value_of t q))
+  left_over : (t : IntType) (p q : ℕ) → FitsLane W t → IsLane W t p → IsLane W t q → int_eq (value_of t q) (pos 0) ≡
+      false
+      → IsCongruent (2 ^ W) (pos (signed_by W (bias_of W t) p
+      (signed_by W (bias_of W t) p p % divisor_of W (bias_of W t) q))) (int_rem (value_of t p) (value_of t q))
   left_over t p q n l r e =
       let v = value_of t p in
       let w = value_of t q in
       let z = unsigned_abs v % unsigned_abs w in
       let is = ap₂ (λ a d. signed_by W (bias_of W t) p (a % d)) (magnitude t p n l) (divisor_is t q n r e) in
-      let small : z < 2 ^ W = omega (arith, mod-le (unsigned_abs v) (unsigned_abs w), magnitude t p n l, signed-lt (bias_of W t) p p (lane-lt t p l)) in
+      let small : z < 2 ^ W = omega (
+        arith,
+        mod-le (unsigned_abs v) (unsigned_abs w),
+        magnitude t p n l,
+        signed-lt
+            (bias_of W t) p p (lane-lt t p l),
+      ) in
       subst₂ (λ a c. IsCongruent (2 ^ W) (pos a) c) (sym is) (rem_signed v w) (signed_congruent t p z n l (omega arith))
 
   -- one choice made by two tests that agree
@@ -167,34 +195,43 @@ module _ (W H : ℕ) (twice : 2 ^ W ≡ H + H) (high : H ≡ 2 ^ (W - 1)) (big :
 
   quotient_congruent : (t : IntType) (p q : ℕ) → FitsLane W t → IsLane W t p → IsLane W t q →
       IsCongruent (2 ^ W) (pos (quotient_lane W (bias_of W t) p q)) (quotient_of (value_of t p) (value_of t q))
-  quotient_congruent t p q n l r = chosen _ _ 0 _ (pos 0) _ (zero_lane t q r) (λ e. congruent_refl (2 ^ W) (pos 0)) (λ e. divided t p q n l r e)
+  quotient_congruent t p q n l r = chosen _ _ 0 _ (pos 0) _ (zero_lane t q r) (λ e. congruent_refl (2 ^ W) (pos 0))
+      (λ e. divided t p q n l r e)
 
   rest_congruent : (t : IntType) (p q : ℕ) → FitsLane W t → IsLane W t p → IsLane W t q →
       IsCongruent (2 ^ W) (pos (rest_lane W (bias_of W t) p q)) (rest_of (value_of t p) (value_of t q))
-  rest_congruent t p q n l r = chosen _ _ p _ (value_of t p) _ (zero_lane t q r) (λ e. lane_congruent t p l) (λ e. left_over t p q n l r e)
+  rest_congruent t p q n l r = chosen _ _ p _ (value_of t p) _ (zero_lane t q r) (λ e. lane_congruent t p l)
+      (λ e. left_over t p q n l r e)
 
   chosen-lt : (b : Bool) (x y : ℕ) → x < 2 ^ W → y < 2 ^ W → cond b x y < 2 ^ W
   chosen-lt true x y h k = h
   chosen-lt false x y h k = k
 
-  chosen_small : (b : Bool) (x y : ℕ) → x ≤ 1 → y ≤ 1 → (neg_ℤ (pos 2) ≤ℤ cond b (pos x) (pos y)) × (cond b (pos x) (pos y) ≤ℤ pos 2)
+  chosen_small : (b : Bool) (x y : ℕ) → x ≤ 1 → y ≤ 1 → (neg_ℤ (pos 2) ≤ℤ cond b (pos x) (pos y)) ×
+      (cond b (pos x) (pos y) ≤ℤ pos 2)
   chosen_small true x y h k = (omega (arith, ints), omega (arith, ints))
   chosen_small false x y h k = (omega (arith, ints), omega (arith, ints))
 
-  pub lane_div : (t : IntType) → FitsLane W t → (p q : ℕ) → IsLane W t p → IsLane W t q → value_of t (quotient_lane W (bias_of W t) p q) ≡ binary_value Div t p q
+  pub lane_div : (t : IntType) → FitsLane W t → (p q : ℕ) → IsLane W t p → IsLane W t q →
+      value_of t (quotient_lane W (bias_of W t) p q) ≡ binary_value Div t p q
   lane_div t n p q l r =
       let bias = bias_of W t in
       let size = signed_by W bias p p in
-      let few : size / divisor_of W bias q < 2 ^ W = omega (arith, div-le_self size (divisor_of W bias q), signed-lt bias p p (lane-lt t p l)) in
-      K.lane_by W H twice high big most Div t (quotient_lane W bias p q) p q refl n l r (chosen-lt _ 0 _ some_lane (signed-lt bias q _ (signed-lt bias p _ few)))
+      let few : size / divisor_of W bias q < 2 ^ W =
+      omega (arith, div-le_self size (divisor_of W bias q), signed-lt bias p p (lane-lt t p l)) in
+      K.lane_by W H twice high big most Div t (quotient_lane W bias p q) p q refl n l r
+      (chosen-lt _ 0 _ some_lane (signed-lt bias q _ (signed-lt bias p _ few)))
       (quotient_congruent t p q n l r)
       (λ x y u v. chosen_small (int_eq (pos y) (pos 0)) 0 (x / y) (omega arith) (omega (arith, div-le_self x y)))
 
-  pub lane_rem : (t : IntType) → FitsLane W t → (p q : ℕ) → IsLane W t p → IsLane W t q → value_of t (rest_lane W (bias_of W t) p q) ≡ binary_value Rem t p q
+  pub lane_rem : (t : IntType) → FitsLane W t → (p q : ℕ) → IsLane W t p → IsLane W t q →
+      value_of t (rest_lane W (bias_of W t) p q) ≡ binary_value Rem t p q
   lane_rem t n p q l r =
       let bias = bias_of W t in
       let size = signed_by W bias p p in
-      let few : size % divisor_of W bias q < 2 ^ W = omega (arith, mod-le size (divisor_of W bias q), signed-lt bias p p (lane-lt t p l)) in
-      K.lane_by W H twice high big most Rem t (rest_lane W bias p q) p q refl n l r (chosen-lt _ p _ (lane-lt t p l) (signed-lt bias p _ few))
+      let few : size % divisor_of W bias q < 2 ^ W =
+      omega (arith, mod-le size (divisor_of W bias q), signed-lt bias p p (lane-lt t p l)) in
+      K.lane_by W H twice high big most Rem t (rest_lane W bias p q) p q refl n l r
+      (chosen-lt _ p _ (lane-lt t p l) (signed-lt bias p _ few))
       (rest_congruent t p q n l r)
       (λ x y u v. chosen_small (int_eq (pos y) (pos 0)) x (x % y) u (omega (arith, mod-le x y)))
