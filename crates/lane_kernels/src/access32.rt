@@ -1,11 +1,10 @@
 //! Loads and stores of narrow lanes.
-ghost use Rattle.std.specs.Prelude.{◌≡◌, ◌+◌, ◌-◌, ◌*◌, ◌<◌, ◌≤◌, ◌^◌, min, length};
-ghost use Rattle.std.specs.Prelude.{take, MatchResult, MatchOption, IfErr, OnOk, not, true, false};
-ghost use Rattle.std.specs.Bool.{OnTrue, OnFalse};
+ghost use Rattle.std.specs.Prelude.{◌≡◌, ◌+◌, ◌-◌, ◌≤◌, ◌^◌, min, length};
+ghost use Rattle.std.specs.Prelude.{take, MatchResult, IfErr, OnOk};
 ghost use Rattle.wg_num.specs.Bytes.{size_of};
 ghost use Rattle.lane_values.specs.Lanes.{FitsLane};
 ghost use Rattle.lane_values.specs.Masks.{IsEmpty, IsLowest};
-ghost use Rattle.lane_values.specs.Access.{is_fault, faults, lane_from, lane_put, loaded, gathered, scattered};
+ghost use Rattle.lane_values.specs.Access.{faults, gathered, scattered};
 
 use crate::access::{gather_narrow, scatter_numbers};
 use crate::lanes32::extend32;

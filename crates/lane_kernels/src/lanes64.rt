@@ -1,10 +1,8 @@
 //! Wide lanes: values of types up to 64 bits, extended to 64 bits.
-ghost use Rattle.std.specs.Prelude.{◌≡◌, ◌≤◌, ◌+◌, ◌-◌, ◌%◌, ◌^◌, min, map, false, not};
-ghost use Rattle.std.specs.Prelude.{nat_eq, if◌then◌else◌};
+ghost use Rattle.std.specs.Prelude.{◌≡◌, ◌≤◌, ◌+◌, ◌-◌, ◌%◌, ◌^◌, min, map, false};
 ghost use Rattle.std.specs.Bool.{OnTrue};
-ghost use Rattle.std.specs.Int.{from_bool};
 ghost use Rattle.std.specs.Simd.Lanes.{zip2, Each1};
-ghost use Rattle.wg_num.specs.Wrap.{half, modulus, width_bits, value_of, is_bool};
+ghost use Rattle.wg_num.specs.Wrap.{half, modulus, width_bits, value_of};
 ghost use Rattle.wg_num.specs.Operators.{is_shift};
 ghost use Rattle.lane_values.specs.Lanes.{FitsLane, IsLane, binary_value, binary_lane, unary_value, unary_lane};
 ghost use Rattle.lane_values.specs.Lanes.{extended};

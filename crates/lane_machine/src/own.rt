@@ -1,5 +1,5 @@
 //! Loads and stores of private arrays, of which each lane has its own.
-ghost use Rattle.std.specs.Prelude.{◌≡◌, ◌≢◌, ◌<◌, ◌≤◌, ◌^◌, ◌+◌, None, Some, [], true};
+ghost use Rattle.std.specs.Prelude.{◌≡◌, ◌≢◌, ◌<◌, ◌≤◌, ◌^◌, None, Some, [], true};
 ghost use Rattle.std.specs.Prelude.{false, not, length, take, map, slice_index_or, slice_set, if◌then◌else◌};
 ghost use Rattle.std.specs.Prelude.{MatchOption, MatchResult};
 ghost use Rattle.std.specs.Bool.{OnTrue, OnFalse};

@@ -1,7 +1,7 @@
-use Rattle.std.proofs.Common.{◌≡◌, ◌∙◌, sym, ap, subst, map, ℕ, Vec, Global}
+use Rattle.std.proofs.Common.{◌≡◌, ◌∙◌, sym, subst, map, ℕ, Vec, Global}
 use Rattle.cl_model.specs.View.{buffers_of}
 use Rattle.lane_code.specs.View.{plain_of}
-use Rattle.lane_code.specs.Acts.{shared_bytes, load_at}
+use Rattle.lane_code.specs.Acts.{load_at}
 use Rattle.lane_machine.specs.declared.objects.Object.{Object}
 use Rattle.lane_machine.specs.Standing.{chunk_from, standing, accessed, reached_of}
 use Rattle.lane_machine.proofs.AccessLaws.{load_shared_is, load_own_is, shared_load}
