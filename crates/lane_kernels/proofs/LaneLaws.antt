@@ -3,34 +3,38 @@ use Rattle.std.proofs.Common.{◌≡◌, ℕ, zero, suc, ◌+◌, ◌-◌, ◌*�
 use Rattle.std.proofs.Common.{subst₂, ◌∙◌, arith, Bool, true, false, cond, inl, inr, ◌⊎◌, ⊎_elim, mod-lt}
 use Rattle.std.proofs.Common.{mod-eq_of_lt, mul-le-mul, div-add-mod', pow_pos, pow_mono, not}
 use Rattle.std.proofs.Common.{ℤ, pos, negsuc, ◌+ℤ◌, ◌-ℤ◌, ◌*ℤ◌, neg_ℤ, ◌≤ℤ◌, bit_and, bit_or, bit_xor, int_lt, int_le}
-use Rattle.std.proofs.Common.{nat_eq, nat_lt, nat_le, ltb, eqb-true, eq-eqb, zero-mul, unsigned_abs, int_div, int_rem}
-use Rattle.std.proofs.Common.{ltb-true, true≢false}
-use Rattle.std.proofs.Math.IntN.{neg_ℤ-neg_ℤ}
+use Rattle.std.proofs.Common.{nat_eq, nat_lt, nat_le, ltb, eqb-true, eq-eqb, zero-mul}
+use Rattle.std.proofs.Common.{true≢false}
 use Rattle.std.specs.Int.{int_shr, from_bool}
 use Rattle.std.specs.Ordering.{int_eq}
 use Rattle.std.specs.Bool.{one_answer}
 use Rattle.std.proofs.lemmas.Bool.Decides.{Decides-int_eq}
 use borrow.Author.Differences.{up, down}
 use Rattle.std.proofs.lemmas.Int.{ints}
-use Rattle.std.proofs.lemmas.Nat.{and_mask, and_mod, or_mod, xor_mod, one_shl, div_below, div-mul-add, pow-add, and_le_l, or_lt, xor_lt}
+use Rattle.std.proofs.lemmas.Nat.{and_mask, and_mod, or_mod, xor_mod, one_shl, div_below, div-mul-add, pow-add}
+use Rattle.std.proofs.lemmas.Nat.{and_le_l, or_lt, xor_lt}
 use Rattle.std.proofs.Math.Nat.{add-mul-div_right, mul-div_cancel, div-le_self, mod-le}
 use Rattle.std.specs.Int.Signed.{shr_z}
 use Rattle.wg_num.specs.declared.types.IntType.{IntType}
-use Rattle.wg_num.specs.declared.types.IntType.TheVariants.{Bool as BoolType, Char, Uchar, Short, Ushort, Int, Uint, Long, Ulong}
+use Rattle.wg_num.specs.declared.types.IntType.TheVariants.{Bool as BoolType, Char, Uchar, Short, Ushort, Int, Uint}
+use Rattle.wg_num.specs.declared.types.IntType.TheVariants.{Long, Ulong}
 use Rattle.wg_num.specs.declared.types.Un.{Un}
 use Rattle.wg_num.specs.declared.types.Un.TheVariants.{Plus, Minus, Flip, Not}
 use Rattle.wg_num.specs.declared.types.Bin.{Bin}
-use Rattle.wg_num.specs.declared.types.Bin.TheVariants.{Add, Sub, Mul, Div, Rem, Shl, Shr, And, Or, Xor, Eq, Ne, Lt, Le, Gt, Ge}
-use Rattle.wg_num.specs.Wrap.{IsCongruent, IsValue, residue, truth_of, wrap_of, value_of, bits_of, modulus, half, is_bool, is_signed, width_bits}
-use Rattle.wg_num.specs.Operators.{unary_of, unary_exact, binary_of, binary_exact, is_shift, number_of, quotient_of, rest_of}
+use Rattle.wg_num.specs.declared.types.Bin.TheVariants.{Add, Sub, Mul, Div, Rem, Shl, Shr, And, Or, Xor, Eq, Ne, Lt}
+use Rattle.wg_num.specs.declared.types.Bin.TheVariants.{Le, Gt, Ge}
+use Rattle.wg_num.specs.Wrap.{IsCongruent, IsValue, residue, truth_of, wrap_of, value_of, bits_of, modulus, half}
+use Rattle.wg_num.specs.Wrap.{is_bool, is_signed, width_bits}
+use Rattle.wg_num.specs.Operators.{unary_of, unary_exact, binary_of, binary_exact, is_shift, number_of}
 use Rattle.wg_num.proofs.WrapLaws.{residue-lt, residue_congruent, residue_unique, congruent_refl, congruent_sym}
 use Rattle.wg_num.proofs.WrapLaws.{congruent_trans, congruent-add, congruent-sub, congruent-mul, congruent_divides}
 use Rattle.wg_num.proofs.WrapLaws.{wrap_same, wrap_bool, wrap_whole, wrap_value, wrap_congruent, either_type}
 use Rattle.wg_num.proofs.WrapLaws.{some_modulus, half-below, IsValue-value, bits_congruent, value_whole, value_bool}
 use Rattle.wg_num.specs.declared.types.Fun.TheVariants.{Min, Max}
 use Rattle.wg_num.specs.Builtins.{builtin_of}
-use Rattle.lane_values.specs.Lanes.{builtin_lane, FitsLane, IsLane, lane, right_value, binary_value, extended, unary_value, convert_lane}
-use Rattle.lane_kernels.specs.Vectors.{lesser_lane, greater_lane, bias_of, raised, signed_by, divisor_of, quotient_lane, rest_lane, shl_lane, shr_lane}
+use Rattle.lane_values.specs.Lanes.{builtin_lane, FitsLane, IsLane, lane, right_value, binary_value, extended}
+use Rattle.lane_values.specs.Lanes.{unary_value, convert_lane}
+use Rattle.lane_kernels.specs.Vectors.{lesser_lane, greater_lane, bias_of, raised, shl_lane, shr_lane}
 
 module _ (W H : ℕ) (twice : 2 ^ W ≡ H + H) (high : H ≡ 2 ^ (W - 1)) (big : 128 ≤ H) (most : W ≤ 64) where
   pub some_width : (t : IntType) → 0 < width_bits t
@@ -75,7 +79,8 @@ module _ (W H : ℕ) (twice : 2 ^ W ≡ H + H) (high : H ≡ 2 ^ (W - 1)) (big :
   one_stays : 1 % 2 ^ W ≡ 1
   one_stays = mod-eq_of_lt (omega arith)
 
-  pub wrap_same_lane : (t : IntType) (a b : ℤ) → FitsLane W t → is_bool t ≡ false → IsCongruent (2 ^ W) a b → wrap_of t a ≡ wrap_of t b
+  pub wrap_same_lane : (t : IntType) (a b : ℤ) → FitsLane W t → is_bool t ≡ false → IsCongruent (2 ^ W) a b →
+      wrap_of t a ≡ wrap_of t b
   wrap_same_lane t a b n e h = let d = narrow_divides t n in wrap_same t a b e (congruent_divides (modulus t) d.0 d.1 h)
 
   pub lane_congruent : (t : IntType) (p : ℕ) → IsLane W t p → IsCongruent (2 ^ W) (pos p) (value_of t p)
@@ -127,7 +132,8 @@ module _ (W H : ℕ) (twice : 2 ^ W ≡ H + H) (high : H ≡ 2 ^ (W - 1)) (big :
   truth_some (suc n) h = refl
 
   -- a small number is 0 where its lane is
-  truth_small : (r : ℕ) (z : ℤ) → r < 2 ^ W → IsCongruent (2 ^ W) (pos r) z → neg_ℤ (pos 2) ≤ℤ z → z ≤ℤ pos 2 → truth_of (pos r) ≡ truth_of z
+  truth_small : (r : ℕ) (z : ℤ) → r < 2 ^ W → IsCongruent (2 ^ W) (pos r) z → neg_ℤ (pos 2) ≤ℤ z → z ≤ℤ pos 2 →
+      truth_of (pos r) ≡ truth_of z
   truth_small r (pos a) h e lo hi = ap (λ n. truth_of (pos n)) (sym (residue_unique r (pos a) (2 ^ W) h e) ∙
       residue_unique a (pos a) (2 ^ W) (omega (arith, ints)) (congruent_refl (2 ^ W) (pos a)))
   truth_small r (negsuc a) h e lo hi =
@@ -136,35 +142,42 @@ module _ (W H : ℕ) (twice : 2 ^ W ≡ H + H) (high : H ≡ 2 ^ (W - 1)) (big :
       truth_some r (omega (arith, ints, is, few))
 
   -- an operator without a shift: the lane r stands for its result
-  pub lane_by : (op : Bin) (t : IntType) (r p q : ℕ) → is_shift op ≡ false → FitsLane W t → IsLane W t p → IsLane W t q → r < 2 ^ W
+  pub lane_by : (op : Bin) (t : IntType) (r p q : ℕ) → is_shift op ≡ false → FitsLane W t → IsLane W t p →
+      IsLane W t q → r < 2 ^ W
       → IsCongruent (2 ^ W) (pos r) (binary_exact op t (value_of t p) (value_of t q))
-      → ((x y : ℕ) → x ≤ 1 → y ≤ 1 → (neg_ℤ (pos 2) ≤ℤ binary_exact op t (pos x) (pos y)) × (binary_exact op t (pos x) (pos y) ≤ℤ pos 2))
+      → ((x y : ℕ) → x ≤ 1 → y ≤ 1 → (neg_ℤ (pos 2) ≤ℤ binary_exact op t (pos x) (pos y)) ×
+      (binary_exact op t (pos x) (pos y) ≤ℤ pos 2))
       → value_of t r ≡ binary_value op t p q
   unfolding binary_of
   lane_by op t r p q s n l m h c few =
       stands t r (binary_exact op t (value_of t p) (value_of t q)) n (λ e. c)
       (λ e.
       let at = ap₂ (binary_exact op t) (value_lane_bool t p e l) (value_lane_bool t q e m) in
-      let f = few p q (⊎_elim (λ i. omega arith) (λ i. omega arith) (lane_bool t p e l)) (⊎_elim (λ i. omega arith) (λ i. omega arith) (lane_bool t q e m)) in
-      truth_small r (binary_exact op t (value_of t p) (value_of t q)) h c (subst (λ z. neg_ℤ (pos 2) ≤ℤ z) (sym at) f.0) (subst (λ z. z ≤ℤ pos 2) (sym at) f.1))
+      let f = few p q (⊎_elim (λ i. omega arith) (λ i. omega arith) (lane_bool t p e l))
+      (⊎_elim (λ i. omega arith) (λ i. omega arith) (lane_bool t q e m)) in
+      truth_small r (binary_exact op t (value_of t p) (value_of t q)) h c (subst (λ z. neg_ℤ (pos 2) ≤ℤ z) (sym at) f.0)
+      (subst (λ z. z ≤ℤ pos 2) (sym at) f.1))
       ∙ ap (λ y. wrap_of t (binary_exact op t (value_of t p) y)) (sym (right_is_value op t q s))
 
-  some_lane : 0 < 2 ^ W
+  pub some_lane : 0 < 2 ^ W
   some_lane = pow_pos W
 
-  pub lane_add : (t : IntType) → FitsLane W t → (p q : ℕ) → IsLane W t p → IsLane W t q → value_of t ((p + q) % 2 ^ W) ≡ binary_value Add t p q
+  pub lane_add : (t : IntType) → FitsLane W t → (p q : ℕ) → IsLane W t p → IsLane W t q → value_of t ((p + q) % 2 ^ W) ≡
+      binary_value Add t p q
   lane_add t n p q l r = lane_by Add t ((p + q) % 2 ^ W) p q refl n l r (mod-lt (p + q) some_lane)
       (congruent_trans (mod_congruent (p + q)) (congruent-add (lane_congruent t p l) (lane_congruent t q r)))
       (λ x y u v. (omega (arith, ints), omega (arith, ints)))
 
-  pub lane_sub : (t : IntType) → FitsLane W t → (p q : ℕ) → IsLane W t p → IsLane W t q → value_of t ((p + (2 ^ W - q)) % 2 ^ W) ≡ binary_value Sub t p q
+  pub lane_sub : (t : IntType) → FitsLane W t → (p q : ℕ) → IsLane W t p → IsLane W t q →
+      value_of t ((p + (2 ^ W - q)) % 2 ^ W) ≡ binary_value Sub t p q
   lane_sub t n p q l r = lane_by Sub t ((p + (2 ^ W - q)) % 2 ^ W) p q refl n l r (mod-lt (p + (2 ^ W - q)) some_lane)
       (congruent_trans (mod_congruent (p + (2 ^ W - q))) (congruent_trans (let h = lane-lt t q r in
       record { more = 0; less = 1; same = omega (arith, ints) })
       (congruent-sub (lane_congruent t p l) (lane_congruent t q r))))
       (λ x y u v. (omega (arith, ints), omega (arith, ints)))
 
-  pub lane_mul : (t : IntType) → FitsLane W t → (p q : ℕ) → IsLane W t p → IsLane W t q → value_of t ((p * q) % 2 ^ W) ≡ binary_value Mul t p q
+  pub lane_mul : (t : IntType) → FitsLane W t → (p q : ℕ) → IsLane W t p → IsLane W t q → value_of t ((p * q) % 2 ^ W) ≡
+      binary_value Mul t p q
   lane_mul t n p q l r = lane_by Mul t ((p * q) % 2 ^ W) p q refl n l r (mod-lt (p * q) some_lane)
       (congruent_trans (mod_congruent (p * q)) (congruent-mul (lane_congruent t p l) (lane_congruent t q r)))
       (λ x y u v. let few = mul-le-mul u v in (omega (arith, ints), omega (arith, ints, few)))
@@ -182,18 +195,21 @@ module _ (W H : ℕ) (twice : 2 ^ W ≡ H + H) (high : H ≡ 2 ^ (W - 1)) (big :
   mod-mod_narrow t n h =
       let d = narrow_divides t h in
       residue_unique (n % modulus t) (pos (n % 2 ^ W)) (modulus t) (mod-lt n (some_modulus t))
-      (congruent_trans (residue_congruent (pos n) (modulus t) (some_modulus t)) (congruent_sym (congruent_divides (modulus t) d.0 d.1 (mod_congruent n))))
+      (congruent_trans (residue_congruent (pos n) (modulus t) (some_modulus t))
+      (congruent_sym (congruent_divides (modulus t) d.0 d.1 (mod_congruent n))))
 
   masked : (t : IntType) (n : ℕ) → bit_and n (modulus t - 1) ≡ n % modulus t
   unfolding modulus
   masked t n = and_mask n (width_bits t)
 
-  pub extend_whole : (t : IntType) (p : ℕ) → FitsLane W t → is_bool t ≡ false → (bit_and ((p + half t) % 2 ^ W) (modulus t - 1) + (2 ^ W - half t)) % 2 ^ W ≡ extended W t p
+  pub extend_whole : (t : IntType) (p : ℕ) → FitsLane W t → is_bool t ≡ false →
+      (bit_and ((p + half t) % 2 ^ W) (modulus t - 1) + (2 ^ W - half t)) % 2 ^ W ≡ extended W t p
   unfolding value_of
   extend_whole t p n e =
       let h = half t in
       let x = (p + h) % modulus t in
-      let same : bit_and ((p + h) % 2 ^ W) (modulus t - 1) ≡ x = masked t ((p + h) % 2 ^ W) ∙ mod-mod_narrow t (p + h) n in
+      let same : bit_and ((p + h) % 2 ^ W) (modulus t - 1) ≡ x = masked t ((p + h) % 2 ^ W) ∙
+      mod-mod_narrow t (p + h) n in
       let below = half-below t in
       let most = modulus_narrow t n in
       ap (λ y. (y + (2 ^ W - h)) % 2 ^ W) same
@@ -206,8 +222,11 @@ module _ (W H : ℕ) (twice : 2 ^ W ≡ H + H) (high : H ≡ 2 ^ (W - 1)) (big :
   extend_bool t p e = by (nat_eq p 0) refl
     where
       by : (b : Bool) → nat_eq p 0 ≡ b → cond (not (nat_eq p 0)) 1 0 ≡ extended W t p
-      by true h = ap (λ b. cond (not b) 1 0) h ∙ sym (ap (λ x. residue (value_of t x) (2 ^ W)) (eqb-true p 0 h) ∙ ap (λ z. residue z (2 ^ W)) (value_zero t e) ∙ nothing)
-      by false h = ap (λ b. cond (not b) 1 0) h ∙ sym (ap (λ z. residue z (2 ^ W)) (wrap_bool t (pos p) e ∙ other p h) ∙ one_stays)
+      by true h = ap (λ b. cond (not b) 1 0) h ∙ sym
+          (ap (λ x. residue (value_of t x) (2 ^ W)) (eqb-true p 0 h) ∙ ap (λ z. residue z (2 ^ W)) (value_zero t e) ∙
+          nothing)
+      by false h = ap (λ b. cond (not b) 1 0) h ∙ sym
+          (ap (λ z. residue z (2 ^ W)) (wrap_bool t (pos p) e ∙ other p h) ∙ one_stays)
         where
           other : (q : ℕ) → nat_eq q 0 ≡ false → truth_of (pos q) ≡ pos 1
           other zero h = cc
@@ -231,7 +250,8 @@ module _ (W H : ℕ) (twice : 2 ^ W ≡ H + H) (high : H ≡ 2 ^ (W - 1)) (big :
   bits_low : (t : IntType) (p : ℕ) → IsLane W t p → bits_of (value_of t p) % 2 ^ W ≡ p
   bits_low t p l =
       residue_unique p (pos (bits_of (value_of t p))) (2 ^ W) (lane-lt t p l)
-      (congruent_trans (lane_congruent t p l) (congruent_sym (congruent_divides (2 ^ W) (2 ^ (64 - W)) wide_divides (bits_congruent (value_of t p)))))
+      (congruent_trans (lane_congruent t p l) (congruent_sym
+      (congruent_divides (2 ^ W) (2 ^ (64 - W)) wide_divides (bits_congruent (value_of t p)))))
 
   same_low : (n r : ℕ) → n % 2 ^ W ≡ r → IsCongruent (2 ^ W) (pos r) (pos n)
   same_low n r e = subst (λ x. IsCongruent (2 ^ W) (pos x) (pos n)) e (mod_congruent n)
@@ -240,14 +260,26 @@ module _ (W H : ℕ) (twice : 2 ^ W ≡ H + H) (high : H ≡ 2 ^ (W - 1)) (big :
   unfolding bits_of
   bit_small x h = mod-eq_of_lt (omega arith)
 
-  pub lane_and : (t : IntType) → FitsLane W t → (p q : ℕ) → IsLane W t p → IsLane W t q → value_of t (bit_and p q) ≡ binary_value And t p q
-  lane_and t n p q l r = lane_by And t (bit_and p q) p q refl n l r (let h = lane-lt t p l in omega (arith, and_le_l p q))
+  pub lane_and : (t : IntType) → FitsLane W t → (p q : ℕ) → IsLane W t p → IsLane W t q → value_of t (bit_and p q) ≡
+      binary_value And t p q
+  lane_and t n p q l r = lane_by And t (bit_and p q) p q refl n l r
+      (let h = lane-lt t p l in omega (arith, and_le_l p q))
       (same_low (bit_and (bits_of (value_of t p)) (bits_of (value_of t q))) (bit_and p q)
       (and_mod (bits_of (value_of t p)) (bits_of (value_of t q)) W ∙
       ap₂ bit_and (bits_low t p l) (bits_low t q r)))
-      (λ x y u v. (omega (arith, ints), omega (arith, ints, and_le_l (bits_of (pos x)) (bits_of (pos y)), bit_small x u)))
+      (λ x y u v. (
+        omega (arith, ints),
+        omega (
+          arith,
+          ints,
+          and_le_l (bits_of (pos x))
+              (bits_of (pos y)),
+          bit_small x u,
+        ),
+      ))
 
-  pub lane_or : (t : IntType) → FitsLane W t → (p q : ℕ) → IsLane W t p → IsLane W t q → value_of t (bit_or p q) ≡ binary_value Or t p q
+  pub lane_or : (t : IntType) → FitsLane W t → (p q : ℕ) → IsLane W t p → IsLane W t q → value_of t (bit_or p q) ≡
+      binary_value Or t p q
   lane_or t n p q l r = lane_by Or t (bit_or p q) p q refl n l r (or_lt W p q (lane-lt t p l) (lane-lt t q r))
       (same_low (bit_or (bits_of (value_of t p)) (bits_of (value_of t q))) (bit_or p q)
       (or_mod (bits_of (value_of t p)) (bits_of (value_of t q)) W ∙ ap₂ bit_or (bits_low t p l) (bits_low t q r)))
@@ -256,7 +288,8 @@ module _ (W H : ℕ) (twice : 2 ^ W ≡ H + H) (high : H ≡ 2 ^ (W - 1)) (big :
         bit_small y v,
       )) in (omega (arith, ints), omega (arith, ints, few)))
 
-  pub lane_xor : (t : IntType) → FitsLane W t → (p q : ℕ) → IsLane W t p → IsLane W t q → value_of t (bit_xor p q) ≡ binary_value Xor t p q
+  pub lane_xor : (t : IntType) → FitsLane W t → (p q : ℕ) → IsLane W t p → IsLane W t q → value_of t (bit_xor p q) ≡
+      binary_value Xor t p q
   lane_xor t n p q l r = lane_by Xor t (bit_xor p q) p q refl n l r (xor_lt W p q (lane-lt t p l) (lane-lt t q r))
       (same_low (bit_xor (bits_of (value_of t p)) (bits_of (value_of t q))) (bit_xor p q)
       (xor_mod (bits_of (value_of t p)) (bits_of (value_of t q)) W ∙
@@ -276,11 +309,13 @@ module _ (W H : ℕ) (twice : 2 ^ W ≡ H + H) (high : H ≡ 2 ^ (W - 1)) (big :
   unfolding half
   half_none t e = ap (λ b. cond b (2 ^ (width_bits t - 1)) 0) e
 
-  pub lane_range : (t : IntType) → FitsLane W t → (half t ≤ bias_of W t) × (modulus t - 1 - half t + bias_of W t < 2 ^ W) × (1 + bias_of W t < 2 ^ W)
+  pub lane_range : (t : IntType) → FitsLane W t → (half t ≤ bias_of W t) ×
+      (modulus t - 1 - half t + bias_of W t < 2 ^ W) × (1 + bias_of W t < 2 ^ W)
   unfolding modulus
   lane_range t n = by (is_signed t) refl
     where
-      by : (b : Bool) → is_signed t ≡ b → (half t ≤ bias_of W t) × (2 ^ width_bits t - 1 - half t + bias_of W t < 2 ^ W) × (1 + bias_of W t < 2 ^ W)
+      by : (b : Bool) → is_signed t ≡ b → (half t ≤ bias_of W t) ×
+          (2 ^ width_bits t - 1 - half t + bias_of W t < 2 ^ W) × (1 + bias_of W t < 2 ^ W)
       by true e =
           let bias : bias_of W t ≡ H = ap (λ b. cond b (2 ^ (W - 1)) 0) e ∙ sym high in
           let h = half_is t e in
@@ -288,7 +323,8 @@ module _ (W H : ℕ) (twice : 2 ^ W ≡ H + H) (high : H ≡ 2 ^ (W - 1)) (big :
           let less : width_bits t - 1 ≤ W - 1 = omega (arith, n) in
           let small = pow_mono less in
           let split : width_bits t ≡ 1 + (width_bits t - 1) = omega (arith, some) in
-          let double : 2 ^ width_bits t ≡ 2 * 2 ^ (width_bits t - 1) = ap (λ k. 2 ^ k) split ∙ pow-add 2 1 (width_bits t - 1) in
+          let double : 2 ^ width_bits t ≡ 2 * 2 ^ (width_bits t - 1) = ap (λ k. 2 ^ k) split ∙
+          pow-add 2 1 (width_bits t - 1) in
           (omega (arith, bias, h, small, high), omega (arith, bias, h, small, high, double), omega (arith, bias))
       by false e =
           let bias : bias_of W t ≡ 0 = ap (λ b. cond b (2 ^ (W - 1)) 0) e in
@@ -297,14 +333,17 @@ module _ (W H : ℕ) (twice : 2 ^ W ≡ H + H) (high : H ≡ 2 ^ (W - 1)) (big :
           (omega (arith, bias, h), omega (arith, bias, h, small, pow_pos (width_bits t)), omega (arith, bias))
 
   -- a value of a narrow type, raised, is a number of 32 bits
-  value_range : (t : IntType) (z : ℤ) → FitsLane W t → IsValue t z → (neg_ℤ (pos (bias_of W t)) ≤ℤ z) × ((z +ℤ pos (bias_of W t)) ≤ℤ pos (2 ^ W - 1))
+  pub value_range : (t : IntType) (z : ℤ) → FitsLane W t → IsValue t z → (neg_ℤ (pos (bias_of W t)) ≤ℤ z) ×
+      ((z +ℤ pos (bias_of W t)) ≤ℤ pos (2 ^ W - 1))
   value_range t z n v =
       let r = lane_range t n in (
         omega (arith, ints, r.0, v.low),
-        ⊎_elim (λ e. let b = value_bool t z e v in omega (arith, ints, r.2, b.1)) (λ e. let b = value_whole t z e v in omega (arith, ints, r.1, b)) (either_type t),
+        ⊎_elim (λ e. let b = value_bool t z e v in omega (arith, ints, r.2, b.1))
+            (λ e. let b = value_whole t z e v in omega (arith, ints, r.1, b)) (either_type t),
       )
 
-  pub raise_is : (t : IntType) (p : ℕ) → FitsLane W t → IsLane W t p → pos (raised W (bias_of W t) p) ≡ value_of t p +ℤ pos (bias_of W t)
+  pub raise_is : (t : IntType) (p : ℕ) → FitsLane W t → IsLane W t p → pos (raised W (bias_of W t) p) ≡
+      value_of t p +ℤ pos (bias_of W t)
   raise_is t p n l =
       let b = bias_of W t in
       let v = value_of t p in
@@ -321,7 +360,7 @@ module _ (W H : ℕ) (twice : 2 ^ W ≡ H + H) (high : H ≡ 2 ^ (W - 1)) (big :
       ap pos (sym second ∙ first) ∙ is
 
   -- tests of numbers that are raised alike
-  lt_raised : (x y b : ℕ) (v w : ℤ) → pos x ≡ v +ℤ pos b → pos y ≡ w +ℤ pos b → ltb x y ≡ int_lt v w
+  pub lt_raised : (x y b : ℕ) (v w : ℤ) → pos x ≡ v +ℤ pos b → pos y ≡ w +ℤ pos b → ltb x y ≡ int_lt v w
   lt_raised x y b v w e f = by (ltb x y) refl
     where
       by : (t : Bool) → ltb x y ≡ t → ltb x y ≡ int_lt v w
@@ -345,26 +384,39 @@ module _ (W H : ℕ) (twice : 2 ^ W ≡ H + H) (high : H ≡ 2 ^ (W - 1)) (big :
   lane_test : (op : Bin) (t : IntType) (b : Bool) (p q : ℕ) → is_shift op ≡ false →
       number_of b ≡ binary_exact op t (value_of t p) (value_of t q) → value_of t (from_bool b) ≡ binary_value op t p q
   unfolding binary_of value_of
-  lane_test op t b p q s e = ap (wrap_of t) e ∙ ap (λ y. wrap_of t (binary_exact op t (value_of t p) y)) (sym (right_is_value op t q s))
+  lane_test op t b p q s e = ap (wrap_of t) e ∙ ap (λ y. wrap_of t (binary_exact op t (value_of t p) y))
+      (sym (right_is_value op t q s))
 
   module _ (t : IntType) (n : FitsLane W t) (p q : ℕ) (l : IsLane W t p) (r : IsLane W t q) where
-    pub lane_eq : value_of t (from_bool (nat_eq (raised W (bias_of W t) p) (raised W (bias_of W t) q))) ≡ binary_value Eq t p q
-    lane_eq = lane_test Eq t _ p q refl (ap number_of (eq_raised _ _ (bias_of W t) (value_of t p) (value_of t q) (raise_is t p n l) (raise_is t q n r)))
+    pub lane_eq : value_of t (from_bool (nat_eq (raised W (bias_of W t) p) (raised W (bias_of W t) q))) ≡
+        binary_value Eq t p q
+    lane_eq = lane_test Eq t _ p q refl (ap number_of
+        (eq_raised _ _ (bias_of W t) (value_of t p) (value_of t q) (raise_is t p n l) (raise_is t q n r)))
 
-    pub lane_ne : value_of t (from_bool (not (nat_eq (raised W (bias_of W t) p) (raised W (bias_of W t) q)))) ≡ binary_value Ne t p q
-    lane_ne = lane_test Ne t _ p q refl (ap (λ b. number_of (not b)) (eq_raised _ _ (bias_of W t) (value_of t p) (value_of t q) (raise_is t p n l) (raise_is t q n r)))
+    pub lane_ne : value_of t (from_bool (not (nat_eq (raised W (bias_of W t) p) (raised W (bias_of W t) q)))) ≡
+        binary_value Ne t p q
+    lane_ne = lane_test Ne t _ p q refl (ap (λ b. number_of (not b))
+        (eq_raised _ _ (bias_of W t) (value_of t p) (value_of t q) (raise_is t p n l) (raise_is t q n r)))
 
-    pub lane_lt : value_of t (from_bool (nat_lt (raised W (bias_of W t) p) (raised W (bias_of W t) q))) ≡ binary_value Lt t p q
-    lane_lt = lane_test Lt t _ p q refl (ap number_of (lt_raised _ _ (bias_of W t) (value_of t p) (value_of t q) (raise_is t p n l) (raise_is t q n r)))
+    pub lane_lt : value_of t (from_bool (nat_lt (raised W (bias_of W t) p) (raised W (bias_of W t) q))) ≡
+        binary_value Lt t p q
+    lane_lt = lane_test Lt t _ p q refl (ap number_of
+        (lt_raised _ _ (bias_of W t) (value_of t p) (value_of t q) (raise_is t p n l) (raise_is t q n r)))
 
-    pub lane_le : value_of t (from_bool (nat_le (raised W (bias_of W t) p) (raised W (bias_of W t) q))) ≡ binary_value Le t p q
-    lane_le = lane_test Le t _ p q refl (ap number_of (le_raised _ _ (bias_of W t) (value_of t p) (value_of t q) (raise_is t p n l) (raise_is t q n r)))
+    pub lane_le : value_of t (from_bool (nat_le (raised W (bias_of W t) p) (raised W (bias_of W t) q))) ≡
+        binary_value Le t p q
+    lane_le = lane_test Le t _ p q refl (ap number_of
+        (le_raised _ _ (bias_of W t) (value_of t p) (value_of t q) (raise_is t p n l) (raise_is t q n r)))
 
-    pub lane_gt : value_of t (from_bool (nat_lt (raised W (bias_of W t) q) (raised W (bias_of W t) p))) ≡ binary_value Gt t p q
-    lane_gt = lane_test Gt t _ p q refl (ap number_of (lt_raised _ _ (bias_of W t) (value_of t q) (value_of t p) (raise_is t q n r) (raise_is t p n l)))
+    pub lane_gt : value_of t (from_bool (nat_lt (raised W (bias_of W t) q) (raised W (bias_of W t) p))) ≡
+        binary_value Gt t p q
+    lane_gt = lane_test Gt t _ p q refl (ap number_of
+        (lt_raised _ _ (bias_of W t) (value_of t q) (value_of t p) (raise_is t q n r) (raise_is t p n l)))
 
-    pub lane_ge : value_of t (from_bool (nat_le (raised W (bias_of W t) q) (raised W (bias_of W t) p))) ≡ binary_value Ge t p q
-    lane_ge = lane_test Ge t _ p q refl (ap number_of (le_raised _ _ (bias_of W t) (value_of t q) (value_of t p) (raise_is t q n r) (raise_is t p n l)))
+    pub lane_ge : value_of t (from_bool (nat_le (raised W (bias_of W t) q) (raised W (bias_of W t) p))) ≡
+        binary_value Ge t p q
+    lane_ge = lane_test Ge t _ p q refl (ap number_of
+        (le_raised _ _ (bias_of W t) (value_of t q) (value_of t p) (raise_is t q n r) (raise_is t p n l)))
 
   -- ---- shifts, by any amount
 
@@ -382,17 +434,23 @@ module _ (W H : ℕ) (twice : 2 ^ W ≡ H + H) (high : H ≡ 2 ^ (W - 1)) (big :
   amount_below : (t : IntType) (q : ℕ) → FitsLane W t → q % width_bits t < W
   amount_below t q n = omega (arith, mod-lt q (some_width t), n)
 
-  pub lane_shl : (t : IntType) → FitsLane W t → (p q : ℕ) → IsLane W t p → value_of t (shl_lane W (width_bits t) p q) ≡ binary_value Shl t p q
+  pub lane_shl : (t : IntType) → FitsLane W t → (p q : ℕ) → IsLane W t p → value_of t (shl_lane W (width_bits t) p q) ≡
+      binary_value Shl t p q
   unfolding binary_of right_value
   lane_shl t n p q l =
       let k = q % width_bits t in
       stands t (shl_lane W (width_bits t) p q) (value_of t p *ℤ pos (2 ^ k)) n
-      (λ e. congruent_trans (mod_congruent (p * 2 ^ k)) (congruent-mul (lane_congruent t p l) (congruent_refl (2 ^ W) (pos (2 ^ k)))))
+      (λ e. congruent_trans (mod_congruent (p * 2 ^ k))
+      (congruent-mul (lane_congruent t p l) (congruent_refl (2 ^ W) (pos (2 ^ k)))))
       (λ e. ⊎_elim
-      (λ i. ap (λ x. truth_of (pos (x * 2 ^ k % 2 ^ W))) i ∙ ap (λ x. truth_of (pos (x % 2 ^ W))) (zero-mul (2 ^ k)) ∙ ap (λ x. truth_of (pos x)) nothing
-      ∙ sym (ap (λ z. truth_of (z *ℤ pos (2 ^ k))) (value_lane_bool t p e l ∙ ap pos i) ∙ ap (λ x. truth_of (pos x)) (zero-mul (2 ^ k))))
-      (λ i. ap (λ x. truth_of (pos (x * 2 ^ k % 2 ^ W))) i ∙ ap (λ x. truth_of (pos x)) (one_shl k W (amount_below t q n)) ∙ truth_some (2 ^ k) (pow_pos k)
-      ∙ sym (ap (λ z. truth_of (z *ℤ pos (2 ^ k))) (value_lane_bool t p e l ∙ ap pos i) ∙ truth_some (1 * 2 ^ k) (omega (arith, pow_pos k))))
+      (λ i. ap (λ x. truth_of (pos (x * 2 ^ k % 2 ^ W))) i ∙ ap (λ x. truth_of (pos (x % 2 ^ W))) (zero-mul (2 ^ k)) ∙
+      ap (λ x. truth_of (pos x)) nothing
+      ∙ sym (ap (λ z. truth_of (z *ℤ pos (2 ^ k))) (value_lane_bool t p e l ∙ ap pos i) ∙
+      ap (λ x. truth_of (pos x)) (zero-mul (2 ^ k))))
+      (λ i. ap (λ x. truth_of (pos (x * 2 ^ k % 2 ^ W))) i ∙
+      ap (λ x. truth_of (pos x)) (one_shl k W (amount_below t q n)) ∙ truth_some (2 ^ k) (pow_pos k)
+      ∙ sym (ap (λ z. truth_of (z *ℤ pos (2 ^ k))) (value_lane_bool t p e l ∙ ap pos i) ∙
+      truth_some (1 * 2 ^ k) (omega (arith, pow_pos k))))
       (lane_bool t p e l))
 
   -- the bias is a multiple of the shift's power
@@ -400,7 +458,12 @@ module _ (W H : ℕ) (twice : 2 ^ W ≡ H + H) (high : H ≡ 2 ^ (W - 1)) (big :
   bias_divides t k h = by (is_signed t) refl
     where
       by : (b : Bool) → is_signed t ≡ b → (c : ℕ) × (bias_of W t ≡ c * 2 ^ k)
-      by true e = let s : (W - 1) ≡ (W - 1 - k) + k = omega arith in (2 ^ (W - 1 - k), ap (λ b. cond b (2 ^ (W - 1)) 0) e ∙ ap (λ x. 2 ^ x) s ∙ pow-add 2 (W - 1 - k) k)
+      by true e = let s : (W - 1) ≡ (W - 1 - k) + k =
+          omega arith in (
+            2 ^ (W - 1 - k),
+            ap (λ b. cond b (2 ^ (W - 1)) 0) e ∙ ap (λ x. 2 ^ x) s ∙
+                pow-add 2 (W - 1 - k) k,
+          )
       by false e = (0, ap (λ b. cond b (2 ^ (W - 1)) 0) e ∙ sym (zero-mul (2 ^ k)))
 
   -- a raised number shifted, and the bias shifted, differ by the shifted value
@@ -444,12 +507,16 @@ module _ (W H : ℕ) (twice : 2 ^ W ≡ H + H) (high : H ≡ 2 ^ (W - 1)) (big :
       let is : c ≡ d.0 = ap (λ y. y / m) d.1 ∙ mul-div_cancel d.0 (pow_pos k) in
       let whole : b ≡ c * m = d.1 ∙ ap (λ y. y * m) (sym is) in
       let x = raised W b p / m in
-      let e : pos x -ℤ pos c ≡ shr_z (value_of t p) m = shr_raised (raised W b p) c m (value_of t p) (pow_pos k) (raise_is t p n l ∙ ap (λ y. value_of t p +ℤ pos y) whole) in
+      let e : pos x -ℤ pos c ≡ shr_z (value_of t p) m =
+      shr_raised (raised W b p) c m (value_of t p) (pow_pos k)
+      (raise_is t p n l ∙ ap (λ y. value_of t p +ℤ pos y) whole) in
       let low : c ≤ b = div-le_self b m in
       let top = lane_range t n in
-      congruent_trans (mod_congruent (x + (2 ^ W - c))) (record { more = 0; less = 1; same = omega (arith, ints, e, low, top.2) })
+      congruent_trans (mod_congruent (x + (2 ^ W - c)))
+      (record { more = 0; less = 1; same = omega (arith, ints, e, low, top.2) })
 
-  pub lane_shr : (t : IntType) → FitsLane W t → (p q : ℕ) → IsLane W t p → value_of t (shr_lane W (bias_of W t) (width_bits t) p q) ≡ binary_value Shr t p q
+  pub lane_shr : (t : IntType) → FitsLane W t → (p q : ℕ) → IsLane W t p →
+      value_of t (shr_lane W (bias_of W t) (width_bits t) p q) ≡ binary_value Shr t p q
   unfolding binary_of right_value
   lane_shr t n p q l =
       let k = q % width_bits t in
@@ -458,83 +525,10 @@ module _ (W H : ℕ) (twice : 2 ^ W ≡ H + H) (high : H ≡ 2 ^ (W - 1)) (big :
       (λ e. c)
       (λ e. let b = value_bool t (value_of t p) e (IsValue-value t p) in
       let s = shr_small (value_of t p) (2 ^ k) b.0 b.1 in
-      ap truth_of (small_same (shr_lane W (bias_of W t) (width_bits t) p q) (int_shr (value_of t p) k) (mod-lt _ (omega arith)) c s.0 s.1))
+      ap truth_of (small_same (shr_lane W (bias_of W t) (width_bits t) p q) (int_shr (value_of t p) k)
+      (mod-lt _ (omega arith)) c s.0 s.1))
 
-  -- ---- division
-
-  congruent-neg : {m : ℕ} {a b : ℤ} → IsCongruent m a b → IsCongruent m (neg_ℤ a) (neg_ℤ b)
-  congruent-neg {m} {a} {b} e = record { more = e.less; less = e.more; same = omega (arith, ints, e.same) }
-
-  -- z, or its negative
-  signed_as : Bool → ℤ → ℤ
-  signed_as s z = cond s (neg_ℤ z) z
-
-  congruent_signed : {a b : ℤ} (s : Bool) → IsCongruent (2 ^ W) a b → IsCongruent (2 ^ W) (signed_as s a) (signed_as s b)
-  unfolding signed_as
-  congruent_signed true e = congruent-neg e
-  congruent_signed false e = e
-
-  -- the lane's sign is that of its value
-  sign_lane : (t : IntType) (p : ℕ) → FitsLane W t → IsLane W t p → nat_lt (raised W (bias_of W t) p) (bias_of W t) ≡ int_lt (value_of t p) (pos 0)
-  sign_lane t p n l = lt_raised (raised W (bias_of W t) p) (bias_of W t) (bias_of W t) (value_of t p) (pos 0) (raise_is t p n l) (omega (arith, ints))
-
-  signed_congruent : (t : IntType) (p x : ℕ) → FitsLane W t → IsLane W t p → x ≤ 2 ^ W →
-      IsCongruent (2 ^ W) (pos (signed_by W (bias_of W t) p x)) (signed_as (int_lt (value_of t p) (pos 0)) (pos x))
-  unfolding signed_as
-  signed_congruent t p x n l h = by (int_lt (value_of t p) (pos 0)) (sign_lane t p n l)
-    where
-      by : (s : Bool) → nat_lt (raised W (bias_of W t) p) (bias_of W t) ≡ s → IsCongruent (2 ^ W) (pos (signed_by W (bias_of W t) p x)) (cond s (neg_ℤ (pos x)) (pos x))
-      by true e = subst (λ b. IsCongruent (2 ^ W) (pos (cond b ((0 + (2 ^ W - x)) % 2 ^ W) x)) (neg_ℤ (pos x))) (sym e)
-          (congruent_trans (mod_congruent (0 + (2 ^ W - x))) (record { more = 0; less = 1; same = omega (arith, ints) }))
-      by false e = subst (λ b. IsCongruent (2 ^ W) (pos (cond b ((0 + (2 ^ W - x)) % 2 ^ W) x)) (pos x)) (sym e) (congruent_refl (2 ^ W) (pos x))
-
-  signed-lt : (bias s x : ℕ) → x < 2 ^ W → signed_by W bias s x < 2 ^ W
-  signed-lt bias s x h = by (nat_lt (raised W bias s) bias)
-    where
-      by : (b : Bool) → cond b ((0 + (2 ^ W - x)) % 2 ^ W) x < 2 ^ W
-      by true = mod-lt (0 + (2 ^ W - x)) (omega arith)
-      by false = h
-
-  abs_signed : (v : ℤ) → signed_as (int_lt v (pos 0)) v ≡ pos (unsigned_abs v)
-  unfolding signed_as
-  abs_signed (pos zero) = refl
-  abs_signed (pos (suc n)) = grind (arith, ints)
-  abs_signed (negsuc n) = refl
-
-  -- the magnitude of a lane is that of its value
-  magnitude : (t : IntType) (p : ℕ) → FitsLane W t → IsLane W t p → signed_by W (bias_of W t) p p ≡ unsigned_abs (value_of t p)
-  magnitude t p n l =
-      let v = value_of t p in
-      let s = int_lt v (pos 0) in
-      let small = lane-lt t p l in
-      let e : IsCongruent (2 ^ W) (pos (signed_by W (bias_of W t) p p)) (pos (unsigned_abs v)) =
-      congruent_trans (signed_congruent t p p n l (omega arith))
-      (subst (λ z. IsCongruent (2 ^ W) (signed_as s (pos p)) z) (abs_signed v)
-      (congruent_signed s (lane_congruent t p l))) in
-      let r = value_range t v n (IsValue-value t p) in
-      let top = lane_range t n in
-      sym (residue_unique (signed_by W (bias_of W t) p p) (pos (unsigned_abs v)) (2 ^ W) (signed-lt (bias_of W t) p p small) e)
-      ∙ residue_unique (unsigned_abs v) (pos (unsigned_abs v)) (2 ^ W) (omega (arith, ints, r.0, r.1, top.2)) (congruent_refl (2 ^ W) (pos (unsigned_abs v)))
-
-  not_negative : (a : ℕ) (z : ℤ) → signed_as (ltb a 0) z ≡ z
-  unfolding signed_as
-  not_negative a z = by (ltb a 0) refl
-    where
-      by : (b : Bool) → ltb a 0 ≡ b → cond (ltb a 0) (neg_ℤ z) z ≡ z
-      by true e = absurd (omega (arith, ltb-true a 0 e))
-      by false e = ap (λ b. cond b (neg_ℤ z) z) e
-
-  div_signed : (v w : ℤ) → signed_as (int_lt w (pos 0)) (signed_as (int_lt v (pos 0)) (pos (unsigned_abs v / unsigned_abs w))) ≡ int_div v w
-  unfolding signed_as
-  div_signed (pos a) (pos b) = not_negative b (signed_as (ltb a 0) (pos (a / b))) ∙ not_negative a (pos (a / b))
-  div_signed (pos a) (negsuc b) = ap neg_ℤ (not_negative a (pos (a / suc b)))
-  div_signed (negsuc a) (pos b) = not_negative b (neg_ℤ (pos (suc a / b)))
-  div_signed (negsuc a) (negsuc b) = neg_ℤ-neg_ℤ (pos (suc a / suc b))
-
-  rem_signed : (v w : ℤ) → signed_as (int_lt v (pos 0)) (pos (unsigned_abs v % unsigned_abs w)) ≡ int_rem v w
-  unfolding signed_as
-  rem_signed (pos a) w = not_negative a (pos (a % unsigned_abs w))
-  rem_signed (negsuc a) w = refl
+  -- ---- zero
 
   not_under_zero : (b : Bool) (m n : ℕ) → pos 0 ≤ℤ cond b (pos m) (pos n)
   not_under_zero true m n = omega (arith, ints)
@@ -542,100 +536,24 @@ module _ (W H : ℕ) (twice : 2 ^ W ≡ H + H) (high : H ≡ 2 ^ (W - 1)) (big :
 
   pub value_of_zero : (t : IntType) → value_of t 0 ≡ pos 0
   unfolding value_of
-  value_of_zero t = wrap_value t (pos 0) (record { low = omega (arith, ints); high = not_under_zero (is_bool t) 1 (modulus t - 1 - half t) })
+  value_of_zero t = wrap_value t (pos 0) (record {
+    low = omega (arith, ints);
+    high = not_under_zero (is_bool t) 1
+        (modulus t - 1 - half t);
+  })
 
   -- a lane is 0 where its value is
-  zero_lane : (t : IntType) (q : ℕ) → IsLane W t q → nat_eq q 0 ≡ int_eq (value_of t q) (pos 0)
+  pub zero_lane : (t : IntType) (q : ℕ) → IsLane W t q → nat_eq q 0 ≡ int_eq (value_of t q) (pos 0)
   unfolding lane
   zero_lane t q l = one_answer _ _ (
     (λ h. ap (value_of t) (eqb-true q 0 h) ∙ value_of_zero t),
     (λ h. eq-eqb q 0 (sym l.same ∙ ap (λ z. residue z (2 ^ W)) h ∙ nothing)),
   ) (Decides-int_eq (value_of t q) (pos 0))
 
-  abs_zero : (w : ℤ) → unsigned_abs w ≡ 0 → w ≡ pos 0
-  abs_zero w e = omega (arith, ints, e)
-
-  -- where the value is not 0
-  divisor_is : (t : IntType) (q : ℕ) → FitsLane W t → IsLane W t q → int_eq (value_of t q) (pos 0) ≡ false → divisor_of W (bias_of W t) q ≡ unsigned_abs (value_of t q)
-  divisor_is t q n r e = by (nat_eq (signed_by W (bias_of W t) q q) 0) refl
-    where
-      by : (b : Bool) → nat_eq (signed_by W (bias_of W t) q q) 0 ≡ b → divisor_of W (bias_of W t) q ≡ unsigned_abs (value_of t q)
-      by true h =
-          absurd (true≢false (sym ((Decides-int_eq (value_of t q) (pos 0)).1
-          (abs_zero (value_of t q) (sym (magnitude t q n r) ∙ eqb-true (signed_by W (bias_of W t) q q) 0 h))) ∙
-          e))
-      by false h = ap (λ b. cond b 1 (signed_by W (bias_of W t) q q)) h ∙ magnitude t q n r
-
-  -- a quotient of lanes that are not divided by 0, and a rest
-  divided : (t : IntType) (p q : ℕ) → FitsLane W t → IsLane W t p → IsLane W t q → int_eq (value_of t q) (pos 0) ≡ false
-      →
-      IsCongruent (2 ^ W) (pos (signed_by W (bias_of W t) q
-      (signed_by W (bias_of W t) p (signed_by W (bias_of W t) p p / divisor_of W (bias_of W t) q))))
-      (int_div (value_of t p) (value_of t q))
-  divided t p q n l r e =
-      let v = value_of t p in
-      let w = value_of t q in
-      let z = unsigned_abs v / unsigned_abs w in
-      let y = signed_by W (bias_of W t) p z in
-      let is = ap₂ (λ a d. signed_by W (bias_of W t) q (signed_by W (bias_of W t) p (a / d))) (magnitude t p n l) (divisor_is t q n r e) in
-      let small : z < 2 ^ W = omega (arith, div-le_self (unsigned_abs v) (unsigned_abs w), magnitude t p n l, signed-lt (bias_of W t) p p (lane-lt t p l)) in
-      let least = signed-lt (bias_of W t) p z small in
-      subst₂ (λ a c. IsCongruent (2 ^ W) (pos a) c) (sym is) (div_signed v w)
-      (congruent_trans (signed_congruent t q y n r (omega arith)) (congruent_signed (int_lt w (pos 0)) (signed_congruent t p z n l (omega arith))))
-
-  left_over : (t : IntType) (p q : ℕ) → FitsLane W t → IsLane W t p → IsLane W t q → int_eq (value_of t q) (pos 0) ≡ false
-      → IsCongruent (2 ^ W) (pos (signed_by W (bias_of W t) p (signed_by W (bias_of W t) p p % divisor_of W (bias_of W t) q))) (int_rem (value_of t p) (value_of t q))
-  left_over t p q n l r e =
-      let v = value_of t p in
-      let w = value_of t q in
-      let z = unsigned_abs v % unsigned_abs w in
-      let is = ap₂ (λ a d. signed_by W (bias_of W t) p (a % d)) (magnitude t p n l) (divisor_is t q n r e) in
-      let small : z < 2 ^ W = omega (arith, mod-le (unsigned_abs v) (unsigned_abs w), magnitude t p n l, signed-lt (bias_of W t) p p (lane-lt t p l)) in
-      subst₂ (λ a c. IsCongruent (2 ^ W) (pos a) c) (sym is) (rem_signed v w) (signed_congruent t p z n l (omega arith))
-
-  -- one choice made by two tests that agree
-  chosen : (a b : Bool) (x x' : ℕ) (z z' : ℤ) → a ≡ b → (b ≡ true → IsCongruent (2 ^ W) (pos x) z) →
-      (b ≡ false → IsCongruent (2 ^ W) (pos x') z') → IsCongruent (2 ^ W) (pos (cond a x x')) (cond b z z')
-  chosen true true x x' z z' e f g = f refl
-  chosen false false x x' z z' e f g = g refl
-  chosen true false x x' z z' e f g = absurd (true≢false e)
-  chosen false true x x' z z' e f g = absurd (true≢false (sym e))
-
-  quotient_congruent : (t : IntType) (p q : ℕ) → FitsLane W t → IsLane W t p → IsLane W t q →
-      IsCongruent (2 ^ W) (pos (quotient_lane W (bias_of W t) p q)) (quotient_of (value_of t p) (value_of t q))
-  quotient_congruent t p q n l r = chosen _ _ 0 _ (pos 0) _ (zero_lane t q r) (λ e. congruent_refl (2 ^ W) (pos 0)) (λ e. divided t p q n l r e)
-
-  rest_congruent : (t : IntType) (p q : ℕ) → FitsLane W t → IsLane W t p → IsLane W t q →
-      IsCongruent (2 ^ W) (pos (rest_lane W (bias_of W t) p q)) (rest_of (value_of t p) (value_of t q))
-  rest_congruent t p q n l r = chosen _ _ p _ (value_of t p) _ (zero_lane t q r) (λ e. lane_congruent t p l) (λ e. left_over t p q n l r e)
-
-  chosen-lt : (b : Bool) (x y : ℕ) → x < 2 ^ W → y < 2 ^ W → cond b x y < 2 ^ W
-  chosen-lt true x y h k = h
-  chosen-lt false x y h k = k
-
-  chosen_small : (b : Bool) (x y : ℕ) → x ≤ 1 → y ≤ 1 → (neg_ℤ (pos 2) ≤ℤ cond b (pos x) (pos y)) × (cond b (pos x) (pos y) ≤ℤ pos 2)
-  chosen_small true x y h k = (omega (arith, ints), omega (arith, ints))
-  chosen_small false x y h k = (omega (arith, ints), omega (arith, ints))
-
-  pub lane_div : (t : IntType) → FitsLane W t → (p q : ℕ) → IsLane W t p → IsLane W t q → value_of t (quotient_lane W (bias_of W t) p q) ≡ binary_value Div t p q
-  lane_div t n p q l r =
-      let bias = bias_of W t in
-      let size = signed_by W bias p p in
-      let few : size / divisor_of W bias q < 2 ^ W = omega (arith, div-le_self size (divisor_of W bias q), signed-lt bias p p (lane-lt t p l)) in
-      lane_by Div t (quotient_lane W bias p q) p q refl n l r (chosen-lt _ 0 _ some_lane (signed-lt bias q _ (signed-lt bias p _ few)))
-      (quotient_congruent t p q n l r)
-      (λ x y u v. chosen_small (int_eq (pos y) (pos 0)) 0 (x / y) (omega arith) (omega (arith, div-le_self x y)))
-
-  pub lane_rem : (t : IntType) → FitsLane W t → (p q : ℕ) → IsLane W t p → IsLane W t q → value_of t (rest_lane W (bias_of W t) p q) ≡ binary_value Rem t p q
-  lane_rem t n p q l r =
-      let bias = bias_of W t in
-      let size = signed_by W bias p p in
-      let few : size % divisor_of W bias q < 2 ^ W = omega (arith, mod-le size (divisor_of W bias q), signed-lt bias p p (lane-lt t p l)) in
-      lane_by Rem t (rest_lane W bias p q) p q refl n l r (chosen-lt _ p _ (lane-lt t p l) (signed-lt bias p _ few))
-      (rest_congruent t p q n l r)
-      (λ x y u v. chosen_small (int_eq (pos y) (pos 0)) x (x % y) u (omega (arith, mod-le x y)))
-
   -- ---- one operand
+
+  pub congruent-neg : {m : ℕ} {a b : ℤ} → IsCongruent m a b → IsCongruent m (neg_ℤ a) (neg_ℤ b)
+  congruent-neg {m} {a} {b} e = record { more = e.less; less = e.more; same = omega (arith, ints, e.same) }
 
   unary_by : (op : Un) (t : IntType) (r p : ℕ) → FitsLane W t →
       IsCongruent (2 ^ W) (pos r) (unary_exact op (value_of t p)) →
@@ -670,7 +588,8 @@ module _ (W H : ℕ) (twice : 2 ^ W ≡ H + H) (high : H ≡ 2 ^ (W - 1)) (big :
     lane_flip =
         let small = lane-lt t p l in
         let k = lane_congruent t p l in
-        let c : IsCongruent (2 ^ W) (pos (2 ^ W - 1 - p)) (neg_ℤ (value_of t p) -ℤ pos 1) = record { more = k.less; less = k.more + 1; same = omega (arith, ints, k.same) } in
+        let c : IsCongruent (2 ^ W) (pos (2 ^ W - 1 - p)) (neg_ℤ (value_of t p) -ℤ pos 1) =
+        record { more = k.less; less = k.more + 1; same = omega (arith, ints, k.same) } in
         unary_by Flip t (2 ^ W - 1 - p) p n c
         (λ e. let v = value_bool t (value_of t p) e (IsValue-value t p) in
         truth_small _ (neg_ℤ (value_of t p) -ℤ pos 1) (omega arith) c (omega (arith, ints, v.1)) (omega (
@@ -681,7 +600,8 @@ module _ (W H : ℕ) (twice : 2 ^ W ≡ H + H) (high : H ≡ 2 ^ (W - 1)) (big :
 
     pub lane_not : value_of t (cond (nat_eq p 0) 1 0) ≡ unary_value Not t p
     unfolding unary_of value_of
-    lane_not = ap (λ b. wrap_of t (pos (cond b 1 0))) (zero_lane t p l) ∙ ap (wrap_of t) (one (int_eq (value_of t p) (pos 0)))
+    lane_not = ap (λ b. wrap_of t (pos (cond b 1 0))) (zero_lane t p l) ∙
+        ap (wrap_of t) (one (int_eq (value_of t p) (pos 0)))
       where
         one : (b : Bool) → pos (cond b 1 0) ≡ number_of b
         one true = refl
@@ -697,17 +617,21 @@ module _ (W H : ℕ) (twice : 2 ^ W ≡ H + H) (high : H ≡ 2 ^ (W - 1)) (big :
   truth_lane : (t : IntType) (p : ℕ) → IsLane W t p → truth_of (pos p) ≡ truth_of (value_of t p)
   unfolding lane
   truth_lane t zero l = ap truth_of (sym (value_of_zero t))
-  truth_lane t (suc k) l = sym (truth_nonzero (value_of t (suc k)) (λ e. let z : suc k ≡ 0 = sym l.same ∙ ap (λ x. residue x (2 ^ W)) e ∙ nothing in omega arith))
+  truth_lane t (suc k) l = sym (truth_nonzero (value_of t (suc k))
+      (λ e. let z : suc k ≡ 0 = sym l.same ∙ ap (λ x. residue x (2 ^ W)) e ∙ nothing in omega arith))
 
-  pub lane_convert : (to from : IntType) → FitsLane W to → (p : ℕ) → IsLane W from p → extended W to p ≡ convert_lane W to from p
-  lane_convert to from n p l = ap (lane W) (stands to p (value_of from p) n (λ e. lane_congruent from p l) (λ e. truth_lane from p l))
+  pub lane_convert : (to from : IntType) → FitsLane W to → (p : ℕ) → IsLane W from p → extended W to p ≡
+      convert_lane W to from p
+  lane_convert to from n p l = ap (lane W) (stands to p (value_of from p) n (λ e. lane_congruent from p l)
+      (λ e. truth_lane from p l))
 
   -- ---- lanes of any bits
 
   lane_back : (t : IntType) (z : ℤ) → FitsLane W t → IsValue t z → value_of t (lane W z) ≡ z
   unfolding value_of
   lane_back t z n v = ⊎_elim
-      (λ e. let r = value_bool t z e v in ap (wrap_of t) (small_same (lane W z) z (lane_bound z) (lane_is z) r.0 r.1) ∙ wrap_value t z v)
+      (λ e. let r = value_bool t z e v in ap (wrap_of t) (small_same (lane W z) z (lane_bound z) (lane_is z) r.0 r.1) ∙
+      wrap_value t z v)
       (λ e. wrap_same_lane t (pos (lane W z)) z n e (lane_is z) ∙ wrap_value t z v)
       (either_type t)
 
@@ -717,25 +641,32 @@ module _ (W H : ℕ) (twice : 2 ^ W ≡ H + H) (high : H ≡ 2 ^ (W - 1)) (big :
   pub IsLane-extended : (t : IntType) (p : ℕ) → FitsLane W t → IsLane W t (extended W t p)
   IsLane-extended t p n = record { same = ap (lane W) (value-extended t p n) }
 
-  pub binary_extended : (op : Bin) (t : IntType) (p q : ℕ) → FitsLane W t → is_shift op ≡ false → binary_value op t (extended W t p) (extended W t q) ≡ binary_value op t p q
+  pub binary_extended : (op : Bin) (t : IntType) (p q : ℕ) → FitsLane W t → is_shift op ≡ false →
+      binary_value op t (extended W t p) (extended W t q) ≡ binary_value op t p q
   binary_extended op t p q n s =
-      ap₂ (binary_of op t) (value-extended t p n) (right_is_value op t (extended W t q) s ∙ value-extended t q n ∙ sym (right_is_value op t q s))
+      ap₂ (binary_of op t) (value-extended t p n) (right_is_value op t (extended W t q) s ∙ value-extended t q n ∙
+      sym (right_is_value op t q s))
 
-  pub shift_extended : (op : Bin) (t : IntType) (p q : ℕ) → FitsLane W t → binary_value op t (extended W t p) q ≡ binary_value op t p q
+  pub shift_extended : (op : Bin) (t : IntType) (p q : ℕ) → FitsLane W t → binary_value op t (extended W t p) q ≡
+      binary_value op t p q
   shift_extended op t p q n = ap (λ v. binary_of op t v (right_value op t q)) (value-extended t p n)
 
-  pub unary_extended : (op : Un) (t : IntType) (p : ℕ) → FitsLane W t → unary_value op t (extended W t p) ≡ unary_value op t p
+  pub unary_extended : (op : Un) (t : IntType) (p : ℕ) → FitsLane W t → unary_value op t (extended W t p) ≡
+      unary_value op t p
   unary_extended op t p n = ap (unary_of op t) (value-extended t p n)
 
   -- a lane is read as a value of one type, and converted to another
-  pub convert_extended : (to from : IntType) (p : ℕ) → FitsLane W to → FitsLane W from → extended W to (extended W from p) ≡ convert_lane W to from p
+  pub convert_extended : (to from : IntType) (p : ℕ) → FitsLane W to → FitsLane W from →
+      extended W to (extended W from p) ≡ convert_lane W to from p
   convert_extended to from p n m =
-      lane_convert to from n (extended W from p) (IsLane-extended from p m) ∙ ap (λ v. lane W (wrap_of to v)) (value-extended from p m)
+      lane_convert to from n (extended W from p) (IsLane-extended from p m) ∙
+      ap (λ v. lane W (wrap_of to v)) (value-extended from p m)
 
   -- a type that fills the lane leaves its lanes as they are
   pub extend_full : (t : IntType) (p : ℕ) → width_bits t ≡ W → is_bool t ≡ false → p < 2 ^ W → p ≡ extended W t p
   unfolding value_of modulus
-  extend_full t p n b h = sym (lane_unique p (value_of t p) h (congruent_sym (subst (λ w. IsCongruent (2 ^ w) (value_of t p) (pos p)) n (wrap_congruent t (pos p) b))))
+  extend_full t p n b h = sym (lane_unique p (value_of t p) h
+      (congruent_sym (subst (λ w. IsCongruent (2 ^ w) (value_of t p) (pos p)) n (wrap_congruent t (pos p) b))))
 
   pub extended_zero : (t : IntType) → extended W t 0 ≡ 0
   unfolding lane
@@ -744,13 +675,17 @@ module _ (W H : ℕ) (twice : 2 ^ W ≡ H + H) (high : H ≡ 2 ^ (W - 1)) (big :
   -- ---- the lesser and the greater
 
   module _ (t : IntType) (n : FitsLane W t) (p q r : ℕ) where
-    below_as : nat_lt (raised W (bias_of W t) (extended W t q)) (raised W (bias_of W t) (extended W t p)) ≡ int_lt (value_of t q) (value_of t p)
+    below_as : nat_lt (raised W (bias_of W t) (extended W t q)) (raised W (bias_of W t) (extended W t p)) ≡
+        int_lt (value_of t q) (value_of t p)
     below_as =
         lt_raised _ _ (bias_of W t) (value_of t q) (value_of t p)
-        (raise_is t (extended W t q) n (IsLane-extended t q n) ∙ ap (λ v. v +ℤ pos (bias_of W t)) (value-extended t q n))
-        (raise_is t (extended W t p) n (IsLane-extended t p n) ∙ ap (λ v. v +ℤ pos (bias_of W t)) (value-extended t p n))
+        (raise_is t (extended W t q) n (IsLane-extended t q n) ∙
+        ap (λ v. v +ℤ pos (bias_of W t)) (value-extended t q n))
+        (raise_is t (extended W t p) n (IsLane-extended t p n) ∙
+        ap (λ v. v +ℤ pos (bias_of W t)) (value-extended t p n))
 
-    one_of : (b : Bool) (v w : ℤ) → IsValue t v → IsValue t w → cond b (lane W v) (lane W w) ≡ lane W (wrap_of t (cond b v w))
+    one_of : (b : Bool) (v w : ℤ) → IsValue t v → IsValue t w → cond b (lane W v) (lane W w) ≡
+        lane W (wrap_of t (cond b v w))
     one_of true v w i j = ap (lane W) (sym (wrap_value t v i))
     one_of false v w i j = ap (lane W) (sym (wrap_value t w j))
 

@@ -1,4 +1,5 @@
 pub mod AccessLaws
 pub mod ConvertLaws
+pub mod DivisionLaws
 pub mod LaneLaws
 pub mod ListLaws

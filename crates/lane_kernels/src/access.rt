@@ -1,5 +1,5 @@
 //! One element of an object: where it stands, its bytes read and written; and lanes of elements.
-ghost use Rattle.std.specs.Prelude.{◌≡◌, ◌+◌, ◌*◌, ◌/◌, ◌<◌, ◌≤◌, ◌^◌, ◌⊎◌};
+ghost use Rattle.std.specs.Prelude.{◌≡◌, ◌+◌, ◌*◌, ◌<◌, ◌≤◌};
 ghost use Rattle.std.specs.Prelude.{length, take, nat_lt, ℕ, MatchResult, MatchOption, IfErr, OnOk, not, true, false};
 ghost use Rattle.std.specs.Bool.{OnTrue, OnFalse};
 ghost use Rattle.std.specs.Simd.Lanes.{number_l, digits_l, chunk, put_chunk, zip2};

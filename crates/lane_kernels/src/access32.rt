@@ -1,11 +1,10 @@
 //! Loads and stores of narrow lanes.
-ghost use Rattle.std.specs.Prelude.{◌≡◌, ◌+◌, ◌-◌, ◌*◌, ◌<◌, ◌≤◌, ◌^◌, min, length};
-ghost use Rattle.std.specs.Prelude.{take, MatchResult, MatchOption, IfErr, OnOk, not, true, false};
-ghost use Rattle.std.specs.Bool.{OnTrue, OnFalse};
+ghost use Rattle.std.specs.Prelude.{◌≡◌, ◌+◌, ◌-◌, ◌≤◌, ◌^◌, min, length};
+ghost use Rattle.std.specs.Prelude.{take, MatchResult, IfErr, OnOk};
 ghost use Rattle.wg_num.specs.Bytes.{size_of};
 ghost use Rattle.lane_values.specs.Lanes.{FitsLane};
 ghost use Rattle.lane_values.specs.Masks.{IsEmpty, IsLowest};
-ghost use Rattle.lane_values.specs.Access.{is_fault, faults, lane_from, lane_put, loaded, gathered, scattered};
+ghost use Rattle.lane_values.specs.Access.{faults, gathered, scattered};
 
 use crate::access::{gather_narrow, scatter_numbers};
 use crate::lanes32::extend32;
@@ -30,8 +29,9 @@ pub fn gather32<const W: usize>(
         (IsLowest (faults (size_of t) (length bytes.now) mask.entry index.entry)) }
     ensures counted { tally.new ≡ min (tally.old + 1) (2 ^ 64 - 1) }
 {
+    let gathered = gather_narrow(bytes, t, index.to_array(), mask);
     tally.raise();
-    match gather_narrow(bytes, t, index.to_array(), mask) {
+    match gathered {
         Ok(numbers) => Ok(extend32(t, Simd::from_array(numbers)).to_array()),
         Err(lane) => Err(lane),
     }

@@ -1,10 +1,8 @@
 //! Narrow lanes: values of types up to 32 bits, extended to 32 bits.
-ghost use Rattle.std.specs.Prelude.{◌≡◌, ◌≤◌, ◌+◌, ◌-◌, ◌%◌, ◌^◌, min, map, false, not};
-ghost use Rattle.std.specs.Prelude.{nat_eq, if◌then◌else◌};
+ghost use Rattle.std.specs.Prelude.{◌≡◌, ◌≤◌, ◌+◌, ◌-◌, ◌%◌, ◌^◌, min, map, false};
 ghost use Rattle.std.specs.Bool.{OnTrue};
-ghost use Rattle.std.specs.Int.{from_bool};
 ghost use Rattle.std.specs.Simd.Lanes.{zip2, Each1};
-ghost use Rattle.wg_num.specs.Wrap.{half, modulus, width_bits, value_of, is_bool};
+ghost use Rattle.wg_num.specs.Wrap.{half, modulus, width_bits, value_of};
 ghost use Rattle.wg_num.specs.Operators.{is_shift};
 ghost use Rattle.lane_values.specs.Lanes.{FitsLane, IsLane, binary_value, binary_lane, unary_value, unary_lane};
 ghost use Rattle.lane_values.specs.Lanes.{extended};
@@ -95,6 +93,7 @@ fn divisors<const W: usize>(bias: u32, b: Simd<u32, W>) -> Simd<u32, W>
     size.simd_eq(Simd::splat(0)).select(Simd::splat(1), size)
 }
 
+#[inline(never)]
 fn quotients<const W: usize>(bias: u32, a: Simd<u32, W>, b: Simd<u32, W>) -> Simd<u32, W>
     ensures { result ≡ zip2 (quotient_lane 32 bias) a.entry b.entry }
 {
@@ -103,6 +102,7 @@ fn quotients<const W: usize>(bias: u32, a: Simd<u32, W>, b: Simd<u32, W>) -> Sim
     b.simd_eq(Simd::splat(0)).select(Simd::splat(0), quotient)
 }
 
+#[inline(never)]
 fn rests<const W: usize>(bias: u32, a: Simd<u32, W>, b: Simd<u32, W>) -> Simd<u32, W>
     ensures { result ≡ zip2 (rest_lane 32 bias) a.entry b.entry }
 {
@@ -146,6 +146,7 @@ fn shifted_right<const W: usize>(t: IntType, a: Simd<u32, W>, b: Simd<u32, W>) -
 }
 
 /// Numbers whose low bits have the values that the operator gives.
+#[inline(always)]
 fn numbers32<const W: usize>(op: Bin, t: IntType, a: Simd<u32, W>, b: Simd<u32, W>) -> Simd<u32, W>
     requires narrow { FitsLane 32 t }
     requires left { Each1 (IsLane 32 t) a }
@@ -177,6 +178,7 @@ fn numbers32<const W: usize>(op: Bin, t: IntType, a: Simd<u32, W>, b: Simd<u32, 
 }
 
 /// The operator on lanes that hold values of the type.
+#[inline(always)]
 fn values32<const W: usize>(op: Bin, t: IntType, a: Simd<u32, W>, b: Simd<u32, W>) -> Simd<u32, W>
     requires narrow { FitsLane 32 t }
     requires left { Each1 (IsLane 32 t) a }

@@ -1,5 +1,5 @@
 //! Masks: one truth value per lane.
-ghost use Rattle.std.specs.Prelude.{◌≡◌, ◌≤◌, ◌^◌, map, not, nat_eq, MatchOption};
+ghost use Rattle.std.specs.Prelude.{◌≡◌, ◌≤◌, map, not, nat_eq, MatchOption};
 ghost use Rattle.std.specs.List.{list_any, list_all};
 ghost use Rattle.std.specs.Int.{from_bool};
 ghost use Rattle.std.specs.Simd.Lanes.{sel_l};

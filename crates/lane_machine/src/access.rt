@@ -103,19 +103,10 @@ pub(crate) fn load_step<const W: usize>(
             let objects = objects_of(group, n as usize);
             load_own(r, objects, first, t, index, to, mask, tally)
         }
-        Object::Buffer(_) => {
+        Object::Buffer(_) | Object::Table(_) | Object::Local(_) | Object::Missing => {
             let bytes = bytes_of(object, group, buffers, program);
             load_shared(r, bytes, t, index, to, mask, tally)
         }
-        Object::Table(_) => {
-            let bytes = bytes_of(object, group, buffers, program);
-            load_shared(r, bytes, t, index, to, mask, tally)
-        }
-        Object::Local(_) => {
-            let bytes = bytes_of(object, group, buffers, program);
-            load_shared(r, bytes, t, index, to, mask, tally)
-        }
-        Object::Missing => load_shared(r, &[], t, index, to, mask, tally),
     }
 }
 

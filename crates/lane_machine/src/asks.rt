@@ -9,7 +9,7 @@ ghost use Rattle.cl_model.specs.Meaning.{argument_value};
 ghost use Rattle.lane_values.specs.Lanes.{lane};
 ghost use Rattle.lane_code.specs.Registers.{written, lanes_of, bits_in, lane_count};
 ghost use Rattle.lane_code.specs.Acts.{answers};
-ghost use Rattle.lane_code.specs.declared.step.Bank.TheVariants.{Narrow, Wide, Mask, Scalar};
+ghost use Rattle.lane_code.specs.declared.step.Bank.TheVariants.{Mask};
 ghost use Rattle.lane_machine.specs.Sizes.{HasSizes};
 ghost use Rattle.lane_machine.specs.State.{IsIn, FitsAsk};
 

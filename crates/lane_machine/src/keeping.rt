@@ -17,6 +17,7 @@ use lane_kernels::blend64;
 use std::simd::prelude::*;
 
 /// The entry value of a once slot.
+#[inline(never)]
 pub(crate) fn once_get_step<const W: usize>(r: &mut Registers<W>, group: &Group, slot: u32, to: Reg)
     requires slot { slot < length group.now.kept.entries }
     requires to { to.number < length r.old.plain.scalars }
@@ -27,6 +28,7 @@ pub(crate) fn once_get_step<const W: usize>(r: &mut Registers<W>, group: &Group,
 }
 
 /// The exit value of a once slot.
+#[inline(never)]
 pub(crate) fn once_put_step<const W: usize>(
     r: &Registers<W>,
     group: &mut Group,
@@ -43,6 +45,7 @@ pub(crate) fn once_put_step<const W: usize>(
 }
 
 /// The items' answers of the last vote.
+#[inline(never)]
 pub(crate) fn vote_get_step<const W: usize>(
     r: &mut Registers<W>,
     group: &Group,
@@ -59,6 +62,7 @@ pub(crate) fn vote_get_step<const W: usize>(
 }
 
 /// The items' answers of a vote, where they are active.
+#[inline(never)]
 pub(crate) fn vote_put_step<const W: usize>(
     r: &Registers<W>,
     group: &mut Group,
@@ -85,6 +89,7 @@ pub(crate) fn vote_put_step<const W: usize>(
 }
 
 /// The items' values in a column.
+#[inline(never)]
 pub(crate) fn column_get_step<const W: usize>(
     r: &mut Registers<W>,
     group: &Group,
@@ -112,6 +117,7 @@ pub(crate) fn column_get_step<const W: usize>(
 }
 
 /// A column with the active items' values.
+#[inline(never)]
 pub(crate) fn column_put_step<const W: usize>(
     r: &Registers<W>,
     group: &mut Group,

@@ -1,5 +1,5 @@
 //! Loads and stores of private arrays, of which each lane has its own.
-ghost use Rattle.std.specs.Prelude.{◌≡◌, ◌≢◌, ◌<◌, ◌≤◌, ◌^◌, ◌+◌, None, Some, [], true};
+ghost use Rattle.std.specs.Prelude.{◌≡◌, ◌≢◌, ◌<◌, ◌≤◌, ◌^◌, None, Some, [], true};
 ghost use Rattle.std.specs.Prelude.{false, not, length, take, map, slice_index_or, slice_set, if◌then◌else◌};
 ghost use Rattle.std.specs.Prelude.{MatchOption, MatchResult};
 ghost use Rattle.std.specs.Bool.{OnTrue, OnFalse};
@@ -315,6 +315,7 @@ fn load_own_wide<const W: usize>(
 
 /// Loads the active lanes, each from the object of its item; or answers the lowest active lane that
 /// is out of range.
+#[inline(never)]
 pub(crate) fn load_own<const W: usize>(
     r: &mut Registers<W>,
     objects: &[Vec<u8>],
@@ -395,6 +396,7 @@ fn store_objects<const W: usize>(
 }
 
 /// Stores into one of the private arrays.
+#[inline(never)]
 pub(crate) fn store_own<const W: usize>(
     r: &Registers<W>,
     privates: &mut Vec<Vec<Vec<u8>>>,
@@ -451,6 +453,7 @@ fn clear_in<const W: usize>(
 }
 
 /// The active items' private array becomes zero.
+#[inline(never)]
 pub(crate) fn clear_step<const W: usize>(
     r: &Registers<W>,
     group: &mut Group,

@@ -1,5 +1,5 @@
 //! What the work-item functions give an item (OpenCL 1.2, section 6.12.1).
-ghost use Rattle.std.specs.Prelude.{◌≡◌, ◌<◌, ◌≤◌, ◌+◌, ◌*◌, ◌^◌, pos, take};
+ghost use Rattle.std.specs.Prelude.{◌≡◌, ◌<◌, ◌≤◌, ◌+◌, ◌^◌, pos, take};
 ghost use Rattle.cl_model.specs.Sizes.{product, size_at, offset_at, groups_of, groups_at, local_id};
 ghost use Rattle.cl_model.specs.Sizes.{group_id, global_id, answer_within, answer_outside, answer_of};
 ghost use Rattle.cl_model.specs.View.{launch_of, three_of};

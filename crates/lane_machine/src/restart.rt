@@ -1,5 +1,5 @@
 //! The registers at the start of a code.
-ghost use Rattle.std.specs.Prelude.{◌≡◌, ◌<◌, ◌≤◌, ◌^◌, false, replicate};
+ghost use Rattle.std.specs.Prelude.{◌≡◌, ◌<◌, ◌≤◌, ◌^◌, replicate};
 ghost use Rattle.std.specs.Vec.{vec_capacity};
 ghost use Rattle.lane_code.specs.Registers.{existing, start_registers};
 ghost use Rattle.lane_machine.specs.Room.{HasRoom, IsNoLess};

@@ -5,7 +5,7 @@ ghost use Rattle.wg_num.specs.Bytes.{size_of};
 ghost use Rattle.lane_values.specs.Access.{faults, gathered, scattered};
 ghost use Rattle.lane_values.specs.Lanes.{FitsLane};
 ghost use Rattle.lane_code.specs.Registers.{written, lanes_of, mask_of, bits_in, lowest};
-ghost use Rattle.lane_code.specs.declared.step.Bank.TheVariants.{Narrow, Wide, Mask, Scalar};
+ghost use Rattle.lane_code.specs.declared.step.Bank.TheVariants.{Narrow, Wide, Scalar};
 ghost use Rattle.lane_machine.specs.State.{IsIn, FitsBank};
 
 use crate::registers::Registers;

@@ -3,9 +3,6 @@ ghost use Rattle.std.specs.Prelude.{◌≡◌, ◌<◌, ◌≤◌, ◌^◌, fals
 ghost use Rattle.std.specs.Prelude.{slice_index_or, slice_set};
 ghost use Rattle.lane_code.specs.Groups.{window, with_window};
 
-use lane_kernels::blend64;
-use std::simd::prelude::*;
-
 /// The entry at a place, or 0 past the end.
 fn number_at(list: &[u64], at: usize) -> u64
     ensures { result ≡ slice_index_or list.now at 0 }

@@ -8,6 +8,7 @@ use Rattle.wg_num.specs.Wrap.{value_of, width_bits}
 use Rattle.wg_num.specs.Operators.{is_shift}
 use Rattle.lane_values.specs.Lanes.{FitsLane, IsLane, binary_value}
 use Rattle.lane_kernels.specs.Vectors.{bias_of, raised, quotient_lane, rest_lane, shl_lane, shr_lane}
+use Rattle.lane_kernels.proofs.DivisionLaws.{lane_div, lane_rem}
 use Rattle.lane_kernels.proofs.LaneLaws as K
 use Rattle.lane_kernels.proofs.ListLaws as L
 use Rattle.lane_kernels.proofs.ListLaws.{add_in, sub_in}
@@ -40,13 +41,13 @@ returns g c =
       | in-Div w ↦ ap (map (value_of t)) (w.result-is ∙ w.quotients.ensures ∙
           ap (λ m. zip2 ((quotient_lane 32) m) a b) c.bias-lift.ensures) ∙
           L.lanes_same 32 31 4294967295 refl refl (IsLane 32 t) (IsLane 32 t) (value_of t)
-          ((quotient_lane 32) ((bias_of 32) t)) (binary_value Div t) (K.lane_div 32 (2 ^ 31) refl refl (omega arith)
+          ((quotient_lane 32) ((bias_of 32) t)) (binary_value Div t) (lane_div 32 (2 ^ 31) refl refl (omega arith)
           (omega arith) t n) a b left (c.requires.right (ap is_shift w.in-Div.is)) ∙
           ap (λ o. zip2 (binary_value o t) a b) (sym w.in-Div.is)
       | in-Rem w ↦ ap (map (value_of t)) (w.result-is ∙ w.rests.ensures ∙
           ap (λ m. zip2 ((rest_lane 32) m) a b) c.bias-lift.ensures) ∙
           L.lanes_same 32 31 4294967295 refl refl (IsLane 32 t) (IsLane 32 t) (value_of t)
-          ((rest_lane 32) ((bias_of 32) t)) (binary_value Rem t) (K.lane_rem 32 (2 ^ 31) refl refl (omega arith)
+          ((rest_lane 32) ((bias_of 32) t)) (binary_value Rem t) (lane_rem 32 (2 ^ 31) refl refl (omega arith)
           (omega arith) t n) a b left (c.requires.right (ap is_shift w.in-Rem.is)) ∙
           ap (λ o. zip2 (binary_value o t) a b) (sym w.in-Rem.is)
       | in-Shl w ↦ ap (map (value_of t)) (w.result-is ∙ w.shifted_left.ensures) ∙
