@@ -1,7 +1,6 @@
 use Rattle.std.proofs.Common.{◌≡◌, ◌∙◌, ap, refl, map, replicate, cond, not, eqb, length, rules}
 use Rattle.std.specs.Simd.Lanes.{zip2, sel_l, top}
 use Rattle.lane_kernels.proofs.ListLaws as L
-use Rattle.lane_kernels.proofs.ListLaws.{full_select}
 use Rattle.lane_kernels.proofs.masks.partly64.Goals as goal
 
 pub returns : goal.returns
