@@ -28,13 +28,13 @@ returns-in-Err-clause-only c =
 pub returns-clause-refused : goal.returns-clause-refused
 returns-clause-refused c =
     over_refused c.args.places.now c.args.kernel.now c.in_ok-asked.asked.kernel (view c.args.unit.now)
-    (asked_of c.in_ok-asked.asked) c.in-Ok.program c.in-Some.field-0 c.in-Some.fault c.start_token.result
+    (asked_of c.in_ok-asked.asked) c.in-Ok.program c.in_ok-limit_of-in-Ok.field-0 c.in-Some.fault c.start_token.result
     (views c.deref-in-Some.result.now)
     c.in_ok-asked.ensures (ap (λ (a : Asked). a.kernel) c.in_ok-asked.ensures) c.in-Ok.ensures.sound
     c.in-Ok.ensures.program
-    (c.in-Some.ensures ∙ ap (λ (l : List Call).
+    (c.in_ok-limit_of-in-Ok.ensures ∙ ap (λ (l : List Call).
     limit_of (sized_of (view c.args.unit.now) (map call_of l) c.in-Ok.program)) c.deref.ensures.value)
-    c.in-Some.field-0-is
+    c.in-Some.is
     (ap (λ (l : List Tree). views l) c.deref-in-Some.ensures.value ∙ parts_is c.args.unit.now) c.start_token.ensures
 
 pub returns-clause-never_accepted : goal.returns-clause-never_accepted
