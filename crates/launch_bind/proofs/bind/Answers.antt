@@ -3,8 +3,8 @@ use Rattle.launch_file.specs.Binding.{Needs, launch_refusal, part_at}
 use Rattle.launch_file.specs.Texts.{text_of}
 use Rattle.launch_bind.proofs.bind.Goals as goal
 
-pub returns-in-Ok-clause-refused : goal.returns-in-Ok-clause-refused
-returns-in-Ok-clause-refused c =
+pub returns-clause-refused : goal.returns-clause-refused
+returns-clause-refused c =
     λ first is. subst (λ (n : Needs). launch_refusal n (text_of c.args.text.now).buffers
-    (part_at (text_of c.args.text.now) c.args.which) ≡ Some first) c.in-Ok.ensures
+    (part_at (text_of c.args.text.now) c.args.which) ≡ Some first) c.in_ok-asked.ensures
     (c.bind_kernel.ensures.refused first is)
