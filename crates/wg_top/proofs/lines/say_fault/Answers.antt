@@ -6,5 +6,8 @@ returns-clause-said g c = rw (
   c.format.ensures.text,
   c.as_bytes-2.ensures.value,
   c.format-2.ensures.text,
+  c.as_bytes-3.ensures.value,
+  c.format-3.ensures.text,
+  c.number.ensures,
   c.requires,
 ) at c.say.ensures.said
