@@ -15,7 +15,7 @@ use Rattle.cl_meaning.specs.Meant.{MadeParts, meant, parts_meant}
 use Rattle.cl_scope.specs.Walk.{departed}
 use Rattle.cl_faults.specs.View.{looked_in}
 use Rattle.cl_faults.specs.Least.{IsLeast}
-use Rattle.cl_piece.specs.Making.{make_at}
+use Rattle.cl_fragment.specs.Making.{make_at}
 use Rattle.cl_check.specs.declared.error.CheckError.{CheckError}
 use Rattle.cl_check.specs.declared.error.CheckError.TheVariants as errors
 

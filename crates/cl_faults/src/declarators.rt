@@ -13,10 +13,10 @@ use crate::kinds::is_number;
 use crate::looked::Looked;
 use crate::targets::changes_root;
 use cl_meaning::{Declared, Each, Kind, constant_of, same_space};
-use cl_model::Space;
+use cl_model::{Space, product_of};
 use cl_scope::{
     Declarator, declarator_in, dims_of, has_list, initialiser_count, is_at_outermost, is_at_unit,
-    pointed_space, product_of,
+    pointed_space,
 };
 use cl_tree::{Form, Tree};
 use std::alloc::Global;

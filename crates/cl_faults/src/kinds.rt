@@ -1,9 +1,12 @@
 //! Kinds, and those of elements, casts and commas.
 
-ghost use Rattle.std.specs.Prelude.{◌≡◌};
+ghost use Rattle.std.specs.Prelude.{◌≡◌, Some};
 ghost use Rattle.cl_meaning.specs.Kinds as spec;
+ghost use Rattle.cl_meaning.specs.declared.kind.Kind.TheVariants as kinds;
+ghost use Rattle.cl_meaning.specs.declared.kind.Reach.TheVariants as reach;
 
 use cl_meaning::{Declared, Each, Kind, Reach};
+use cl_model::{Root, Space};
 use wg_num::IntType;
 
 /// The kind of a number that is no more than its value.
@@ -87,6 +90,20 @@ pub fn cast_kind(declared: Option<Declared>, kind: Kind) -> Option<Kind>
     }
 }
 
+/// The kind of an element or a row of an array of more dimensions, which is a pointer and no variable.
+fn part_kind(space: Space, element: IntType, constant: bool, root: Root, each: Each) -> Option<Kind>
+    ensures { result ≡ Some (kinds.Pointer space element constant root each reach.Value) }
+{
+    Some(Kind::Pointer {
+        space,
+        element,
+        constant,
+        root,
+        each,
+        reach: Reach::Value,
+    })
+}
+
 /// What indexing an array or a pointer reaches (C99, section 6.5.2.1); `None` for other kinds.
 pub fn element_kind(kind: Kind) -> Option<Kind>
     ensures { result ≡ spec.element_kind kind }
@@ -114,14 +131,7 @@ pub fn element_kind(kind: Kind) -> Option<Kind>
             root,
             each: Each::Row { .. },
             ..
-        } => Some(Kind::Pointer {
-            space,
-            element,
-            constant,
-            root,
-            each: Each::Element,
-            reach: Reach::Value,
-        }),
+        } => part_kind(space, element, constant, root, Each::Element),
         Kind::Pointer {
             space,
             element,
@@ -129,14 +139,7 @@ pub fn element_kind(kind: Kind) -> Option<Kind>
             root,
             each: Each::Plane { length, .. },
             ..
-        } => Some(Kind::Pointer {
-            space,
-            element,
-            constant,
-            root,
-            each: Each::Row { length },
-            reach: Reach::Value,
-        }),
+        } => part_kind(space, element, constant, root, Each::Row { length }),
         _ => None,
     }
 }

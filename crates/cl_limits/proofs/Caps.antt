@@ -3,7 +3,7 @@ use Rattle.std.proofs.Common.{◌≡◌, ℕ, zero, suc, ◌+◌, ◌*◌, ◌�
 use Rattle.std.proofs.Common.{add-one, ap, sym, ◌∙◌, inl, inr, arith}
 use Rattle.std.proofs.Math.Nat.{mul-le-mul_left}
 use Rattle.std.proofs.lemmas.Bool.{cases_lt}
-use Rattle.cl_meaning.specs.Declarations.{product}
+use Rattle.cl_model.specs.Sizes.{product}
 
 many : (x c m : ℕ) → m ≤ x → m ≤ x * suc c
 many x c m h = omega (arith, mul-le-mul_left x (let k : 1 ≤ suc c = omega arith in k))

@@ -6,7 +6,7 @@ use Rattle.cl_model.specs.declared.program.Space.{Space}
 use Rattle.cl_model.specs.declared.program.Space.TheVariants as spaces
 use Rattle.cl_tree.specs.Syntax.{Syntax, node, Forest, none, more}
 use Rattle.cl_meaning.specs.Environment.{Array}
-use Rattle.cl_meaning.specs.Declarations.{product}
+use Rattle.cl_model.specs.Sizes.{product}
 use Rattle.cl_meaning.specs.Faults.{Call}
 use Rattle.cl_meaning.specs.Typed.{Function}
 

@@ -1,7 +1,7 @@
 //! The memory of functions without those that they call.
 
 ghost use Rattle.std.specs.Prelude.{◌≡◌, min, map};
-ghost use Rattle.cl_meaning.specs.Declarations.{product};
+ghost use Rattle.cl_model.specs.Sizes.{product};
 ghost use Rattle.cl_meaning.specs.View.{array_of, function_of};
 ghost use Rattle.cl_limits.specs.Limits as spec;
 

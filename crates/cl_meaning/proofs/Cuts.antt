@@ -5,7 +5,7 @@ use Rattle.std.specs.List.{filter, slice_split, before_first, after_first, posit
 use Rattle.std.proofs.lemmas.List.{take_all, drop_all}
 use Rattle.std.proofs.lemmas.List.Splits.{slice_split_first}
 use Rattle.std.proofs.lemmas.Bool.{cases_lt}
-use Rattle.cl_meaning.specs.Pieces.{is_blank, has_bytes, pieces}
+use Rattle.cl_meaning.specs.OwnWords.{is_blank, has_bytes, pieces}
 
 test_is : (b : Bool) → (b ≡ true) ⊎ (b ≡ false)
 test_is true = inl refl

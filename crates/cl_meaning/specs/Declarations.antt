@@ -10,6 +10,7 @@ use Rattle.cl_model.specs.declared.program.Root.{Root}
 use Rattle.cl_model.specs.declared.program.Root.TheVariants as roots
 use Rattle.cl_model.specs.declared.program.VarKind.{VarKind}
 use Rattle.cl_model.specs.declared.program.VarKind.TheVariants as var_kinds
+use Rattle.cl_model.specs.Sizes.{product}
 use Rattle.cl_tree.specs.declared.tree.Form.{Form}
 use Rattle.cl_tree.specs.declared.tree.Form.TheVariants as forms
 use Rattle.cl_tree.specs.Syntax.{Syntax, node, Forest, none, more, last_of}
@@ -134,10 +135,6 @@ with_length _ _ = None
 abbrev pub lengths_in : List Syntax → Option (List ℕ)
 lengths_in [] = Some []
 lengths_in (t ∷ ts) = with_length (length_in t) (lengths_in ts)
-
-abbrev pub product : List ℕ → ℕ
-product [] = 1
-product (n ∷ ns) = n * product ns
 
 -- lengths that an array can have: three at most, and so many elements at most
 abbrev pub allowed : Option (List ℕ) → Option (List ℕ)

@@ -45,7 +45,8 @@ use Rattle.cl_meaning.specs.Kinds.{is_number, is_target, is_fixed, is_constant_m
 use Rattle.cl_meaning.specs.Kinds.{all_known, Callee, defined, undefined, known, is_fence, callee_of, arity_fits}
 use Rattle.cl_meaning.specs.Kinds.{call_fits, are_flags_alone, first_part, kind_step}
 use Rattle.cl_meaning.specs.Declarations.{Declarator, declarator_in, is_list, initialisers, initial_values, last_kind}
-use Rattle.cl_meaning.specs.Declarations.{dims_of, product, natural, pointed_space, first_type, second_star}
+use Rattle.cl_model.specs.Sizes.{product}
+use Rattle.cl_meaning.specs.Declarations.{dims_of, natural, pointed_space, first_type, second_star}
 use Rattle.cl_meaning.specs.Declarations.{signature_in, listed, form_of, word_of}
 use Rattle.cl_meaning.specs.Visible.{Node, inside, kinds_of, visible_at}
 

@@ -1,7 +1,7 @@
 pub mod Literals
 pub mod Names
 pub mod Operators
-pub mod Pieces
+pub mod OwnWords
 pub mod Spelling
 pub mod Types
 pub mod Constants

@@ -4,7 +4,7 @@ use Rattle.wg_num.specs.declared.types.IntType.{IntType}
 use Rattle.cl_token.specs.declared.number.Literal.{Literal}
 use Rattle.cl_token.specs.declared.number.LiteralError.{LiteralError}
 use Rattle.cl_token.specs.NumberReading.{outcome_of}
-use Rattle.cl_meaning.specs.Pieces.{Row, looked_up}
+use Rattle.cl_meaning.specs.OwnWords.{Row, looked_up}
 
 abbrev pub truths : List (Row ℤ)
 truths =

@@ -10,7 +10,7 @@ use Rattle.cl_meaning.specs.declared.names.Intrinsic.{Intrinsic}
 use Rattle.cl_meaning.specs.declared.names.Intrinsic.TheVariants as intrinsic
 use Rattle.cl_meaning.specs.declared.names.Flag.{Flag}
 use Rattle.cl_meaning.specs.declared.names.Flag.TheVariants as flag
-use Rattle.cl_meaning.specs.Pieces.{pieces, Row, looked_up}
+use Rattle.cl_meaning.specs.OwnWords.{pieces, Row, looked_up}
 
 abbrev pub intrinsics : List (Row Intrinsic)
 intrinsics =

@@ -10,7 +10,7 @@ use Rattle.cl_meaning.specs.declared.operators.Postfix.{Postfix}
 use Rattle.cl_meaning.specs.declared.operators.Postfix.TheVariants as postfix
 use Rattle.cl_meaning.specs.declared.operators.Setting.{Setting}
 use Rattle.cl_meaning.specs.declared.operators.Setting.TheVariants as setting
-use Rattle.cl_meaning.specs.Pieces.{Row, looked_up}
+use Rattle.cl_meaning.specs.OwnWords.{Row, looked_up}
 
 abbrev pub binary_operators : List (Row Bin)
 binary_operators =

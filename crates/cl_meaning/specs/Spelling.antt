@@ -1,5 +1,5 @@
 -- What the own words of a node say.
-pub use Rattle.cl_meaning.specs.Pieces.{pieces, name_in}
+pub use Rattle.cl_meaning.specs.OwnWords.{pieces, name_in}
 unfoldable pub use Rattle.cl_meaning.specs.Types.{base_in, space_in}
 pub use Rattle.cl_meaning.specs.Types.{is_const, declared_in, is_outside}
 unfoldable pub use Rattle.cl_meaning.specs.Operators.{binary_in, setting_in, prefix_in, postfix_in}

@@ -13,7 +13,7 @@ use Rattle.cl_tree.specs.Words as words
 use Rattle.cl_meaning.specs.declared.types.Base.{Base}
 use Rattle.cl_meaning.specs.declared.types.Base.TheVariants.{Integer, Outside}
 use Rattle.cl_meaning.specs.declared.types.Declared.{Declared}
-use Rattle.cl_meaning.specs.Pieces.{pieces, Row, first_row, looked_up}
+use Rattle.cl_meaning.specs.OwnWords.{pieces, Row, first_row, looked_up}
 
 abbrev pub is_qualifier : List ℕ → Test
 is_qualifier p = is_among p (codes "const" ∷ codes "volatile" ∷ [])

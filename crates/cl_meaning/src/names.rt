@@ -3,7 +3,7 @@
 ghost use Rattle.std.specs.Prelude.{◌≡◌};
 ghost use Rattle.cl_meaning.specs.Names as spec;
 
-use crate::pieces::{count_pieces, has_piece};
+use crate::own_words::{count_pieces, has_piece};
 use crate::table::{is_one_of, look_up};
 use cl_model::Query;
 use wg_num::Fun;

@@ -2,7 +2,7 @@
 
 ghost use Rattle.std.specs.Prelude.{◌≡◌, map};
 ghost use Rattle.cl_tree.specs.Words.{is_among};
-ghost use Rattle.cl_meaning.specs.Pieces.{looked_up};
+ghost use Rattle.cl_meaning.specs.OwnWords.{looked_up};
 
 /// Whether the word is one of these.
 pub(crate) fn is_one_of(word: &[u8], words: &[&str]) -> bool

@@ -2,11 +2,11 @@
 
 ghost use Rattle.std.specs.Prelude.{◌≡◌, ◌<◌, length, IfSome, map, false};
 ghost use Rattle.std.specs.List.{list_any};
-ghost use Rattle.cl_meaning.specs.Pieces.{listed, first_row};
+ghost use Rattle.cl_meaning.specs.OwnWords.{listed, first_row};
 ghost use Rattle.cl_meaning.specs.Types as spec;
 ghost use Rattle.cl_tree.specs.Syntax.{view, views};
 
-use crate::pieces::{has_piece, next_piece};
+use crate::own_words::{has_piece, next_piece};
 use crate::table::{is_one_of, look_up};
 use cl_model::Space;
 use cl_tree::{Form, Tree};

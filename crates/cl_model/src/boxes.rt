@@ -2,19 +2,8 @@
 
 ghost use Rattle.std.specs.Prelude.{◌≡◌, IfOk, option_map};
 
-use crate::program::{Expr, Stmt};
 use std::alloc::Global;
-use wg_num::Memory;
-
-// A value behind a box.
-fn boxed_value<T: Drop>(alloc: Global, value: T) -> Result<Box<T>, Memory>
-    ensures { IfOk result (λ b. b.value ≡ value) }
-{
-    match Box::new(alloc, value) {
-        Ok(b) => Ok(b),
-        Err(_) => Err(Memory),
-    }
-}
+use wg_num::{Memory, boxed};
 
 /// A value behind a box, with what is kept beside it; where memory runs out, both are dropped.
 pub(crate) fn boxed_beside<T: Drop, K: Drop>(
@@ -25,7 +14,7 @@ pub(crate) fn boxed_beside<T: Drop, K: Drop>(
     ensures value { IfOk result (λ r. r.0.value ≡ value) }
     ensures kept { IfOk result (λ r. r.1 ≡ kept) }
 {
-    let value = boxed_value(alloc, value)?;
+    let value = boxed(alloc, value)?;
     Ok((value, kept))
 }
 
@@ -41,22 +30,8 @@ pub(crate) fn optional_beside<T: Drop, K: Drop>(
     match value {
         None => Ok((None, kept)),
         Some(value) => {
-            let value = boxed_value(alloc, value)?;
+            let value = boxed(alloc, value)?;
             Ok((Some(value), kept))
         }
     }
-}
-
-/// An expression behind a box.
-pub(crate) fn boxed(alloc: Global, e: Expr) -> Result<Box<Expr>, Memory>
-    ensures { IfOk result (λ b. b.value ≡ e) }
-{
-    boxed_value(alloc, e)
-}
-
-/// A statement behind a box.
-pub(crate) fn boxed_statement(alloc: Global, s: Stmt) -> Result<Box<Stmt>, Memory>
-    ensures { IfOk result (λ b. b.value ≡ s) }
-{
-    boxed_value(alloc, s)
 }

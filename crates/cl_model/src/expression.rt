@@ -6,10 +6,10 @@ ghost use Rattle.cl_model.specs.Tree as tree;
 ghost use Rattle.cl_model.specs.Tree.{Apply, Choose, single, pair, truth_of, decided};
 ghost use Rattle.cl_model.specs.Listed.{listed_roots, listed_arguments};
 
-use crate::boxes::{boxed, boxed_beside};
+use crate::boxes::boxed_beside;
 use crate::program::{Arg, Expr, Query, Root, Target};
 use std::alloc::Global;
-use wg_num::{Bin, Fun, IntType, Memory, Un};
+use wg_num::{Bin, Fun, IntType, Memory, Un, boxed};
 
 /// An operator on one operand, which computes in the type `of` (C99, section 6.5.3.3).
 pub fn unary(alloc: Global, op: Un, of: IntType, a: Expr) -> Result<Expr, Memory>

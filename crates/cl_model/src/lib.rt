@@ -9,6 +9,7 @@ mod law_programs;
 pub mod laws;
 pub mod program;
 pub mod statement;
+pub mod tables;
 pub mod types;
 
 pub use launch::{Bound, Buffers, Launch};
@@ -16,4 +17,5 @@ pub use program::{
     Arg, Array, Expr, Function, Program, Query, Root, Space, Stmt, SwitchArm, Table, Target, Var,
     VarKind,
 };
+pub use tables::{bytes_of_array, copy_array, copy_table, copy_tables, product_of};
 pub use types::{arity_of, query_type};

@@ -3,7 +3,7 @@ use Rattle.std.proofs.Common.{ℕ, suc, [], ◌∷◌, ◌++◌, ◌*◌, ◌+�
 use Rattle.std.proofs.Common.{sym, ap, ◌∙◌, arith}
 use Rattle.std.specs.Simd.Lanes.{digits_l}
 use Rattle.std.proofs.lemmas.List.{drop_more, append_assoc}
-use Rattle.cl_meaning.specs.Declarations.{product}
+use Rattle.cl_model.specs.Sizes.{product}
 
 pub product_more : (ns : List ℕ) (i : ℕ) (n p more : ℕ) → i < length ns → n ≡ get_or ns i 0 → more ≡ p * n →
     p * product (drop i ns) ≡ more * product (drop (i + 1) ns)

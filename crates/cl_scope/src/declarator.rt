@@ -3,6 +3,7 @@ ghost use Rattle.std.specs.Prelude.{◌≡◌, ◌≤◌, ◌&&◌, ◌∷◌, [
 ghost use Rattle.std.specs.Prelude.{length, IfOk, IfSome};
 ghost use Rattle.std.specs.List.{All};
 ghost use Rattle.cl_tree.specs.Syntax.{view, views};
+ghost use Rattle.cl_model.specs.Sizes.{product};
 ghost use Rattle.cl_meaning.specs.Declarations as spec;
 ghost use Rattle.cl_scope.specs.Declarators.{declarator_view};
 
@@ -157,7 +158,7 @@ fn lengths_in(alloc: Global, trees: &[Tree]) -> Result<Option<Vec<u64>>, Memory>
 /// Whether an array can have these lengths: three at most, and so many elements at most.
 fn is_allowed(lengths: &[u64]) -> bool
     requires { All (λ n. n ≤ 1048576) lengths.now }
-    ensures { result ≡ (nat_le (length lengths.now) 3 && nat_le (spec.product lengths.now) 1048576) }
+    ensures { result ≡ (nat_le (length lengths.now) 3 && nat_le (product lengths.now) 1048576) }
 {
     match lengths {
         [] => true,

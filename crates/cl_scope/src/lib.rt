@@ -26,5 +26,4 @@ pub use lookup::{
     is_declared, is_flag, kind_of_meaning, meaning_of, name_kind,
 };
 pub use signature::{definitions_in, parameter_of, signature_in, sizes_in, yield_of};
-pub use table::product_of;
 pub use walk::{Body, Inner, Saved, enter, restore};

@@ -1,13 +1,15 @@
 //! What names stand for, and where a node stands.
-ghost use Rattle.std.specs.Prelude.{◌≡◌, option_map, map};
+ghost use Rattle.std.specs.Prelude.{◌≡◌, Some, option_map, map};
 ghost use Rattle.cl_meaning.specs.Environment as spec;
 ghost use Rattle.cl_meaning.specs.Kinds as kinds;
+ghost use Rattle.cl_meaning.specs.declared.kind.Kind.TheVariants as variants;
 ghost use Rattle.cl_meaning.specs.Visible as visible;
 ghost use Rattle.cl_scope.specs.View.{scope_of, visible_in};
 ghost use Rattle.cl_scope.specs.Callees.{callee_view, definition_view};
 
 use crate::environment::{Environment, Names, Signature};
 use cl_meaning::{Each, Entry, Intrinsic, Kind, Meaning, Reach, flag_of, intrinsic_of};
+use cl_model::{Root, Space};
 use wg_num::IntType;
 
 fn find(scope: &Names, name: &[u8]) -> Option<Entry>
@@ -114,6 +116,27 @@ pub fn is_flag(environment: &Environment, name: &[u8]) -> bool
     environment.flags && flag_of(name).is_some()
 }
 
+/// The kind of a name that stands for a pointer or an array.
+fn pointer_to(
+    space: Space,
+    element: IntType,
+    constant: bool,
+    root: Root,
+    each: Each,
+    reach: Reach,
+) -> Option<Kind>
+    ensures { result ≡ Some (variants.Pointer space element constant root each reach) }
+{
+    Some(Kind::Pointer {
+        space,
+        element,
+        constant,
+        root,
+        each,
+        reach,
+    })
+}
+
 /// The kind of a name that stands for this; `None` for functions.
 pub fn kind_of_meaning(meaning: Meaning) -> Option<Kind>
     ensures { result ≡ kinds.kind_of_meaning meaning }
@@ -130,14 +153,10 @@ pub fn kind_of_meaning(meaning: Meaning) -> Option<Kind>
             root,
             fixed,
             ..
-        } => Some(Kind::Pointer {
-            space,
-            element,
-            constant,
-            root,
-            each: Each::Element,
-            reach: Reach::Variable { constant: fixed },
-        }),
+        } => {
+            let reach = Reach::Variable { constant: fixed };
+            pointer_to(space, element, constant, root, Each::Element, reach)
+        }
         Meaning::Object {
             space,
             element,
@@ -153,14 +172,7 @@ pub fn kind_of_meaning(meaning: Meaning) -> Option<Kind>
             constant,
             root,
             each,
-        } => Some(Kind::Pointer {
-            space,
-            element,
-            constant,
-            root,
-            each,
-            reach: Reach::Value,
-        }),
+        } => pointer_to(space, element, constant, root, each, Reach::Value),
         Meaning::Function { .. } | Meaning::Undefined | Meaning::Kernel => None,
     }
 }

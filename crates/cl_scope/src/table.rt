@@ -3,12 +3,14 @@ ghost use Rattle.std.specs.Prelude.{◌≡◌, ◌++◌, ◌*◌, [], map, OnOk,
 ghost use Rattle.cl_tree.specs.Syntax.{view};
 ghost use Rattle.wg_num.specs.Wrap.{IsValue};
 ghost use Rattle.wg_num.specs.Bytes.{bytes_of, size_of as bytes_in};
+ghost use Rattle.cl_model.specs.Sizes.{product};
 ghost use Rattle.cl_meaning.specs.Constants as constants;
 ghost use Rattle.cl_meaning.specs.Declarations as spec;
 ghost use Rattle.cl_scope.specs.Declarators.{declarator_view};
 
 use crate::declarator::{Declarator, has_list};
 use cl_meaning::{Declared, constant_of};
+use cl_model::product_of;
 use cl_tree::Tree;
 use std::alloc::Global;
 use wg_num::{IntType, Memory, bits, push, size_of, wrap};
@@ -47,23 +49,9 @@ fn push_constants(bytes: &mut Vec<u8>, of: IntType, trees: &[Tree]) -> Result<()
     Ok(())
 }
 
-/// How many elements an array of these lengths has; want of memory where the product passes 64 bits.
-pub fn product_of(lengths: &[u64]) -> Result<u64, Memory>
-    ensures { IfOk result (λ n. n ≡ spec.product lengths.now) }
-{
-    let mut product: u64 = 1;
-    for length in lengths {
-        match product.checked_mul(*length) {
-            Some(more) => product = more,
-            None => return Err(Memory),
-        }
-    }
-    Ok(product)
-}
-
 /// How many bytes a table of these lengths has.
 fn table_size(of: IntType, lengths: &[u64]) -> Result<usize, Memory>
-    ensures { IfOk result (λ n. n ≡ spec.product lengths.now * bytes_in of) }
+    ensures { IfOk result (λ n. n ≡ product lengths.now * bytes_in of) }
 {
     match product_of(lengths)?.checked_mul(u64::from(size_of(of))) {
         Some(size) => Ok(size as usize),

@@ -5,7 +5,7 @@ pub mod Literals
 pub mod Marks
 pub mod Numbers
 pub mod Outcomes
-pub mod Pieces
+pub mod Lexemes
 pub mod PlaceLaws
 pub mod Runs
 pub mod Steps

@@ -4,11 +4,11 @@ use Rattle.std.proofs.Common.{Result, Ok, Err}
 use Rattle.cl_token.specs.declared.token.Token.{Token}
 use Rattle.cl_token.specs.declared.token.LexError.{LexError}
 use Rattle.cl_token.specs.declared.token.LexError.TheVariants as errors
-use Rattle.cl_token.specs.declared.piece.Fault.{Fault}
-use Rattle.cl_token.specs.declared.piece.Fault.TheVariants as faults
+use Rattle.cl_token.specs.declared.lexeme.Fault.{Fault}
+use Rattle.cl_token.specs.declared.lexeme.Fault.TheVariants as faults
 use Rattle.cl_token.specs.Cuts.{Cuts, FailsAt, IsRefused, limit}
 use Rattle.cl_token.specs.Answers.{IsTokens, IsFault, IsRefusedOrMemory, IsCutOrRefused, error_at}
-use Rattle.cl_token.proofs.Pieces.{Faulty}
+use Rattle.cl_token.proofs.Lexemes.{Faulty}
 use Rattle.cl_token.proofs.Unique.{one_cut, cut_or_fault, one_fault}
 
 -- the fault and the place of an error

@@ -6,13 +6,13 @@ use Rattle.std.proofs.lemmas.List.{take_at, drop_at, drop-drop, drop_all}
 use Rattle.cl_token.specs.declared.token.Kind.{Kind}
 use Rattle.cl_token.specs.declared.token.Token.{Token}
 use Rattle.cl_token.specs.Cuts.{CutsTo, skip, line_end, token, Cuts, limit}
-use Rattle.cl_token.specs.declared.piece.Piece.{Piece}
-use Rattle.cl_token.specs.declared.piece.Fault.{Fault}
-use Rattle.cl_token.specs.declared.piece.Fault.TheVariants.{NoToken, OpenComment, BadNumber, LargeNumber}
+use Rattle.cl_token.specs.declared.lexeme.Piece.{Piece}
+use Rattle.cl_token.specs.declared.lexeme.Fault.{Fault}
+use Rattle.cl_token.specs.declared.lexeme.Fault.TheVariants.{NoToken, OpenComment, BadNumber, LargeNumber}
 use Rattle.cl_token.specs.Answers.{IsRefusedOrMemory, error_at}
 use Rattle.cl_token.specs.Reading.{piece_of}
 use Rattle.cl_token.proofs.Words.{within}
-use Rattle.cl_token.proofs.Pieces.{SkippedAt, CutAt, Stands, Faulty, piece_stands}
+use Rattle.cl_token.proofs.Lexemes.{SkippedAt, CutAt, Stands, Faulty, piece_stands}
 
 -- what follows a piece of this length
 rest_is : (source : List ℕ) (at n : ℕ) (piece rest : List ℕ) → drop at source ≡ piece ++ rest → length piece ≡ n →

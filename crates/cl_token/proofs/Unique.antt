@@ -7,14 +7,14 @@ use Rattle.std.proofs.lemmas.Bool.Decides.{leb_tells}
 use Rattle.cl_token.specs.declared.token.Kind.{Kind}
 use Rattle.cl_token.specs.declared.token.Kind.TheVariants as kinds
 use Rattle.cl_token.specs.declared.token.Token.{Token}
-use Rattle.cl_token.specs.declared.piece.Piece.{Piece}
-use Rattle.cl_token.specs.declared.piece.Piece.TheVariants.{LineEnd, Skipped, Cut}
-use Rattle.cl_token.specs.declared.piece.Fault.{Fault}
-use Rattle.cl_token.specs.declared.piece.Fault.TheVariants.{NoToken, OpenComment, BadNumber, LargeNumber}
+use Rattle.cl_token.specs.declared.lexeme.Piece.{Piece}
+use Rattle.cl_token.specs.declared.lexeme.Piece.TheVariants.{LineEnd, Skipped, Cut}
+use Rattle.cl_token.specs.declared.lexeme.Fault.{Fault}
+use Rattle.cl_token.specs.declared.lexeme.Fault.TheVariants.{NoToken, OpenComment, BadNumber, LargeNumber}
 use Rattle.cl_token.specs.Spelling.{IsSkipped, blank, line_comment, block_comment, IsNext, HasValue}
 use Rattle.cl_token.specs.Cuts.{CutsTo, start, skip, line_end, token, Cuts, FailsAt}
 use Rattle.cl_token.specs.Reading.{piece_of}
-use Rattle.cl_token.proofs.Pieces.{skipped_complete, line_end_complete, word_complete, fault_complete, Faulty, err_is}
+use Rattle.cl_token.proofs.Lexemes.{skipped_complete, line_end_complete, word_complete, fault_complete, Faulty, err_is}
 use Rattle.cl_token.proofs.Marks.{blank_some}
 use Rattle.cl_token.proofs.Words.{within}
 

@@ -4,8 +4,8 @@ use Rattle.std.specs.declared.alloc.Global.{Global}
 use Rattle.cl_token.specs.declared.token.Token.{Token}
 use Rattle.cl_token.specs.declared.token.LexError.{LexError}
 use Rattle.cl_token.specs.declared.token.LexError.TheVariants as errors
-use Rattle.cl_token.specs.declared.piece.Fault.{Fault}
-use Rattle.cl_token.specs.declared.piece.Fault.TheVariants as faults
+use Rattle.cl_token.specs.declared.lexeme.Fault.{Fault}
+use Rattle.cl_token.specs.declared.lexeme.Fault.TheVariants as faults
 use Rattle.cl_token.specs.Cuts.{Cuts, IsRefused}
 
 -- It answers these tokens, unless memory ran out.

@@ -9,10 +9,10 @@ use Rattle.cl_token.specs.declared.number.LiteralError.{LiteralError}
 use Rattle.cl_token.specs.declared.number.LiteralError.TheVariants.{Malformed, TooLarge}
 use Rattle.cl_token.specs.declared.token.Kind.{Kind}
 use Rattle.cl_token.specs.declared.token.Kind.TheVariants.{Name, Number, Mark, Hash}
-use Rattle.cl_token.specs.declared.piece.Piece.{Piece}
-use Rattle.cl_token.specs.declared.piece.Piece.TheVariants.{LineEnd, Skipped, Cut}
-use Rattle.cl_token.specs.declared.piece.Fault.{Fault}
-use Rattle.cl_token.specs.declared.piece.Fault.TheVariants.{NoToken, OpenComment, BadNumber, LargeNumber}
+use Rattle.cl_token.specs.declared.lexeme.Piece.{Piece}
+use Rattle.cl_token.specs.declared.lexeme.Piece.TheVariants.{LineEnd, Skipped, Cut}
+use Rattle.cl_token.specs.declared.lexeme.Fault.{Fault}
+use Rattle.cl_token.specs.declared.lexeme.Fault.TheVariants.{NoToken, OpenComment, BadNumber, LargeNumber}
 
 abbrev pub is_among : List ℕ → ℕ → Bool
 is_among bytes b = list_any (λ x. x == b) bytes

@@ -7,7 +7,7 @@ ghost use Rattle.cl_token.specs.Cuts.{Cuts, IsRefused, limit};
 ghost use Rattle.cl_token.specs.Reading as reading;
 ghost use Rattle.cl_token.specs.Answers.{IsTokens, IsFault, IsRefusedOrMemory, IsCutOrRefused, error_at};
 
-use crate::piece::{Fault, Piece, piece_of};
+use crate::lexeme::{Fault, Piece, piece_of};
 use crate::token::{Kind, LexError, Token};
 use std::alloc::Global;
 use wg_num::{Word, push};

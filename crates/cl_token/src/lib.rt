@@ -2,9 +2,9 @@
 #![tactic(auto)]
 
 pub mod bytes;
+mod lexeme;
 pub mod lexer;
 pub mod number;
-mod piece;
 pub mod place;
 pub mod token;
 

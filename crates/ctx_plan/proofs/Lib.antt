@@ -1,4 +1,3 @@
-pub mod Rows
 pub mod Onto
 pub mod Names
 pub mod Outlines

@@ -17,8 +17,9 @@ use Rattle.cl_model.specs.View.{expression_of, argument_of, listed_expressions, 
 use Rattle.cl_model.specs.Listed.{listed_arguments}
 use Rattle.ctx_plan.specs.declared.outline.Piece.{Piece}
 use Rattle.ctx_plan.specs.declared.outline.Piece.TheVariants as piece
-use Rattle.ctx_plan.specs.Points.{calls_onto, points_onto, arms_onto, listed_arms}
-use Rattle.ctx_plan.proofs.Rows.{call_calls, builtin_listed, switch_listed}
+use Rattle.cl_model.specs.Listed.{listed_arms}
+use Rattle.ctx_plan.specs.Points.{calls_onto, points_onto, arms_onto}
+use Rattle.cl_model.proofs.Rows.{call_listed, builtin_listed, switch_listed}
 
 pub calls_onto_both : (xs ys : List CallSite) (pieces : List Piece) →
     calls_onto (xs ++ ys) pieces ≡ calls_onto ys (calls_onto xs pieces)
@@ -61,7 +62,7 @@ call_onto e site function args xs ps qs h k q =
     let one : List CallSite = record { site = site; function = function } ∷ [] in
     ap (calls_onto one) (q ∙ ap (λ l. calls_onto (calls_among (listed_arguments l)) ps) k)
     ∙ (sym (calls_onto_both (calls_among (listed_arguments args.items)) one ps)
-    ∙ sym (ap (λ x. calls_onto x ps) (ap (λ y. calls_in (expression_of y)) h ∙ call_calls site function args)))
+    ∙ sym (ap (λ x. calls_onto x ps) (ap (λ y. calls_in (expression_of y)) h ∙ ap calls_in (call_listed site function args))))
 
 pub builtin_onto : (e : Expr) (f : Fun) (of : IntType) (args : Vec Expr Global) (xs : List Expr) (ps : List Piece) →
     e ≡ expr.Builtin f of args → xs ≡ args.items

@@ -80,55 +80,62 @@ atoms_step old mid new atoms i a lt is t led =
     through_step old mid new (named_by_all atoms) (named_by_all (drop i atoms)) (named_by a)
     (named_by_all (drop (i + 1) atoms)) t (ap named_by_all (first_left atoms i a lt is)) led
 
+-- a cut, and the lines behind it
+pub part_led : (n0 n1 n2 : Naming) (h : Test) (xs : List Piece) → Leads n0 n1 (cut_before h []) → Leads n1 n2 xs →
+    Leads n0 n2 (cut_before h xs)
+part_led n0 n1 n2 h xs a b =
+    leads_as n0 n2 (cut_before h [] ++ xs) (cut_before h xs) (sym (cut_split h xs))
+    (leads_then n0 n1 n2 (cut_before h []) xs a b)
+
+cut_over : (h : Test) (xs ys : List Piece) → cut_before h (xs ++ ys) ≡ cut_before h xs ++ ys
+cut_over true xs ys = refl
+cut_over false xs ys = refl
+
 -- an if and a loop
-pub if_led : (n0 n1 n2 n3 n4 n5 n6 n7 : Naming) (l : Line) (site : ℕ) (test : Atom) (chosen other : Vec Line Global)
+pub if_led : (n0 n1 n2 n3 n4 n5 : Naming) (l : Line) (site : ℕ) (test : Atom) (chosen other : Vec Line Global)
     (h : Test) → l ≡ line.If site test chosen other →
     h ≡ (holds_barrier (lines_of chosen.items) || holds_barrier (lines_of other.items))
-    → Leads n0 n1 (cut_before h []) → Leads n1 n2 (named_by test) → Leads n2 n3 (cut_before h []) →
-    Leads n3 n4 (pieces_of (lines_of chosen.items)) → Leads n4 n5 (cut_before h []) →
-    Leads n5 n6 (pieces_of (lines_of other.items)) → Leads n6 n7 (cut_before h [])
-    → Leads n0 n7 (pieces_of (line_before l NoLine))
-if_led n0 n1 n2 n3 n4 n5 n6 n7 l site test chosen other h e is a b c d f g k =
+    → Leads n0 n1 (cut_before h []) → Leads n1 n2 (named_by test) →
+    Leads n2 n3 (cut_before h (pieces_of (lines_of chosen.items))) →
+    Leads n3 n4 (cut_before h (pieces_of (lines_of other.items))) → Leads n4 n5 (cut_before h [])
+    → Leads n0 n5 (pieces_of (line_before l NoLine))
+if_led n0 n1 n2 n3 n4 n5 l site test chosen other h e is a b c d f =
     let t = named_by test in
     let C = pieces_of (lines_of chosen.items) in
     let O = pieces_of (lines_of other.items) in
     let z = cut_before h [] in
-    let all : List Piece = z ++ (t ++ (z ++ (C ++ (z ++ (O ++ z))))) in
+    let all : List Piece = z ++ (t ++ (cut_before h C ++ (cut_before h O ++ z))) in
     let text : pieces_of (line_before l NoLine) ≡ cut_before h (t ++ cut_before h (C ++ cut_before h (O ++ z))) =
     ap (λ x. pieces_of (line_before x NoLine)) e ∙ (ap pieces_of (if_listed site test chosen other NoLine) ∙
     ap (λ q. cut_before q (t ++ cut_before q (C ++ cut_before q (O ++ cut_before q [])))) (sym is)) in
-    leads_as n0 n7 all (pieces_of (line_before l NoLine))
+    leads_as n0 n5 all (pieces_of (line_before l NoLine))
     (sym (text
     ∙ (cut_split h (t ++ cut_before h (C ++ cut_before h (O ++ z)))
-    ∙ ap (λ x. z ++ (t ++ x)) (cut_split h (C ++ cut_before h (O ++ z)) ∙
-    ap (λ x. z ++ (C ++ x)) (cut_split h (O ++ z))))))
-    (leads_then n0 n1 n7 z (t ++ (z ++ (C ++ (z ++ (O ++ z))))) a
-    (leads_then n1 n2 n7 t (z ++ (C ++ (z ++ (O ++ z)))) b
-    (leads_then n2 n3 n7 z (C ++ (z ++ (O ++ z))) c
-    (leads_then n3 n4 n7 C (z ++ (O ++ z)) d
-    (leads_then n4 n5 n7 z (O ++ z) f
-    (leads_then n5 n6 n7 O z g k))))))
+    ∙ ap (λ x. z ++ (t ++ x)) (cut_over h C (cut_before h (O ++ z)) ∙
+    ap (λ x. cut_before h C ++ x) (cut_over h O z)))))
+    (leads_then n0 n1 n5 z (t ++ (cut_before h C ++ (cut_before h O ++ z))) a
+    (leads_then n1 n2 n5 t (cut_before h C ++ (cut_before h O ++ z)) b
+    (leads_then n2 n3 n5 (cut_before h C) (cut_before h O ++ z) c
+    (leads_then n3 n4 n5 (cut_before h O) z d f))))
 
-pub loop_led : (n0 n1 n2 n3 n4 n5 n6 : Naming) (l : Line) (site : ℕ) (first : Test) (test : Vec Line Global)
+pub loop_led : (n0 n1 n2 n3 n4 : Naming) (l : Line) (site : ℕ) (first : Test) (test : Vec Line Global)
     (answer : Atom) (body : Vec Line Global) (h : Test) → l ≡ line.Loop site first test answer body →
     h ≡ (holds_barrier (lines_of test.items) || holds_barrier (lines_of body.items))
-    → Leads n0 n1 (cut_before h []) → Leads n1 n2 (pieces_of (lines_of test.items)) → Leads n2 n3 (named_by answer) →
-    Leads n3 n4 (cut_before h []) → Leads n4 n5 (pieces_of (lines_of body.items)) → Leads n5 n6 (cut_before h [])
-    → Leads n0 n6 (pieces_of (line_before l NoLine))
-loop_led n0 n1 n2 n3 n4 n5 n6 l site first test answer body h e is a b c d f g =
+    → Leads n0 n1 (cut_before h (pieces_of (lines_of test.items))) → Leads n1 n2 (named_by answer) →
+    Leads n2 n3 (cut_before h (pieces_of (lines_of body.items))) → Leads n3 n4 (cut_before h [])
+    → Leads n0 n4 (pieces_of (line_before l NoLine))
+loop_led n0 n1 n2 n3 n4 l site first test answer body h e is a b c d =
     let T = pieces_of (lines_of test.items) in
     let A = named_by answer in
     let B = pieces_of (lines_of body.items) in
     let z = cut_before h [] in
-    let all : List Piece = z ++ (T ++ (A ++ (z ++ (B ++ z)))) in
+    let all : List Piece = cut_before h T ++ (A ++ (cut_before h B ++ z)) in
     let text : pieces_of (line_before l NoLine) ≡ cut_before h (T ++ (A ++ cut_before h (B ++ z))) =
     ap (λ x. pieces_of (line_before x NoLine)) e ∙ (ap pieces_of (loop_listed site first test answer body NoLine) ∙
     ap (λ q. cut_before q (T ++ (A ++ cut_before q (B ++ cut_before q [])))) (sym is)) in
-    leads_as n0 n6 all (pieces_of (line_before l NoLine))
-    (sym (text ∙ (cut_split h (T ++ (A ++ cut_before h (B ++ z))) ∙
-    ap (λ x. z ++ (T ++ (A ++ x))) (cut_split h (B ++ z)))))
-    (leads_then n0 n1 n6 z (T ++ (A ++ (z ++ (B ++ z)))) a
-    (leads_then n1 n2 n6 T (A ++ (z ++ (B ++ z))) b
-    (leads_then n2 n3 n6 A (z ++ (B ++ z)) c
-    (leads_then n3 n4 n6 z (B ++ z) d
-    (leads_then n4 n5 n6 B z f g)))))
+    leads_as n0 n4 all (pieces_of (line_before l NoLine))
+    (sym (text ∙ (cut_over h T (A ++ cut_before h (B ++ z)) ∙
+    ap (λ x. cut_before h T ++ (A ++ x)) (cut_over h B z))))
+    (leads_then n0 n1 n4 (cut_before h T) (A ++ (cut_before h B ++ z)) a
+    (leads_then n1 n2 n4 A (cut_before h B ++ z) b
+    (leads_then n2 n3 n4 (cut_before h B) z c d)))

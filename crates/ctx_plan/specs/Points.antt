@@ -9,11 +9,6 @@ use Rattle.cl_model.specs.Calls.{CallSite, calls_in, calls_among, calls_in_optio
 use Rattle.ctx_plan.specs.declared.outline.Piece.{Piece}
 use Rattle.ctx_plan.specs.declared.outline.Piece.TheVariants as piece
 
--- the arms of a Vec
-abbrev pub listed_arms : List SwitchArm → Arms
-listed_arms [] = no_arm
-listed_arms (a ∷ as') = arm a.labels.items a.other (listed_statements a.body.items) (listed_arms as')
-
 -- pieces, and behind them calls
 abbrev pub calls_onto : List CallSite → List Piece → List Piece
 calls_onto [] pieces = pieces

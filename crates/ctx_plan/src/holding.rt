@@ -4,7 +4,8 @@ ghost use Rattle.std.specs.Prelude.{◌≡◌, [], false, map, replicate, IsTrue
 ghost use Rattle.std.specs.Prelude.{OnOk};
 ghost use Rattle.cl_model.specs.View.{statement_of, listed_statements, function_of};
 ghost use Rattle.kir.specs.Inlined.{holds, some_holds};
-ghost use Rattle.ctx_plan.specs.Points.{points_onto, all_onto, arms_onto, listed_arms, entry, point_holds, points_hold};
+ghost use Rattle.cl_model.specs.Listed.{listed_arms};
+ghost use Rattle.ctx_plan.specs.Points.{points_onto, all_onto, arms_onto, entry, point_holds, points_hold};
 ghost use Rattle.ctx_plan.specs.Sharing.{holding_of, bodies_after};
 
 use crate::outline::{Piece, put_expression, put_expressions, put_optional};
@@ -44,7 +45,7 @@ fn put_arm_points(arms: &[SwitchArm], points: &mut Vec<Piece>) -> Result<(), Mem
 
 /// Puts the calls and the barriers of a statement behind the points.
 #[cycle(points)]
-#[tactic(auto, using(crate::proofs::Rows::block_listed))]
+#[tactic(auto, using(cl_model::proofs::Rows::block_listed))]
 fn put_points(s: &Stmt, points: &mut Vec<Piece>) -> Result<(), Memory>
     ensures { OnOk result (points.new.items ≡ points_onto (statement_of s.now) points.old.items) }
 {

@@ -105,6 +105,15 @@ fn name_lines(naming: &mut Naming, lines: &[Line]) -> Result<(), Memory>
     Ok(())
 }
 
+/// The cells that the lines of a branch, a test or a body name, behind a cut if there is one.
+#[cycle(naming)]
+fn name_part(naming: &mut Naming, cut: bool, lines: &[Line]) -> Result<(), Memory>
+    ensures { OnOk result (Leads naming.old naming.new (cut_before cut (pieces_of (lines_of lines.now)))) }
+{
+    pass_cut(naming, cut)?;
+    name_lines(naming, lines)
+}
+
 /// The cells that a line names, and its cuts, in the order of the text.
 #[cycle(naming)]
 fn name_line(naming: &mut Naming, line: &Line) -> Result<(), Memory>
@@ -131,10 +140,8 @@ fn name_line(naming: &mut Naming, line: &Line) -> Result<(), Memory>
             let cut = either_holds(yes, no);
             pass_cut(naming, cut)?;
             name_atom(naming, *test);
-            pass_cut(naming, cut)?;
-            name_lines(naming, yes)?;
-            pass_cut(naming, cut)?;
-            name_lines(naming, no)?;
+            name_part(naming, cut, yes)?;
+            name_part(naming, cut, no)?;
             pass_cut(naming, cut)
         }
         Line::Loop {
@@ -144,11 +151,9 @@ fn name_line(naming: &mut Naming, line: &Line) -> Result<(), Memory>
             ..
         } => {
             let cut = either_holds(test, body);
-            pass_cut(naming, cut)?;
-            name_lines(naming, test)?;
+            name_part(naming, cut, test)?;
             name_atom(naming, *answer);
-            pass_cut(naming, cut)?;
-            name_lines(naming, body)?;
+            name_part(naming, cut, body)?;
             pass_cut(naming, cut)
         }
         Line::Barrier { .. } => pass_cut(naming, true),

@@ -8,7 +8,8 @@ ghost use Rattle.cl_model.specs.Listed.{listed_arguments};
 ghost use Rattle.ctx_plan.specs.Outline.{Outline, NoPiece, cut_then};
 ghost use Rattle.ctx_plan.specs.Outline.{calls_then, outline_then, outlines_then, outlines_of_arms, parameters_then};
 ghost use Rattle.ctx_plan.specs.Outline.{function_outline, piece_then, pieces_then};
-ghost use Rattle.ctx_plan.specs.Points.{calls_onto, listed_arms, entry};
+ghost use Rattle.cl_model.specs.Listed.{listed_arms};
+ghost use Rattle.ctx_plan.specs.Points.{calls_onto, entry};
 
 use crate::holding::statement_holds;
 use cl_model::{Arg, Expr, Function, Stmt, SwitchArm, Target};

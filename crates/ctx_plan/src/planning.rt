@@ -14,31 +14,11 @@ use crate::holding::functions_hold;
 use crate::keeping::named_across;
 use crate::plan::Plan;
 use crate::sharing::{sharing_of, sum_of};
-use cl_model::{Array, Program, Space};
+use cl_model::{Array, Program, Space, bytes_of_array};
 use diverge::Varying;
 use kir::Kernel;
 use std::alloc::Global;
 use wg_num::{Memory, size_of};
-
-fn product_of(a: u64, b: u64) -> Result<u64, Memory>
-    ensures { IfOk result (λ p. p ≡ a * b) }
-{
-    match a.checked_mul(b) {
-        Some(product) => Ok(product),
-        None => Err(Memory),
-    }
-}
-
-/// The bytes of an array.
-fn array_bytes(array: &Array) -> Result<u64, Memory>
-    ensures { IfOk result (λ n. n ≡ objects.array_bytes (array_of array.now)) }
-{
-    let mut bytes = size_of(array.element) as u64;
-    for dim in &array.dims {
-        bytes = product_of(bytes, *dim)?;
-    }
-    Ok(bytes)
-}
 
 /// The bytes of a private array; none of another.
 fn bytes_of(array: &Array) -> Result<u32, Memory>
@@ -47,7 +27,7 @@ fn bytes_of(array: &Array) -> Result<u32, Memory>
     if array.space != Space::Private {
         return Ok(0);
     }
-    let bytes = array_bytes(array)?;
+    let bytes = bytes_of_array(array)?;
     match u32::try_from(bytes) {
         Ok(bytes) => Ok(bytes),
         Err(_) => Err(Memory),

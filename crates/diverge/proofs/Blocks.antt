@@ -13,9 +13,10 @@ use Rattle.cl_model.specs.View.{expression_of, statement_of, listed_statements}
 use Rattle.diverge.specs.declared.known.Spot.{Spot}
 use Rattle.diverge.specs.declared.known.Ways.{Ways}
 use Rattle.diverge.specs.Known.{State, under, joined, no_way, behind}
-use Rattle.diverge.specs.Listed.{listed_arms, all_closed}
+use Rattle.cl_model.specs.Listed.{listed_arms}
+use Rattle.diverge.specs.Listed.{all_closed}
 use Rattle.diverge.specs.Rounds.{Gone, Seen, closed, seen_in, gone_over, gone_over_all, gone_over_arms}
-use Rattle.diverge.proofs.Rows.{block_listed, switch_listed}
+use Rattle.cl_model.proofs.Rows.{block_listed, switch_listed}
 
 or_false : (a : Bool) → (a || false) ≡ a
 or_false true = refl

@@ -13,9 +13,10 @@ use Rattle.cl_model.specs.Tree.{Function, Expression}
 use Rattle.cl_model.specs.View.{expression_of, listed_expressions, assigned, updated}
 use Rattle.diverge.specs.declared.known.Spot.{Spot}
 use Rattle.diverge.specs.Known.{State, result_at}
-use Rattle.diverge.specs.Listed.{listed_arguments, seen_target, set_target}
+use Rattle.cl_model.specs.Listed.{listed_arguments}
+use Rattle.diverge.specs.Listed.{seen_target, set_target}
 use Rattle.diverge.specs.Rounds.{Seen, seen_in, seen_among, seen_arguments, unseen}
-use Rattle.diverge.proofs.Rows.{call_listed, builtin_listed}
+use Rattle.cl_model.proofs.Rows.{call_listed, builtin_listed}
 
 -- what a call finds, behind its arguments
 abbrev pub behind_call : ℕ → State → Seen

@@ -14,20 +14,6 @@ use Rattle.diverge.specs.declared.known.Spot.{Spot}
 use Rattle.diverge.specs.Known.{State, variable_at, assign}
 use Rattle.diverge.specs.Rounds.{Seen, seen_in, closed}
 
--- the roots of the arguments of a Vec, and the arguments
-abbrev pub listed_roots : List Arg → List (Option Root)
-listed_roots [] = []
-listed_roots (a ∷ list) = root_of a ∷ listed_roots list
-
-abbrev pub listed_arguments : List Arg → Expressions
-listed_arguments [] = none
-listed_arguments (a ∷ list) = more (argument_of a) (listed_arguments list)
-
--- the arms of a Vec
-abbrev pub listed_arms : List rust_arm.SwitchArm → Arms
-listed_arms [] = no_arm
-listed_arms (a ∷ list) = arm a.labels.items a.other (listed_statements a.body.items) (listed_arms list)
-
 -- behind a scope that holds a way out under a condition that varies, of each declaration among the statements, the
 -- last first
 abbrev pub all_closed : Spot → List Stmt → State → State

@@ -6,7 +6,8 @@ ghost use Rattle.cl_model.specs.Varying.{is_own as is_own_of, is_constant_root};
 ghost use Rattle.cl_model.specs.View.{expression_of, argument_of, listed_expressions, optional_expression, function_of};
 ghost use Rattle.diverge.specs.Known.{state_of};
 ghost use Rattle.diverge.specs.Rounds as spec;
-ghost use Rattle.diverge.specs.Listed.{listed_arguments, seen_target, set_target as set_target_of};
+ghost use Rattle.cl_model.specs.Listed.{listed_arguments};
+ghost use Rattle.diverge.specs.Listed.{seen_target, set_target as set_target_of};
 
 use crate::known::{Known, Spot, assign, pass, result_at, under, variable_at};
 use cl_model::{Arg, Expr, Function, Query, Root, Space, Target, Var, VarKind};

@@ -4,7 +4,8 @@ ghost use Rattle.std.specs.Prelude.{◌≡◌, true};
 ghost use Rattle.cl_model.specs.View.{statement_of, listed_statements, function_of};
 ghost use Rattle.diverge.specs.Known.{state_of};
 ghost use Rattle.diverge.specs.Rounds as spec;
-ghost use Rattle.diverge.specs.Listed.{listed_arms, all_closed};
+ghost use Rattle.cl_model.specs.Listed.{listed_arms};
+ghost use Rattle.diverge.specs.Listed.{all_closed};
 
 use crate::expressions::{expression, operands, optional};
 use crate::known::{

@@ -5,7 +5,7 @@ use Rattle.std.proofs.lemmas.Nat.{mul-add-lt}
 use Rattle.cl_model.specs.Sizes.{Launch, group_count, group_size, item_count}
 use Rattle.kir.specs.Tree.{Kernel}
 use Rattle.kir.specs.Fits.{lines_fit}
-use Rattle.kir.specs.Evenness.{IsEven}
+use Rattle.kir.specs.Uniformity.{IsEven}
 use Rattle.ctx_plan.specs.Homes.{IsOnce}
 use Rattle.ctx_plan.specs.Planned.{Planned}
 use Rattle.group_moves.proofs.Teams.{in_row}

@@ -15,25 +15,14 @@ ghost use Rattle.item_loops.specs.Built.{array_sizes, built_work, built_of};
 ghost use Rattle.ctx_plan.specs.View.{planned_of};
 
 use crate::arrays::sizes_in;
-use crate::copying::{copy_list, copy_tables};
-use cl_model::{Table, VarKind};
+use cl_model::{Table, VarKind, copy_tables};
 use ctx_plan::Plan;
 use kir::Kernel;
 use lane_code::{GroupParts, GroupProgram, Node};
 use mask_lower::lower_region;
 use regions::RegionTree;
 use std::alloc::Global;
-use wg_num::{Memory, Place, Width, Word, push};
-
-/// A node behind a box.
-fn boxed(alloc: Global, node: Node) -> Result<Box<Node>, Memory>
-    ensures { IfOk result (λ b. b.value ≡ node) }
-{
-    match Box::new(alloc, node) {
-        Ok(kept) => Ok(kept),
-        Err(_) => Err(Memory),
-    }
-}
+use wg_num::{Memory, Place, Width, Word, boxed, copy_list, push};
 
 /// The nodes of trees.
 #[cycle(node)]

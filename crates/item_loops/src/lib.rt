@@ -3,6 +3,5 @@
 
 mod arrays;
 mod building;
-mod copying;
 
 pub use building::build;

@@ -9,7 +9,7 @@ pub mod Liveness
 pub mod ItemHistories
 pub mod Aligned
 pub mod FromSteps
-pub mod EvenRuns
+pub mod UniformRuns
 pub mod Across
 pub mod NamedOrLive
 pub mod LiveCuts

@@ -9,7 +9,7 @@ pub mod Meaning
 pub mod Live
 pub mod Ways
 pub mod Cuts
-pub mod Evenness
+pub mod Uniformity
 pub mod Keeps
 pub mod Inlined
 pub mod Homes

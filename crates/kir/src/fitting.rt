@@ -4,7 +4,7 @@
 ghost use Rattle.std.specs.Prelude.{◌≡◌, ◌&&◌, true, IfSome, IsSome, ◌↔◌, length, replicate, slice_get};
 ghost use Rattle.cl_model.specs.Objects as objects;
 ghost use Rattle.kir.specs.Listed.{lines_of, work_of};
-ghost use Rattle.kir.specs.Tree.{NoLine, LoadThen, StoreThen};
+ghost use Rattle.kir.specs.Tree.{NoLine, SetThen, LoadThen, StoreThen};
 ghost use Rattle.kir.specs.Listed.{line_before};
 ghost use Rattle.kir.specs.View.{kernel_of};
 ghost use Rattle.kir.specs.Parts.{parts_of};
@@ -274,6 +274,13 @@ fn is_site(parts: &KernelParts, site: u32) -> bool
     (site as usize) < parts.sites.len()
 }
 
+#[tactic(auto, using(crate::proofs::FirstLines::and_true))]
+fn set_fits(parts: &KernelParts, to: u32, work: &Work) -> bool
+    ensures { result ≡ fits.lines_fit (parts_of parts.now) (SetThen to (work_of work.now) NoLine) }
+{
+    work_fits(parts, work) && cell_takes(parts, to, work_type(parts, work))
+}
+
 fn load_fits(
     parts: &KernelParts,
     site: u32,
@@ -306,22 +313,28 @@ fn store_fits(
         && has_type(element, atom_type(parts, from))
 }
 
-fn all_fit(a: bool, b: bool, c: bool, d: bool) -> bool
-    ensures { result ≡ (a && b && c && d) }
+fn if_fits(parts: &KernelParts, site: u32, test: Atom, yes: bool, no: bool) -> bool
+    ensures { result ≡ (fits.is_site (parts_of parts.now) site &&
+        fits.has_some_type (fits.atom_type (parts_of parts.now) test) && yes && no) }
 {
-    a && b && c && d
+    is_site(parts, site) && has_some_type(atom_type(parts, test)) && yes && no
+}
+
+fn loop_fits(parts: &KernelParts, site: u32, test: bool, answer: Atom, body: bool) -> bool
+    ensures { result ≡ (fits.is_site (parts_of parts.now) site && test &&
+        fits.has_some_type (fits.atom_type (parts_of parts.now) answer) && body) }
+{
+    is_site(parts, site) && test && has_some_type(atom_type(parts, answer)) && body
 }
 
 // The line alone, whatever lines are behind it.
 #[cycle(fitting)]
-#[tactic(auto, using(crate::proofs::Rows::if_listed, crate::proofs::Rows::loop_listed, crate::proofs::FirstLines::and_true))]
+#[tactic(auto, using(crate::proofs::FirstLines::and_true))]
 fn line_fits(parts: &KernelParts, line: &Line) -> bool
     ensures { result ≡ fits.lines_fit (parts_of parts.now) (line_before line.now NoLine) }
 {
     match line {
-        Line::Set { to, work } => {
-            work_fits(parts, work) && cell_takes(parts, *to, work_type(parts, work))
-        }
+        Line::Set { to, work } => set_fits(parts, *to, work),
         Line::Load {
             site,
             to,
@@ -343,11 +356,9 @@ fn line_fits(parts: &KernelParts, line: &Line) -> bool
             yes,
             no,
         } => {
-            let site = is_site(parts, *site);
-            let test = has_some_type(atom_type(parts, *test));
             let yes = lines_fit(parts, yes);
             let no = lines_fit(parts, no);
-            all_fit(site, test, yes, no)
+            if_fits(parts, *site, *test, yes, no)
         }
         Line::Loop {
             site,
@@ -356,11 +367,9 @@ fn line_fits(parts: &KernelParts, line: &Line) -> bool
             body,
             ..
         } => {
-            let site = is_site(parts, *site);
             let test = lines_fit(parts, test);
-            let answer = has_some_type(atom_type(parts, *answer));
             let body = lines_fit(parts, body);
-            all_fit(site, test, answer, body)
+            loop_fits(parts, *site, test, *answer, body)
         }
         Line::Barrier { site } => is_site(parts, *site),
     }

@@ -1,4 +1,7 @@
 //! The step of each action on the values of its operands.
+//!
+//! Each puts its lines behind the lines so far, and its new cells behind those of the kernel. `Memory` is answered
+//! where memory was refused, and where a number of a cell, a variable or an element would not fit in 32 bits.
 
 ghost use Rattle.std.specs.Prelude.{◌≡◌, ◌+◌, [], IfOk, OnOk};
 ghost use Rattle.wg_num.specs.Builtins as builtins;
@@ -28,7 +31,8 @@ pub struct Change {
     pub old: bool,
 }
 
-/// An element of an object of the kernel, which a site accesses.
+/// An element of an object of the kernel, which a site accesses: its type, the kernel's root of the object, and the
+/// element's number from the start of that, of type `long`.
 #[derive(Clone, Copy)]
 pub struct Element {
     pub site: u32,
@@ -37,14 +41,14 @@ pub struct Element {
     pub index: Atom,
 }
 
-/// The lines of a branch, and the value that they give.
+/// The lines of a branch of `?:`, `&&` or `||` (C99, sections 6.5.13 to 6.5.15), and the value that they give.
 #[derive(Drop)]
 pub struct Part {
     pub lines: Vec<Line>,
     pub value: Value,
 }
 
-/// A copy of a variable.
+/// The value of a variable: a new cell of its type, to which its cell is copied (C99, section 6.5.1).
 #[inline(never)]
 pub fn put_variable(
     here: &Instance<'_>,
@@ -64,7 +68,7 @@ pub fn put_variable(
     put_computed(made, lines, Work::Copy(Atom::Cell(cell)), of)
 }
 
-/// A variable is set.
+/// A variable is set: its cell takes the value, which has its type (C99, section 6.5.16.1).
 #[inline(never)]
 pub fn put_assigned(
     here: &Instance<'_>,
@@ -79,6 +83,7 @@ pub fn put_assigned(
     put_copy(lines, cell, value.atom)
 }
 
+/// The value of a unary operator on a value that is promoted to `of`, in a new cell (C99, section 6.5.3.3).
 #[inline(never)]
 pub fn put_unary(
     made: &mut Made,
@@ -102,6 +107,8 @@ pub fn put_unary(
     )
 }
 
+/// The value of a binary operator on atoms of type `of`, where the right one of a shift may have another type, in a new
+/// cell; its type is `int` where the operator compares, and else `of` (C99, sections 6.5.5 to 6.5.12).
 #[inline(never)]
 pub fn put_binary(
     made: &mut Made,
@@ -134,6 +141,7 @@ fn atoms_of(alloc: Global, values: &[Value]) -> Result<Vec<Atom>, Memory>
     Ok(atoms)
 }
 
+/// The value of an integer function on values that are converted to `of`, in a new cell (OpenCL 1.2, section 6.12.3).
 #[inline(never)]
 pub fn put_builtin(
     alloc: Global,
@@ -162,6 +170,7 @@ pub fn put_builtin(
     )
 }
 
+/// An atom converted to a type, in a new cell of that type (C99, section 6.3.1.3).
 #[inline(never)]
 pub fn put_converted(
     made: &mut Made,
@@ -177,6 +186,7 @@ pub fn put_converted(
     put_computed(made, lines, Work::Convert { to, a }, to)
 }
 
+/// What a work-item function answers for a dimension, in a new cell (OpenCL 1.2, section 6.12.1).
 #[inline(never)]
 pub fn put_answer(
     made: &mut Made,
@@ -202,7 +212,7 @@ pub fn put_answer(
     )
 }
 
-/// Whether a value is not 0.
+/// Whether a value is not 0, as an `int` of 0 or 1 in a new cell (C99, sections 6.5.13 and 6.5.14).
 #[inline(never)]
 pub fn put_truth(made: &mut Made, lines: &mut Vec<Line>, a: Value) -> Result<Value, Memory>
     ensures lines { OnOk result (lines_of lines.new.items ≡ joined_to (lines_of lines.old.items)
@@ -213,6 +223,7 @@ pub fn put_truth(made: &mut Made, lines: &mut Vec<Line>, a: Value) -> Result<Val
     put_binary(made, lines, Bin::Ne, a.of, a.atom, constant(0, a.of).atom)
 }
 
+/// The value of an element of an object, in a new cell of the element's type (C99, sections 6.3.2.1 and 6.5.2.1).
 #[inline(never)]
 pub fn put_loaded(made: &mut Made, lines: &mut Vec<Line>, element: Element) -> Result<Value, Memory>
     ensures lines { OnOk result (lines_of lines.new.items ≡ joined_to (lines_of lines.old.items)
@@ -239,6 +250,7 @@ pub fn put_loaded(made: &mut Made, lines: &mut Vec<Line>, element: Element) -> R
     })
 }
 
+/// An element of an object is set to an atom of its type (C99, section 6.5.16.1).
 #[inline(never)]
 pub fn put_stored(lines: &mut Vec<Line>, element: Element, from: Atom) -> Result<(), Memory>
     ensures { OnOk result (lines_of lines.new.items ≡ joined_to (lines_of lines.old.items)
@@ -256,7 +268,8 @@ pub fn put_stored(lines: &mut Vec<Line>, element: Element, from: Atom) -> Result
     )
 }
 
-/// The new value of a compound assignment.
+/// The new value of a compound assignment, `++` or `--`, in the last of three new cells: the old value is converted to
+/// the type in which the operator computes, and what that gives is converted back (C99, section 6.5.16.2).
 #[tactic(auto, using(crate::proofs::Lists::join_assoc))]
 #[inline(never)]
 pub fn put_changed(
@@ -278,7 +291,7 @@ pub fn put_changed(
     put_converted(made, lines, change.back, now.atom)
 }
 
-/// The value of one of two branches, whose last lines set one new cell.
+/// The value of one of two branches, in a new cell that the last lines of both set (C99, section 6.5.15).
 #[inline(never)]
 pub fn put_choice(
     made: &mut Made,
@@ -345,7 +358,7 @@ fn put_initial(
     Ok(())
 }
 
-/// The values for the first elements of a private array that is zeros.
+/// A private array is set to zeros, and its first elements to the values (C99, section 6.7.8).
 #[tactic(auto, using(crate::proofs::Lists::join_assoc))]
 #[inline(never)]
 pub fn put_filled(
@@ -362,7 +375,7 @@ pub fn put_filled(
     put_initial(lines, site, of, array, values)
 }
 
-/// Sets an exit's cell.
+/// The cell of a loop's or a call's exit is set to the number of a way out (C99, section 6.8.6).
 #[inline(never)]
 pub fn put_exit(lines: &mut Vec<Line>, exit: u32, way: i128) -> Result<(), Memory>
     ensures { OnOk result (lines_of lines.new.items ≡ joined_to (lines_of lines.old.items)

@@ -24,7 +24,7 @@ struct Compared {
     chosen: u32,
 }
 
-/// The number of the arm with `default`, or that behind the last.
+/// The number of the arm with `default`, from 0; the number of arms where none has it (C99, section 6.8.4.2).
 pub fn default_number(arms: &[SwitchArm]) -> usize
     ensures { result ≡ spec.default_number 0 (listed_arms arms.now) }
 {
@@ -105,7 +105,9 @@ fn put_all_labels(
     Ok(())
 }
 
-/// The number of the arm that is chosen, in a cell.
+/// The number of the arm of which a label is the promoted value, else that with `default`, else the number of arms: an
+/// `int` in a new cell (C99, section 6.8.4.2). `Memory` where memory was refused, and where a number does not fit in 32
+/// bits.
 #[tactic(auto, using(crate::proofs::Lists::join_assoc, crate::proofs::Lists::join_none))]
 #[inline(never)]
 pub fn put_chosen(

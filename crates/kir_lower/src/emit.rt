@@ -1,4 +1,4 @@
-//! Lines behind other lines.
+//! Lines behind other lines. Each function here answers `Memory` where memory was refused.
 
 ghost use Rattle.std.specs.Prelude.{◌≡◌, IfOk, OnOk};
 ghost use Rattle.kir.specs.Listed.{lines_of, line_before, work_of};
@@ -11,7 +11,7 @@ use kir::{Atom, Line, Work};
 use std::alloc::Global;
 use wg_num::{IntType, Memory, push};
 
-/// One more line.
+/// One more line behind the lines.
 #[tactic(auto, using(crate::proofs::Lists::lines_put))]
 #[inline(never)]
 pub fn put(lines: &mut Vec<Line>, line: Line) -> Result<(), Memory>
@@ -21,7 +21,7 @@ pub fn put(lines: &mut Vec<Line>, line: Line) -> Result<(), Memory>
     push(lines, line)
 }
 
-/// One more line, which sets a cell.
+/// One more line, which sets a cell to what the work gives.
 #[inline(never)]
 pub fn put_set(lines: &mut Vec<Line>, to: u32, work: Work) -> Result<(), Memory>
     ensures { OnOk result (lines_of lines.new.items ≡ joined_to (lines_of lines.old.items)
@@ -30,7 +30,7 @@ pub fn put_set(lines: &mut Vec<Line>, to: u32, work: Work) -> Result<(), Memory>
     put(lines, Line::Set { to, work })
 }
 
-/// One more line, which copies an atom to a cell.
+/// One more line, which sets a cell to an atom of its type.
 #[inline(never)]
 pub fn put_copy(lines: &mut Vec<Line>, to: u32, atom: Atom) -> Result<(), Memory>
     ensures { OnOk result (lines_of lines.new.items ≡ joined_to (lines_of lines.old.items) (spec.set_to to atom)) }
@@ -44,7 +44,7 @@ pub fn put_copy(lines: &mut Vec<Line>, to: u32, atom: Atom) -> Result<(), Memory
     )
 }
 
-/// One more line, a barrier.
+/// One more line, a barrier, whose place is that of the site (OpenCL 1.2, section 6.12.8).
 #[inline(never)]
 pub fn put_barrier(lines: &mut Vec<Line>, site: u32) -> Result<(), Memory>
     ensures { OnOk result (lines_of lines.new.items ≡ joined_to (lines_of lines.old.items)
@@ -53,7 +53,7 @@ pub fn put_barrier(lines: &mut Vec<Line>, site: u32) -> Result<(), Memory>
     put(lines, Line::Barrier { site })
 }
 
-/// One more line, a choice.
+/// One more line, a choice: the lines `yes` where the test is not 0, and else the lines `no`.
 #[tactic(auto, using(kir::proofs::Rows::if_listed))]
 #[inline(never)]
 pub fn put_if(
@@ -77,7 +77,8 @@ pub fn put_if(
     )
 }
 
-/// A line that computes the value of a new cell.
+/// One more line, which computes the value of a new cell; the answer is that cell, with its type. `Memory` is
+/// answered too where the kernel has 2^32 cells already.
 #[inline(never)]
 pub fn put_computed(
     made: &mut Made,
@@ -105,7 +106,7 @@ pub fn put_computed(
     }
 }
 
-/// Lines behind other lines.
+/// All lines of a list behind the lines, in order.
 #[tactic(auto, using(crate::proofs::Lists::lines_both))]
 #[inline(never)]
 pub fn put_all(lines: &mut Vec<Line>, mut rest: Vec<Line>) -> Result<(), Memory>
@@ -117,7 +118,8 @@ pub fn put_all(lines: &mut Vec<Line>, mut rest: Vec<Line>) -> Result<(), Memory>
     }
 }
 
-/// Lines that are skipped where a way out is pending, if there are any.
+/// One more line, which does the lines inside only where no way out is pending in the cell `exit`; none where there
+/// are no lines inside.
 #[tactic(auto, using(crate::proofs::Lists::join_none))]
 #[inline(never)]
 pub fn put_guarded(

@@ -32,7 +32,7 @@ pub fn way_out(s: &Stmt, breaks: bool, continues: bool) -> Option<u32>
     }
 }
 
-/// The same of statements in order.
+/// The site of the first way out of statements in order, as `way_out` gives it of one.
 #[cycle(leaving)]
 pub fn way_out_of_all(list: &[Stmt], breaks: bool, continues: bool) -> Option<u32>
     ensures { result ≡ spec.way_out_of_all breaks continues (listed_statements list.now) }
@@ -45,7 +45,7 @@ pub fn way_out_of_all(list: &[Stmt], breaks: bool, continues: bool) -> Option<u3
     None
 }
 
-/// The same of the arms of a `switch`.
+/// The site of the first way out of the arms of a `switch`, as `way_out` gives it of a statement.
 #[cycle(leaving)]
 pub fn way_out_of_arms(arms: &[SwitchArm], breaks: bool, continues: bool) -> Option<u32>
     ensures { result ≡ spec.way_out_of_arms breaks continues (listed_arms arms.now) }
@@ -58,7 +58,7 @@ pub fn way_out_of_arms(arms: &[SwitchArm], breaks: bool, continues: bool) -> Opt
     None
 }
 
-/// The statement declares a variable of the list in which it stands.
+/// Whether the statement declares a variable of the list in which it stands, and not of one inside it.
 pub fn declares(s: &Stmt) -> bool
     ensures { result ≡ spec.declares (statement_of s.now) }
 {

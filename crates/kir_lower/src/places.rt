@@ -12,7 +12,7 @@ ghost use Rattle.kir_lower.specs.View.{made_of, instance_of, names_in};
 ghost use Rattle.kir_lower.specs.Whole as whole;
 
 use cl_model::types::kind_type;
-use cl_model::{Array, Function, Program, Root, Var};
+use cl_model::{Array, Function, Program, Root, Var, copy_array};
 use kir::{Atom, Cell, CellKind};
 use std::alloc::Global;
 use wg_num::{IntType, Memory, Place, push};
@@ -24,7 +24,7 @@ pub struct Value {
     pub of: IntType,
 }
 
-/// The cells and arrays that are made so far.
+/// The cells and arrays of the kernel that are made so far, in order: the number of each is its place in its list.
 #[derive(Drop)]
 pub struct Made {
     pub cells: Vec<Cell>,
@@ -57,7 +57,7 @@ pub struct Callee {
     pub roots: Vec<Root>,
 }
 
-/// A number as the kernel has them.
+/// A number as the kernel has them, in 32 bits; `Memory` where it does not fit.
 pub fn number(n: usize) -> Result<u32, Memory>
     ensures { IfOk result (λ m. m ≡ n) }
 {
@@ -67,7 +67,7 @@ pub fn number(n: usize) -> Result<u32, Memory>
     }
 }
 
-/// The number that is so far behind another.
+/// The number that is so far behind another; `Memory` where it does not fit in 32 bits.
 pub fn behind(first: u32, n: u32) -> Result<u32, Memory>
     ensures { IfOk result (λ m. m ≡ first + n) }
 {
@@ -77,7 +77,7 @@ pub fn behind(first: u32, n: u32) -> Result<u32, Memory>
     }
 }
 
-/// The constant of type int.
+/// The constant of that value and of type `int`.
 pub fn int(value: i128) -> Atom
     ensures { result ≡ spec.int value }
 {
@@ -87,7 +87,7 @@ pub fn int(value: i128) -> Atom
     }
 }
 
-/// A constant and its type.
+/// The constant of that value and type, with its type.
 pub fn constant(value: i128, of: IntType) -> Value
     ensures { result ≡ spec.constant value of }
 {
@@ -97,7 +97,8 @@ pub fn constant(value: i128, of: IntType) -> Value
     }
 }
 
-/// One more cell for a value.
+/// One more cell for a value of that type, behind the others; the answer is its number. `Memory` where memory was
+/// refused, and where there are 2^32 cells already.
 pub fn add_value(made: &mut Made, of: IntType) -> Result<u32, Memory>
     ensures cell { IfOk result (λ c. c ≡ spec.next_cell (made_of made.old)) }
     ensures made { OnOk result (made_of made.new ≡ spec.with_cell (made_of made.old) OfValue of) }
@@ -108,7 +109,8 @@ pub fn add_value(made: &mut Made, of: IntType) -> Result<u32, Memory>
     Ok(cell)
 }
 
-/// One more cell for a pending way out.
+/// One more cell for a pending way out, of type `int`, behind the others; the answer is its number. `Memory` where
+/// memory was refused, and where there are 2^32 cells already.
 pub fn add_flag(made: &mut Made) -> Result<u32, Memory>
     ensures cell { IfOk result (λ c. c ≡ spec.next_cell (made_of made.old)) }
     ensures made { OnOk result (made_of made.new ≡ spec.with_cell (made_of made.old) OfFlag IntType.Int) }
@@ -120,7 +122,7 @@ pub fn add_flag(made: &mut Made) -> Result<u32, Memory>
     Ok(cell)
 }
 
-/// The cell of a variable.
+/// The number of the cell of a variable of the function; `Memory` where it does not fit in 32 bits.
 pub fn cell_at(here: &Instance<'_>, x: u32) -> Result<u32, Memory>
     ensures { IfOk result (λ c. c ≡ (instance_of here.now).base + x) }
 {
@@ -147,7 +149,8 @@ pub fn element_at(here: &Instance<'_>, array: u32) -> Result<IntType, Memory>
     }
 }
 
-/// The kernel's root that a root of the function names.
+/// The kernel's root that a root of the function names: that of the argument for a parameter, the same table, or an
+/// array of the kernel. `Memory` where there is no such parameter or the number does not fit in 32 bits.
 pub fn root_in(here: &Instance<'_>, root: Root) -> Result<Root, Memory>
     ensures { IfOk result (λ r. r ≡ spec.root_in (instance_of here.now) root) }
 {
@@ -162,7 +165,7 @@ pub fn root_in(here: &Instance<'_>, root: Root) -> Result<Root, Memory>
     }
 }
 
-/// The function with this number.
+/// The function with this number in the program; `Memory` where there are fewer.
 pub fn function_at(program: &Program, function: u32) -> Result<&Function, Memory>
     ensures plain { IfOk result (λ f. function_of f.now ≡ called.function_at (program_of program.now) function) }
     ensures names { IfOk result (λ f. names_in f.now ≡ whole.names_at (names_of program.now) function) }
@@ -173,7 +176,7 @@ pub fn function_at(program: &Program, function: u32) -> Result<&Function, Memory
     }
 }
 
-/// The place of a site.
+/// The place of a site, by its number in the program; `Memory` where there are fewer.
 pub fn place_at(program: &Program, site: u32) -> Result<Place, Memory>
     ensures { IfOk result (λ p. p ≡ whole.place_at (program_of program.now) site) }
 {
@@ -183,7 +186,7 @@ pub fn place_at(program: &Program, site: u32) -> Result<Place, Memory>
     }
 }
 
-/// A path of calls with one call more.
+/// A path of calls, by their sites, with one call more behind it; `Memory` where memory was refused.
 pub fn longer_calls(alloc: Global, calls: &[u32], site: u32) -> Result<Vec<u32>, Memory>
     ensures { IfOk result (λ v. v.items ≡ calls.now ++ site ∷ []) }
 {
@@ -196,7 +199,7 @@ pub fn longer_calls(alloc: Global, calls: &[u32], site: u32) -> Result<Vec<u32>,
     }
 }
 
-/// Places with one more.
+/// Places with one more behind them; `Memory` where memory was refused.
 pub fn longer_places(alloc: Global, places: &[Place], place: Place) -> Result<Vec<Place>, Memory>
     ensures { IfOk result (λ v. v.items ≡ places.now ++ place ∷ []) }
 {
@@ -209,7 +212,8 @@ pub fn longer_places(alloc: Global, places: &[Place], place: Place) -> Result<Ve
     }
 }
 
-/// The types of what variables hold.
+/// The types of what variables hold, in order: `long` of a pointer, which is kept as its offset. `Memory` where memory
+/// was refused.
 pub fn types_of(alloc: Global, vars: &[Var]) -> Result<Vec<IntType>, Memory>
     ensures { IfOk result (λ v. v.items ≡ map valid.kind_type (map (λ x. x.kind) vars.now)) }
 {
@@ -220,7 +224,7 @@ pub fn types_of(alloc: Global, vars: &[Var]) -> Result<Vec<IntType>, Memory>
     Ok(types)
 }
 
-/// The types of the elements of arrays.
+/// The types of the elements of arrays, in order; `Memory` where memory was refused.
 pub fn elements_of(alloc: Global, arrays: &[Array]) -> Result<Vec<IntType>, Memory>
     ensures { IfOk result (λ v. v.items ≡ map (λ (a : plain.Array). a.element) (map array_of arrays.now)) }
 {
@@ -231,24 +235,7 @@ pub fn elements_of(alloc: Global, arrays: &[Array]) -> Result<Vec<IntType>, Memo
     Ok(types)
 }
 
-/// An array with the same parts.
-pub fn copy_array(alloc: Global, array: &Array) -> Result<Array, Memory>
-    ensures { IfOk result (λ a. array_of a ≡ array_of array.now) }
-{
-    let name = array.name.copy(alloc)?;
-    match array.dims.as_slice().to_vec(alloc) {
-        Ok(dims) => Ok(Array {
-            name,
-            space: array.space,
-            element: array.element,
-            dims,
-            place: array.place,
-        }),
-        Err(_) => Err(Memory),
-    }
-}
-
-/// Makes a function's arrays.
+/// Puts copies of a function's arrays behind those of the kernel; `Memory` where memory was refused.
 pub fn add_arrays(alloc: Global, made: &mut Made, arrays: &[Array]) -> Result<(), Memory>
     ensures cells { OnOk result (made.new.cells ≡ made.old.cells) }
     ensures arrays { OnOk result (map array_of made.new.arrays.items ≡ map array_of made.old.arrays.items ++

@@ -1,5 +1,7 @@
 //! Steps of expressions, whose value takes the place of that of the last operand. Each stands in a
-//! function of its own, so that the functions that nest keep little on the stack.
+//! function of its own, so that the functions that nest keep little on the stack. The lines stand behind the lines so
+//! far. `Memory` is answered where memory was refused, and where a number does not fit in 32 bits; what the value and
+//! the lines are is then not said.
 
 ghost use Rattle.std.specs.Prelude.{◌≡◌, [], ◌∷◌, if◌then◌else◌, pos, OnOk};
 ghost use Rattle.wg_num.specs.Builtins as builtins;
@@ -37,7 +39,7 @@ pub struct Entered {
     pub number: u32,
 }
 
-/// A copy of a variable.
+/// The value becomes that of a variable, copied to a new cell (C99, section 6.5.1).
 #[inline(never)]
 pub fn step_variable(
     here: &Instance<'_>,
@@ -115,7 +117,7 @@ pub fn step_converted(
     Ok(())
 }
 
-/// The answer of a work-item function for the dimension that is the value.
+/// The value, a dimension, becomes what a work-item function answers for it (OpenCL 1.2, section 6.12.1).
 #[inline(never)]
 pub fn step_answer(
     made: &mut Made,
@@ -134,7 +136,7 @@ pub fn step_answer(
     Ok(())
 }
 
-/// Whether the value is not 0.
+/// The value becomes 1 where it is not 0, and else 0, of type `int` (C99, sections 6.5.13 and 6.5.14).
 #[inline(never)]
 pub fn step_truth(made: &mut Made, lines: &mut Vec<Line>, value: &mut Value) -> Result<(), Memory>
     ensures lines { OnOk result (lines_of lines.new.items ≡ joined_to (lines_of lines.old.items)
@@ -146,7 +148,8 @@ pub fn step_truth(made: &mut Made, lines: &mut Vec<Line>, value: &mut Value) -> 
     Ok(())
 }
 
-/// A built-in function of values.
+/// The value becomes that of an integer function on these values, which have the type `of` (OpenCL 1.2, section
+/// 6.12.3).
 #[inline(never)]
 pub fn step_builtin(
     alloc: Global,
@@ -171,7 +174,7 @@ pub fn step_builtin(
     Ok(())
 }
 
-/// What an element holds.
+/// The value becomes that of an element, in a new cell (C99, sections 6.3.2.1 and 6.5.2.1).
 #[inline(never)]
 pub fn step_loaded(
     made: &mut Made,
@@ -275,7 +278,8 @@ pub fn step_choice(
     Ok(())
 }
 
-/// The value behind its lines where a test holds, else 0.
+/// The value, behind its lines, where a test holds, and else the `int` 0: the right operand of `&&` (C99, section
+/// 6.5.13).
 #[inline(never)]
 pub fn step_both(
     alloc: Global,
@@ -308,7 +312,8 @@ pub fn step_both(
     Ok(())
 }
 
-/// 1 where a test holds, else the value behind its lines.
+/// The `int` 1 where a test holds, and else the value, behind its lines: the right operand of `||` (C99, section
+/// 6.5.14).
 #[inline(never)]
 pub fn step_either(
     alloc: Global,

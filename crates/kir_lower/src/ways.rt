@@ -15,10 +15,13 @@ use kir::{Atom, Line, Work};
 use std::alloc::Global;
 use wg_num::{Bin, IntType, Memory, Un};
 
+/// What the cell of a construct holds where a `continue` of it is pending (C99, section 6.8.6.2).
 pub const CONTINUES: i128 = 1;
 
+/// What it holds where a `break` is pending (C99, section 6.8.6.3).
 pub const BREAKS: i128 = 2;
 
+/// What it holds where a `return` is pending (C99, section 6.8.6.4).
 pub const RETURNS: i128 = 3;
 
 /// A loop: its site, whether its test comes first, its first way out, and the cell of what is

@@ -3,7 +3,7 @@
 ghost use Rattle.std.specs.Prelude.{◌≡◌, IfOk, map};
 ghost use Rattle.cl_model.specs.Calls as called;
 ghost use Rattle.cl_model.specs.Valid as valid;
-ghost use Rattle.cl_model.specs.View.{function_of, program_of, table_of};
+ghost use Rattle.cl_model.specs.View.{function_of, program_of};
 ghost use Rattle.kir.specs.Listed.{lines_of};
 ghost use Rattle.kir.specs.Lowering.{names_of};
 ghost use Rattle.kir.specs.View.{kernel_of};
@@ -11,9 +11,9 @@ ghost use Rattle.kir_lower.specs.Whole as whole;
 ghost use Rattle.kir_lower.specs.View.{made_of};
 
 use crate::entering::{Way, placed, put_bound};
-use crate::places::{Made, behind, constant, copy_array, function_at};
+use crate::places::{Made, behind, constant, function_at};
 use crate::statements::put_body;
-use cl_model::{Function, Program, Root, Table, VarKind};
+use cl_model::{Function, Program, Root, VarKind, copy_tables};
 use kir::{Kernel, KernelParts, Line};
 use std::alloc::Global;
 use wg_num::{IntType, Memory, Place, push};
@@ -46,28 +46,6 @@ fn own_roots(alloc: Global, kinds: &[VarKind]) -> Result<Vec<Root>, Memory>
         rest = others;
     }
     Ok(roots)
-}
-
-/// A table with the same parts.
-fn copy_table(alloc: Global, table: &Table) -> Result<Table, Memory>
-    ensures { IfOk result (λ t. table_of t ≡ table_of table.now) }
-{
-    let array = copy_array(alloc, &table.array)?;
-    match table.bytes.as_slice().to_vec(alloc) {
-        Ok(bytes) => Ok(Table { array, bytes }),
-        Err(_) => Err(Memory),
-    }
-}
-
-fn copy_tables(alloc: Global, tables: &[Table]) -> Result<Vec<Table>, Memory>
-    ensures { IfOk result (λ v. map table_of v.items ≡ map table_of tables.now) }
-{
-    let mut copies = Vec::new(alloc);
-    for table in tables {
-        let table = copy_table(alloc, table)?;
-        push(&mut copies, table)?;
-    }
-    Ok(copies)
 }
 
 fn copy_places(alloc: Global, places: &[Place]) -> Result<Vec<Place>, Memory>

@@ -7,6 +7,7 @@ pub mod Meaning
 pub mod Parts
 pub mod Program
 pub mod Registers
+pub mod Rows
 pub mod Run
 pub mod Text
 pub mod View

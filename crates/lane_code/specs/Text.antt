@@ -17,19 +17,12 @@ use Rattle.cl_model.specs.declared.program.Root.TheVariants as root
 use Rattle.lane_code.specs.declared.step.Bank.{Bank}
 use Rattle.lane_code.specs.declared.step.Bank.TheVariants.{Narrow, Wide, Mask as MaskBank, Scalar}
 use Rattle.lane_code.specs.declared.step.Step.{Step}
-use Rattle.lane_code.specs.declared.step.Step.TheVariants.{Const, Copy, Unary, Binary, Builtin, Convert, Spread}
-use Rattle.lane_code.specs.declared.step.Step.TheVariants.{First, Ask, Argument, Load, Store, Clear, ColumnGet}
-use Rattle.lane_code.specs.declared.step.Step.TheVariants.{ColumnPut, OnceGet, OncePut, VoteGet, VotePut}
-use Rattle.lane_code.specs.declared.step.Step.TheVariants.{Test as TestStep, MaskAnd, MaskOr, MaskLess, Jump}
-use Rattle.lane_code.specs.declared.step.Step.TheVariants.{SkipNone, SkipZero, Turn, Mark}
-use Rattle.lane_code.specs.declared.field.Label.{Label}
-use Rattle.lane_code.specs.declared.field.Label.TheVariants.{To, From, A, B, C, Index, Dim, Mask, Of, Was, Kind, Op}
-use Rattle.lane_code.specs.declared.field.Label.TheVariants.{F, What, Root as RootLabel, Value as ValueLabel, Site}
-use Rattle.lane_code.specs.declared.field.Label.TheVariants.{Number as NumberLabel, Array, Column, Slot, Target}
-use Rattle.lane_code.specs.declared.field.Field.{Field}
-use Rattle.lane_code.specs.declared.field.Field.TheVariants.{Register, Number, TypeName, Value, Unary as UnaryField}
-use Rattle.lane_code.specs.declared.field.Field.TheVariants.{Binary as BinaryField, Function, Query as QueryField}
-use Rattle.lane_code.specs.declared.field.Field.TheVariants.{Root as RootField}
+use Rattle.lane_code.specs.declared.operand.Label.{Label}
+use Rattle.lane_code.specs.declared.operand.Label.TheVariants.{To, From, A, B, C, Index, Dim, Mask, Of, Was, Kind}
+use Rattle.lane_code.specs.declared.operand.Operand.{Operand}
+use Rattle.lane_code.specs.declared.operand.Operand.TheVariants as operand
+use Rattle.lane_code.specs.declared.operand.Operand.TheVariants.{Register}
+use Rattle.lane_code.specs.Rows.{row_of}
 
 -- types, operators, functions and queries by their names
 abbrev pub type_name : IntType → List ℕ
@@ -124,101 +117,30 @@ label_name Mask = codes "mask"
 label_name Of = codes "of"
 label_name Was = codes "was"
 label_name Kind = codes "kind"
-label_name Op = codes "op"
-label_name F = codes "f"
-label_name What = codes "what"
-label_name RootLabel = codes "root"
-label_name ValueLabel = codes "value"
-label_name Site = codes "site"
-label_name NumberLabel = codes "number"
-label_name Array = codes "array"
-label_name Column = codes "column"
-label_name Slot = codes "slot"
-label_name Target = codes "target"
 
--- a field: a blank, its name, `=` and its value
-abbrev pub field_text : Field → List ℕ
-field_text (Register label x) =
+-- an operand: a blank, its name, `=` and its value
+abbrev pub operand_text : Operand → List ℕ
+operand_text (Register label role x) =
     codes " " ++ (label_name label ++ (codes "=" ++ (bank_letter x.bank ++ decimal x.number)))
-field_text (Number label n) = codes " " ++ (label_name label ++ (codes "=" ++ decimal n))
-field_text (TypeName label t) = codes " " ++ (label_name label ++ (codes "=" ++ type_name t))
-field_text (Value v) = codes " value=" ++ signed_decimal v
-field_text (UnaryField op) = codes " op=" ++ unary_name op
-field_text (BinaryField op) = codes " op=" ++ binary_name op
-field_text (Function f) = codes " f=" ++ function_name f
-field_text (QueryField what) = codes " what=" ++ query_name what
-field_text (RootField r) = codes " root=" ++ (root_name r ++ decimal (root_number r))
+operand_text (operand.Site n) = codes " site=" ++ decimal n
+operand_text (operand.Array n) = codes " array=" ++ decimal n
+operand_text (operand.Column n) = codes " column=" ++ decimal n
+operand_text (operand.Slot n) = codes " slot=" ++ decimal n
+operand_text (operand.Parameter n) = codes " number=" ++ decimal n
+operand_text (operand.Ahead n) = codes " target=" ++ decimal n
+operand_text (operand.Back n) = codes " target=" ++ decimal n
+operand_text (operand.Type label t) = codes " " ++ (label_name label ++ (codes "=" ++ type_name t))
+operand_text (operand.Value t v) = codes " value=" ++ signed_decimal v
+operand_text (operand.Unary op) = codes " op=" ++ unary_name op
+operand_text (operand.Binary op) = codes " op=" ++ binary_name op
+operand_text (operand.Function f) = codes " f=" ++ function_name f
+operand_text (operand.Query what) = codes " what=" ++ query_name what
+operand_text (operand.Read r) = codes " root=" ++ (root_name r ++ decimal (root_number r))
+operand_text (operand.Written r) = codes " root=" ++ (root_name r ++ decimal (root_number r))
 
-abbrev pub fields_text : List ℕ → List Field → List ℕ
-fields_text name fields = name ++ flat_map field_text fields
+abbrev pub operands_text : List ℕ → List Operand → List ℕ
+operands_text name operands = name ++ flat_map operand_text operands
 
--- the name of a step, and its fields in order
-abbrev pub step_name : Step → List ℕ
-step_name (Const to on value) = codes "Const"
-step_name (Copy to from mask) = codes "Copy"
-step_name (Unary op on to a mask) = codes "Unary"
-step_name (Binary op on to a b mask) = codes "Binary"
-step_name (Builtin f on to a b c mask) = codes "Builtin"
-step_name (Convert to kind from was mask) = codes "Convert"
-step_name (Spread to from) = codes "Spread"
-step_name (First to from on mask) = codes "First"
-step_name (Ask what to dim mask) = codes "Ask"
-step_name (Argument number to mask) = codes "Argument"
-step_name (Load site on root index to mask) = codes "Load"
-step_name (Store site on root index from mask) = codes "Store"
-step_name (Clear array mask) = codes "Clear"
-step_name (ColumnGet column to) = codes "ColumnGet"
-step_name (ColumnPut column from mask) = codes "ColumnPut"
-step_name (OnceGet slot to) = codes "OnceGet"
-step_name (OncePut slot from) = codes "OncePut"
-step_name (VoteGet to) = codes "VoteGet"
-step_name (VotePut from mask) = codes "VotePut"
-step_name (TestStep to from mask) = codes "Test"
-step_name (MaskAnd to a b) = codes "MaskAnd"
-step_name (MaskOr to a b) = codes "MaskOr"
-step_name (MaskLess to a b) = codes "MaskLess"
-step_name (Jump target) = codes "Jump"
-step_name (SkipNone mask target) = codes "SkipNone"
-step_name (SkipZero from target) = codes "SkipZero"
-step_name (Turn mask target) = codes "Turn"
-step_name (Mark site mask) = codes "Mark"
-
-abbrev pub fields_of : Step → List Field
-fields_of (Const to on value) = Register To to ∷ TypeName Of on ∷ Value value ∷ []
-fields_of (Copy to from mask) = Register To to ∷ Register From from ∷ Register Mask mask ∷ []
-fields_of (Unary op on to a mask) =
-    UnaryField op ∷ TypeName Of on ∷ Register To to ∷ Register A a ∷ Register Mask mask ∷ []
-fields_of (Binary op on to a b mask) =
-    BinaryField op ∷ TypeName Of on ∷ Register To to ∷ Register A a ∷ Register B b ∷ Register Mask mask ∷ []
-fields_of (Builtin f on to a b c mask) =
-    Function f ∷ TypeName Of on ∷ Register To to ∷ Register A a ∷ Register B b ∷ Register C c ∷ Register Mask mask ∷ []
-fields_of (Convert to kind from was mask) =
-    Register To to ∷ TypeName Kind kind ∷ Register From from ∷ TypeName Was was ∷ Register Mask mask ∷ []
-fields_of (Spread to from) = Register To to ∷ Register From from ∷ []
-fields_of (First to from on mask) = Register To to ∷ Register From from ∷ TypeName Of on ∷ Register Mask mask ∷ []
-fields_of (Ask what to dim mask) = QueryField what ∷ Register To to ∷ Register Dim dim ∷ Register Mask mask ∷ []
-fields_of (Argument number to mask) = Number NumberLabel number ∷ Register To to ∷ Register Mask mask ∷ []
-fields_of (Load site on root index to mask) =
-    Number Site site ∷ TypeName Of on ∷ RootField root ∷ Register Index index ∷ Register To to ∷ Register Mask mask ∷ []
-fields_of (Store site on root index from mask) =
-    Number Site site ∷ TypeName Of on ∷ RootField root ∷ Register Index index ∷ Register From from ∷
-    Register Mask mask ∷ []
-fields_of (Clear array mask) = Number Array array ∷ Register Mask mask ∷ []
-fields_of (ColumnGet column to) = Number Column column ∷ Register To to ∷ []
-fields_of (ColumnPut column from mask) = Number Column column ∷ Register From from ∷ Register Mask mask ∷ []
-fields_of (OnceGet slot to) = Number Slot slot ∷ Register To to ∷ []
-fields_of (OncePut slot from) = Number Slot slot ∷ Register From from ∷ []
-fields_of (VoteGet to) = Register To to ∷ []
-fields_of (VotePut from mask) = Register From from ∷ Register Mask mask ∷ []
-fields_of (TestStep to from mask) = Register To to ∷ Register From from ∷ Register Mask mask ∷ []
-fields_of (MaskAnd to a b) = Register To to ∷ Register A a ∷ Register B b ∷ []
-fields_of (MaskOr to a b) = Register To to ∷ Register A a ∷ Register B b ∷ []
-fields_of (MaskLess to a b) = Register To to ∷ Register A a ∷ Register B b ∷ []
-fields_of (Jump target) = Number Target target ∷ []
-fields_of (SkipNone mask target) = Register Mask mask ∷ Number Target target ∷ []
-fields_of (SkipZero from target) = Register From from ∷ Number Target target ∷ []
-fields_of (Turn mask target) = Register Mask mask ∷ Number Target target ∷ []
-fields_of (Mark site mask) = Number Site site ∷ Register Mask mask ∷ []
-
+-- the name of a step, and its operands in order
 abbrev pub step_text : Step → List ℕ
-step_text step = fields_text (step_name step) (fields_of step)
+step_text step = operands_text (row_of step).name (row_of step).operands

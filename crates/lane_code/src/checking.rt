@@ -1,78 +1,65 @@
 //! Makes codes and programs of groups from their parts, which it checks.
 
-ghost use Rattle.std.specs.Prelude.{◌≡◌, ◌+◌, ◌&&◌, max, is_some, IfSome, nat_lt};
-ghost use Rattle.lane_code.specs.Fits.{is_below, is_ahead, is_well, is_code, count_of};
-ghost use Rattle.lane_code.specs.Counting.{registers_of, counted_among, counted_in, counted, are_few, make_code};
+ghost use Rattle.std.specs.Prelude.{◌≡◌, ◌+◌, ◌&&◌, max, is_some, IfSome, nat_lt, true};
+ghost use Rattle.lane_code.specs.Fits.{is_below, is_ahead, is_well_register, well_test, and_test, all_pass, is_well};
+ghost use Rattle.lane_code.specs.Fits.{is_code, count_of};
+ghost use Rattle.lane_code.specs.Rows.{row_of};
+ghost use Rattle.lane_code.specs.Counting.{counted_at, counted_among, counted_in, counted, are_few, make_code};
 ghost use Rattle.wg_num.specs.Types.{is_value};
 
 use crate::code::{Code, Counts};
+use crate::operand::{Operand, Role};
+use crate::row::row_of;
 use crate::step::{Bank, Reg, Step};
 use wg_num::is_value;
 
+/// One more than the number of a register of the bank, 0 for any other operand.
+fn count_at(bank: Bank, operand: Operand) -> u64
+    ensures { result ≡ counted_at bank operand }
+{
+    match operand {
+        Operand::Register(_, _, x) => {
+            if x.bank == bank {
+                x.number as u64 + 1
+            } else {
+                0
+            }
+        }
+        Operand::Site(_)
+        | Operand::Array(_)
+        | Operand::Column(_)
+        | Operand::Slot(_)
+        | Operand::Parameter(_)
+        | Operand::Ahead(_)
+        | Operand::Back(_)
+        | Operand::Type(_, _)
+        | Operand::Value(_, _)
+        | Operand::Unary(_)
+        | Operand::Binary(_)
+        | Operand::Function(_)
+        | Operand::Query(_)
+        | Operand::Read(_)
+        | Operand::Written(_) => 0,
+    }
+}
+
 /// One more than the highest number of a register of the bank among these, 0 where there is none.
-fn count_among(bank: Bank, registers: &[Reg]) -> u64
-    ensures { result ≡ counted_among bank registers.now }
+fn count_among(bank: Bank, operands: &[Operand]) -> u64
+    ensures { result ≡ counted_among bank operands.now }
 {
     let mut count = 0;
-    for x in registers {
-        if x.bank == bank && count <= x.number as u64 {
-            count = x.number as u64 + 1;
-        }
+    for operand in operands {
+        count = count.max(count_at(bank, *operand));
     }
     count
 }
 
 /// The same of the registers that a step names.
 fn count_in_step(bank: Bank, step: Step) -> u64
-    ensures { result ≡ counted_among bank (registers_of step) }
+    ensures { result ≡ counted_among bank (row_of step).operands }
 {
-    match step {
-        Step::Const { to, .. } => count_among(bank, &[to]),
-        Step::Copy { to, from, mask } => count_among(bank, &[to, from, mask]),
-        Step::Unary { to, a, mask, .. } => count_among(bank, &[to, a, mask]),
-        Step::Binary { to, a, b, mask, .. } => count_among(bank, &[to, a, b, mask]),
-        Step::Builtin {
-            to,
-            a,
-            b,
-            c,
-            mask,
-            ..
-        } => count_among(bank, &[to, a, b, c, mask]),
-        Step::Convert { to, from, mask, .. } => count_among(bank, &[to, from, mask]),
-        Step::Spread { to, from } => count_among(bank, &[to, from]),
-        Step::First { to, from, mask, .. } => count_among(bank, &[to, from, mask]),
-        Step::Ask { to, dim, mask, .. } => count_among(bank, &[to, dim, mask]),
-        Step::Argument { to, mask, .. } => count_among(bank, &[to, mask]),
-        Step::Load {
-            index,
-            to,
-            mask,
-            ..
-        } => count_among(bank, &[index, to, mask]),
-        Step::Store {
-            index,
-            from,
-            mask,
-            ..
-        } => count_among(bank, &[index, from, mask]),
-        Step::Clear { mask, .. } => count_among(bank, &[mask]),
-        Step::ColumnGet { to, .. } => count_among(bank, &[to]),
-        Step::ColumnPut { from, mask, .. } => count_among(bank, &[from, mask]),
-        Step::OnceGet { to, .. } => count_among(bank, &[to]),
-        Step::OncePut { from, .. } => count_among(bank, &[from]),
-        Step::VoteGet { to } => count_among(bank, &[to]),
-        Step::VotePut { from, mask } => count_among(bank, &[from, mask]),
-        Step::Test { to, from, mask } => count_among(bank, &[to, from, mask]),
-        Step::MaskAnd { to, a, b } => count_among(bank, &[to, a, b]),
-        Step::MaskOr { to, a, b } => count_among(bank, &[to, a, b]),
-        Step::MaskLess { to, a, b } => count_among(bank, &[to, a, b]),
-        Step::Jump { .. } => count_among(bank, &[]),
-        Step::SkipNone { mask, .. } => count_among(bank, &[mask]),
-        Step::SkipZero { from, .. } => count_among(bank, &[from]),
-        Step::Turn { mask, .. } => count_among(bank, &[mask]),
-        Step::Mark { mask, .. } => count_among(bank, &[mask]),
-    }
+    let row = row_of(step);
+    count_among(bank, row.list())
 }
 
 /// The same of the registers that steps name.
@@ -128,20 +115,6 @@ pub(crate) fn has(counts: Counts, x: Reg) -> bool
     x.number < count_of_bank(counts, x.bank)
 }
 
-/// Whether there are two such registers.
-fn has_two(counts: Counts, x: Reg, y: Reg) -> bool
-    ensures { result ≡ is_below counts x && is_below counts y }
-{
-    has(counts, x) && has(counts, y)
-}
-
-/// Whether there are three.
-fn has_three(counts: Counts, x: Reg, y: Reg, z: Reg) -> bool
-    ensures { result ≡ is_below counts x && is_below counts y && is_below counts z }
-{
-    has_two(counts, x, y) && has(counts, z)
-}
-
 /// Whether a jump goes ahead, at most to the end.
 pub(crate) fn goes_ahead(end: usize, place: usize, target: u32) -> bool
     ensures { result ≡ is_ahead end place target }
@@ -149,64 +122,83 @@ pub(crate) fn goes_ahead(end: usize, place: usize, target: u32) -> bool
     place < target as usize && target as usize <= end
 }
 
-/// Whether the step is well at this place of a code with so many steps and registers.
-fn is_well_at(c: Counts, end: usize, place: usize, step: Step) -> bool
-    ensures { result ≡ is_well c end place step }
-{
-    match step {
-        Step::Const { to, of, value } => has(c, to) && is_value(of, value),
-        Step::Copy { to, from, mask } => has_three(c, to, from, mask),
-        Step::Unary { to, a, mask, .. } => has_three(c, to, a, mask),
-        Step::Binary { to, a, b, mask, .. } => has_three(c, to, a, b) && has(c, mask),
-        Step::Builtin {
-            to,
-            a,
-            b,
-            c: d,
-            mask,
-            ..
-        } => has_three(c, to, a, b) && has(c, d) && has(c, mask),
-        Step::Convert { to, from, mask, .. } => has_three(c, to, from, mask),
-        Step::Spread { to, from } => has_two(c, to, from),
-        Step::First { to, from, mask, .. } => has_three(c, to, from, mask),
-        Step::Ask { to, dim, mask, .. } => has_three(c, to, dim, mask),
-        Step::Argument { to, mask, .. } => has_two(c, to, mask),
-        Step::Load {
-            index,
-            to,
-            mask,
-            ..
-        } => has_three(c, index, to, mask),
-        Step::Store {
-            index,
-            from,
-            mask,
-            ..
-        } => has_three(c, index, from, mask),
-        Step::Clear { mask, .. } => has(c, mask),
-        Step::ColumnGet { to, .. } => has(c, to),
-        Step::ColumnPut { from, mask, .. } => has_two(c, from, mask),
-        Step::OnceGet { to, .. } => has(c, to),
-        Step::OncePut { from, .. } => has(c, from),
-        Step::VoteGet { to } => has_own(c, to),
-        Step::VotePut { from, mask } => has_two(c, from, mask),
-        Step::Test { to, from, mask } => has_own(c, to) && has(c, from) && has(c, mask),
-        Step::MaskAnd { to, a, b } => has_own(c, to) && has(c, a) && has(c, b),
-        Step::MaskOr { to, a, b } => has_own(c, to) && has(c, a) && has(c, b),
-        Step::MaskLess { to, a, b } => has_own(c, to) && has(c, a) && has(c, b),
-        Step::Jump { target } => goes_ahead(end, place, target),
-        Step::SkipNone { mask, target } => has(c, mask) && goes_ahead(end, place, target),
-        Step::SkipZero { from, target } => has(c, from) && goes_ahead(end, place, target),
-        Step::Turn { mask, target } => has(c, mask) && target as usize <= place,
-        Step::Mark { mask, .. } => has(c, mask),
-    }
-}
-
 /// Whether there is such a register, and it is not the one with number 0.
 fn has_own(counts: Counts, x: Reg) -> bool
     ensures { result ≡ is_below counts x && nat_lt 0 x.number }
 {
     has(counts, x) && 0 < x.number
+}
+
+/// Whether there is such a register, which is not mask 0 where the step writes a mask.
+fn is_well_register(c: Counts, role: Role, x: Reg) -> bool
+    ensures { result ≡ is_well_register c role x }
+{
+    match role {
+        Role::OwnMask => has_own(c, x),
+        Role::Any
+        | Role::In(_)
+        | Role::Lanes(_)
+        | Role::Values(_)
+        | Role::Numbers
+        | Role::NumbersOrScalar
+        | Role::Argument(_)
+        | Role::Dimension(_, _)
+        | Role::Converted { .. } => has(c, x),
+    }
+}
+
+/// Whether the operand is well at this place of a code with so many steps and registers; `None`
+/// where nothing is asked of it.
+fn well_test(c: Counts, end: usize, place: usize, operand: Operand) -> Option<bool>
+    ensures { result ≡ well_test c end place operand }
+{
+    match operand {
+        Operand::Register(_, role, x) => Some(is_well_register(c, role, x)),
+        Operand::Value(t, value) => Some(is_value(t, value)),
+        Operand::Ahead(target) => Some(goes_ahead(end, place, target)),
+        Operand::Back(target) => Some(target as usize <= place),
+        Operand::Site(_)
+        | Operand::Array(_)
+        | Operand::Column(_)
+        | Operand::Slot(_)
+        | Operand::Parameter(_)
+        | Operand::Type(_, _)
+        | Operand::Unary(_)
+        | Operand::Binary(_)
+        | Operand::Function(_)
+        | Operand::Query(_)
+        | Operand::Read(_)
+        | Operand::Written(_) => None,
+    }
+}
+
+/// Whether a further test holds too, if there is one.
+pub(crate) fn and_test(so_far: bool, test: Option<bool>) -> bool
+    ensures { result ≡ and_test so_far test }
+{
+    match test {
+        None => so_far,
+        Some(test) => so_far && test,
+    }
+}
+
+/// Whether the operands are well.
+fn operands_well(c: Counts, end: usize, place: usize, operands: &[Operand]) -> bool
+    ensures { result ≡ all_pass (well_test c end place) true operands.now }
+{
+    let mut well = true;
+    for operand in operands {
+        well = and_test(well, well_test(c, end, place, *operand));
+    }
+    well
+}
+
+/// Whether the step is well at this place of a code with so many steps and registers.
+fn is_well_at(c: Counts, end: usize, place: usize, step: Step) -> bool
+    ensures { result ≡ is_well c end place step }
+{
+    let row = row_of(step);
+    operands_well(c, end, place, row.list())
 }
 
 /// Whether the steps are well, each at its place.

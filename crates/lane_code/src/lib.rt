@@ -4,10 +4,11 @@
 mod checking;
 pub mod code;
 pub mod end;
-pub mod field;
 pub mod listings;
+pub mod operand;
 pub mod parts;
 pub mod program;
+mod row;
 pub mod step;
 pub mod text;
 

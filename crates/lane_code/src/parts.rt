@@ -1,17 +1,20 @@
 //! Programs of groups, made from their parts where these fit each other.
 
-ghost use Rattle.std.specs.Prelude.{◌≡◌, ◌&&◌, ◌||◌, length, is_some, IfSome, slice_get};
+ghost use Rattle.std.specs.Prelude.{◌≡◌, ◌&&◌, ◌||◌, length, is_some, IfSome, slice_get, true};
 ghost use Rattle.lane_code.specs.Fits.{is_reg, bank_of, holds_lanes, holds_values, holds_numbers, is_mask, is_own_mask};
 ghost use Rattle.lane_code.specs.Fits.{is_pointer, names_object, names_written, holds_argument};
-ghost use Rattle.lane_code.specs.Fits.{is_of_group, holds_answer, holds_converted, step_fits, all_steps, code_fits};
+ghost use Rattle.lane_code.specs.Fits.{is_of_group, holds_answer, holds_converted, role_test, fit_test, all_pass};
+ghost use Rattle.lane_code.specs.Fits.{step_fits, all_steps, code_fits};
 ghost use Rattle.lane_code.specs.Program.{work_of, names_of, work_fits, roots_are_own, is_parameter};
 ghost use Rattle.lane_code.specs.Program.{is_group_program};
 ghost use Rattle.lane_code.specs.View.{plain_of};
 ghost use Rattle.lane_code.specs.Parts.{parts_of, nodes_fit, root_is_own};
 
-use crate::checking::{goes_ahead, has};
+use crate::checking::{and_test, goes_ahead, has};
 use crate::code::{Code, Counts, Node};
+use crate::operand::{Operand, Role};
 use crate::program::GroupProgram;
+use crate::row::row_of;
 use crate::step::{Bank, Reg, Step};
 use cl_model::{Query, Root, Table, VarKind, query_type};
 use wg_num::{IntType, Place, Width, Word, is_value};
@@ -89,13 +92,6 @@ fn has_own_mask(c: Counts, x: Reg) -> bool
     ensures { result ≡ is_own_mask c x }
 {
     has_mask(c, x) && 0 < x.number
-}
-
-/// Whether the second register is of the first one's bank.
-fn beside(c: Counts, to: Reg, x: Reg) -> bool
-    ensures { result ≡ is_reg c to.bank x }
-{
-    is_in(c, to.bank, x)
 }
 
 // ---- what a step names
@@ -186,128 +182,78 @@ fn has_converted(c: Counts, kind: IntType, was: IntType, to: Reg, from: Reg) -> 
 
 // ---- steps, codes and nodes
 
-/// Whether an operator's operands and result fit.
-fn has_operands(c: Counts, of: IntType, to: Reg, a: Reg, b: Reg) -> bool
-    ensures { result ≡ holds_values c of to && is_reg c to.bank a && is_reg c to.bank b }
+/// Whether the register is what the step asks for; `None` where nothing is asked of it.
+fn role_test(parts: &GroupParts, c: Counts, role: Role, x: Reg) -> Option<bool>
+    ensures { result ≡ role_test (names_of (parts_of parts.now)) c role x }
 {
-    has_values(c, of, to) && beside(c, to, a) && beside(c, to, b)
+    match role {
+        Role::Any => None,
+        Role::In(bank) => Some(is_in(c, bank, x)),
+        Role::OwnMask => Some(has_own_mask(c, x)),
+        Role::Lanes(t) => Some(has_lanes(c, t, x)),
+        Role::Values(t) => Some(has_values(c, t, x)),
+        Role::Numbers => Some(has_numbers(c, x)),
+        Role::NumbersOrScalar => Some(has_numbers(c, x) || is_in(c, Bank::Scalar, x)),
+        Role::Argument(number) => Some(has_argument(c, &parts.params, number, x)),
+        Role::Dimension(what, to) => Some(has_answer(c, what, to, x)),
+        Role::Converted { kind, was, to } => Some(has_converted(c, kind, was, to, x)),
+    }
 }
 
-/// Whether a mask may be made of these.
-fn has_masks(c: Counts, to: Reg, a: Reg, b: Reg) -> bool
-    ensures { result ≡ is_own_mask c to && is_mask c a && is_mask c b }
+/// Whether the operand fits at this place of a code with so many steps and registers; `None` where
+/// nothing is asked of it.
+fn fit_test(
+    parts: &GroupParts,
+    c: Counts,
+    end: usize,
+    place: usize,
+    operand: Operand,
+) -> Option<bool>
+    ensures { result ≡ fit_test (names_of (parts_of parts.now)) c end place operand }
 {
-    has_own_mask(c, to) && has_mask(c, a) && has_mask(c, b)
+    match operand {
+        Operand::Register(_, role, x) => role_test(parts, c, role, x),
+        Operand::Site(n) => Some((n as usize) < parts.sites.len()),
+        Operand::Array(n) => Some((n as usize) < parts.privates.len()),
+        Operand::Column(n) => Some(n < parts.columns),
+        Operand::Slot(n) => Some(n < parts.slots),
+        Operand::Ahead(target) => Some(goes_ahead(end, place, target)),
+        Operand::Back(target) => Some(target as usize <= place),
+        Operand::Value(t, value) => Some(is_value(t, value)),
+        Operand::Read(root) => Some(has_object(parts, root)),
+        Operand::Written(root) => Some(has_written(parts, root)),
+        Operand::Parameter(_)
+        | Operand::Type(_, _)
+        | Operand::Unary(_)
+        | Operand::Binary(_)
+        | Operand::Function(_)
+        | Operand::Query(_) => None,
+    }
+}
+
+/// Whether the operands fit.
+fn operands_fit(
+    parts: &GroupParts,
+    c: Counts,
+    end: usize,
+    place: usize,
+    operands: &[Operand],
+) -> bool
+    ensures { result ≡ all_pass (fit_test (names_of (parts_of parts.now)) c end place) true operands.now }
+{
+    let mut fit = true;
+    for operand in operands {
+        fit = and_test(fit, fit_test(parts, c, end, place, *operand));
+    }
+    fit
 }
 
 /// Whether the step fits at this place of a code with so many steps and registers.
 fn fits_at(parts: &GroupParts, c: Counts, end: usize, place: usize, step: Step) -> bool
     ensures { result ≡ step_fits (names_of (parts_of parts.now)) c end place step }
 {
-    match step {
-        Step::Const { to, of, value } => has_values(c, of, to) && is_value(of, value),
-        Step::Copy { to, from, mask } => {
-            (has_numbers(c, to) || is_in(c, Bank::Scalar, to))
-                && beside(c, to, from)
-                && has_mask(c, mask)
-        }
-        Step::Unary {
-            of,
-            to,
-            a,
-            mask,
-            ..
-        } => has_values(c, of, to) && beside(c, to, a) && has_mask(c, mask),
-        Step::Binary {
-            of,
-            to,
-            a,
-            b,
-            mask,
-            ..
-        } => has_operands(c, of, to, a, b) && has_mask(c, mask),
-        Step::Builtin {
-            of,
-            to,
-            a,
-            b,
-            c: d,
-            mask,
-            ..
-        } => has_operands(c, of, to, a, b) && beside(c, to, d) && has_mask(c, mask),
-        Step::Convert {
-            to,
-            kind,
-            from,
-            was,
-            mask,
-        } => has_converted(c, kind, was, to, from) && has_mask(c, mask),
-        Step::Spread { to, from } => has_numbers(c, to) && is_in(c, Bank::Scalar, from),
-        Step::First { to, from, of, mask } => {
-            is_in(c, Bank::Scalar, to) && has_lanes(c, of, from) && has_mask(c, mask)
-        }
-        Step::Ask {
-            what,
-            to,
-            dim,
-            mask,
-        } => has_answer(c, what, to, dim) && has_mask(c, mask),
-        Step::Argument { number, to, mask } => {
-            has_argument(c, &parts.params, number, to) && has_mask(c, mask)
-        }
-        Step::Load {
-            site,
-            of,
-            root,
-            index,
-            to,
-            mask,
-        } => {
-            (site as usize) < parts.sites.len()
-                && has_object(parts, root)
-                && is_in(c, Bank::Wide, index)
-                && has_lanes(c, of, to)
-                && has_mask(c, mask)
-        }
-        Step::Store {
-            site,
-            of,
-            root,
-            index,
-            from,
-            mask,
-        } => {
-            (site as usize) < parts.sites.len()
-                && has_written(parts, root)
-                && is_in(c, Bank::Wide, index)
-                && has_lanes(c, of, from)
-                && has_mask(c, mask)
-        }
-        Step::Clear { array, mask } => {
-            (array as usize) < parts.privates.len() && has_mask(c, mask)
-        }
-        Step::ColumnGet { column, to } => column < parts.columns && has_numbers(c, to),
-        Step::ColumnPut { column, from, mask } => {
-            column < parts.columns && has_numbers(c, from) && has_mask(c, mask)
-        }
-        Step::OnceGet { slot, to } => slot < parts.slots && is_in(c, Bank::Scalar, to),
-        Step::OncePut { slot, from } => slot < parts.slots && is_in(c, Bank::Scalar, from),
-        Step::VoteGet { to } => has_own_mask(c, to),
-        Step::VotePut { from, mask } => has_mask(c, from) && has_mask(c, mask),
-        Step::Test { to, from, mask } => {
-            has_own_mask(c, to) && has_numbers(c, from) && has_mask(c, mask)
-        }
-        Step::MaskAnd { to, a, b } => has_masks(c, to, a, b),
-        Step::MaskOr { to, a, b } => has_masks(c, to, a, b),
-        Step::MaskLess { to, a, b } => has_masks(c, to, a, b),
-        Step::Jump { target } => goes_ahead(end, place, target),
-        Step::SkipNone { mask, target } => has_mask(c, mask) && goes_ahead(end, place, target),
-        Step::SkipZero { from, target } => {
-            is_in(c, Bank::Scalar, from) && goes_ahead(end, place, target)
-        }
-        Step::Turn { mask, target } => has_mask(c, mask) && target as usize <= place,
-        Step::Mark { site, mask } => (site as usize) < parts.sites.len() && has_mask(c, mask),
-    }
+    let row = row_of(step);
+    operands_fit(parts, c, end, place, row.list())
 }
 
 /// Whether each step fits at its place.

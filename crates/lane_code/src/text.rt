@@ -1,11 +1,12 @@
 //! The text of a group program.
 
-ghost use Rattle.std.specs.Prelude.{◌≡◌, ◌++◌, OnOk};
+ghost use Rattle.std.specs.Prelude.{◌≡◌, ◌++◌, OnOk, codes, decimal};
 ghost use Rattle.std.specs.List.{flat_map};
 ghost use Rattle.lane_code.specs.Text.{type_name, unary_name, binary_name, function_name, query_name, root_name};
-ghost use Rattle.lane_code.specs.Text.{root_number, label_name, bank_letter, field_text, fields_text, step_text};
+ghost use Rattle.lane_code.specs.Text.{root_number, label_name, bank_letter, operand_text, operands_text, step_text};
 
-use crate::field::{Field, Label};
+use crate::operand::{Label, Operand};
+use crate::row::row_of;
 use crate::step::{Bank, Step};
 use cl_model::{Query, Root};
 use itoa::Buffer;
@@ -164,27 +165,41 @@ fn name_of_label(label: Label) -> &'static [u8]
         Label::Of => b"of",
         Label::Was => b"was",
         Label::Kind => b"kind",
-        Label::Op => b"op",
-        Label::F => b"f",
-        Label::What => b"what",
-        Label::Root => b"root",
-        Label::Value => b"value",
-        Label::Site => b"site",
-        Label::Number => b"number",
-        Label::Array => b"array",
-        Label::Column => b"column",
-        Label::Slot => b"slot",
-        Label::Target => b"target",
     }
 }
 
-/// Puts one field: a blank, its name, `=` and its value.
-fn put_field(out: &mut Vec<u8>, field: Field) -> Result<(), Memory>
-    ensures { OnOk result (out.new.items ≡ out.old.items ++ field_text field) }
+/// Puts a number behind the name of what it is.
+fn put_number(out: &mut Vec<u8>, name: &[u8], n: u32) -> Result<(), Memory>
+    ensures { OnOk result (out.new.items ≡ out.old.items ++ (name.now ++ decimal n)) }
 {
     let mut number = Buffer::new();
-    match field {
-        Field::Register(label, register) => {
+    put(out, name)?;
+    put(out, number.format(n).as_bytes())
+}
+
+/// Puts a root behind the name of what it is.
+fn put_root(out: &mut Vec<u8>, root: Root) -> Result<(), Memory>
+    ensures { OnOk result (out.new.items ≡ out.old.items ++ (codes " root=" ++ (root_name root ++
+        decimal (root_number root)))) }
+{
+    let mut number = Buffer::new();
+    put_pieces(
+        out,
+        &[
+            b" root=",
+            name_of_root(root),
+            number.format(number_of_root(root)).as_bytes(),
+        ],
+    )
+}
+
+/// Puts one operand: a blank, its name, `=` and its value.
+fn put_operand(out: &mut Vec<u8>, operand: Operand) -> Result<(), Memory>
+    ensures { OnOk result (out.new.items ≡ out.old.items ++ operand_text operand) }
+{
+    let mut number = Buffer::new();
+    match operand {
+        Operand::Register(label, _, register) => {
             put_pieces(
                 out,
                 &[
@@ -196,42 +211,34 @@ fn put_field(out: &mut Vec<u8>, field: Field) -> Result<(), Memory>
                 ],
             )
         }
-        Field::Number(label, value) => put_pieces(
-            out,
-            &[
-                b" ",
-                name_of_label(label),
-                b"=",
-                number.format(value).as_bytes(),
-            ],
-        ),
-        Field::TypeName(label, t) => put_pieces(
+        Operand::Site(n) => put_number(out, b" site=", n),
+        Operand::Array(n) => put_number(out, b" array=", n),
+        Operand::Column(n) => put_number(out, b" column=", n),
+        Operand::Slot(n) => put_number(out, b" slot=", n),
+        Operand::Parameter(n) => put_number(out, b" number=", n),
+        Operand::Ahead(n) => put_number(out, b" target=", n),
+        Operand::Back(n) => put_number(out, b" target=", n),
+        Operand::Type(label, t) => put_pieces(
             out,
             &[b" ", name_of_label(label), b"=", name_of_type(t)],
         ),
-        Field::Value(value) => put_pieces(out, &[b" value=", number.format(value).as_bytes()]),
-        Field::Unary(op) => put_pieces(out, &[b" op=", name_of_unary(op)]),
-        Field::Binary(op) => put_pieces(out, &[b" op=", name_of_binary(op)]),
-        Field::Function(f) => put_pieces(out, &[b" f=", name_of_function(f)]),
-        Field::Query(what) => put_pieces(out, &[b" what=", name_of_query(what)]),
-        Field::Root(root) => put_pieces(
-            out,
-            &[
-                b" root=",
-                name_of_root(root),
-                number.format(number_of_root(root)).as_bytes(),
-            ],
-        ),
+        Operand::Value(_, value) => put_pieces(out, &[b" value=", number.format(value).as_bytes()]),
+        Operand::Unary(op) => put_pieces(out, &[b" op=", name_of_unary(op)]),
+        Operand::Binary(op) => put_pieces(out, &[b" op=", name_of_binary(op)]),
+        Operand::Function(f) => put_pieces(out, &[b" f=", name_of_function(f)]),
+        Operand::Query(what) => put_pieces(out, &[b" what=", name_of_query(what)]),
+        Operand::Read(root) => put_root(out, root),
+        Operand::Written(root) => put_root(out, root),
     }
 }
 
-/// Puts a name and fields.
-fn put_fields(out: &mut Vec<u8>, name: &[u8], fields: &[Field]) -> Result<(), Memory>
-    ensures { OnOk result (out.new.items ≡ out.old.items ++ fields_text name.now fields.now) }
+/// Puts a name and operands.
+fn put_operands(out: &mut Vec<u8>, name: &[u8], operands: &[Operand]) -> Result<(), Memory>
+    ensures { OnOk result (out.new.items ≡ out.old.items ++ operands_text name.now operands.now) }
 {
     put(out, name)?;
-    for field in fields {
-        put_field(out, *field)?;
+    for operand in operands {
+        put_operand(out, *operand)?;
     }
     Ok(())
 }
@@ -240,297 +247,6 @@ fn put_fields(out: &mut Vec<u8>, name: &[u8], fields: &[Field]) -> Result<(), Me
 pub(crate) fn put_step(out: &mut Vec<u8>, step: Step) -> Result<(), Memory>
     ensures { OnOk result (out.new.items ≡ out.old.items ++ step_text step) }
 {
-    match step {
-        Step::Const { to, of, value } => put_fields(
-            out,
-            b"Const",
-            &[
-                Field::Register(Label::To, to),
-                Field::TypeName(Label::Of, of),
-                Field::Value(value),
-            ],
-        ),
-        Step::Copy { to, from, mask } => put_fields(
-            out,
-            b"Copy",
-            &[
-                Field::Register(Label::To, to),
-                Field::Register(Label::From, from),
-                Field::Register(Label::Mask, mask),
-            ],
-        ),
-        Step::Unary {
-            op,
-            of,
-            to,
-            a,
-            mask,
-        } => put_fields(
-            out,
-            b"Unary",
-            &[
-                Field::Unary(op),
-                Field::TypeName(Label::Of, of),
-                Field::Register(Label::To, to),
-                Field::Register(Label::A, a),
-                Field::Register(Label::Mask, mask),
-            ],
-        ),
-        Step::Binary {
-            op,
-            of,
-            to,
-            a,
-            b,
-            mask,
-        } => put_fields(
-            out,
-            b"Binary",
-            &[
-                Field::Binary(op),
-                Field::TypeName(Label::Of, of),
-                Field::Register(Label::To, to),
-                Field::Register(Label::A, a),
-                Field::Register(Label::B, b),
-                Field::Register(Label::Mask, mask),
-            ],
-        ),
-        Step::Builtin {
-            f,
-            of,
-            to,
-            a,
-            b,
-            c,
-            mask,
-        } => put_fields(
-            out,
-            b"Builtin",
-            &[
-                Field::Function(f),
-                Field::TypeName(Label::Of, of),
-                Field::Register(Label::To, to),
-                Field::Register(Label::A, a),
-                Field::Register(Label::B, b),
-                Field::Register(Label::C, c),
-                Field::Register(Label::Mask, mask),
-            ],
-        ),
-        Step::Convert {
-            to,
-            kind,
-            from,
-            was,
-            mask,
-        } => put_fields(
-            out,
-            b"Convert",
-            &[
-                Field::Register(Label::To, to),
-                Field::TypeName(Label::Kind, kind),
-                Field::Register(Label::From, from),
-                Field::TypeName(Label::Was, was),
-                Field::Register(Label::Mask, mask),
-            ],
-        ),
-        Step::Spread { to, from } => put_fields(
-            out,
-            b"Spread",
-            &[
-                Field::Register(Label::To, to),
-                Field::Register(Label::From, from),
-            ],
-        ),
-        Step::First { to, from, of, mask } => put_fields(
-            out,
-            b"First",
-            &[
-                Field::Register(Label::To, to),
-                Field::Register(Label::From, from),
-                Field::TypeName(Label::Of, of),
-                Field::Register(Label::Mask, mask),
-            ],
-        ),
-        Step::Ask {
-            what,
-            to,
-            dim,
-            mask,
-        } => put_fields(
-            out,
-            b"Ask",
-            &[
-                Field::Query(what),
-                Field::Register(Label::To, to),
-                Field::Register(Label::Dim, dim),
-                Field::Register(Label::Mask, mask),
-            ],
-        ),
-        Step::Argument { number, to, mask } => put_fields(
-            out,
-            b"Argument",
-            &[
-                Field::Number(Label::Number, number),
-                Field::Register(Label::To, to),
-                Field::Register(Label::Mask, mask),
-            ],
-        ),
-        Step::Load {
-            site,
-            of,
-            root,
-            index,
-            to,
-            mask,
-        } => put_fields(
-            out,
-            b"Load",
-            &[
-                Field::Number(Label::Site, site),
-                Field::TypeName(Label::Of, of),
-                Field::Root(root),
-                Field::Register(Label::Index, index),
-                Field::Register(Label::To, to),
-                Field::Register(Label::Mask, mask),
-            ],
-        ),
-        Step::Store {
-            site,
-            of,
-            root,
-            index,
-            from,
-            mask,
-        } => put_fields(
-            out,
-            b"Store",
-            &[
-                Field::Number(Label::Site, site),
-                Field::TypeName(Label::Of, of),
-                Field::Root(root),
-                Field::Register(Label::Index, index),
-                Field::Register(Label::From, from),
-                Field::Register(Label::Mask, mask),
-            ],
-        ),
-        Step::Clear { array, mask } => put_fields(
-            out,
-            b"Clear",
-            &[
-                Field::Number(Label::Array, array),
-                Field::Register(Label::Mask, mask),
-            ],
-        ),
-        Step::ColumnGet { column, to } => put_fields(
-            out,
-            b"ColumnGet",
-            &[
-                Field::Number(Label::Column, column),
-                Field::Register(Label::To, to),
-            ],
-        ),
-        Step::ColumnPut { column, from, mask } => put_fields(
-            out,
-            b"ColumnPut",
-            &[
-                Field::Number(Label::Column, column),
-                Field::Register(Label::From, from),
-                Field::Register(Label::Mask, mask),
-            ],
-        ),
-        Step::OnceGet { slot, to } => put_fields(
-            out,
-            b"OnceGet",
-            &[
-                Field::Number(Label::Slot, slot),
-                Field::Register(Label::To, to),
-            ],
-        ),
-        Step::OncePut { slot, from } => put_fields(
-            out,
-            b"OncePut",
-            &[
-                Field::Number(Label::Slot, slot),
-                Field::Register(Label::From, from),
-            ],
-        ),
-        Step::VoteGet { to } => put_fields(out, b"VoteGet", &[Field::Register(Label::To, to)]),
-        Step::VotePut { from, mask } => put_fields(
-            out,
-            b"VotePut",
-            &[
-                Field::Register(Label::From, from),
-                Field::Register(Label::Mask, mask),
-            ],
-        ),
-        Step::Test { to, from, mask } => put_fields(
-            out,
-            b"Test",
-            &[
-                Field::Register(Label::To, to),
-                Field::Register(Label::From, from),
-                Field::Register(Label::Mask, mask),
-            ],
-        ),
-        Step::MaskAnd { to, a, b } => put_fields(
-            out,
-            b"MaskAnd",
-            &[
-                Field::Register(Label::To, to),
-                Field::Register(Label::A, a),
-                Field::Register(Label::B, b),
-            ],
-        ),
-        Step::MaskOr { to, a, b } => put_fields(
-            out,
-            b"MaskOr",
-            &[
-                Field::Register(Label::To, to),
-                Field::Register(Label::A, a),
-                Field::Register(Label::B, b),
-            ],
-        ),
-        Step::MaskLess { to, a, b } => put_fields(
-            out,
-            b"MaskLess",
-            &[
-                Field::Register(Label::To, to),
-                Field::Register(Label::A, a),
-                Field::Register(Label::B, b),
-            ],
-        ),
-        Step::Jump { target } => put_fields(out, b"Jump", &[Field::Number(Label::Target, target)]),
-        Step::SkipNone { mask, target } => put_fields(
-            out,
-            b"SkipNone",
-            &[
-                Field::Register(Label::Mask, mask),
-                Field::Number(Label::Target, target),
-            ],
-        ),
-        Step::SkipZero { from, target } => put_fields(
-            out,
-            b"SkipZero",
-            &[
-                Field::Register(Label::From, from),
-                Field::Number(Label::Target, target),
-            ],
-        ),
-        Step::Turn { mask, target } => put_fields(
-            out,
-            b"Turn",
-            &[
-                Field::Register(Label::Mask, mask),
-                Field::Number(Label::Target, target),
-            ],
-        ),
-        Step::Mark { site, mask } => put_fields(
-            out,
-            b"Mark",
-            &[
-                Field::Number(Label::Site, site),
-                Field::Register(Label::Mask, mask),
-            ],
-        ),
-    }
+    let row = row_of(step);
+    put_operands(out, row.name, row.list())
 }

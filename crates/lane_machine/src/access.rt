@@ -12,15 +12,16 @@ ghost use Rattle.lane_code.specs.declared.step.Bank.TheVariants.{Wide, Mask, Sca
 ghost use Rattle.lane_machine.specs.State.{IsIn, FitsBank};
 ghost use Rattle.lane_machine.specs.Standing.{chunk_from, standing, accessed, reached_of, MayStore, MayWrite};
 
-use crate::kept::Group;
+use crate::group_state::Group;
 use crate::objects::{Object, bytes_at, object_of};
+use crate::operands::Access;
 use crate::own::{load_own, store_own};
 use crate::registers::Registers;
+use crate::setting::Setting;
 use crate::shared::{load_shared, store_into, store_slice};
-use cl_model::{Buffers, Launch, Root, Table};
-use lane_code::{GroupProgram, Reg};
+use cl_model::{Buffers, Root, Table};
+use lane_code::GroupProgram;
 use lane_kernels::Tally;
-use wg_num::IntType;
 
 /// The bytes of a constant table.
 fn table_at(tables: &[Table], n: usize) -> &[u8]
@@ -74,38 +75,35 @@ fn bytes_of<'a>(
 pub(crate) fn load_step<const W: usize>(
     r: &mut Registers<W>,
     object: Object,
-    t: IntType,
-    index: Reg,
-    to: Reg,
-    mask: Reg,
+    access: Access,
     group: &Group,
     buffers: &Buffers,
-    program: &GroupProgram,
-    first: usize,
+    setting: Setting,
     tally: &mut Tally,
 ) -> Option<u32>
     requires lanes { W ≤ 64 }
-    requires first { first < 2 ^ 32 }
-    requires fits { FitsBank t to.bank }
-    requires scalar { to.bank ≢ Scalar }
-    requires wide { index.bank ≡ Wide }
-    requires to { IsIn r.old.plain to }
-    requires index { index.number < length r.old.plain.wide }
-    requires mask { mask.number < length r.old.plain.masks }
+    requires first { setting.first < 2 ^ 32 }
+    requires fits { FitsBank access.of access.value.bank }
+    requires scalar { access.value.bank ≢ Scalar }
+    requires wide { access.index.bank ≡ Wide }
+    requires to { IsIn r.old.plain access.value }
+    requires index { access.index.number < length r.old.plain.wide }
+    requires mask { access.mask.number < length r.old.plain.masks }
     ensures act { (launch : PlainLaunch) (number site : ℕ)
-        → load_at (chunk_from (plain_of program.now) launch number first W)
-        (standing r.old.plain group.now.kept (buffers_of buffers.now)) site t index to mask (reached_of object)
+        → load_at (chunk_from (plain_of setting.entry.program.now) launch number setting.entry.first W)
+        (standing r.old.plain group.now.kept (buffers_of buffers.now)) site access.of access.index access.value
+        access.mask (reached_of object)
         ≡ accessed site result (standing r.new.plain group.now.kept (buffers_of buffers.now)) }
     ensures room { r.new.room ≡ r.old.room }
 {
     match object {
         Object::Private(n) => {
             let objects = objects_of(group, n as usize);
-            load_own(r, objects, first, t, index, to, mask, tally)
+            load_own(r, objects, setting.first, access, tally)
         }
         Object::Buffer(_) | Object::Table(_) | Object::Local(_) | Object::Missing => {
-            let bytes = bytes_of(object, group, buffers, program);
-            load_shared(r, bytes, t, index, to, mask, tally)
+            let bytes = bytes_of(object, group, buffers, setting.program);
+            load_shared(r, bytes, access, tally)
         }
     }
 }
@@ -115,10 +113,7 @@ pub(crate) fn load_step<const W: usize>(
 pub(crate) fn store_step<const W: usize>(
     r: &Registers<W>,
     object: Object,
-    t: IntType,
-    index: Reg,
-    from: Reg,
-    mask: Reg,
+    access: Access,
     group: &mut Group,
     buffers: &mut Buffers,
     first: usize,
@@ -127,51 +122,31 @@ pub(crate) fn store_step<const W: usize>(
     requires lanes { W ≤ 64 }
     requires first { first < 2 ^ 32 }
     requires object { MayStore (length group.old.kept.privates) (reached_of object) }
-    requires fits { FitsBank t from.bank }
-    requires scalar { from.bank ≢ Scalar }
-    requires bank { from.bank ≢ Mask }
-    requires wide { index.bank ≡ Wide }
-    requires from { IsIn r.now.plain from }
-    requires index { index.number < length r.now.plain.wide }
-    requires mask { mask.number < length r.now.plain.masks }
+    requires fits { FitsBank access.of access.value.bank }
+    requires scalar { access.value.bank ≢ Scalar }
+    requires bank { access.value.bank ≢ Mask }
+    requires wide { access.index.bank ≡ Wide }
+    requires from { IsIn r.now.plain access.value }
+    requires index { access.index.number < length r.now.plain.wide }
+    requires mask { access.mask.number < length r.now.plain.masks }
     ensures act { (p : Plain) (launch : PlainLaunch) (number site : ℕ)
         → store_at (chunk_from p launch number first W)
-        (standing r.now.plain group.old.kept (buffers_of buffers.old)) site t index from mask (reached_of object)
+        (standing r.now.plain group.old.kept (buffers_of buffers.old)) site access.of access.index access.value
+        access.mask (reached_of object)
         ≡ accessed site result (standing r.now.plain group.new.kept (buffers_of buffers.new)) }
     ensures number { group.new.number ≡ group.old.number }
 {
     match object {
-        Object::Buffer(n) => {
-            store_into(
-                r,
-                &mut buffers.list,
-                n as usize,
-                t,
-                index,
-                from,
-                mask,
-                tally,
-            )
-        }
-        Object::Local(n) => store_into(r, &mut group.locals, n, t, index, from, mask, tally),
+        Object::Buffer(n) => { store_into(r, &mut buffers.list, n as usize, access, tally) }
+        Object::Local(n) => store_into(r, &mut group.locals, n, access, tally),
         Object::Private(n) => {
             let array = n as usize;
-            store_own(
-                r,
-                &mut group.privates,
-                array,
-                first,
-                t,
-                index,
-                from,
-                mask,
-                tally,
-            )
+            store_own(r, &mut group.privates, array, first, access, tally)
         }
         Object::Table(_) => None,
         Object::Missing => {
             let mut none = [0u8; 0];
-            store_slice(r, &mut none, t, index, from, mask, tally)
+            store_slice(r, &mut none, access, tally)
         }
     }
 }
@@ -180,72 +155,62 @@ pub(crate) fn store_step<const W: usize>(
 pub(crate) fn load<const W: usize>(
     r: &mut Registers<W>,
     root: Root,
-    t: IntType,
-    index: Reg,
-    to: Reg,
-    mask: Reg,
+    access: Access,
     group: &Group,
     buffers: &Buffers,
-    program: &GroupProgram,
-    launch: &Launch,
-    first: usize,
+    setting: Setting,
     tally: &mut Tally,
 ) -> Option<u32>
     requires lanes { W ≤ 64 }
-    requires first { first < 2 ^ 32 }
-    requires fits { FitsBank t to.bank }
-    requires scalar { to.bank ≢ Scalar }
-    requires wide { index.bank ≡ Wide }
-    requires to { IsIn r.old.plain to }
-    requires index { index.number < length r.old.plain.wide }
-    requires mask { mask.number < length r.old.plain.masks }
+    requires first { setting.first < 2 ^ 32 }
+    requires fits { FitsBank access.of access.value.bank }
+    requires scalar { access.value.bank ≢ Scalar }
+    requires wide { access.index.bank ≡ Wide }
+    requires to { IsIn r.old.plain access.value }
+    requires index { access.index.number < length r.old.plain.wide }
+    requires mask { access.mask.number < length r.old.plain.masks }
     ensures act { (number site : ℕ)
-        → load_at (chunk_from (plain_of program.now) (launch_of launch.now) number first W)
-        (standing r.old.plain group.now.kept (buffers_of buffers.now)) site t index to mask
-        (reached (length program.now.locals.items) (launch_of launch.now) root)
+        → load_at (chunk_from (plain_of setting.entry.program.now) (launch_of setting.entry.launch.now) number
+        setting.entry.first W)
+        (standing r.old.plain group.now.kept (buffers_of buffers.now)) site access.of access.index access.value
+        access.mask
+        (reached (length setting.entry.program.now.locals.items) (launch_of setting.entry.launch.now) root)
         ≡ accessed site result (standing r.new.plain group.now.kept (buffers_of buffers.now)) }
     ensures room { r.new.room ≡ r.old.room }
 {
-    let object = object_of(program, launch, root);
-    load_step(
-        r, object, t, index, to, mask, group, buffers, program, first, tally,
-    )
+    let object = object_of(setting.program, setting.launch, root);
+    load_step(r, object, access, group, buffers, setting, tally)
 }
 
 /// The store of a step, by the root that it names.
 pub(crate) fn store<const W: usize>(
     r: &Registers<W>,
     root: Root,
-    t: IntType,
-    index: Reg,
-    from: Reg,
-    mask: Reg,
+    access: Access,
     group: &mut Group,
     buffers: &mut Buffers,
-    program: &GroupProgram,
-    launch: &Launch,
-    first: usize,
+    setting: Setting,
     tally: &mut Tally,
 ) -> Option<u32>
     requires lanes { W ≤ 64 }
-    requires first { first < 2 ^ 32 }
+    requires first { setting.first < 2 ^ 32 }
     requires root { MayWrite (length group.old.kept.privates) root }
-    requires fits { FitsBank t from.bank }
-    requires scalar { from.bank ≢ Scalar }
-    requires bank { from.bank ≢ Mask }
-    requires wide { index.bank ≡ Wide }
-    requires from { IsIn r.now.plain from }
-    requires index { index.number < length r.now.plain.wide }
-    requires mask { mask.number < length r.now.plain.masks }
+    requires fits { FitsBank access.of access.value.bank }
+    requires scalar { access.value.bank ≢ Scalar }
+    requires bank { access.value.bank ≢ Mask }
+    requires wide { access.index.bank ≡ Wide }
+    requires from { IsIn r.now.plain access.value }
+    requires index { access.index.number < length r.now.plain.wide }
+    requires mask { access.mask.number < length r.now.plain.masks }
     ensures act { (number site : ℕ)
-        → store_at (chunk_from (plain_of program.now) (launch_of launch.now) number first W)
-        (standing r.now.plain group.old.kept (buffers_of buffers.old)) site t index from mask
-        (reached (length program.now.locals.items) (launch_of launch.now) root)
+        → store_at (chunk_from (plain_of setting.entry.program.now) (launch_of setting.entry.launch.now) number
+        setting.entry.first W)
+        (standing r.now.plain group.old.kept (buffers_of buffers.old)) site access.of access.index access.value
+        access.mask
+        (reached (length setting.entry.program.now.locals.items) (launch_of setting.entry.launch.now) root)
         ≡ accessed site result (standing r.now.plain group.new.kept (buffers_of buffers.new)) }
     ensures number { group.new.number ≡ group.old.number }
 {
-    let object = object_of(program, launch, root);
-    store_step(
-        r, object, t, index, from, mask, group, buffers, first, tally,
-    )
+    let object = object_of(setting.program, setting.launch, root);
+    store_step(r, object, access, group, buffers, setting.first, tally)
 }

@@ -2,7 +2,7 @@
 ghost use Rattle.std.specs.Prelude.{◌≡◌, map};
 ghost use Rattle.lane_machine.specs.Zeroed.{blank, blanks, refused, zeroed};
 
-use crate::kept::Group;
+use crate::group_state::Group;
 use crate::own::zero_vec;
 
 fn clear_slice(numbers: &mut [u64])

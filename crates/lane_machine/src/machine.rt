@@ -11,10 +11,11 @@ ghost use Rattle.lane_machine.specs.Zeroed.{IsGroupOf};
 ghost use Rattle.lane_machine.specs.Room.{HasRoom, HasRoomFor, IsNoLess};
 ghost use Rattle.lane_machine.specs.Machinery.{room_at};
 
-use crate::kept::Group;
+use crate::group_state::Group;
 use crate::region::region_at;
 use crate::registers::Registers;
 use crate::room::{counts_at, most_in, no_registers};
+use crate::setting::Task;
 use cl_model::{Buffers, Launch};
 use lane_code::{Code, GroupProgram, RegionEnd};
 use lane_kernels::Tally;
@@ -103,52 +104,18 @@ impl Machine {
         ensures number { group.new.number ≡ group.old.number }
         ensures room { IsNoLess (room_at program.now.width self.old) (room_at program.now.width self.new) }
     {
+        let task = Task {
+            code,
+            program,
+            launch,
+            chunk,
+        };
         let tally = &mut self.tally;
         match program.width {
-            Width::W1 => region_at(
-                &mut self.one,
-                code,
-                program,
-                launch,
-                buffers,
-                group,
-                chunk,
-                turns,
-                tally,
-            ),
-            Width::W4 => region_at(
-                &mut self.four,
-                code,
-                program,
-                launch,
-                buffers,
-                group,
-                chunk,
-                turns,
-                tally,
-            ),
-            Width::W8 => region_at(
-                &mut self.eight,
-                code,
-                program,
-                launch,
-                buffers,
-                group,
-                chunk,
-                turns,
-                tally,
-            ),
-            Width::W16 => region_at(
-                &mut self.sixteen,
-                code,
-                program,
-                launch,
-                buffers,
-                group,
-                chunk,
-                turns,
-                tally,
-            ),
+            Width::W1 => region_at(&mut self.one, task, buffers, group, turns, tally),
+            Width::W4 => region_at(&mut self.four, task, buffers, group, turns, tally),
+            Width::W8 => region_at(&mut self.eight, task, buffers, group, turns, tally),
+            Width::W16 => region_at(&mut self.sixteen, task, buffers, group, turns, tally),
         }
     }
 }

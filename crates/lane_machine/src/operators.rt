@@ -6,6 +6,7 @@ ghost use Rattle.lane_code.specs.Registers.{written, lanes_of, bits_in};
 ghost use Rattle.lane_code.specs.declared.step.Bank.TheVariants.{Narrow, Wide, Scalar};
 ghost use Rattle.lane_machine.specs.State.{IsIn, FitsBank};
 
+use crate::operands::Output;
 use crate::registers::Registers;
 use lane_code::{Bank, Reg};
 use lane_kernels::{
@@ -44,98 +45,88 @@ fn one_builtin(f: Fun, t: IntType, p: u64, q: u64, s: u64, tally: &mut Tally) ->
 fn unary_narrow<const W: usize>(
     r: &mut Registers<W>,
     op: Un,
-    t: IntType,
-    to: Reg,
+    out: Output,
     a: Reg,
-    mask: Reg,
     tally: &mut Tally,
 )
     requires lanes { W ≤ 64 }
-    requires fits { FitsLane 32 t }
-    requires bank { to.bank ≡ Narrow }
+    requires fits { FitsLane 32 out.of }
+    requires bank { out.to.bank ≡ Narrow }
     requires beside_a { a.bank ≡ Narrow }
-    requires to { to.number < length r.old.plain.narrow }
+    requires to { out.to.number < length r.old.plain.narrow }
     requires a { a.number < length r.old.plain.narrow }
-    requires mask { mask.number < length r.old.plain.masks }
+    requires mask { out.mask.number < length r.old.plain.masks }
     ensures written { r.new.plain ≡
-        written r.old.plain to mask (map (unary_lane (bits_in to.bank) op t) (lanes_of r.old.plain a)) }
+        written r.old.plain out.to out.mask (map (unary_lane (bits_in out.to.bank) op out.of)
+        (lanes_of r.old.plain a)) }
     ensures room { r.new.room ≡ r.old.room }
 {
-    let new = unary32(op, t, r.narrow[a.number as usize], tally);
-    let old = r.narrow[to.number as usize];
-    r.narrow[to.number as usize] = blend32(r.masks[mask.number as usize], new, old);
+    let new = unary32(op, out.of, r.narrow[a.number as usize], tally);
+    let old = r.narrow[out.to.number as usize];
+    r.narrow[out.to.number as usize] = blend32(r.masks[out.mask.number as usize], new, old);
 }
 
-fn unary_wide<const W: usize>(
-    r: &mut Registers<W>,
-    op: Un,
-    t: IntType,
-    to: Reg,
-    a: Reg,
-    mask: Reg,
-    tally: &mut Tally,
-)
+fn unary_wide<const W: usize>(r: &mut Registers<W>, op: Un, out: Output, a: Reg, tally: &mut Tally)
     requires lanes { W ≤ 64 }
-    requires fits { FitsLane 64 t }
-    requires bank { to.bank ≡ Wide }
+    requires fits { FitsLane 64 out.of }
+    requires bank { out.to.bank ≡ Wide }
     requires beside_a { a.bank ≡ Wide }
-    requires to { to.number < length r.old.plain.wide }
+    requires to { out.to.number < length r.old.plain.wide }
     requires a { a.number < length r.old.plain.wide }
-    requires mask { mask.number < length r.old.plain.masks }
+    requires mask { out.mask.number < length r.old.plain.masks }
     ensures written { r.new.plain ≡
-        written r.old.plain to mask (map (unary_lane (bits_in to.bank) op t) (lanes_of r.old.plain a)) }
+        written r.old.plain out.to out.mask (map (unary_lane (bits_in out.to.bank) op out.of)
+        (lanes_of r.old.plain a)) }
     ensures room { r.new.room ≡ r.old.room }
 {
-    let new = unary64(op, t, r.wide[a.number as usize], tally);
-    let old = r.wide[to.number as usize];
-    r.wide[to.number as usize] = blend64(r.masks[mask.number as usize], new, old);
+    let new = unary64(op, out.of, r.wide[a.number as usize], tally);
+    let old = r.wide[out.to.number as usize];
+    r.wide[out.to.number as usize] = blend64(r.masks[out.mask.number as usize], new, old);
 }
 
 fn unary_scalar<const W: usize>(
     r: &mut Registers<W>,
     op: Un,
-    t: IntType,
-    to: Reg,
+    out: Output,
     a: Reg,
-    mask: Reg,
     tally: &mut Tally,
 )
-    requires fits { FitsLane 64 t }
-    requires bank { to.bank ≡ Scalar }
+    requires fits { FitsLane 64 out.of }
+    requires bank { out.to.bank ≡ Scalar }
     requires beside_a { a.bank ≡ Scalar }
-    requires to { to.number < length r.old.plain.scalars }
+    requires to { out.to.number < length r.old.plain.scalars }
     requires a { a.number < length r.old.plain.scalars }
     ensures written { r.new.plain ≡
-        written r.old.plain to mask (map (unary_lane (bits_in to.bank) op t) (lanes_of r.old.plain a)) }
+        written r.old.plain out.to out.mask (map (unary_lane (bits_in out.to.bank) op out.of)
+        (lanes_of r.old.plain a)) }
     ensures room { r.new.room ≡ r.old.room }
 {
-    r.scalars[to.number as usize] = one_unary(op, t, r.scalars[a.number as usize], tally);
+    r.scalars[out.to.number as usize] = one_unary(op, out.of, r.scalars[a.number as usize], tally);
 }
 
 /// The step on lanes or on a scalar, by the bank of its result.
 pub(crate) fn unary_step<const W: usize>(
     r: &mut Registers<W>,
     op: Un,
-    t: IntType,
-    to: Reg,
+    out: Output,
     a: Reg,
-    mask: Reg,
     tally: &mut Tally,
 )
     requires lanes { W ≤ 64 }
-    requires fits { FitsBank t to.bank }
-    requires beside_a { a.bank ≡ to.bank }
-    requires to { IsIn r.old.plain to }
+    requires fits { FitsBank out.of out.to.bank }
+    requires beside_a { a.bank ≡ out.to.bank }
+    requires to { IsIn r.old.plain out.to }
     requires a { IsIn r.old.plain a }
-    requires mask { mask.number < length r.old.plain.masks }
+    requires mask { out.mask.number < length r.old.plain.masks }
     ensures written { r.new.plain ≡
-        written r.old.plain to mask (map (unary_lane (bits_in to.bank) op t) (lanes_of r.old.plain a)) }
+        written r.old.plain out.to out.mask (map (unary_lane (bits_in out.to.bank) op out.of)
+        (lanes_of r.old.plain a)) }
     ensures room { r.new.room ≡ r.old.room }
 {
-    match to.bank {
-        Bank::Narrow => unary_narrow(r, op, t, to, a, mask, tally),
-        Bank::Wide => unary_wide(r, op, t, to, a, mask, tally),
-        Bank::Scalar => unary_scalar(r, op, t, to, a, mask, tally),
+    match out.to.bank {
+        Bank::Narrow => unary_narrow(r, op, out, a, tally),
+        Bank::Wide => unary_wide(r, op, out, a, tally),
+        Bank::Scalar => unary_scalar(r, op, out, a, tally),
         Bank::Mask => {}
     }
 }
@@ -143,98 +134,92 @@ pub(crate) fn unary_step<const W: usize>(
 fn binary_narrow<const W: usize>(
     r: &mut Registers<W>,
     op: Bin,
-    t: IntType,
-    to: Reg,
+    out: Output,
     a: Reg,
     b: Reg,
-    mask: Reg,
     tally: &mut Tally,
 )
     requires lanes { W ≤ 64 }
-    requires fits { FitsLane 32 t }
-    requires bank { to.bank ≡ Narrow }
+    requires fits { FitsLane 32 out.of }
+    requires bank { out.to.bank ≡ Narrow }
     requires beside_a { a.bank ≡ Narrow }
     requires beside_b { b.bank ≡ Narrow }
-    requires to { to.number < length r.old.plain.narrow }
+    requires to { out.to.number < length r.old.plain.narrow }
     requires a { a.number < length r.old.plain.narrow }
     requires b { b.number < length r.old.plain.narrow }
-    requires mask { mask.number < length r.old.plain.masks }
+    requires mask { out.mask.number < length r.old.plain.masks }
     ensures written { r.new.plain ≡
-        written r.old.plain to mask (zip2 (binary_lane (bits_in to.bank) op t) (lanes_of r.old.plain a)
-        (lanes_of r.old.plain b)) }
+        written r.old.plain out.to out.mask (zip2 (binary_lane (bits_in out.to.bank) op out.of)
+        (lanes_of r.old.plain a) (lanes_of r.old.plain b)) }
     ensures room { r.new.room ≡ r.old.room }
 {
     let new = binary32(
         op,
-        t,
+        out.of,
         r.narrow[a.number as usize],
         r.narrow[b.number as usize],
         tally,
     );
-    let old = r.narrow[to.number as usize];
-    r.narrow[to.number as usize] = blend32(r.masks[mask.number as usize], new, old);
+    let old = r.narrow[out.to.number as usize];
+    r.narrow[out.to.number as usize] = blend32(r.masks[out.mask.number as usize], new, old);
 }
 
 fn binary_wide<const W: usize>(
     r: &mut Registers<W>,
     op: Bin,
-    t: IntType,
-    to: Reg,
+    out: Output,
     a: Reg,
     b: Reg,
-    mask: Reg,
     tally: &mut Tally,
 )
     requires lanes { W ≤ 64 }
-    requires fits { FitsLane 64 t }
-    requires bank { to.bank ≡ Wide }
+    requires fits { FitsLane 64 out.of }
+    requires bank { out.to.bank ≡ Wide }
     requires beside_a { a.bank ≡ Wide }
     requires beside_b { b.bank ≡ Wide }
-    requires to { to.number < length r.old.plain.wide }
+    requires to { out.to.number < length r.old.plain.wide }
     requires a { a.number < length r.old.plain.wide }
     requires b { b.number < length r.old.plain.wide }
-    requires mask { mask.number < length r.old.plain.masks }
+    requires mask { out.mask.number < length r.old.plain.masks }
     ensures written { r.new.plain ≡
-        written r.old.plain to mask (zip2 (binary_lane (bits_in to.bank) op t) (lanes_of r.old.plain a)
-        (lanes_of r.old.plain b)) }
+        written r.old.plain out.to out.mask (zip2 (binary_lane (bits_in out.to.bank) op out.of)
+        (lanes_of r.old.plain a) (lanes_of r.old.plain b)) }
     ensures room { r.new.room ≡ r.old.room }
 {
     let new = binary64(
         op,
-        t,
+        out.of,
         r.wide[a.number as usize],
         r.wide[b.number as usize],
         tally,
     );
-    let old = r.wide[to.number as usize];
-    r.wide[to.number as usize] = blend64(r.masks[mask.number as usize], new, old);
+    let old = r.wide[out.to.number as usize];
+    r.wide[out.to.number as usize] = blend64(r.masks[out.mask.number as usize], new, old);
 }
 
 fn binary_scalar<const W: usize>(
     r: &mut Registers<W>,
     op: Bin,
-    t: IntType,
-    to: Reg,
+    out: Output,
     a: Reg,
     b: Reg,
-    mask: Reg,
     tally: &mut Tally,
 )
-    requires fits { FitsLane 64 t }
-    requires bank { to.bank ≡ Scalar }
+    requires fits { FitsLane 64 out.of }
+    requires bank { out.to.bank ≡ Scalar }
     requires beside_a { a.bank ≡ Scalar }
     requires beside_b { b.bank ≡ Scalar }
-    requires to { to.number < length r.old.plain.scalars }
+    requires to { out.to.number < length r.old.plain.scalars }
     requires a { a.number < length r.old.plain.scalars }
     requires b { b.number < length r.old.plain.scalars }
     ensures written { r.new.plain ≡
-        written r.old.plain to mask (zip2 (binary_lane (bits_in to.bank) op t) (lanes_of r.old.plain a)
-        (lanes_of r.old.plain b)) }
+        written r.old.plain out.to out.mask (zip2 (binary_lane (bits_in out.to.bank) op out.of)
+        (lanes_of r.old.plain a) (lanes_of r.old.plain b)) }
     ensures room { r.new.room ≡ r.old.room }
 {
-    r.scalars[to.number as usize] = one_binary(
+    r.scalars[out.to.number as usize] = one_binary(
         op,
-        t,
+        out.of,
         r.scalars[a.number as usize],
         r.scalars[b.number as usize],
         tally,
@@ -245,30 +230,28 @@ fn binary_scalar<const W: usize>(
 pub(crate) fn binary_step<const W: usize>(
     r: &mut Registers<W>,
     op: Bin,
-    t: IntType,
-    to: Reg,
+    out: Output,
     a: Reg,
     b: Reg,
-    mask: Reg,
     tally: &mut Tally,
 )
     requires lanes { W ≤ 64 }
-    requires fits { FitsBank t to.bank }
-    requires beside_a { a.bank ≡ to.bank }
-    requires beside_b { b.bank ≡ to.bank }
-    requires to { IsIn r.old.plain to }
+    requires fits { FitsBank out.of out.to.bank }
+    requires beside_a { a.bank ≡ out.to.bank }
+    requires beside_b { b.bank ≡ out.to.bank }
+    requires to { IsIn r.old.plain out.to }
     requires a { IsIn r.old.plain a }
     requires b { IsIn r.old.plain b }
-    requires mask { mask.number < length r.old.plain.masks }
+    requires mask { out.mask.number < length r.old.plain.masks }
     ensures written { r.new.plain ≡
-        written r.old.plain to mask (zip2 (binary_lane (bits_in to.bank) op t) (lanes_of r.old.plain a)
-        (lanes_of r.old.plain b)) }
+        written r.old.plain out.to out.mask (zip2 (binary_lane (bits_in out.to.bank) op out.of)
+        (lanes_of r.old.plain a) (lanes_of r.old.plain b)) }
     ensures room { r.new.room ≡ r.old.room }
 {
-    match to.bank {
-        Bank::Narrow => binary_narrow(r, op, t, to, a, b, mask, tally),
-        Bank::Wide => binary_wide(r, op, t, to, a, b, mask, tally),
-        Bank::Scalar => binary_scalar(r, op, t, to, a, b, mask, tally),
+    match out.to.bank {
+        Bank::Narrow => binary_narrow(r, op, out, a, b, tally),
+        Bank::Wide => binary_wide(r, op, out, a, b, tally),
+        Bank::Scalar => binary_scalar(r, op, out, a, b, tally),
         Bank::Mask => {}
     }
 }
@@ -276,109 +259,103 @@ pub(crate) fn binary_step<const W: usize>(
 fn builtin_narrow<const W: usize>(
     r: &mut Registers<W>,
     f: Fun,
-    t: IntType,
-    to: Reg,
+    out: Output,
     a: Reg,
     b: Reg,
     c: Reg,
-    mask: Reg,
     tally: &mut Tally,
 )
     requires lanes { W ≤ 64 }
-    requires fits { FitsLane 32 t }
-    requires bank { to.bank ≡ Narrow }
+    requires fits { FitsLane 32 out.of }
+    requires bank { out.to.bank ≡ Narrow }
     requires beside_a { a.bank ≡ Narrow }
     requires beside_b { b.bank ≡ Narrow }
     requires beside_c { c.bank ≡ Narrow }
-    requires to { to.number < length r.old.plain.narrow }
+    requires to { out.to.number < length r.old.plain.narrow }
     requires a { a.number < length r.old.plain.narrow }
     requires b { b.number < length r.old.plain.narrow }
     requires c { c.number < length r.old.plain.narrow }
-    requires mask { mask.number < length r.old.plain.masks }
+    requires mask { out.mask.number < length r.old.plain.masks }
     ensures written { r.new.plain ≡
-        written r.old.plain to mask (zip3 (builtin_lane (bits_in to.bank) f t) (lanes_of r.old.plain a)
-        (lanes_of r.old.plain b) (lanes_of r.old.plain c)) }
+        written r.old.plain out.to out.mask (zip3 (builtin_lane (bits_in out.to.bank) f out.of)
+        (lanes_of r.old.plain a) (lanes_of r.old.plain b) (lanes_of r.old.plain c)) }
     ensures room { r.new.room ≡ r.old.room }
 {
     let new = builtin32(
         f,
-        t,
+        out.of,
         r.narrow[a.number as usize],
         r.narrow[b.number as usize],
         r.narrow[c.number as usize],
         tally,
     );
-    let old = r.narrow[to.number as usize];
-    r.narrow[to.number as usize] = blend32(r.masks[mask.number as usize], new, old);
+    let old = r.narrow[out.to.number as usize];
+    r.narrow[out.to.number as usize] = blend32(r.masks[out.mask.number as usize], new, old);
 }
 
 fn builtin_wide<const W: usize>(
     r: &mut Registers<W>,
     f: Fun,
-    t: IntType,
-    to: Reg,
+    out: Output,
     a: Reg,
     b: Reg,
     c: Reg,
-    mask: Reg,
     tally: &mut Tally,
 )
     requires lanes { W ≤ 64 }
-    requires fits { FitsLane 64 t }
-    requires bank { to.bank ≡ Wide }
+    requires fits { FitsLane 64 out.of }
+    requires bank { out.to.bank ≡ Wide }
     requires beside_a { a.bank ≡ Wide }
     requires beside_b { b.bank ≡ Wide }
     requires beside_c { c.bank ≡ Wide }
-    requires to { to.number < length r.old.plain.wide }
+    requires to { out.to.number < length r.old.plain.wide }
     requires a { a.number < length r.old.plain.wide }
     requires b { b.number < length r.old.plain.wide }
     requires c { c.number < length r.old.plain.wide }
-    requires mask { mask.number < length r.old.plain.masks }
+    requires mask { out.mask.number < length r.old.plain.masks }
     ensures written { r.new.plain ≡
-        written r.old.plain to mask (zip3 (builtin_lane (bits_in to.bank) f t) (lanes_of r.old.plain a)
-        (lanes_of r.old.plain b) (lanes_of r.old.plain c)) }
+        written r.old.plain out.to out.mask (zip3 (builtin_lane (bits_in out.to.bank) f out.of)
+        (lanes_of r.old.plain a) (lanes_of r.old.plain b) (lanes_of r.old.plain c)) }
     ensures room { r.new.room ≡ r.old.room }
 {
     let new = builtin64(
         f,
-        t,
+        out.of,
         r.wide[a.number as usize],
         r.wide[b.number as usize],
         r.wide[c.number as usize],
         tally,
     );
-    let old = r.wide[to.number as usize];
-    r.wide[to.number as usize] = blend64(r.masks[mask.number as usize], new, old);
+    let old = r.wide[out.to.number as usize];
+    r.wide[out.to.number as usize] = blend64(r.masks[out.mask.number as usize], new, old);
 }
 
 fn builtin_scalar<const W: usize>(
     r: &mut Registers<W>,
     f: Fun,
-    t: IntType,
-    to: Reg,
+    out: Output,
     a: Reg,
     b: Reg,
     c: Reg,
-    mask: Reg,
     tally: &mut Tally,
 )
-    requires fits { FitsLane 64 t }
-    requires bank { to.bank ≡ Scalar }
+    requires fits { FitsLane 64 out.of }
+    requires bank { out.to.bank ≡ Scalar }
     requires beside_a { a.bank ≡ Scalar }
     requires beside_b { b.bank ≡ Scalar }
     requires beside_c { c.bank ≡ Scalar }
-    requires to { to.number < length r.old.plain.scalars }
+    requires to { out.to.number < length r.old.plain.scalars }
     requires a { a.number < length r.old.plain.scalars }
     requires b { b.number < length r.old.plain.scalars }
     requires c { c.number < length r.old.plain.scalars }
     ensures written { r.new.plain ≡
-        written r.old.plain to mask (zip3 (builtin_lane (bits_in to.bank) f t) (lanes_of r.old.plain a)
-        (lanes_of r.old.plain b) (lanes_of r.old.plain c)) }
+        written r.old.plain out.to out.mask (zip3 (builtin_lane (bits_in out.to.bank) f out.of)
+        (lanes_of r.old.plain a) (lanes_of r.old.plain b) (lanes_of r.old.plain c)) }
     ensures room { r.new.room ≡ r.old.room }
 {
-    r.scalars[to.number as usize] = one_builtin(
+    r.scalars[out.to.number as usize] = one_builtin(
         f,
-        t,
+        out.of,
         r.scalars[a.number as usize],
         r.scalars[b.number as usize],
         r.scalars[c.number as usize],
@@ -390,33 +367,31 @@ fn builtin_scalar<const W: usize>(
 pub(crate) fn builtin_step<const W: usize>(
     r: &mut Registers<W>,
     f: Fun,
-    t: IntType,
-    to: Reg,
+    out: Output,
     a: Reg,
     b: Reg,
     c: Reg,
-    mask: Reg,
     tally: &mut Tally,
 )
     requires lanes { W ≤ 64 }
-    requires fits { FitsBank t to.bank }
-    requires beside_a { a.bank ≡ to.bank }
-    requires beside_b { b.bank ≡ to.bank }
-    requires beside_c { c.bank ≡ to.bank }
-    requires to { IsIn r.old.plain to }
+    requires fits { FitsBank out.of out.to.bank }
+    requires beside_a { a.bank ≡ out.to.bank }
+    requires beside_b { b.bank ≡ out.to.bank }
+    requires beside_c { c.bank ≡ out.to.bank }
+    requires to { IsIn r.old.plain out.to }
     requires a { IsIn r.old.plain a }
     requires b { IsIn r.old.plain b }
     requires c { IsIn r.old.plain c }
-    requires mask { mask.number < length r.old.plain.masks }
+    requires mask { out.mask.number < length r.old.plain.masks }
     ensures written { r.new.plain ≡
-        written r.old.plain to mask (zip3 (builtin_lane (bits_in to.bank) f t) (lanes_of r.old.plain a)
-        (lanes_of r.old.plain b) (lanes_of r.old.plain c)) }
+        written r.old.plain out.to out.mask (zip3 (builtin_lane (bits_in out.to.bank) f out.of)
+        (lanes_of r.old.plain a) (lanes_of r.old.plain b) (lanes_of r.old.plain c)) }
     ensures room { r.new.room ≡ r.old.room }
 {
-    match to.bank {
-        Bank::Narrow => builtin_narrow(r, f, t, to, a, b, c, mask, tally),
-        Bank::Wide => builtin_wide(r, f, t, to, a, b, c, mask, tally),
-        Bank::Scalar => builtin_scalar(r, f, t, to, a, b, c, mask, tally),
+    match out.to.bank {
+        Bank::Narrow => builtin_narrow(r, f, out, a, b, c, tally),
+        Bank::Wide => builtin_wide(r, f, out, a, b, c, tally),
+        Bank::Scalar => builtin_scalar(r, f, out, a, b, c, tally),
         Bank::Mask => {}
     }
 }

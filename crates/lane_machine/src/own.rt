@@ -12,8 +12,9 @@ ghost use Rattle.lane_code.specs.declared.step.Bank.TheVariants.{Narrow, Wide, M
 ghost use Rattle.lane_code.specs.Acts.{objects_stored};
 ghost use Rattle.lane_machine.specs.State.{IsIn, FitsBank};
 
-use crate::keeping::{lanes_for_column, low_halves};
-use crate::kept::Group;
+use crate::group_state::Group;
+use crate::group_steps::{lanes_for_column, low_halves};
+use crate::operands::Access;
 use crate::registers::Registers;
 use lane_code::{Bank, Reg};
 use lane_kernels::{Tally, blend32, blend64, gather64, scatter64};
@@ -239,35 +240,33 @@ fn load_own_narrow<const W: usize>(
     r: &mut Registers<W>,
     objects: &[Vec<u8>],
     first: usize,
-    t: IntType,
-    index: Reg,
-    to: Reg,
-    mask: Reg,
+    access: Access,
     tally: &mut Tally,
 ) -> Option<u32>
     requires lanes { W ≤ 64 }
     requires first { first < 2 ^ 32 }
-    requires fits { FitsLane 64 t }
-    requires bank { to.bank ≡ Narrow }
-    requires wide { index.bank ≡ Wide }
-    requires to { to.number < length r.old.plain.narrow }
-    requires index { index.number < length r.old.plain.wide }
-    requires mask { mask.number < length r.old.plain.masks }
+    requires fits { FitsLane 64 access.of }
+    requires bank { access.value.bank ≡ Narrow }
+    requires wide { access.index.bank ≡ Wide }
+    requires to { access.value.number < length r.old.plain.narrow }
+    requires index { access.index.number < length r.old.plain.wide }
+    requires mask { access.mask.number < length r.old.plain.masks }
     ensures written { let own = window [] (map (λ v. v.items) objects.now) first W in
         MatchOption result
-        ((lowest (own_faults (size_of t) (mask_of r.old.plain mask) (lanes_of r.old.plain index) own) ≡ None) ×
-        (r.new.plain ≡ written r.old.plain to mask (own_loaded (bits_in to.bank) t (mask_of r.old.plain mask)
-        (lanes_of r.old.plain index) own)))
-        (λ k. (lowest (own_faults (size_of t) (mask_of r.old.plain mask) (lanes_of r.old.plain index) own) ≡
-        Some k) × (r.new.plain ≡ r.old.plain)) }
+        ((lowest (own_faults (size_of access.of) (mask_of r.old.plain access.mask) (lanes_of r.old.plain access.index)
+        own) ≡ None) ×
+        (r.new.plain ≡ written r.old.plain access.value access.mask (own_loaded (bits_in access.value.bank) access.of
+        (mask_of r.old.plain access.mask) (lanes_of r.old.plain access.index) own)))
+        (λ k. (lowest (own_faults (size_of access.of) (mask_of r.old.plain access.mask)
+        (lanes_of r.old.plain access.index) own) ≡ Some k) × (r.new.plain ≡ r.old.plain)) }
     ensures room { r.new.room ≡ r.old.room }
 {
-    let active = r.masks[mask.number as usize];
-    let places = r.wide[index.number as usize].to_array();
-    match gather_low(objects, first, t, places, active, tally) {
+    let active = r.masks[access.mask.number as usize];
+    let places = r.wide[access.index.number as usize].to_array();
+    match gather_low(objects, first, access.of, places, active, tally) {
         Ok(new) => {
-            let old = r.narrow[to.number as usize];
-            r.narrow[to.number as usize] = blend32(active, Simd::from_array(new), old);
+            let old = r.narrow[access.value.number as usize];
+            r.narrow[access.value.number as usize] = blend32(active, Simd::from_array(new), old);
             None
         }
         Err(lane) => Some(lane),
@@ -278,35 +277,33 @@ fn load_own_wide<const W: usize>(
     r: &mut Registers<W>,
     objects: &[Vec<u8>],
     first: usize,
-    t: IntType,
-    index: Reg,
-    to: Reg,
-    mask: Reg,
+    access: Access,
     tally: &mut Tally,
 ) -> Option<u32>
     requires lanes { W ≤ 64 }
     requires first { first < 2 ^ 32 }
-    requires fits { FitsLane 64 t }
-    requires bank { to.bank ≡ Wide }
-    requires wide { index.bank ≡ Wide }
-    requires to { to.number < length r.old.plain.wide }
-    requires index { index.number < length r.old.plain.wide }
-    requires mask { mask.number < length r.old.plain.masks }
+    requires fits { FitsLane 64 access.of }
+    requires bank { access.value.bank ≡ Wide }
+    requires wide { access.index.bank ≡ Wide }
+    requires to { access.value.number < length r.old.plain.wide }
+    requires index { access.index.number < length r.old.plain.wide }
+    requires mask { access.mask.number < length r.old.plain.masks }
     ensures written { let own = window [] (map (λ v. v.items) objects.now) first W in
         MatchOption result
-        ((lowest (own_faults (size_of t) (mask_of r.old.plain mask) (lanes_of r.old.plain index) own) ≡ None) ×
-        (r.new.plain ≡ written r.old.plain to mask (own_loaded (bits_in to.bank) t (mask_of r.old.plain mask)
-        (lanes_of r.old.plain index) own)))
-        (λ k. (lowest (own_faults (size_of t) (mask_of r.old.plain mask) (lanes_of r.old.plain index) own) ≡
-        Some k) × (r.new.plain ≡ r.old.plain)) }
+        ((lowest (own_faults (size_of access.of) (mask_of r.old.plain access.mask) (lanes_of r.old.plain access.index)
+        own) ≡ None) ×
+        (r.new.plain ≡ written r.old.plain access.value access.mask (own_loaded (bits_in access.value.bank) access.of
+        (mask_of r.old.plain access.mask) (lanes_of r.old.plain access.index) own)))
+        (λ k. (lowest (own_faults (size_of access.of) (mask_of r.old.plain access.mask)
+        (lanes_of r.old.plain access.index) own) ≡ Some k) × (r.new.plain ≡ r.old.plain)) }
     ensures room { r.new.room ≡ r.old.room }
 {
-    let active = r.masks[mask.number as usize];
-    let places = r.wide[index.number as usize].to_array();
-    match gather_own(objects, first, t, places, active, tally) {
+    let active = r.masks[access.mask.number as usize];
+    let places = r.wide[access.index.number as usize].to_array();
+    match gather_own(objects, first, access.of, places, active, tally) {
         Ok(new) => {
-            let old = r.wide[to.number as usize];
-            r.wide[to.number as usize] = blend64(active, Simd::from_array(new), old);
+            let old = r.wide[access.value.number as usize];
+            r.wide[access.value.number as usize] = blend64(active, Simd::from_array(new), old);
             None
         }
         Err(lane) => Some(lane),
@@ -320,32 +317,30 @@ pub(crate) fn load_own<const W: usize>(
     r: &mut Registers<W>,
     objects: &[Vec<u8>],
     first: usize,
-    t: IntType,
-    index: Reg,
-    to: Reg,
-    mask: Reg,
+    access: Access,
     tally: &mut Tally,
 ) -> Option<u32>
     requires lanes { W ≤ 64 }
     requires first { first < 2 ^ 32 }
-    requires fits { FitsBank t to.bank }
-    requires scalar { to.bank ≢ Scalar }
-    requires wide { index.bank ≡ Wide }
-    requires to { IsIn r.old.plain to }
-    requires index { index.number < length r.old.plain.wide }
-    requires mask { mask.number < length r.old.plain.masks }
+    requires fits { FitsBank access.of access.value.bank }
+    requires scalar { access.value.bank ≢ Scalar }
+    requires wide { access.index.bank ≡ Wide }
+    requires to { IsIn r.old.plain access.value }
+    requires index { access.index.number < length r.old.plain.wide }
+    requires mask { access.mask.number < length r.old.plain.masks }
     ensures written { let own = window [] (map (λ v. v.items) objects.now) first W in
         MatchOption result
-        ((lowest (own_faults (size_of t) (mask_of r.old.plain mask) (lanes_of r.old.plain index) own) ≡ None) ×
-        (r.new.plain ≡ written r.old.plain to mask (own_loaded (bits_in to.bank) t (mask_of r.old.plain mask)
-        (lanes_of r.old.plain index) own)))
-        (λ k. (lowest (own_faults (size_of t) (mask_of r.old.plain mask) (lanes_of r.old.plain index) own) ≡
-        Some k) × (r.new.plain ≡ r.old.plain)) }
+        ((lowest (own_faults (size_of access.of) (mask_of r.old.plain access.mask) (lanes_of r.old.plain access.index)
+        own) ≡ None) ×
+        (r.new.plain ≡ written r.old.plain access.value access.mask (own_loaded (bits_in access.value.bank) access.of
+        (mask_of r.old.plain access.mask) (lanes_of r.old.plain access.index) own)))
+        (λ k. (lowest (own_faults (size_of access.of) (mask_of r.old.plain access.mask)
+        (lanes_of r.old.plain access.index) own) ≡ Some k) × (r.new.plain ≡ r.old.plain)) }
     ensures room { r.new.room ≡ r.old.room }
 {
-    match to.bank {
-        Bank::Narrow => load_own_narrow(r, objects, first, t, index, to, mask, tally),
-        Bank::Wide => load_own_wide(r, objects, first, t, index, to, mask, tally),
+    match access.value.bank {
+        Bank::Narrow => load_own_narrow(r, objects, first, access, tally),
+        Bank::Wide => load_own_wide(r, objects, first, access, tally),
         Bank::Scalar | Bank::Mask => None,
     }
 }
@@ -355,42 +350,41 @@ fn store_objects<const W: usize>(
     r: &Registers<W>,
     objects: &mut Vec<Vec<u8>>,
     first: usize,
-    t: IntType,
-    index: Reg,
-    from: Reg,
-    mask: Reg,
+    access: Access,
     tally: &mut Tally,
 ) -> Option<u32>
     requires lanes { W ≤ 64 }
     requires first { first < 2 ^ 32 }
-    requires fits { FitsBank t from.bank }
-    requires scalar { from.bank ≢ Scalar }
-    requires bank { from.bank ≢ Mask }
-    requires wide { index.bank ≡ Wide }
-    requires from { IsIn r.now.plain from }
-    requires index { index.number < length r.now.plain.wide }
-    requires mask { mask.number < length r.now.plain.masks }
+    requires fits { FitsBank access.of access.value.bank }
+    requires scalar { access.value.bank ≢ Scalar }
+    requires bank { access.value.bank ≢ Mask }
+    requires wide { access.index.bank ≡ Wide }
+    requires from { IsIn r.now.plain access.value }
+    requires index { access.index.number < length r.now.plain.wide }
+    requires mask { access.mask.number < length r.now.plain.masks }
     ensures { let old = map (λ v. v.items) objects.old.items in
         let own = window [] old first W in
         MatchOption result
-        ((lowest (own_faults (size_of t) (mask_of r.now.plain mask) (lanes_of r.now.plain index) own) ≡ None)
+        ((lowest (own_faults (size_of access.of) (mask_of r.now.plain access.mask) (lanes_of r.now.plain access.index)
+        own) ≡ None)
         × (map (λ v. v.items) objects.new.items ≡
-        with_window old first (own_stored (size_of t) (mask_of r.now.plain mask) (lanes_of r.now.plain index)
-        (lanes_of r.now.plain from) own)))
-        (λ k. (lowest (own_faults (size_of t) (mask_of r.now.plain mask) (lanes_of r.now.plain index) own) ≡ Some k)
+        with_window old first (own_stored (size_of access.of) (mask_of r.now.plain access.mask)
+        (lanes_of r.now.plain access.index) (lanes_of r.now.plain access.value) own)))
+        (λ k. (lowest (own_faults (size_of access.of) (mask_of r.now.plain access.mask)
+        (lanes_of r.now.plain access.index) own) ≡ Some k)
         × (map (λ v. v.items) objects.new.items ≡
-        with_window old first (own_stored (size_of t) (take k (mask_of r.now.plain mask))
-        (take k (lanes_of r.now.plain index)) (take k (lanes_of r.now.plain from)) own))) }
+        with_window old first (own_stored (size_of access.of) (take k (mask_of r.now.plain access.mask))
+        (take k (lanes_of r.now.plain access.index)) (take k (lanes_of r.now.plain access.value)) own))) }
 {
-    let lanes = lanes_for_column(r, from).to_array();
-    let places = r.wide[index.number as usize].to_array();
+    let lanes = lanes_for_column(r, access.value).to_array();
+    let places = r.wide[access.index.number as usize].to_array();
     scatter_own(
         objects,
         first,
-        t,
+        access.of,
         places,
         lanes,
-        r.masks[mask.number as usize],
+        r.masks[access.mask.number as usize],
         tally,
     )
 }
@@ -402,36 +396,37 @@ pub(crate) fn store_own<const W: usize>(
     privates: &mut Vec<Vec<Vec<u8>>>,
     array: usize,
     first: usize,
-    t: IntType,
-    index: Reg,
-    from: Reg,
-    mask: Reg,
+    access: Access,
     tally: &mut Tally,
 ) -> Option<u32>
     requires lanes { W ≤ 64 }
     requires array { array < length privates.old.items }
     requires first { first < 2 ^ 32 }
-    requires fits { FitsBank t from.bank }
-    requires scalar { from.bank ≢ Scalar }
-    requires bank { from.bank ≢ Mask }
-    requires wide { index.bank ≡ Wide }
-    requires from { IsIn r.now.plain from }
-    requires index { index.number < length r.now.plain.wide }
-    requires mask { mask.number < length r.now.plain.masks }
+    requires fits { FitsBank access.of access.value.bank }
+    requires scalar { access.value.bank ≢ Scalar }
+    requires bank { access.value.bank ≢ Mask }
+    requires wide { access.index.bank ≡ Wide }
+    requires from { IsIn r.now.plain access.value }
+    requires index { access.index.number < length r.now.plain.wide }
+    requires mask { access.mask.number < length r.now.plain.masks }
     ensures { let arrays = map (λ a. map (λ v. v.items) a.items) privates.old.items in
         let old = slice_index_or arrays array [] in
         let own = window [] old first W in
         MatchOption result
-        ((lowest (own_faults (size_of t) (mask_of r.now.plain mask) (lanes_of r.now.plain index) own) ≡ None)
+        ((lowest (own_faults (size_of access.of) (mask_of r.now.plain access.mask) (lanes_of r.now.plain access.index)
+        own) ≡ None)
         × (map (λ a. map (λ v. v.items) a.items) privates.new.items ≡
-        slice_set arrays array (with_window old first (own_stored (size_of t) (mask_of r.now.plain mask)
-        (lanes_of r.now.plain index) (lanes_of r.now.plain from) own))))
-        (λ k. (lowest (own_faults (size_of t) (mask_of r.now.plain mask) (lanes_of r.now.plain index) own) ≡ Some k)
+        slice_set arrays array (with_window old first (own_stored (size_of access.of)
+        (mask_of r.now.plain access.mask)
+        (lanes_of r.now.plain access.index) (lanes_of r.now.plain access.value) own))))
+        (λ k. (lowest (own_faults (size_of access.of) (mask_of r.now.plain access.mask)
+        (lanes_of r.now.plain access.index) own) ≡ Some k)
         × (map (λ a. map (λ v. v.items) a.items) privates.new.items ≡
-        slice_set arrays array (with_window old first (own_stored (size_of t) (take k (mask_of r.now.plain mask))
-        (take k (lanes_of r.now.plain index)) (take k (lanes_of r.now.plain from)) own)))) }
+        slice_set arrays array (with_window old first (own_stored (size_of access.of)
+        (take k (mask_of r.now.plain access.mask))
+        (take k (lanes_of r.now.plain access.index)) (take k (lanes_of r.now.plain access.value)) own)))) }
 {
-    store_objects(r, &mut privates[array], first, t, index, from, mask, tally)
+    store_objects(r, &mut privates[array], first, access, tally)
 }
 
 /// Clears the active items' objects of one of the private arrays.

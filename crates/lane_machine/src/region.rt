@@ -12,12 +12,13 @@ ghost use Rattle.lane_machine.specs.Standing.{HasNames};
 ghost use Rattle.lane_machine.specs.Room.{HasRoom, IsNoLess};
 ghost use Rattle.lane_machine.specs.Zeroed.{zeroed};
 
-use crate::kept::Group;
+use crate::group_state::Group;
 use crate::queries::whole;
 use crate::registers::Registers;
 use crate::running::run;
-use cl_model::{Buffers, Launch};
-use lane_code::{Code, GroupProgram, RegionEnd};
+use crate::setting::{Setting, Task};
+use cl_model::Buffers;
+use lane_code::RegionEnd;
 use lane_kernels::Tally;
 
 /// The number in its group of the first item of a chunk.
@@ -42,54 +43,54 @@ fn item_in(group: &Group, size: u64, first: usize) -> u64
 /// A code on one chunk, in registers of the program's width.
 pub(crate) fn region_at<const W: usize>(
     r: &mut Registers<W>,
-    code: &Code,
-    program: &GroupProgram,
-    launch: &Launch,
+    task: Task,
     buffers: &mut Buffers,
     group: &mut Group,
-    chunk: u32,
     turns: &mut u64,
     tally: &mut Tally,
 ) -> RegionEnd
     requires lanes { W ≤ 64 }
     requires some { 1 ≤ W }
-    requires width { (plain_of program.now).width ≡ W }
-    requires code { code_fits (names_of (plain_of program.now)) code.now.counts code.now.steps.items ≡ true }
-    requires sizes { HasSizes (launch_of launch.now) }
-    requires chunk { chunk < chunk_count (plain_of program.now) (launch_of launch.now) }
-    requires number { group.old.number < group_count (launch_of launch.now) }
-    requires names { HasNames (names_of (plain_of program.now)) group.old.kept }
-    requires room { HasRoom code.now.counts r.old.room }
-    ensures end { (region_end (chunk_at (plain_of program.now) (launch_of launch.now) group.old.number chunk)
-        code.now.steps.items code.now.counts turns.old group.old.kept (buffers_of buffers.old)).end ≡ result }
-    ensures turns { (region_end (chunk_at (plain_of program.now) (launch_of launch.now) group.old.number chunk)
-        code.now.steps.items code.now.counts turns.old group.old.kept (buffers_of buffers.old)).turns ≡ turns.new }
-    ensures group { (region_end (chunk_at (plain_of program.now) (launch_of launch.now) group.old.number chunk)
-        code.now.steps.items code.now.counts turns.old group.old.kept (buffers_of buffers.old)).state.group ≡
-        group.new.kept }
-    ensures buffers { (region_end (chunk_at (plain_of program.now) (launch_of launch.now) group.old.number chunk)
-        code.now.steps.items code.now.counts turns.old group.old.kept (buffers_of buffers.old)).state.buffers ≡
-        buffers_of buffers.new }
-    ensures names { HasNames (names_of (plain_of program.now)) group.new.kept }
+    requires width { (plain_of task.program.now).width ≡ W }
+    requires code { code_fits (names_of (plain_of task.program.now)) task.code.now.counts task.code.now.steps.items ≡
+        true }
+    requires sizes { HasSizes (launch_of task.launch.now) }
+    requires chunk { task.chunk < chunk_count (plain_of task.program.now) (launch_of task.launch.now) }
+    requires number { group.old.number < group_count (launch_of task.launch.now) }
+    requires names { HasNames (names_of (plain_of task.program.now)) group.old.kept }
+    requires room { HasRoom task.code.now.counts r.old.room }
+    ensures end { (region_end (chunk_at (plain_of task.entry.program.now) (launch_of task.entry.launch.now)
+        group.old.number task.entry.chunk)
+        task.entry.code.now.steps.items task.entry.code.now.counts turns.old group.old.kept
+        (buffers_of buffers.old)).end ≡ result }
+    ensures turns { (region_end (chunk_at (plain_of task.entry.program.now) (launch_of task.entry.launch.now)
+        group.old.number task.entry.chunk)
+        task.entry.code.now.steps.items task.entry.code.now.counts turns.old group.old.kept
+        (buffers_of buffers.old)).turns ≡ turns.new }
+    ensures group { (region_end (chunk_at (plain_of task.entry.program.now) (launch_of task.entry.launch.now)
+        group.old.number task.entry.chunk)
+        task.entry.code.now.steps.items task.entry.code.now.counts turns.old group.old.kept
+        (buffers_of buffers.old)).state.group ≡ group.new.kept }
+    ensures buffers { (region_end (chunk_at (plain_of task.entry.program.now) (launch_of task.entry.launch.now)
+        group.old.number task.entry.chunk)
+        task.entry.code.now.steps.items task.entry.code.now.counts turns.old group.old.kept
+        (buffers_of buffers.old)).state.buffers ≡ buffers_of buffers.new }
+    ensures names { HasNames (names_of (plain_of task.entry.program.now)) group.new.kept }
     ensures zeroed { zeroed group.new.kept ≡ zeroed group.old.kept }
     ensures number { group.new.number ≡ group.old.number }
     ensures room { IsNoLess r.old.room r.new.room }
 {
-    let size = whole(&launch.local);
-    let first = first_in::<W>(size, chunk);
+    let size = whole(&task.launch.local);
+    let first = first_in::<W>(size, task.chunk);
     let item = item_in(group, size, first);
-    r.restart(code.counts, size as usize, first);
-    run(
-        &code.steps,
-        code.counts,
-        r,
-        group,
-        buffers,
-        program,
-        launch,
+    r.restart(task.code.counts, size as usize, first);
+    let setting = Setting {
+        steps: &task.code.steps,
+        counts: task.code.counts,
+        program: task.program,
+        launch: task.launch,
         first,
         item,
-        turns,
-        tally,
-    )
+    };
+    run(setting, r, group, buffers, turns, tally)
 }

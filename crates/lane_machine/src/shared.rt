@@ -8,6 +8,7 @@ ghost use Rattle.lane_code.specs.Registers.{written, lanes_of, mask_of, bits_in,
 ghost use Rattle.lane_code.specs.declared.step.Bank.TheVariants.{Narrow, Wide, Scalar};
 ghost use Rattle.lane_machine.specs.State.{IsIn, FitsBank};
 
+use crate::operands::Access;
 use crate::registers::Registers;
 use lane_code::{Bank, Reg};
 use lane_kernels::{Tally, blend32, blend64, gather32, gather64, scatter32, scatter64};
@@ -51,32 +52,37 @@ fn gather_wide<const W: usize>(
 fn load_narrow<const W: usize>(
     r: &mut Registers<W>,
     bytes: &[u8],
-    t: IntType,
-    index: Reg,
-    to: Reg,
-    mask: Reg,
+    access: Access,
     tally: &mut Tally,
 ) -> Option<u32>
     requires lanes { W ≤ 64 }
-    requires fits { FitsLane 32 t }
-    requires bank { to.bank ≡ Narrow }
-    requires wide { index.bank ≡ Wide }
-    requires to { to.number < length r.old.plain.narrow }
-    requires index { index.number < length r.old.plain.wide }
-    requires mask { mask.number < length r.old.plain.masks }
+    requires fits { FitsLane 32 access.of }
+    requires bank { access.value.bank ≡ Narrow }
+    requires wide { access.index.bank ≡ Wide }
+    requires to { access.value.number < length r.old.plain.narrow }
+    requires index { access.index.number < length r.old.plain.wide }
+    requires mask { access.mask.number < length r.old.plain.masks }
     ensures written { MatchOption result
-        ((lowest (faults (size_of t) (length bytes.now) (mask_of r.old.plain mask) (lanes_of r.old.plain index)) ≡
-        None) × (r.new.plain ≡ written r.old.plain to mask
-        (gathered (bits_in to.bank) t bytes.now (mask_of r.old.plain mask) (lanes_of r.old.plain index))))
-        (λ k. (lowest (faults (size_of t) (length bytes.now) (mask_of r.old.plain mask) (lanes_of r.old.plain index))
+        ((lowest (faults (size_of access.of) (length bytes.now) (mask_of r.old.plain access.mask)
+        (lanes_of r.old.plain access.index)) ≡ None) × (r.new.plain ≡ written r.old.plain access.value access.mask
+        (gathered (bits_in access.value.bank) access.of bytes.now (mask_of r.old.plain access.mask)
+        (lanes_of r.old.plain access.index))))
+        (λ k. (lowest (faults (size_of access.of) (length bytes.now) (mask_of r.old.plain access.mask)
+        (lanes_of r.old.plain access.index))
         ≡ Some k) × (r.new.plain ≡ r.old.plain)) }
     ensures room { r.new.room ≡ r.old.room }
 {
-    let active = r.masks[mask.number as usize];
-    match gather_narrow(bytes, t, r.wide[index.number as usize], active, tally) {
+    let active = r.masks[access.mask.number as usize];
+    match gather_narrow(
+        bytes,
+        access.of,
+        r.wide[access.index.number as usize],
+        active,
+        tally,
+    ) {
         Ok(new) => {
-            let old = r.narrow[to.number as usize];
-            r.narrow[to.number as usize] = blend32(active, Simd::from_array(new), old);
+            let old = r.narrow[access.value.number as usize];
+            r.narrow[access.value.number as usize] = blend32(active, Simd::from_array(new), old);
             None
         }
         Err(lane) => Some(lane),
@@ -86,32 +92,37 @@ fn load_narrow<const W: usize>(
 fn load_wide<const W: usize>(
     r: &mut Registers<W>,
     bytes: &[u8],
-    t: IntType,
-    index: Reg,
-    to: Reg,
-    mask: Reg,
+    access: Access,
     tally: &mut Tally,
 ) -> Option<u32>
     requires lanes { W ≤ 64 }
-    requires fits { FitsLane 64 t }
-    requires bank { to.bank ≡ Wide }
-    requires wide { index.bank ≡ Wide }
-    requires to { to.number < length r.old.plain.wide }
-    requires index { index.number < length r.old.plain.wide }
-    requires mask { mask.number < length r.old.plain.masks }
+    requires fits { FitsLane 64 access.of }
+    requires bank { access.value.bank ≡ Wide }
+    requires wide { access.index.bank ≡ Wide }
+    requires to { access.value.number < length r.old.plain.wide }
+    requires index { access.index.number < length r.old.plain.wide }
+    requires mask { access.mask.number < length r.old.plain.masks }
     ensures written { MatchOption result
-        ((lowest (faults (size_of t) (length bytes.now) (mask_of r.old.plain mask) (lanes_of r.old.plain index)) ≡
-        None) × (r.new.plain ≡ written r.old.plain to mask
-        (gathered (bits_in to.bank) t bytes.now (mask_of r.old.plain mask) (lanes_of r.old.plain index))))
-        (λ k. (lowest (faults (size_of t) (length bytes.now) (mask_of r.old.plain mask) (lanes_of r.old.plain index))
+        ((lowest (faults (size_of access.of) (length bytes.now) (mask_of r.old.plain access.mask)
+        (lanes_of r.old.plain access.index)) ≡ None) × (r.new.plain ≡ written r.old.plain access.value access.mask
+        (gathered (bits_in access.value.bank) access.of bytes.now (mask_of r.old.plain access.mask)
+        (lanes_of r.old.plain access.index))))
+        (λ k. (lowest (faults (size_of access.of) (length bytes.now) (mask_of r.old.plain access.mask)
+        (lanes_of r.old.plain access.index))
         ≡ Some k) × (r.new.plain ≡ r.old.plain)) }
     ensures room { r.new.room ≡ r.old.room }
 {
-    let active = r.masks[mask.number as usize];
-    match gather_wide(bytes, t, r.wide[index.number as usize], active, tally) {
+    let active = r.masks[access.mask.number as usize];
+    match gather_wide(
+        bytes,
+        access.of,
+        r.wide[access.index.number as usize],
+        active,
+        tally,
+    ) {
         Ok(new) => {
-            let old = r.wide[to.number as usize];
-            r.wide[to.number as usize] = blend64(active, Simd::from_array(new), old);
+            let old = r.wide[access.value.number as usize];
+            r.wide[access.value.number as usize] = blend64(active, Simd::from_array(new), old);
             None
         }
         Err(lane) => Some(lane),
@@ -122,30 +133,29 @@ fn load_wide<const W: usize>(
 pub(crate) fn load_shared<const W: usize>(
     r: &mut Registers<W>,
     bytes: &[u8],
-    t: IntType,
-    index: Reg,
-    to: Reg,
-    mask: Reg,
+    access: Access,
     tally: &mut Tally,
 ) -> Option<u32>
     requires lanes { W ≤ 64 }
-    requires fits { FitsBank t to.bank }
-    requires scalar { to.bank ≢ Scalar }
-    requires wide { index.bank ≡ Wide }
-    requires to { IsIn r.old.plain to }
-    requires index { index.number < length r.old.plain.wide }
-    requires mask { mask.number < length r.old.plain.masks }
+    requires fits { FitsBank access.of access.value.bank }
+    requires scalar { access.value.bank ≢ Scalar }
+    requires wide { access.index.bank ≡ Wide }
+    requires to { IsIn r.old.plain access.value }
+    requires index { access.index.number < length r.old.plain.wide }
+    requires mask { access.mask.number < length r.old.plain.masks }
     ensures written { MatchOption result
-        ((lowest (faults (size_of t) (length bytes.now) (mask_of r.old.plain mask) (lanes_of r.old.plain index)) ≡
-        None) × (r.new.plain ≡ written r.old.plain to mask
-        (gathered (bits_in to.bank) t bytes.now (mask_of r.old.plain mask) (lanes_of r.old.plain index))))
-        (λ k. (lowest (faults (size_of t) (length bytes.now) (mask_of r.old.plain mask) (lanes_of r.old.plain index))
+        ((lowest (faults (size_of access.of) (length bytes.now) (mask_of r.old.plain access.mask)
+        (lanes_of r.old.plain access.index)) ≡ None) × (r.new.plain ≡ written r.old.plain access.value access.mask
+        (gathered (bits_in access.value.bank) access.of bytes.now (mask_of r.old.plain access.mask)
+        (lanes_of r.old.plain access.index))))
+        (λ k. (lowest (faults (size_of access.of) (length bytes.now) (mask_of r.old.plain access.mask)
+        (lanes_of r.old.plain access.index))
         ≡ Some k) × (r.new.plain ≡ r.old.plain)) }
     ensures room { r.new.room ≡ r.old.room }
 {
-    match to.bank {
-        Bank::Narrow => load_narrow(r, bytes, t, index, to, mask, tally),
-        Bank::Wide => load_wide(r, bytes, t, index, to, mask, tally),
+    match access.value.bank {
+        Bank::Narrow => load_narrow(r, bytes, access, tally),
+        Bank::Wide => load_wide(r, bytes, access, tally),
         Bank::Scalar | Bank::Mask => None,
     }
 }
@@ -199,38 +209,37 @@ fn scatter_wide<const W: usize>(
 pub(crate) fn store_slice<const W: usize>(
     r: &Registers<W>,
     bytes: &mut [u8],
-    t: IntType,
-    index: Reg,
-    from: Reg,
-    mask: Reg,
+    access: Access,
     tally: &mut Tally,
 ) -> Option<u32>
     requires lanes { W ≤ 64 }
-    requires fits { FitsBank t from.bank }
-    requires scalar { from.bank ≢ Scalar }
-    requires wide { index.bank ≡ Wide }
-    requires from { IsIn r.now.plain from }
-    requires index { index.number < length r.now.plain.wide }
-    requires mask { mask.number < length r.now.plain.masks }
+    requires fits { FitsBank access.of access.value.bank }
+    requires scalar { access.value.bank ≢ Scalar }
+    requires wide { access.index.bank ≡ Wide }
+    requires from { IsIn r.now.plain access.value }
+    requires index { access.index.number < length r.now.plain.wide }
+    requires mask { access.mask.number < length r.now.plain.masks }
     ensures { MatchOption result
-        ((lowest (faults (size_of t) (length bytes.old) (mask_of r.now.plain mask) (lanes_of r.now.plain index)) ≡
-        None) × (bytes.new ≡ scattered (size_of t) bytes.old (mask_of r.now.plain mask)
-        (lanes_of r.now.plain index) (lanes_of r.now.plain from)))
-        (λ k. (lowest (faults (size_of t) (length bytes.old) (mask_of r.now.plain mask) (lanes_of r.now.plain index))
+        ((lowest (faults (size_of access.of) (length bytes.old) (mask_of r.now.plain access.mask)
+        (lanes_of r.now.plain access.index)) ≡
+        None) × (bytes.new ≡ scattered (size_of access.of) bytes.old (mask_of r.now.plain access.mask)
+        (lanes_of r.now.plain access.index) (lanes_of r.now.plain access.value)))
+        (λ k. (lowest (faults (size_of access.of) (length bytes.old) (mask_of r.now.plain access.mask)
+        (lanes_of r.now.plain access.index))
         ≡ Some k)
-        × (bytes.new ≡ scattered (size_of t) bytes.old (take k (mask_of r.now.plain mask))
-        (take k (lanes_of r.now.plain index)) (take k (lanes_of r.now.plain from)))) }
+        × (bytes.new ≡ scattered (size_of access.of) bytes.old (take k (mask_of r.now.plain access.mask))
+        (take k (lanes_of r.now.plain access.index)) (take k (lanes_of r.now.plain access.value)))) }
 {
-    let places = r.wide[index.number as usize];
-    let active = r.masks[mask.number as usize];
-    match from.bank {
+    let places = r.wide[access.index.number as usize];
+    let active = r.masks[access.mask.number as usize];
+    match access.value.bank {
         Bank::Narrow => {
-            let lanes = r.narrow[from.number as usize];
-            scatter_narrow(bytes, t, places, lanes, active, tally)
+            let lanes = r.narrow[access.value.number as usize];
+            scatter_narrow(bytes, access.of, places, lanes, active, tally)
         }
         Bank::Wide => {
-            let lanes = r.wide[from.number as usize];
-            scatter_wide(bytes, t, places, lanes, active, tally)
+            let lanes = r.wide[access.value.number as usize];
+            scatter_wide(bytes, access.of, places, lanes, active, tally)
         }
         Bank::Scalar | Bank::Mask => None,
     }
@@ -239,29 +248,27 @@ pub(crate) fn store_slice<const W: usize>(
 fn store_shared<const W: usize>(
     r: &Registers<W>,
     bytes: &mut Vec<u8>,
-    t: IntType,
-    index: Reg,
-    from: Reg,
-    mask: Reg,
+    access: Access,
     tally: &mut Tally,
 ) -> Option<u32>
     requires lanes { W ≤ 64 }
-    requires fits { FitsBank t from.bank }
-    requires scalar { from.bank ≢ Scalar }
-    requires wide { index.bank ≡ Wide }
-    requires from { IsIn r.now.plain from }
-    requires index { index.number < length r.now.plain.wide }
-    requires mask { mask.number < length r.now.plain.masks }
+    requires fits { FitsBank access.of access.value.bank }
+    requires scalar { access.value.bank ≢ Scalar }
+    requires wide { access.index.bank ≡ Wide }
+    requires from { IsIn r.now.plain access.value }
+    requires index { access.index.number < length r.now.plain.wide }
+    requires mask { access.mask.number < length r.now.plain.masks }
     ensures { MatchOption result
-        ((lowest (faults (size_of t) (length bytes.old.items) (mask_of r.now.plain mask) (lanes_of r.now.plain index))
-        ≡ None) × (bytes.new.items ≡ scattered (size_of t) bytes.old.items (mask_of r.now.plain mask)
-        (lanes_of r.now.plain index) (lanes_of r.now.plain from)))
-        (λ k. (lowest (faults (size_of t) (length bytes.old.items) (mask_of r.now.plain mask)
-        (lanes_of r.now.plain index)) ≡ Some k)
-        × (bytes.new.items ≡ scattered (size_of t) bytes.old.items (take k (mask_of r.now.plain mask))
-        (take k (lanes_of r.now.plain index)) (take k (lanes_of r.now.plain from)))) }
+        ((lowest (faults (size_of access.of) (length bytes.old.items) (mask_of r.now.plain access.mask)
+        (lanes_of r.now.plain access.index))
+        ≡ None) × (bytes.new.items ≡ scattered (size_of access.of) bytes.old.items (mask_of r.now.plain access.mask)
+        (lanes_of r.now.plain access.index) (lanes_of r.now.plain access.value)))
+        (λ k. (lowest (faults (size_of access.of) (length bytes.old.items) (mask_of r.now.plain access.mask)
+        (lanes_of r.now.plain access.index)) ≡ Some k)
+        × (bytes.new.items ≡ scattered (size_of access.of) bytes.old.items (take k (mask_of r.now.plain access.mask))
+        (take k (lanes_of r.now.plain access.index)) (take k (lanes_of r.now.plain access.value)))) }
 {
-    store_slice(r, bytes, t, index, from, mask, tally)
+    store_slice(r, bytes, access, tally)
 }
 
 /// Stores the active lanes into one of the objects; or only those below the lowest active lane that
@@ -270,34 +277,32 @@ fn store_one<const W: usize>(
     r: &Registers<W>,
     objects: &mut Vec<Vec<u8>>,
     object: usize,
-    t: IntType,
-    index: Reg,
-    from: Reg,
-    mask: Reg,
+    access: Access,
     tally: &mut Tally,
 ) -> Option<u32>
     requires lanes { W ≤ 64 }
     requires object { object < length objects.old.items }
-    requires fits { FitsBank t from.bank }
-    requires scalar { from.bank ≢ Scalar }
-    requires wide { index.bank ≡ Wide }
-    requires from { IsIn r.now.plain from }
-    requires index { index.number < length r.now.plain.wide }
-    requires mask { mask.number < length r.now.plain.masks }
+    requires fits { FitsBank access.of access.value.bank }
+    requires scalar { access.value.bank ≢ Scalar }
+    requires wide { access.index.bank ≡ Wide }
+    requires from { IsIn r.now.plain access.value }
+    requires index { access.index.number < length r.now.plain.wide }
+    requires mask { access.mask.number < length r.now.plain.masks }
     ensures { let old = map (λ v. v.items) objects.old.items in
         let bytes = slice_index_or old object [] in
         MatchOption result
-        ((lowest (faults (size_of t) (length bytes) (mask_of r.now.plain mask) (lanes_of r.now.plain index)) ≡ None)
+        ((lowest (faults (size_of access.of) (length bytes) (mask_of r.now.plain access.mask)
+        (lanes_of r.now.plain access.index)) ≡ None)
         × (map (λ v. v.items) objects.new.items ≡
-        slice_set old object (scattered (size_of t) bytes (mask_of r.now.plain mask) (lanes_of r.now.plain index)
-        (lanes_of r.now.plain from))))
-        (λ k. (lowest (faults (size_of t) (length bytes) (mask_of r.now.plain mask) (lanes_of r.now.plain index)) ≡
-        Some k)
+        slice_set old object (scattered (size_of access.of) bytes (mask_of r.now.plain access.mask)
+        (lanes_of r.now.plain access.index) (lanes_of r.now.plain access.value))))
+        (λ k. (lowest (faults (size_of access.of) (length bytes) (mask_of r.now.plain access.mask)
+        (lanes_of r.now.plain access.index)) ≡ Some k)
         × (map (λ v. v.items) objects.new.items ≡
-        slice_set old object (scattered (size_of t) bytes (take k (mask_of r.now.plain mask))
-        (take k (lanes_of r.now.plain index)) (take k (lanes_of r.now.plain from))))) }
+        slice_set old object (scattered (size_of access.of) bytes (take k (mask_of r.now.plain access.mask))
+        (take k (lanes_of r.now.plain access.index)) (take k (lanes_of r.now.plain access.value))))) }
 {
-    store_shared(r, &mut objects[object], t, index, from, mask, tally)
+    store_shared(r, &mut objects[object], access, tally)
 }
 
 /// The same where there may be no such object, and so no element in range.
@@ -305,35 +310,33 @@ pub(crate) fn store_into<const W: usize>(
     r: &Registers<W>,
     objects: &mut Vec<Vec<u8>>,
     object: usize,
-    t: IntType,
-    index: Reg,
-    from: Reg,
-    mask: Reg,
+    access: Access,
     tally: &mut Tally,
 ) -> Option<u32>
     requires lanes { W ≤ 64 }
-    requires fits { FitsBank t from.bank }
-    requires scalar { from.bank ≢ Scalar }
-    requires wide { index.bank ≡ Wide }
-    requires from { IsIn r.now.plain from }
-    requires index { index.number < length r.now.plain.wide }
-    requires mask { mask.number < length r.now.plain.masks }
+    requires fits { FitsBank access.of access.value.bank }
+    requires scalar { access.value.bank ≢ Scalar }
+    requires wide { access.index.bank ≡ Wide }
+    requires from { IsIn r.now.plain access.value }
+    requires index { access.index.number < length r.now.plain.wide }
+    requires mask { access.mask.number < length r.now.plain.masks }
     ensures { let old = map (λ v. v.items) objects.old.items in
         let bytes = slice_index_or old object [] in
         MatchOption result
-        ((lowest (faults (size_of t) (length bytes) (mask_of r.now.plain mask) (lanes_of r.now.plain index)) ≡ None)
+        ((lowest (faults (size_of access.of) (length bytes) (mask_of r.now.plain access.mask)
+        (lanes_of r.now.plain access.index)) ≡ None)
         × (map (λ v. v.items) objects.new.items ≡
-        slice_set old object (scattered (size_of t) bytes (mask_of r.now.plain mask) (lanes_of r.now.plain index)
-        (lanes_of r.now.plain from))))
-        (λ k. (lowest (faults (size_of t) (length bytes) (mask_of r.now.plain mask) (lanes_of r.now.plain index)) ≡
-        Some k)
+        slice_set old object (scattered (size_of access.of) bytes (mask_of r.now.plain access.mask)
+        (lanes_of r.now.plain access.index) (lanes_of r.now.plain access.value))))
+        (λ k. (lowest (faults (size_of access.of) (length bytes) (mask_of r.now.plain access.mask)
+        (lanes_of r.now.plain access.index)) ≡ Some k)
         × (map (λ v. v.items) objects.new.items ≡
-        slice_set old object (scattered (size_of t) bytes (take k (mask_of r.now.plain mask))
-        (take k (lanes_of r.now.plain index)) (take k (lanes_of r.now.plain from))))) }
+        slice_set old object (scattered (size_of access.of) bytes (take k (mask_of r.now.plain access.mask))
+        (take k (lanes_of r.now.plain access.index)) (take k (lanes_of r.now.plain access.value))))) }
 {
     if object < objects.len() {
-        return store_one(r, objects, object, t, index, from, mask, tally);
+        return store_one(r, objects, object, access, tally);
     }
     let mut none = [0u8; 0];
-    store_slice(r, &mut none, t, index, from, mask, tally)
+    store_slice(r, &mut none, access, tally)
 }

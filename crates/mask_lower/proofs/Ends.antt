@@ -13,7 +13,7 @@ use Rattle.kir.specs.Places.{Behind, IntoTest, IntoBody, ToAnswer, Place, Point,
 use Rattle.kir.specs.Places.{iteration, begun_in, point_of, lines_at, tasks_at, behind, test_of, body_of}
 use Rattle.kir.specs.Places.{at_answer as answer_at}
 use Rattle.kir.specs.Steps.{shell_of, Item}
-use Rattle.kir.specs.Evenness.{IsEven}
+use Rattle.kir.specs.Uniformity.{IsEven}
 use Rattle.kir.specs.Live.{live_behind, live_at}
 use Rattle.kir.specs.Cuts.{holds_barrier, is_barrier, is_choice, is_round, is_line, is_cut, is_stop}
 use Rattle.ctx_plan.specs.declared.plan.Home.TheVariants as home
@@ -25,7 +25,7 @@ use Rattle.kir_moves.specs.Stand.{start_stage, ItemsLead}
 use Rattle.kir_moves.specs.Leads.{into_test, into_body}
 use Rattle.kir_moves.proofs.Coming.{leads_placed}
 use Rattle.kir_moves.proofs.Live.{behind_live, behind_out}
-use Rattle.kir_moves.proofs.Told.{runs_even}
+use Rattle.kir_moves.proofs.Known.{runs_even}
 use Rattle.regions.specs.Spans.{IsEnd, at_end, at_cut, at_answer, before_loop, behind_loop}
 use Rattle.regions.proofs.Cuts.{placed_lines, same_tasks_at, behind_same, StandsThere, nothing_there, lines_there}
 use Rattle.regions.proofs.Cuts.{answer_there, stands_there}

@@ -1,4 +1,4 @@
-pub mod Pieces
+pub mod Fragments
 pub mod Cuts
 pub mod Interleaving
 pub mod Sets

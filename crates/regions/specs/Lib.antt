@@ -2,7 +2,7 @@ pub mod Tree
 pub mod View
 pub mod Split
 pub mod Spans
-pub mod Pieces
+pub mod Fragments
 pub mod TreeRun
 pub mod Living
 pub mod Cutting

@@ -12,7 +12,7 @@ ghost use Rattle.kir.specs.View.{kernel_of};
 ghost use Rattle.regions.specs.Tree.{Tree, NoRegion, LoopThen};
 ghost use Rattle.regions.specs.View.{region_of, tree_before, IsOneRegion};
 ghost use Rattle.regions.specs.Split.{until_cut, live_from, cut_into, split_of};
-ghost use Rattle.regions.specs.Pieces.{EachRegion, IsPiece};
+ghost use Rattle.regions.specs.Fragments.{EachRegion, IsPiece};
 ghost use Rattle.regions.specs.TreeRun.{RunsInterleave};
 ghost use Rattle.regions.specs.Living.{those, IsSet, answer_live};
 ghost use Rattle.regions.specs.Cutting.{region_with, stacked, ended_by, ended, cut_by, AreLiveAt};
@@ -26,7 +26,7 @@ use crate::region::{Region, RegionTree};
 use kir::holding::{line_holds, lines_hold};
 use kir::{Atom, Kernel, Line};
 use std::alloc::Global;
-use wg_num::{Memory, push};
+use wg_num::{Memory, beside, boxed, push};
 
 /// A branch that the group takes on a vote: what is done where all items vote yes, where all vote
 /// no, and the plain twin.
@@ -168,14 +168,8 @@ fn cut_line(alloc: Global, cells: usize, line: &Line, now: &Vec<bool>) -> Result
                 at_answer,
                 behind_answer,
             } = around;
-            let test = cut_part(
-                alloc,
-                cells,
-                test,
-                Some(*answer),
-                &at_answer,
-                &behind_answer,
-            )?;
+            let ends = Some(*answer);
+            let test = cut_part(alloc, cells, test, ends, &at_answer, &behind_answer)?;
             let body = cut_part(alloc, cells, body, None, &before_test, &before_test)?;
             let rest = twin(alloc, line, now, true)?;
             Ok(Cut::Loop(Round {
@@ -249,15 +243,6 @@ fn cut_part(
 {
     let tree = cut_lines(alloc, cells, lines, ends, now, behind)?;
     boxed(alloc, tree)
-}
-
-fn boxed(alloc: Global, tree: RegionTree) -> Result<Box<RegionTree>, Memory>
-    ensures { IfOk result (λ b. b.value ≡ tree) }
-{
-    match Box::new(alloc, tree) {
-        Ok(kept) => Ok(kept),
-        Err(_) => Err(Memory),
-    }
 }
 
 /// The plain twin of a line behind which the cells `now` are live: the line alone.
@@ -343,17 +328,6 @@ fn end_before(
                 behind,
             })
         }
-    }
-}
-
-/// A step that may fail, with what is kept beside it.
-fn beside<T: Drop, U: Drop>(step: Result<T, Memory>, kept: U) -> Result<(T, U), Memory>
-    ensures made { IfOk result (λ p. step ≡ Ok p.0) }
-    ensures kept { IfOk result (λ p. p.1 ≡ kept) }
-{
-    match step {
-        Ok(made) => Ok((made, kept)),
-        Err(error) => Err(error),
     }
 }
 

@@ -18,7 +18,7 @@ use Rattle.launch_file.specs.declared.text.LaunchPart.{LaunchPart}
 use Rattle.launch_file.specs.Texts.{Text, Part, part_of}
 use Rattle.launch_file.specs.Values.{HasOneLength}
 use Rattle.launch_file.proofs.Accepted.{accepts}
-use Rattle.wg_top.specs.declared.compile.Compiled.{Compiled}
+use Rattle.wg_compile.specs.declared.Compiled.{Compiled}
 use Rattle.wg_top.specs.Units.{needs_in, first_refusal, or_later}
 use Rattle.wg_top.specs.Launches.{IsReady, AllFit}
 use Rattle.wg_top.proofs.FitLemmas.{AreSmall, fits_kernel}

@@ -11,10 +11,10 @@ use Rattle.wg_top.specs.declared.RunError.{RunError}
 use Rattle.wg_top.specs.declared.RunError.TheVariants.{Failed, Absent, Source, Launch, Range, Parted, Turns, Memory}
 use Rattle.wg_top.specs.declared.Summary.{Summary}
 use Rattle.cl_meaning.specs.Typed.{Unit'}
-use Rattle.wg_front.specs.Front.{HasUnit}
+use Rattle.cl_front.specs.Front.{HasUnit}
 use Rattle.wg_top.specs.Causes.{Standing, HasNoFewer, SourceLoaded, RunRead, StopsIn, RunStops, Cause}
 use Rattle.wg_top.specs.Causes.{ReadingCause, LeavesFiles, SaveStopped, IsRun, IsDone}
-use Rattle.wg_top.specs.Units.{AreCompiled}
+use Rattle.wg_top.specs.Units.{HaveTypedUnits}
 use Rattle.wg_top.specs.Stages.{TextRead, LaunchCause, ProgramCause, BackCause, LeavesOthers}
 
 -- counts that stand over two calls
@@ -31,7 +31,7 @@ text_before files later launch lanes turns text same read =
 -- what was read
 pub run_read : (files : Option FileMap) (ask : Files) (bytes held : List ℕ) (text : Text) (s : List Unit') →
     SourceLoaded files ask.source bytes → held ≡ bytes → TextRead files ask.launch ask.lanes ask.turns text →
-    HasUnit held text.defines → AreCompiled held text.defines text.list s → RunRead files ask text s
+    HasUnit held text.defines → HaveTypedUnits held text.defines text.list s → RunRead files ask text s
 run_read files ask bytes held text s loaded same read unit are = record {
   source_bytes = bytes;
   source_loaded = loaded;
@@ -39,7 +39,7 @@ run_read files ask bytes held text s loaded same read unit are = record {
   launch_loaded = read.loaded;
   reads = read.reads;
   unit = subst (λ (b : List ℕ). HasUnit b text.defines) same unit;
-  compiled = subst (λ (b : List ℕ). AreCompiled b text.defines text.list s) same are;
+  compiled = subst (λ (b : List ℕ). HaveTypedUnits b text.defines text.list s) same are;
 }
 
 -- a count that rose later rose over all

@@ -14,12 +14,12 @@ use Rattle.launch_file.proofs.Unique.{one_text, read_or_refused}
 use Rattle.wg_top.specs.declared.RunError.{RunError}
 use Rattle.wg_top.specs.declared.RunError.TheVariants.{Failed, Absent, Source, Launch, Range, Parted, Turns, Memory}
 use Rattle.cl_meaning.specs.Typed.{Unit'}
-use Rattle.wg_front.specs.declared.condition.Condition.{Condition}
-use Rattle.wg_front.specs.Front.{HasUnit}
+use Rattle.cl_front.specs.declared.condition.Condition.{Condition}
+use Rattle.cl_front.specs.Front.{HasUnit}
 use Rattle.lane_code.specs.declared.end.RunEnd.TheVariants as run
 use Rattle.lane_code.specs.Program.{Plain}
-use Rattle.wg_top.specs.Middle.{programs_in}
-use Rattle.wg_top.specs.Units.{AreCompiled, bind_refusal}
+use Rattle.wg_top.specs.Units.{programs_in}
+use Rattle.wg_top.specs.Units.{HaveTypedUnits, bind_refusal}
 use Rattle.wg_top.specs.Launches.{launches_in, LaunchesRan, EndsSo}
 use Rattle.wg_top.specs.Stages.{BackCause}
 use Rattle.wg_top.specs.Causes.{Standing, HasNoFewer, ReadingFinds, Cause, BuffersLoaded, RunRead, RunStopped, RunStops}
@@ -28,11 +28,12 @@ use Rattle.wg_top.specs.Causes.{HasLoops, LacksText, LacksName, IsSourceFault}
 use Rattle.wg_top.specs.Outcomes.{AreMade, models_in, AreDone, IsOutcomeOf}
 use Rattle.wg_top.specs.Lines.{status_of}
 use Rattle.wg_top.specs.Ends.{Outside, Ends, EndsClean}
-use Rattle.wg_front.proofs.FrontLemmas.{refused_or_unit}
+use Rattle.cl_front.proofs.FrontLemmas.{refused_or_unit}
 use Rattle.wg_top.specs.declared.Summary.{Summary}
 use Rattle.wg_top.proofs.LaunchLemmas.{done_only}
 use Rattle.wg_top.proofs.EndLemmas.{leaves_all}
 use Rattle.wg_top.proofs.CauseLemmas.{is_done, back_cause}
+use Rattle.wg_top.proofs.ChainLemmas.{are_done, may_end}
 use Rattle.wg_top.proofs.CleanLemmas.{leaves_clean, never_stops}
 use Rattle.wg_top.proofs.LoopLemmas.{no_turns_of}
 use Rattle.wg_top.proofs.ProgramLemmas.{one_units, no_refused}
@@ -56,14 +57,14 @@ same_text bytes others ask a b same x y =
 -- a source that is compiled for each launch is not at fault
 pub no_fault : (bytes others : List ℕ) (text other : Text) (s : List Unit') (condition : Condition)
     (place : _) → bytes ≡ others → text ≡ other → IsSourceFault bytes text condition place →
-    HasUnit others other.defines → AreCompiled others other.defines other.list s → ⊥
+    HasUnit others other.defines → HaveTypedUnits others other.defines other.list s → ⊥
 no_fault bytes others text other s condition place same_bytes same fault unit are =
     let u : HasUnit bytes text.defines =
     subst (λ (t : Text). HasUnit bytes t.defines) (sym same) (subst (λ (b : List ℕ). HasUnit b other.defines)
     (sym same_bytes) unit) in
-    let c : AreCompiled bytes text.defines text.list s =
-    subst (λ (t : Text). AreCompiled bytes t.defines t.list s) (sym same)
-    (subst (λ (b : List ℕ). AreCompiled b other.defines other.list s) (sym same_bytes) are) in
+    let c : HaveTypedUnits bytes text.defines text.list s =
+    subst (λ (t : Text). HaveTypedUnits bytes t.defines t.list s) (sym same)
+    (subst (λ (b : List ℕ). HaveTypedUnits b other.defines other.list s) (sym same_bytes) are) in
     elim fault [
       | inl stands ↦ refused_or_unit bytes text.defines condition place stands u
       | inr first ↦ no_refused bytes text.defines text.list s condition place first c
@@ -71,10 +72,10 @@ no_fault bytes others text other s condition place same_bytes same fault unit ar
 
 -- two readings have the same typed units
 pub same_units : (bytes others : List ℕ) (text other : Text) (us vs : List Unit') → bytes ≡ others → text ≡ other →
-    AreCompiled bytes text.defines text.list us → AreCompiled others other.defines other.list vs → us ≡ vs
+    HaveTypedUnits bytes text.defines text.list us → HaveTypedUnits others other.defines other.list vs → us ≡ vs
 same_units bytes others text other us vs same_bytes same x y =
-    one_units bytes text.defines text.list us vs x (subst (λ (t : Text). AreCompiled bytes t.defines t.list vs)
-    (sym same) (subst (λ (b : List ℕ). AreCompiled b other.defines other.list vs) (sym same_bytes) y))
+    one_units bytes text.defines text.list us vs x (subst (λ (t : Text). HaveTypedUnits bytes t.defines t.list vs)
+    (sym same) (subst (λ (b : List ℕ). HaveTypedUnits b other.defines other.list vs) (sym same_bytes) y))
 
 -- launches that are all done are not refused
 pub none_refused : (several : Bool) (ps : List Plain) (launches : List ModelLaunch) (before after : List (List ℕ))
@@ -176,7 +177,8 @@ none_unclean files ask text s e all x =
     subst (λ (t : Text). BuffersLoaded files t before) same.0 x.stops.stopped.loaded in
     let outcome : IsOutcomeOf (models_in s) (launches_in text) before e =
     subst (λ (us : List Unit'). IsOutcomeOf (models_in us) (launches_in text) before e) same.1
-    (subst (λ (t : Text). IsOutcomeOf (models_in x.units) (launches_in t) before e) same.0 x.stops.outcome) in
+    (subst (λ (t : Text). IsOutcomeOf (models_in x.units) (launches_in t) before e) same.0
+    (may_end (programs_in x.text x.units) (models_in x.units) (launches_in x.text) before e x.stops.outcome)) in
     never_stops s (launches_in text) before e (subst (λ (us : List Unit'). AreMade us) same.1 x.stops.made)
     (all.clean before loaded) outcome
 
@@ -241,7 +243,8 @@ done_clean old new ask text s summary all done =
     let ran : AreDone (models_in s) (launches_in text) before done.run.after =
     subst (λ (us : List Unit'). AreDone (models_in us) (launches_in text) before done.run.after) same.1
     (subst (λ (t : Text). AreDone (models_in done.units) (launches_in t) before done.run.after) same.0
-    done.run.run.outcome) in
+    (are_done (programs_in done.text done.units) (models_in done.units) (launches_in done.text) before
+    done.run.after done.run.run.ran)) in
     record {
       before = before;
       loaded = loaded;
@@ -323,7 +326,8 @@ has_loops files ask number several x = record {
   units = x.units;
   read = x.read;
   loops = λ free. no_turns_of x.units (launches_in x.text) x.stops.stopped.before number several x.stops.made free
-      x.stops.outcome;
+      (may_end (programs_in x.text x.units) (models_in x.units) (launches_in x.text) x.stops.stopped.before
+      (Turns number several) x.stops.outcome);
 }
 
 refused_loops : (old new : Standing) (ask : Files) (e : RunError) (n : ℕ) → n ≡ status_of e → Cause old new ask e →

@@ -12,7 +12,7 @@ use Rattle.launch_file.specs.Refusals.{Reads}
 use Rattle.launch_file.specs.Texts.{Text}
 use Rattle.launch_file.specs.declared.refusal.Refusal.{Refusal}
 use Rattle.launch_file.proofs.Unique.{read_or_refused}
-use Rattle.wg_front.specs.declared.condition.Condition.{Condition}
+use Rattle.cl_front.specs.declared.condition.Condition.{Condition}
 use Rattle.wg_top.specs.declared.RunError.{RunError}
 use Rattle.wg_top.specs.declared.RunError.TheVariants.{Failed, Absent, Source, Launch, Range, Parted, Turns, Memory}
 use Rattle.wg_top.specs.declared.Summary.{Summary}
@@ -21,13 +21,15 @@ use Rattle.cl_model.specs.Sizes.{Launch as ModelLaunch}
 use Rattle.lane_code.specs.declared.end.RunEnd.{RunEnd}
 use Rattle.lane_code.specs.declared.end.RunEnd.TheVariants as run
 use Rattle.lane_code.specs.Program.{Plain}
-use Rattle.wg_top.specs.Middle.{programs_in}
+use Rattle.wg_top.specs.Units.{programs_in}
 use Rattle.wg_top.specs.Units.{bind_refusal}
 use Rattle.wg_top.specs.Launches.{launches_in, LaunchesRan, EndsBehind, EndsSo}
 use Rattle.wg_top.specs.Causes.{Standing, SourceLoaded, LaunchLoaded, RunRead, RunBound, BuffersLoaded, TextRefused}
 use Rattle.wg_top.specs.Causes.{BindRefused, SourceRefused, RunStopped, Finds, Cause, IsDone}
 use Rattle.wg_top.specs.Lines.{status_of}
 use Rattle.wg_top.specs.Ends.{Outside, Ends}
+use Rattle.wg_top.specs.Outcomes.{models_in}
+use Rattle.wg_top.proofs.ChainLemmas.{launches_ran}
 use Rattle.wg_top.proofs.CompleteLemmas.{same_text, same_units, no_fault, none_refused, stopped_of, not_failed}
 use Rattle.wg_top.proofs.LaunchLemmas.{one_end}
 use Rattle.wg_top.proofs.EndLemmas.{status_above}
@@ -361,7 +363,8 @@ found_done : (files new : Option FileMap) (ask : Files) (summary : Summary) → 
 unfolding status_at
 found_done files new ask summary done = (
   fits done.text done.units (record { read = done.read; accepted = done.run.accepted }) done.run.run.before
-      done.run.after done.run.run.loaded done.run.run.ran,
+      done.run.after done.run.run.loaded (launches_ran (programs_in done.text done.units) (models_in done.units)
+      (launches_in done.text) done.run.run.before done.run.after done.run.run.ran),
   refl,
 )
 

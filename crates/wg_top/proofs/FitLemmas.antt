@@ -19,7 +19,7 @@ use Rattle.cl_model.specs.Sizes.{Launch, offset_at}
 use Rattle.cl_model.specs.Objects.{local_arguments}
 use Rattle.cl_model.specs.Fitting.{ArgumentFits, ArgumentsFit, DimensionFits}
 use Rattle.cl_prep.proofs.Tables.{same_bytes, bytes_same}
-use Rattle.cl_valid.proofs.Functions.{slice_map}
+use Rattle.cl_check_sound.proofs.Functions.{slice_map}
 use Rattle.lane_code.specs.Fits.{LaunchFits}
 use Rattle.launch_file.specs.declared.text.BufferText.{BufferText}
 use Rattle.launch_file.specs.declared.text.ArgText.{ArgText}
@@ -28,7 +28,7 @@ use Rattle.launch_file.specs.Binding as spec
 use Rattle.launch_file.specs.Refusals.{is_named}
 use Rattle.launch_file.specs.Texts.{Part}
 use Rattle.launch_file.specs.Values.{HasOneLength}
-use Rattle.wg_top.proofs.SumLemmas.{sum-cons}
+use Rattle.wg_compile.proofs.Sums.{sum-cons}
 use Rattle.launch_file.proofs.Accepted.{Accepts, sizes_fit, number_in, not_not}
 
 -- ---- the arguments

@@ -13,7 +13,7 @@ use Rattle.lane_code.specs.declared.end.RunEnd.{RunEnd}
 use Rattle.lane_code.specs.declared.end.RunEnd.TheVariants as run
 use Rattle.lane_code.specs.Program.{Plain}
 use Rattle.lane_code.specs.Run.{program_end}
-use Rattle.wg_top.proofs.SumLemmas.{sum-cons}
+use Rattle.wg_compile.proofs.Sums.{sum-cons}
 use Rattle.wg_top.specs.declared.RunError.{RunError}
 use Rattle.wg_top.specs.declared.RunError.TheVariants as error
 use Rattle.wg_top.specs.Launches.{launch_end, LaunchRan, LaunchesRan, EndsBehind, EndsSo, refusal_of, site_place}

@@ -1,5 +1,4 @@
 pub mod LineLemmas
-pub mod SumLemmas
 pub mod SampleLemmas
 pub mod ProgramLemmas
 pub mod CauseLemmas
@@ -9,6 +8,7 @@ pub mod ShapeLemmas
 pub mod LaunchLemmas
 pub mod MeaningLemmas
 pub mod OutcomeLemmas
+pub mod ChainLemmas
 pub mod CleanLemmas
 pub mod LoopLemmas
 pub mod FitLemmas
@@ -19,15 +19,4 @@ pub mod RunLemmas
 pub mod ExactLemmas
 pub mod AskedLemmas
 pub mod MiddleLemmas
-pub mod ErasedLemmas
-pub mod PassLemmas
-pub mod Chain
-pub mod Sites
-pub mod Quiet
-pub mod Passes
-pub mod Shape
-pub mod Follow
-pub mod DescribedLemmas
 pub mod PlanLemmas
-pub mod CompiledLemmas
-pub mod LoweredLemmas

@@ -3,15 +3,15 @@ use Rattle.std.proofs.Common.{◌≡◌, ℕ, zero, suc, List, [], ◌∷◌, ma
 use Rattle.std.specs.Prelude.{slice_get, unwrap_or}
 use Rattle.cl_meaning.specs.Typed.{Unit', Function}
 use Rattle.cl_meaning.specs.View.{unit_of}
-use Rattle.cl_valid.specs.Erased.{program_of, function_of}
+use Rattle.cl_check_sound.specs.Erased.{program_of, function_of}
 use Rattle.cl_model.specs.Calls.{kernel_of, no_function}
 use Rattle.cl_model.specs.Valid.{parameter_kinds}
 use Rattle.lane_code.specs.View.{plain_of}
-use Rattle.wg_top.specs.declared.compile.Compiled.{Compiled}
+use Rattle.wg_compile.specs.declared.Compiled.{Compiled}
 use Rattle.kir_lower.specs.Whole.{lowered_of}
-use Rattle.wg_top.specs.Middle.{kernel_in, group_in}
-use Rattle.wg_top.specs.Described.{IsCompiledAt}
-use Rattle.launch_bind.specs.Needed.{needs_of_kernel}
+use Rattle.wg_compile.specs.Passes.{kernel_in, group_in}
+use Rattle.wg_compile.specs.Correct.{IsCompilation}
+use Rattle.launch_file_bind.specs.Needed.{needs_of_kernel}
 use Rattle.wg_top.specs.Units.{needs_in}
 
 kernel_params : (u : Unit') → (kernel_in u).params ≡ parameter_kinds (kernel_of (program_of u))
@@ -34,6 +34,6 @@ kinds_at (g ∷ functions) (suc k) = kinds_at functions k
 params_of : (width : ℕ) (u : Unit') → (group_in width u).params ≡ (needs_in u).kinds
 params_of width u = group_params width u ∙ (kernel_params u ∙ kinds_at u.functions u.kernel)
 
-pub params_in : (width : ℕ) (c : Compiled) → IsCompiledAt width c →
+pub params_in : (width : ℕ) (c : Compiled) → IsCompilation width c →
     (needs_in (unit_of c.program)).kinds ≡ (plain_of c.group).params
 params_in width c passed = sym (params_of width (unit_of c.program)) ∙ sym (ap (λ p. p.params) passed.group.parts)

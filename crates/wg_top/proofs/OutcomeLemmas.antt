@@ -22,7 +22,7 @@ use Rattle.cl_model.specs.Meaning.{EndsDone, EndsRange, EndsParted, EndsTurns}
 use Rattle.cl_model.specs.View.{launch_of}
 use Rattle.cl_meaning.specs.Typed.{Unit'}
 use Rattle.cl_meaning.specs.View.{unit_of}
-use Rattle.cl_valid.specs.Erased.{program_of}
+use Rattle.cl_check_sound.specs.Erased.{program_of}
 use Rattle.group_run.specs.declared.launcher.Launcher.{Launcher}
 use Rattle.group_run.proofs.LengthLaws.{program_keeps}
 use Rattle.item_loops.specs.Program.{HasPartsOf}
@@ -41,57 +41,19 @@ use Rattle.launch_file.specs.declared.text.BufferText.{BufferText}
 use Rattle.launch_file.specs.Binding.{launch_in, lengths_of}
 use Rattle.launch_file.specs.Texts.{Text, Part}
 use Rattle.mask_lower.specs.Layout.{HasSizes}
-use Rattle.wg_top.specs.declared.compile.Compiled.{Compiled}
+use Rattle.wg_compile.specs.declared.Compiled.{Compiled}
 use Rattle.wg_top.specs.declared.RunError.{RunError}
 use Rattle.wg_top.specs.declared.RunError.TheVariants as error
-use Rattle.wg_top.specs.Middle.{names_in, kernel_in, plan_in, group_in, IsLike, programs_in}
-use Rattle.diverge.specs.Rounds.{varying_of}
-use Rattle.wg_top.specs.Compiled.{IsCompiledFrom}
-use Rattle.wg_top.specs.Described.{IsCompiledAt}
-use Rattle.wg_top.specs.Outcome.{IsOutcome, EndsInOutcomes}
-use Rattle.wg_top.specs.Outcomes.{AreMade, IsCompiledTo, AreCompiledTo, models_in, AreDone, EndBehind, IsOutcomeOf}
+use Rattle.wg_compile.specs.Passes.{names_in, kernel_in, plan_in, group_in, IsLike}
+use Rattle.wg_top.specs.Units.{programs_in}
+use Rattle.wg_compile.specs.Correct.{IsCompilation}
+use Rattle.wg_compile.specs.Ends.{IsOutcome, EndsInOutcomes}
+use Rattle.wg_top.specs.Outcomes.{AreMade, HasGroupProgram, HaveGroupPrograms, models_in, RanInOutcomes, EndsInOutcome}
+use Rattle.wg_top.specs.Outcomes.{StopsAsOutcome}
 use Rattle.wg_top.specs.Shown.{code_shown}
 use Rattle.wg_top.specs.Launches.{launch_end, launches_in, LaunchRan, LaunchesRan, EndsBehind, EndsSo, site_place}
 use Rattle.wg_top.specs.Launches.{start_place}
 use Rattle.wg_top.proofs.MeaningLemmas.{end_like}
-use Rattle.wg_top.proofs.SumLemmas.{sum-append}
-
--- ---- a launch that fits a group program fits the program
-
--- no buffer is bound both to a constant and to a global parameter
-abbrev AreApart : List VarKind → Launch → Type 0
-AreApart kinds launch = (n m b : ℕ) (element element' : IntType) (root root' : Root)
-    → slice_get kinds n ≡ Some (Pointer space.Constant element root) → slice_get launch.args n ≡ Some (bound.Buffer b)
-    → slice_get kinds m ≡ Some (Pointer space.Global element' root') →
-    slice_get launch.args m ≡ Some (bound.Buffer b) → ⊥
-
--- the local objects of a group are those of the group program and of the arguments
-locals_are : (program : Program) (names : List (List Named)) (kernel : Kernel) (plan : Planned) (width : Width)
-    (p : Plain) → IsLoweringOf program names kernel → HasPartsOf kernel plan width p → (launch : Launch) →
-    local_sizes program launch ≡ p.locals ++ local_arguments launch.args
-locals_are program names kernel plan width p lowered parts launch =
-    sym (same_locals program kernel lowered.arrays lowered.parts launch) ∙
-    ap (λ (ns : List ℕ). ns ++ local_arguments launch.args) (sym parts.locals)
-
-pub fits_program : (program : Program) (names : List (List Named)) (kernel : Kernel) (plan : Planned) (width : Width)
-    (p : Plain) → IsLoweringOf program names kernel → HasPartsOf kernel plan width p
-    → (launch : Launch) → LaunchFits p.params (sum p.locals) launch → FitsProgram program launch
-fits_program program names kernel plan width p lowered parts launch fits =
-    let kinds : p.params ≡ parameter_kinds (kernel_of program) = parts.params ∙ lowered.parts.parameters in
-    let bytes : sum (local_sizes program launch) ≡ sum p.locals + sum (local_arguments launch.args) =
-    ap sum (locals_are program names kernel plan width p lowered parts launch) ∙
-    sum-append p.locals (local_arguments launch.args) in
-    record {
-      arguments = subst (λ (ks : List VarKind). ArgumentsFit launch ks launch.args) kinds fits.arguments;
-      apart = subst (λ (ks : List VarKind). AreApart ks launch) kinds fits.apart;
-      few_dims = fits.few_dims;
-      dimensions = fits.dimensions;
-      group_limit = fits.group_limit;
-      item_limit = fits.item_limit;
-      loads = fits.loads;
-      saves = fits.saves;
-      local_limit = omega (arith, bytes, fits.local_limit);
-    }
 
 -- ---- no size of a launch is 0
 
@@ -163,59 +125,56 @@ all_at P [] all = tt
 all_at P (c ∷ cs) all = (all 0 c (omega arith), all_at P cs (λ k d lt. all (suc k) d (omega arith)))
 
 -- what is kept once is equal
-made_each : (width : ℕ) (cs : List Compiled) → AllAt (IsCompiledAt width) cs →
+made_each : (width : ℕ) (cs : List Compiled) → AllAt (IsCompilation width) cs →
     AllAt (λ c. IsValid (program_of (unit_of c.program))) cs → AreMade (map (λ c. unit_of c.program) cs)
 made_each width [] passes valid = tt
 made_each width (c ∷ cs) passes valid = (
-  record { valid = valid.0; lowered = passes.0.lowered valid.0; once = passes.0.once valid.0 },
+  record { valid = valid.0; lowered = (passes.0.correct valid.0).lowered; once = (passes.0.correct valid.0).once },
   made_each width cs passes.1 valid.1,
 )
 
-pub all_made : (width : ℕ) (cs : List Compiled) → All (IsCompiledAt width) cs →
+pub all_made : (width : ℕ) (cs : List Compiled) → All (IsCompilation width) cs →
     All (λ c. IsValid (program_of (unit_of c.program))) cs → AreMade (map (λ c. unit_of c.program) cs)
 all_made width cs passes valid =
-    made_each width cs (all_at (IsCompiledAt width) cs passes) (all_at (λ c. IsValid (program_of (unit_of c.program)))
+    made_each width cs (all_at (IsCompilation width) cs passes) (all_at (λ c. IsValid (program_of (unit_of c.program)))
     cs valid)
 
--- the group program of each, under the name of its launch's kernel
-compiled_to : (width : ℕ) (c : Compiled) (name : List ℕ) → IsCompiledAt width c →
-    IsValid (program_of (unit_of c.program)) → c.group.kernel ≡ name → IsCompiledTo width name (unit_of c.program)
-compiled_to width c name passes valid named = record {
+-- the group program of each
+compiled_to : (width : ℕ) (c : Compiled) → IsCompilation width c → IsValid (program_of (unit_of c.program)) →
+    HasGroupProgram width (unit_of c.program)
+compiled_to width c passes valid = record {
   group = plain_of c.group;
   like = passes.group;
+  same_end = passes.same_end;
   lanes = passes.lanes;
   lanes_are = passes.lanes_are;
-  compiled =
-      subst (λ (n : List ℕ). IsCompiledFrom (program_of (unit_of c.program)) n
-      (varying_of (program_of (unit_of c.program))) (kernel_in (unit_of c.program))
-      (plan_in (unit_of c.program)) passes.lanes n (plain_of c.group)) named (passes.whole valid);
+  correct = passes.correct valid;
 }
 
 -- and its listing
-pub code_text_of : (width : ℕ) (c : Compiled) (text : List ℕ) → IsCompiledAt width c →
+pub code_text_of : (width : ℕ) (c : Compiled) (text : List ℕ) → IsCompilation width c →
     IsValid (program_of (unit_of c.program)) → text ≡ listing_text c.group.kernel (plain_of c.group) →
     code_shown width c.group.kernel (unit_of c.program) text
 unfolding compiled_to
-code_text_of width c text passes valid is = (compiled_to width c c.group.kernel passes valid refl, is)
+code_text_of width c text passes valid is = (compiled_to width c passes valid, is)
 
-compiled_each : (width : ℕ) (cs : List Compiled) (parts : List Part) → AllAt (IsCompiledAt width) cs →
+compiled_each : (width : ℕ) (cs : List Compiled) (parts : List Part) → AllAt (IsCompilation width) cs →
     AllAt (λ c. IsValid (program_of (unit_of c.program))) cs →
     map (λ c. c.group.kernel) cs ≡ map (λ p. p.kernel) parts →
-    AreCompiledTo width parts (map (λ c. unit_of c.program) cs)
+    HaveGroupPrograms width parts (map (λ c. unit_of c.program) cs)
 compiled_each width [] [] passes valid named = tt
 compiled_each width (c ∷ cs) (part ∷ parts) passes valid named =
-    let first : c.group.kernel ≡ part.kernel = cc named in
     let rest : map (λ (c : Compiled). c.group.kernel) cs ≡ map (λ (p : Part). p.kernel) parts = cc named in
-    (compiled_to width c part.kernel passes.0 valid.0 first, compiled_each width cs parts passes.1 valid.1 rest)
+    (compiled_to width c passes.0 valid.0, compiled_each width cs parts passes.1 valid.1 rest)
 compiled_each width [] (part ∷ parts) passes valid named = absurd (let never : ⊥ = cc named in never)
 compiled_each width (c ∷ cs) [] passes valid named = absurd (let never : ⊥ = cc named in never)
 
-pub all_compiled : (width : ℕ) (cs : List Compiled) (parts : List Part) → All (IsCompiledAt width) cs →
+pub all_compiled : (width : ℕ) (cs : List Compiled) (parts : List Part) → All (IsCompilation width) cs →
     All (λ c. IsValid (program_of (unit_of c.program))) cs →
     map (λ c. c.group.kernel) cs ≡ map (λ p. p.kernel) parts →
-    AreCompiledTo width parts (map (λ c. unit_of c.program) cs)
+    HaveGroupPrograms width parts (map (λ c. unit_of c.program) cs)
 all_compiled width cs parts passes valid named =
-    compiled_each width cs parts (all_at (IsCompiledAt width) cs passes)
+    compiled_each width cs parts (all_at (IsCompilation width) cs passes)
     (all_at (λ c. IsValid (program_of (unit_of c.program))) cs valid) named
 
 -- what was made ready fits
@@ -225,20 +184,20 @@ pub prepared : (all : List Launcher) →
 prepared [] fit = tt
 prepared (q ∷ all) fit = (fit 0 q (omega arith), prepared all (λ k d lt. fit (suc k) d (omega arith)))
 
-promise : (width turns : ℕ) (buffers : List BufferText) (c : Compiled) (part : Part) → IsCompiledAt width c →
+promise : (width turns : ℕ) (buffers : List BufferText) (c : Compiled) (part : Part) → IsCompilation width c →
     IsValid (program_of (unit_of c.program))
     → LaunchFits (plain_of c.group).params (sum (plain_of c.group).locals) (launch_in turns buffers part) →
     Promise (program_of (unit_of c.program)) (group_in width (unit_of c.program)) (launch_in turns buffers part)
 promise width turns buffers c part passes valid fits = record {
-  sites = places_are width (unit_of c.program) (passes.lowered valid);
+  sites = places_are width (unit_of c.program) (passes.correct valid).lowered;
   ends = ends_like (program_of (unit_of c.program)) (group_in width (unit_of c.program)) (plain_of c.group)
-      (launch_in turns buffers part) passes.group (passes.whole valid).outcomes
-      (passes.fits valid (launch_in turns buffers part) fits) (has_sizes turns buffers part fits.dimensions);
+      (launch_in turns buffers part) passes.group (passes.correct valid).outcomes
+      ((passes.correct valid).fits (launch_in turns buffers part) fits) (has_sizes turns buffers part fits.dimensions);
   keeps = keeps_lengths (group_in width (unit_of c.program)) (launch_in turns buffers part);
 }
 
 promises : (width turns : ℕ) (buffers : List BufferText) (cs : List Compiled) (parts : List Part) →
-    AllAt (IsCompiledAt width) cs → AllAt (λ c. IsValid (program_of (unit_of c.program))) cs
+    AllAt (IsCompilation width) cs → AllAt (λ c. IsValid (program_of (unit_of c.program))) cs
     → AllPrepared (map (λ c. plain_of c.group) cs) (map (launch_in turns buffers) parts)
     → AllPromise (map program_of (map (λ c. unit_of c.program) cs))
     (map (group_in width) (map (λ c. unit_of c.program) cs)) (map (launch_in turns buffers) parts)
@@ -280,10 +239,11 @@ still_fit g p launch sizes before mid known fit ran =
 all_done : (sizes : List ℕ) (gs : List Program) (ps : List Plain) (launches : List Launch)
     (before after : List (List ℕ)) → AllPromise gs ps launches → AllOver sizes launches →
     map (λ (b : List ℕ). length b) before ≡ sizes → LaunchesRan ps launches before after →
-    AreDone gs launches before after
+    RanInOutcomes ps gs launches before after
 all_done sizes [] [] [] before after known over fit ran = ran
 all_done sizes (g ∷ gs) (p ∷ ps) (launch ∷ launches) before after known over fit ran = (
   ran.0,
+  ran.1,
   one_done g p launch before ran.0 known.0 (fit ∙ sym over.0) ran.1,
   all_done sizes gs ps launches ran.0 after known.1 over.1 (still_fit g p launch sizes before ran.0 known.0 fit ran.1)
       ran.2,
@@ -301,14 +261,17 @@ module _ (Ends : Program → Launch → List (List ℕ) → Type 0) (end : RunEn
       (before : List (List ℕ)) (behind : ℕ) → AllPromise gs ps launches → AllOver sizes launches →
       map (λ (b : List ℕ). length b) before ≡ sizes
       → EndsBehind ps launches before behind end → IsPlaced (slice_get ps behind) →
-      EndBehind Ends gs launches before behind
+      EndsInOutcome Ends end ps gs launches before behind
   end_behind sizes [] [] [] before behind known over fit ends placed = absurd ends
-  end_behind sizes (g ∷ gs) (p ∷ ps) (launch ∷ launches) before zero known over fit ends placed =
-      one g p launch before (launch_end p launch before).buffers known.0.sites placed
-      (subst (λ (e : RunEnd). IsOutcome g launch before e (launch_end p launch before).buffers) ends
-      (known.0.ends before (fit ∙ sym over.0)))
+  end_behind sizes (g ∷ gs) (p ∷ ps) (launch ∷ launches) before zero known over fit ends placed = (
+    ends,
+    one g p launch before (launch_end p launch before).buffers known.0.sites placed
+        (subst (λ (e : RunEnd). IsOutcome g launch before e (launch_end p launch before).buffers) ends
+        (known.0.ends before (fit ∙ sym over.0))),
+  )
   end_behind sizes (g ∷ gs) (p ∷ ps) (launch ∷ launches) before (suc behind) known over fit ends placed = (
     ends.0,
+    ends.1,
     one_done g p launch before ends.0 known.0 (fit ∙ sym over.0) ends.1,
     end_behind sizes gs ps launches ends.0 behind known.1 over.1 (still_fit g p launch sizes before ends.0 known.0 fit
         ends.1) ends.2 placed,
@@ -346,11 +309,12 @@ parted_of group item site said g p launch buffers left same at outcome =
 so_outcome : (several : Bool) (sizes : List ℕ) (gs : List Program) (ps : List Plain) (launches : List Launch)
     (before : List (List ℕ)) (e : RunError) → AllPromise gs ps launches → AllOver sizes launches →
     map (λ (b : List ℕ). length b) before ≡ sizes → EndsSo several ps launches before e →
-    IsOutcomeOf gs launches before e
+    StopsAsOutcome ps gs launches before e
 so_outcome several sizes gs ps launches before (error.Range number s group item place) known over fit ends =
     let x = ends.1 in
     record {
       behind = x.behind;
+      site = x.site;
       ends = end_behind (λ g launch buffers. EndsRange g launch buffers group item place)
           (run.Range group item x.site) (IsAt place x.site) (range_of group item x.site place) sizes gs ps launches
           before x.behind known over fit x.ends x.place_is;
@@ -360,6 +324,7 @@ so_outcome several sizes gs ps launches before (error.Parted number s group item
     let x = ends.1 in
     record {
       behind = x.behind;
+      site = x.site;
       ends = end_behind (λ g launch buffers. EndsParted g launch buffers group item place)
           (run.Parted group item x.site) (IsAt place x.site) (parted_of group item x.site place) sizes gs ps launches
           before x.behind known over fit x.ends x.place_is;
@@ -369,6 +334,7 @@ so_outcome several sizes gs ps launches before (error.Turns number s) known over
     let x = ends.1 in
     record {
       behind = x.behind;
+      site = 0;
       ends = end_behind EndsTurns run.Turns (λ o. Unit {0}) (λ g p launch buffers left same placed outcome. outcome)
           sizes gs ps launches before x.behind known over fit x.ends tt;
       number_is = x.number_is;
@@ -377,25 +343,27 @@ so_outcome several sizes gs ps launches before _ known over fit ends = absurd en
 
 -- ---- the launches of a file, with its kernels
 
-module _ (text : Text) (cs : List Compiled) (passes : All (IsCompiledAt text.lanes) cs)
+module _ (text : Text) (cs : List Compiled) (passes : All (IsCompilation text.lanes) cs)
     (valid : All (λ c. IsValid (program_of (unit_of c.program))) cs)
     (fit : AllPrepared (map (λ c. plain_of c.group) cs) (launches_in text)) (before : List (List ℕ))
     (sizes : map (λ (b : List ℕ). length b) before ≡ lengths_of text.buffers) where
   known : AllPromise (models_in (map (λ c. unit_of c.program) cs))
       (programs_in text (map (λ c. unit_of c.program) cs)) (launches_in text)
-  known = promises text.lanes text.turns text.buffers cs text.list (all_at (IsCompiledAt text.lanes) cs passes)
+  known = promises text.lanes text.turns text.buffers cs text.list (all_at (IsCompilation text.lanes) cs passes)
       (all_at (λ c. IsValid (program_of (unit_of c.program))) cs valid) fit
 
   pub ran_outcome : (after : List (List ℕ)) →
       LaunchesRan (programs_in text (map (λ c. unit_of c.program) cs)) (launches_in text) before after →
-      AreDone (models_in (map (λ c. unit_of c.program) cs)) (launches_in text) before after
+      RanInOutcomes (programs_in text (map (λ c. unit_of c.program) cs))
+      (models_in (map (λ c. unit_of c.program) cs)) (launches_in text) before after
   ran_outcome after ran =
       all_done (lengths_of text.buffers) _ _ (launches_in text) before after known
       (all_over text.turns text.buffers text.list) sizes ran
 
   pub stop_outcome : (e : RunError) →
       EndsSo text.several (programs_in text (map (λ c. unit_of c.program) cs)) (launches_in text) before e →
-      IsOutcomeOf (models_in (map (λ c. unit_of c.program) cs)) (launches_in text) before e
+      StopsAsOutcome (programs_in text (map (λ c. unit_of c.program) cs))
+      (models_in (map (λ c. unit_of c.program) cs)) (launches_in text) before e
   stop_outcome e ends =
       so_outcome text.several (lengths_of text.buffers) _ _ (launches_in text) before e known
       (all_over text.turns text.buffers text.list) sizes ends

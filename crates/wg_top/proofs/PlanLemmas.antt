@@ -5,23 +5,23 @@ use Rattle.cl_model.specs.Valid.{IsValid}
 use Rattle.cl_model.specs.View as model
 use Rattle.cl_meaning.specs.Typed.{Unit'}
 use Rattle.cl_meaning.specs.View.{unit_of}
-use Rattle.cl_valid.specs.Erased.{program_of}
+use Rattle.cl_check_sound.specs.Erased.{program_of}
 use Rattle.kir.specs.Tree.{Kernel}
 use Rattle.kir.specs.Lowering.{HasCells}
-use Rattle.lowering_laws.proofs.Cells.{has_cells}
+use Rattle.kir_lower_shape.proofs.Cells.{has_cells}
 use Rattle.diverge.specs.Rounds.{varying_of}
-use Rattle.varying_laws.proofs.Answers.{varying_exact}
+use Rattle.diverge_exact.proofs.Answers.{varying_exact}
 use Rattle.ctx_plan.specs.Planned.{Planned, IsPlan}
 use Rattle.ctx_plan.proofs.Counted.{plan_counted}
-use Rattle.plan_laws.proofs.Plan.{is_plan}
+use Rattle.ctx_plan_correct.proofs.Plan.{is_plan}
 use Rattle.kir.specs.Inlined.{crossing_of}
-use Rattle.plan_lines.specs.Meaning.{AreLinesOf}
-use Rattle.plan_lines.specs.Lines.{plan_lines_of}
-use Rattle.plan_lines.proofs.Meant.{lines_meant, crossing_differ}
-use Rattle.wg_top.specs.Middle.{names_in, kernel_in, plan_in}
+use Rattle.ctx_plan_text.specs.Meaning.{AreLinesOf}
+use Rattle.ctx_plan_text.specs.Lines.{plan_lines_of}
+use Rattle.ctx_plan_text.proofs.Meant.{lines_meant, crossing_differ}
+use Rattle.wg_compile.specs.Passes.{names_in, kernel_in, plan_in}
 use Rattle.wg_top.specs.Shown.{IsPlanText}
-use Rattle.wg_top.proofs.DescribedLemmas.{named_as}
-use Rattle.cl_valid.proofs.ErasedPrograms.{program_same}
+use Rattle.wg_compile.proofs.Plans.{named_as}
+use Rattle.cl_check_sound.proofs.ErasedPrograms.{program_same}
 
 -- the kernel of a valid unit has the cells of its program, and its plan is what the definitions say
 cells_in : (u : Unit') → IsValid (program_of u) → HasCells (program_of u) (names_in u) (kernel_in u)

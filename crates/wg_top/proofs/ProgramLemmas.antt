@@ -8,18 +8,18 @@ use Rattle.cl_prep.specs.declared.prep.Define.{Define}
 use Rattle.cl_meaning.specs.Typed.{Unit'}
 use Rattle.launch_file.specs.declared.text.LaunchPart.{LaunchPart}
 use Rattle.launch_file.specs.Texts.{Text, Part, part_of}
-use Rattle.wg_front.specs.declared.condition.Condition.{Condition}
-use Rattle.wg_front.specs.Compiled.{IsCompiled, IsFaulty}
-use Rattle.wg_front.proofs.CompileLemmas.{refused_or_compiled, one_typed}
+use Rattle.cl_front.specs.declared.condition.Condition.{Condition}
+use Rattle.cl_front.specs.Typed.{HasTypedUnit, IsFaulty}
+use Rattle.cl_front.proofs.CompileLemmas.{refused_or_compiled, one_typed}
 use Rattle.wg_top.specs.declared.RunError.{RunError}
 use Rattle.wg_top.specs.declared.RunError.TheVariants.{Source, Memory}
 use Rattle.wg_top.specs.Stages.{ProgramCause, KernelCause, KernelsCause}
-use Rattle.wg_top.specs.Units.{AreCompiled, IsFirstRefused}
+use Rattle.wg_top.specs.Units.{HaveTypedUnits, IsFirstRefused}
 
 -- ---- a source has one list of typed units, and no refusal beside it
 
 pub one_units : (bytes : List ℕ) (defines : List Define) (parts : List Part) (us vs : List Unit') →
-    AreCompiled bytes defines parts us → AreCompiled bytes defines parts vs → us ≡ vs
+    HaveTypedUnits bytes defines parts us → HaveTypedUnits bytes defines parts vs → us ≡ vs
 one_units bytes defines [] [] [] x y = refl
 one_units bytes defines (part ∷ parts) (u ∷ us) (v ∷ vs) x y =
     ap₂ (λ a as'. a ∷ as') (one_typed bytes defines part.kernel u v x.0 y.0)
@@ -31,7 +31,7 @@ one_units bytes defines (part ∷ parts) (u ∷ us) [] x y = absurd y
 
 pub no_refused : (bytes : List ℕ) (defines : List Define) (parts : List Part) (us : List Unit')
     (condition : Condition) (place : Place) → IsFirstRefused bytes defines parts condition place →
-    AreCompiled bytes defines parts us → ⊥
+    HaveTypedUnits bytes defines parts us → ⊥
 no_refused bytes defines [] us condition place refused are = refused
 no_refused bytes defines (part ∷ parts) [] condition place refused are = are
 no_refused bytes defines (part ∷ parts) (u ∷ us) condition place refused are = elim refused [
@@ -42,8 +42,8 @@ no_refused bytes defines (part ∷ parts) (u ∷ us) condition place refused are
 -- ---- one launch more
 
 compiled_behind : (bytes : List ℕ) (defines : List Define) (parts : List Part) (us : List Unit') (part : Part)
-    (u : Unit') → AreCompiled bytes defines parts us → IsCompiled bytes defines part.kernel u →
-    AreCompiled bytes defines (parts ++ part ∷ []) (us ++ u ∷ [])
+    (u : Unit') → HaveTypedUnits bytes defines parts us → HasTypedUnit bytes defines part.kernel u →
+    HaveTypedUnits bytes defines (parts ++ part ∷ []) (us ++ u ∷ [])
 compiled_behind bytes defines [] [] part u are one = (one, tt)
 compiled_behind bytes defines (p ∷ parts) (v ∷ us) part u are one =
     (are.0, compiled_behind bytes defines parts us part u are.1 one)
@@ -51,7 +51,7 @@ compiled_behind bytes defines [] (v ∷ us) part u are one = absurd are
 compiled_behind bytes defines (p ∷ parts) [] part u are one = absurd are
 
 refused_behind : (bytes : List ℕ) (defines : List Define) (parts : List Part) (us : List Unit') (part : Part)
-    (rest : List Part) (condition : Condition) (place : Place) → AreCompiled bytes defines parts us →
+    (rest : List Part) (condition : Condition) (place : Place) → HaveTypedUnits bytes defines parts us →
     IsFaulty bytes defines part.kernel condition place →
     IsFirstRefused bytes defines (parts ++ (part ∷ rest)) condition place
 refused_behind bytes defines [] [] part rest condition place are one = inl one
@@ -88,20 +88,20 @@ pushed_of view xs new x pushed = ap (map view) pushed ∙ map-append view xs (x 
 pub one_compiled : {X : Type 0} (unit : X → Unit') (bytes : List ℕ) (defines : List Define) (list : List LaunchPart)
     (k : ℕ) (part : LaunchPart) (kernels new : List X) (x : X) → k < length list → part ≡ get_or list k part →
     new ≡ kernels ++ x ∷ []
-    → AreCompiled bytes defines (map part_of (take k list)) (map unit kernels) →
-    IsCompiled bytes defines (part_of part).kernel (unit x) →
-    AreCompiled bytes defines (map part_of (take (k + 1) list)) (map unit new)
+    → HaveTypedUnits bytes defines (map part_of (take k list)) (map unit kernels) →
+    HasTypedUnit bytes defines (part_of part).kernel (unit x) →
+    HaveTypedUnits bytes defines (map part_of (take (k + 1) list)) (map unit new)
 one_compiled unit bytes defines list k part kernels new x lt is pushed are one =
-    subst (λ (us : List Unit'). AreCompiled bytes defines (map part_of (take (k + 1) list)) us)
+    subst (λ (us : List Unit'). HaveTypedUnits bytes defines (map part_of (take (k + 1) list)) us)
     (sym (pushed_of unit kernels new x pushed))
-    (subst (λ (ps : List Part). AreCompiled bytes defines ps (map unit kernels ++ unit x ∷ []))
+    (subst (λ (ps : List Part). HaveTypedUnits bytes defines ps (map unit kernels ++ unit x ∷ []))
     (sym (more_of part_of list k part lt is)) (compiled_behind bytes defines (map part_of (take k list))
     (map unit kernels) (part_of part) (unit x) are one))
 
 -- the launch at a place is refused
 pub one_refused : {X : Type 0} (unit : X → Unit') (bytes : List ℕ) (defines : List Define) (list : List LaunchPart)
     (k : ℕ) (part : LaunchPart) (kernels : List X) (e : RunError) → k < length list → part ≡ get_or list k part
-    → AreCompiled bytes defines (map part_of (take k list)) (map unit kernels) →
+    → HaveTypedUnits bytes defines (map part_of (take k list)) (map unit kernels) →
     KernelCause bytes defines (part_of part).kernel e → KernelsCause bytes defines (map part_of list) e
 one_refused unit bytes defines list k part kernels (Source condition place) lt is are cause =
     subst (λ (ps : List Part). IsFirstRefused bytes defines ps condition place)

@@ -19,12 +19,12 @@ use Rattle.cl_model.specs.View.{launch_of}
 use Rattle.launch_file.specs.Binding.{lengths_of, loads_of, saves_of, count_of}
 use Rattle.launch_file.specs.Texts.{Text, Part}
 use Rattle.cl_prep.specs.declared.prep.Define.{Define}
-use Rattle.cl_valid.specs.Law.{DefinesFit}
-use Rattle.cl_valid.specs.Erased.{program_of}
+use Rattle.cl_check_sound.specs.Law.{DefinesFit}
+use Rattle.cl_check_sound.specs.Erased.{program_of}
 use Rattle.cl_model.specs.Valid.{IsValid}
-use Rattle.wg_front.specs.Compiled.{IsCompiled}
-use Rattle.wg_front.proofs.ValidLemmas.{compiled_valid}
-use Rattle.cl_valid.proofs.ErasedPrograms.{program_same}
+use Rattle.cl_front.specs.Typed.{HasTypedUnit}
+use Rattle.cl_front.proofs.ValidLemmas.{compiled_valid}
+use Rattle.cl_check_sound.proofs.ErasedPrograms.{program_same}
 use Rattle.launch_file.specs.Refusals.{saved_again, saved_twice, is_this}
 use Rattle.launch_file.specs.Values.{HasTexts, HasNumber}
 use Rattle.lane_code.specs.Program.{Plain}
@@ -32,14 +32,15 @@ use Rattle.lane_code.specs.View.{plain_of}
 use Rattle.wg_top.specs.declared.RunError.{RunError}
 use Rattle.wg_top.specs.declared.RunError.TheVariants.{Range, Parted, Turns}
 use Rattle.wg_top.specs.declared.Summary.{Summary}
-use Rattle.wg_top.specs.declared.compile.Compiled.{Compiled}
+use Rattle.wg_compile.specs.declared.Compiled.{Compiled}
 use Rattle.cl_meaning.specs.Typed.{Unit'}
 use Rattle.cl_meaning.specs.View.{unit_of}
-use Rattle.wg_top.specs.Middle.{group_in, programs_in}
-use Rattle.wg_top.specs.Described.{IsCompiledAt}
-use Rattle.wg_top.specs.Units.{AreCompiled, bind_refusal}
+use Rattle.wg_compile.specs.Passes.{group_in}
+use Rattle.wg_top.specs.Units.{programs_in}
+use Rattle.wg_compile.specs.Correct.{IsCompilation}
+use Rattle.wg_top.specs.Units.{HaveTypedUnits, bind_refusal}
 use Rattle.wg_top.specs.Causes.{Standing, BuffersLoaded, StopsIn, HasRun}
-use Rattle.wg_top.specs.Outcomes.{AreMade, AreCompiledTo, models_in, AreDone, IsOutcomeOf}
+use Rattle.wg_top.specs.Outcomes.{AreMade, HaveGroupPrograms, models_in, RanInOutcomes, StopsAsOutcome}
 use Rattle.wg_top.specs.Causes.{SaveStopped, IsRun}
 use Rattle.wg_top.specs.Stages.{BackCause, LeavesOthers}
 use Rattle.wg_top.proofs.MeaningLemmas.{AreLike, ran_like, so_like}
@@ -148,7 +149,7 @@ loaded_of files text first before ready loaded =
     (subst (λ (ns : List ℕ). AllStartAs files ns first.loads.items before) ready.lengths loaded)
 
 -- the programs of the kernels
-pub programs_are : (width : ℕ) (kernels : List Compiled) → All (IsCompiledAt width) kernels →
+pub programs_are : (width : ℕ) (kernels : List Compiled) → All (IsCompilation width) kernels →
     AreLike (map (group_in width) (map (λ c. unit_of c.program) kernels)) (map (λ c. plain_of c.group) kernels)
 programs_are width [] all = tt
 programs_are width (c ∷ kernels) all =
@@ -158,9 +159,9 @@ programs_are width (c ∷ kernels) all =
 stops_in : (files : Option FileMap) (text : Text) (units : List Unit') (before : List (List ℕ))
     (programs : List Plain) (launches : List Launch) (e : RunError) → bind_refusal text units ≡ None →
     BuffersLoaded files text before → AreLike (programs_in text units) programs → launches ≡ launches_in text
-    → EndsSo text.several programs launches before e → AreMade units → AreCompiledTo text.lanes text.list units →
+    → EndsSo text.several programs launches before e → AreMade units → HaveGroupPrograms text.lanes text.list units →
     (EndsSo text.several (programs_in text units) (launches_in text) before e →
-    IsOutcomeOf (models_in units) (launches_in text) before e) → StopsIn files text units e
+    StopsAsOutcome (programs_in text units) (models_in units) (launches_in text) before e) → StopsIn files text units e
 stops_in files text units before programs launches e accepted loaded same are ends made compiled outcome =
     let mine : EndsSo text.several (programs_in text units) (launches_in text) before e =
     so_like text.several (programs_in text units) programs (launches_in text) before e same
@@ -175,9 +176,10 @@ stops_in files text units before programs launches e accepted loaded same are en
 pub is_stopped : (old new : Standing) (text : Text) (units : List Unit') (before : List (List ℕ))
     (programs : List Plain) (launches : List Launch) (e : RunError) → bind_refusal text units ≡ None →
     BuffersLoaded old.files text before → AreLike (programs_in text units) programs → launches ≡ launches_in text
-    → EndsSo text.several programs launches before e → AreMade units → AreCompiledTo text.lanes text.list units →
+    → EndsSo text.several programs launches before e → AreMade units → HaveGroupPrograms text.lanes text.list units →
     ((x : RunError) → EndsSo text.several (programs_in text units) (launches_in text) before x →
-    IsOutcomeOf (models_in units) (launches_in text) before x) → BackCause old new text units e
+    StopsAsOutcome (programs_in text units) (models_in units) (launches_in text) before x) →
+    BackCause old new text units e
 is_stopped old new text units before programs launches (Range number several group item place) accepted loaded same
     are ends made compiled outcome =
     let e = Range number several group item place in
@@ -206,14 +208,15 @@ stopped_leaves old new text units several before programs launches _ same ends =
 pub has_run : (files : Option FileMap) (text : Text) (units : List Unit') (before after : List (List ℕ))
     (programs : List Plain) (launches : List Launch) → BuffersLoaded files text before →
     AreLike (programs_in text units) programs → launches ≡ launches_in text → LaunchesRan programs launches before after
-    → AreMade units → AreCompiledTo text.lanes text.list units →
+    → AreMade units → HaveGroupPrograms text.lanes text.list units →
     (LaunchesRan (programs_in text units) (launches_in text) before after →
-    AreDone (models_in units) (launches_in text) before after) → HasRun files text units after
+    RanInOutcomes (programs_in text units) (models_in units) (launches_in text) before after) →
+    HasRun files text units after
 has_run files text units before after programs launches loaded same are ran made compiled outcome =
     let mine : LaunchesRan (programs_in text units) (launches_in text) before after =
     ran_like (programs_in text units) programs (launches_in text) before after same
     (subst (λ (ls : List Launch). LaunchesRan programs ls before after) are ran) in
-    record { before = before; loaded = loaded; ran = mine; made = made; compiled = compiled; outcome = outcome mine }
+    record { before = before; loaded = loaded; ran = outcome mine; made = made; compiled = compiled }
 
 -- a save failed
 pub save_stopped : (old mid new : Option FileMap) (text : Text) (s : List Unit') (saves : List (Option (List ℕ)))
@@ -293,12 +296,12 @@ numbers_fit (d ∷ defines) all =
     below_power n h = omega (arith, h)
 
 unit_valid : (bytes : List ℕ) (defines : List Define) (kernel : List ℕ) (c : Compiled) → DefinesFit defines →
-    IsCompiled bytes defines kernel (unit_of c.program) → IsValid (program_of (unit_of c.program))
+    HasTypedUnit bytes defines kernel (unit_of c.program) → IsValid (program_of (unit_of c.program))
 unit_valid bytes defines kernel c fit is =
     subst IsValid (sym (program_same c.program)) (compiled_valid bytes defines kernel c.program fit is)
 
 units_valid : (bytes : List ℕ) (defines : List Define) (parts : List Part) (cs : List Compiled) → DefinesFit defines →
-    AreCompiled bytes defines parts (map (λ c. unit_of c.program) cs) →
+    HaveTypedUnits bytes defines parts (map (λ c. unit_of c.program) cs) →
     All (λ c. IsValid (program_of (unit_of c.program))) cs
 units_valid bytes defines parts [] fit are k d lt = absurd (omega arith)
 units_valid bytes defines (part ∷ parts) (c ∷ cs) fit are zero d lt = unit_valid bytes defines part.kernel c fit are.0
@@ -307,6 +310,6 @@ units_valid bytes defines (part ∷ parts) (c ∷ cs) fit are (suc k) d lt =
 units_valid bytes defines [] (c ∷ cs) fit are k d lt = absurd are
 
 pub kernels_valid : (bytes : List ℕ) (defines : List Define) (parts : List Part) (cs : List Compiled) →
-    All HasNumber defines → AreCompiled bytes defines parts (map (λ c. unit_of c.program) cs) →
+    All HasNumber defines → HaveTypedUnits bytes defines parts (map (λ c. unit_of c.program) cs) →
     All (λ c. IsValid (program_of (unit_of c.program))) cs
 kernels_valid bytes defines parts cs numbers are = units_valid bytes defines parts cs (numbers_fit defines numbers) are

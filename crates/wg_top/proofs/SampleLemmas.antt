@@ -10,7 +10,7 @@ use Rattle.wg_top.specs.declared.RunError.TheVariants.{Failed, Absent, Memory}
 use Rattle.wg_top.specs.declared.Summary.{Summary}
 use Rattle.wg_top.specs.Causes.{Standing, Cause, IsDone}
 use Rattle.wg_top.specs.Sample.{words_from, sample_files, sample_ask, SampleCause, IsSaved, IsSample}
-use Rattle.wg_top.proofs.SumLemmas.{sum_push}
+use Rattle.wg_compile.proofs.Sums.{sum_push}
 
 -- one more word
 pub one_word : (number k count : ℕ) (list new all : List ℕ) (word : ℕ) → k < count → new ≡ list ++ word ∷ [] →

@@ -14,13 +14,13 @@ use Rattle.wg_top.specs.declared.RunError.{RunError}
 use Rattle.wg_top.specs.declared.RunError.TheVariants.{Failed, Absent, Source, Launch, Range, Parted, Turns, Memory}
 use Rattle.wg_top.specs.declared.Summary.{Summary}
 use Rattle.cl_meaning.specs.Typed.{Unit'}
-use Rattle.wg_front.specs.declared.condition.Condition.{Condition}
-use Rattle.wg_front.specs.Front.{HasUnit, StandsAt}
-use Rattle.wg_top.specs.Units.{AreCompiled, IsFirstRefused, bind_refusal}
+use Rattle.cl_front.specs.declared.condition.Condition.{Condition}
+use Rattle.cl_front.specs.Front.{HasUnit, StandsAt}
+use Rattle.wg_top.specs.Units.{HaveTypedUnits, IsFirstRefused, bind_refusal}
 use Rattle.wg_top.specs.Launches.{launches_in, LaunchesRan, EndsSo, all_groups, all_items}
-use Rattle.wg_top.specs.Middle.{programs_in}
+use Rattle.wg_top.specs.Units.{programs_in}
 use Rattle.wg_top.specs.Loops.{HaveNoLoop}
-use Rattle.wg_top.specs.Outcomes.{AreMade, AreCompiledTo, models_in, AreDone, IsOutcomeOf, AreClean, AllLeave}
+use Rattle.wg_top.specs.Outcomes.{AreMade, HaveGroupPrograms, models_in, RanInOutcomes, StopsAsOutcome, AreClean, AllLeave}
 
 -- a store at one moment
 pub record Standing : Type 0 where
@@ -54,7 +54,7 @@ pub record RunRead (files : Option FileMap) (ask : Files) (text : Text) (units :
   pub launch_loaded : LaunchLoaded files ask.launch launch_bytes
   pub reads : Reads launch_bytes ask.lanes ask.turns text
   pub unit : HasUnit source_bytes text.defines
-  pub compiled : AreCompiled source_bytes text.defines text.list units
+  pub compiled : HaveTypedUnits source_bytes text.defines text.list units
 
 -- besides, no condition stands on its launches
 pub record RunBound (files : Option FileMap) (ask : Files) (text : Text) (units : List Unit') : Type 0 where
@@ -123,13 +123,13 @@ pub record RunStopped (files : Option FileMap) (ask : Files) (error : RunError) 
   pub read : RunRead files ask text units
   pub stopped : IsStopped files text units error
 
--- besides, what is kept once is equal; and that end is an outcome of the launch, on buffers that those before it may
--- leave
+-- besides, what is kept once is equal; and that end is an outcome of the launch, on the very buffers that those before
+-- it left, which they may leave
 pub record StopsIn (files : Option FileMap) (text : Text) (units : List Unit') (error : RunError) : Type 0 where
   pub stopped : IsStopped files text units error
   pub made : AreMade units
-  pub compiled : AreCompiledTo text.lanes text.list units
-  pub outcome : IsOutcomeOf (models_in units) (launches_in text) stopped.before error
+  pub compiled : HaveGroupPrograms text.lanes text.list units
+  pub outcome : StopsAsOutcome (programs_in text units) (models_in units) (launches_in text) stopped.before error
 
 -- all was read, and that holds of what was read
 pub record RunStops (files : Option FileMap) (ask : Files) (error : RunError) : Type 0 where
@@ -178,15 +178,14 @@ ReadingCause old new ask (Launch refusal) = TextRefused old.files ask refusal
 ReadingCause old new ask Memory = ⊤
 ReadingCause old new ask _ = ⊥
 
--- the buffers were loaded, and the launches are done; what is kept once is equal; and those ends are outcomes of the
--- launches
+-- the buffers were loaded, and the launches are done, each on the buffers that the one before it left; each end, on
+-- these very buffers, is an outcome of its launch; and what is kept once is equal
 pub record HasRun (files : Option FileMap) (text : Text) (units : List Unit') (after : List (List ℕ)) : Type 0 where
   pub before : List (List ℕ)
   pub loaded : BuffersLoaded files text before
-  pub ran : LaunchesRan (programs_in text units) (launches_in text) before after
+  pub ran : RanInOutcomes (programs_in text units) (models_in units) (launches_in text) before after
   pub made : AreMade units
-  pub compiled : AreCompiledTo text.lanes text.list units
-  pub outcome : AreDone (models_in units) (launches_in text) before after
+  pub compiled : HaveGroupPrograms text.lanes text.list units
 
 -- saving had begun: the launches ran, the buffers before one are saved, and those behind it and all other names are
 -- as before
@@ -235,7 +234,7 @@ pub record IsReadable (files : Option FileMap) (ask : Files) (text : Text) (unit
   pub launch_told : told_file files ask.launch ≡ Some (Some launch_bytes)
   pub reads : Reads (take 1048577 launch_bytes) ask.lanes ask.turns text
   pub unit : HasUnit (take 262145 source_bytes) text.defines
-  pub compiled : AreCompiled (take 262145 source_bytes) text.defines text.list units
+  pub compiled : HaveTypedUnits (take 262145 source_bytes) text.defines text.list units
 
 -- besides, the store has the files that the buffers load, and no condition stands on the launches
 pub record IsTaken (files : Option FileMap) (ask : Files) (text : Text) (units : List Unit') : Type 0 where

@@ -1,18 +1,18 @@
 -- How the call ends.
-use Rattle.std.specs.Prelude.{◌≡◌, ◌⊎◌, ⊤, ℕ, List, Option, Some, codes, is_some, true}
+use Rattle.std.specs.Prelude.{◌≡◌, ◌⊎◌, ⊤, ℕ, List, [], Option, Some, codes, is_some, true}
 use Rattle.std.specs.Io.KnownBytes.{Appends}
 use Rattle.wg_outside.specs.Counts.{Rose}
 use Rattle.wg_outside.specs.Files.{FileMap}
 use Rattle.wg_outside.specs.Bytes.{AppendsPrefix}
 use Rattle.wg_top.specs.declared.RunError.{RunError}
-use Rattle.wg_top.specs.declared.RunError.TheVariants.{Failed, Absent}
+use Rattle.wg_top.specs.declared.RunError.TheVariants.{Failed, Absent, Memory}
 use Rattle.command_words.specs.Command.{Files, Request, run, plan, code, sample, TakesWords, AskFor}
 use Rattle.wg_top.specs.declared.Summary.{Summary}
 use Rattle.launch_file.specs.Texts.{Text}
 use Rattle.cl_meaning.specs.Typed.{Unit'}
 use Rattle.wg_top.specs.Causes.{Standing, standing, Finds, ReadingFinds, Cause, ReadingCause, RunRead, LeavesFiles}
 use Rattle.wg_top.specs.Causes.{IsDone, IsReadable, AcceptedRun, LeavesClean}
-use Rattle.wg_top.specs.Outcomes.{AreMade, AreCompiledTo}
+use Rattle.wg_top.specs.Outcomes.{AreMade, HaveGroupPrograms}
 use Rattle.wg_top.specs.Shown.{Showing, plan_shown, code_shown, Shows}
 use Rattle.wg_top.specs.Sample.{sample_files, sample_ask, IsSample, SampleCause}
 use Rattle.wg_top.specs.Lines.{IsSaid, done_line, sample_line, error_line, status_of}
@@ -99,6 +99,11 @@ pub record EndsSaying (old new : Outside) (line : List ℕ) : Type 0 where
 abbrev pub usage_line : List ℕ
 usage_line = codes "wgcc: usage\n"
 
+-- words that ask for nothing: they are not taken, or memory ran out before they were read
+abbrev pub EndsUnasked : Outside → Outside → ℕ → Type 0
+EndsUnasked old new status =
+    ((status ≡ 2) × EndsSaying old new usage_line) ⊎ ((status ≡ 8) × EndsSaying old new (error_line [] Memory))
+
 -- all was read, these are the texts of its launches, and what is kept once is equal
 pub record ShownRead (files : Option FileMap) (ask : Files) (show : Showing) (shown : List ℕ) : Type 0 where
   pub text : Text
@@ -106,7 +111,7 @@ pub record ShownRead (files : Option FileMap) (ask : Files) (show : Showing) (sh
   pub read : RunRead files ask text units
   pub shows : Shows show text units shown
   pub made : AreMade units
-  pub compiled : AreCompiledTo text.lanes text.list units
+  pub compiled : HaveGroupPrograms text.lanes text.list units
 
 -- the texts are on `out`
 pub record EndsShown (old new : Outside) (ask : Files) (show : Showing) (status : ℕ) : Type 0 where

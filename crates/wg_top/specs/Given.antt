@@ -1,13 +1,13 @@
 -- What is known of a launch file that was read, and of its kernels.
 use Rattle.std.specs.Prelude.{◌≡◌, ◌≤◌, All, false, length, map}
 use Rattle.cl_model.specs.Valid.{IsValid}
-use Rattle.cl_valid.specs.Erased.{program_of}
+use Rattle.cl_check_sound.specs.Erased.{program_of}
 use Rattle.launch_file.specs.Texts.{text_of, part_of}
 use Rattle.launch_file.specs.Values.{HasTexts, HasOneLength, HasNumber}
 use Rattle.launch_file.specs.Refusals.{saved_twice}
 use Rattle.launch_file.specs.declared.text.LaunchText.{LaunchText}
 use Rattle.wg_top.specs.declared.reading.Given.{Given}
-use Rattle.wg_top.specs.Described.{IsCompiledAt}
+use Rattle.wg_compile.specs.Correct.{IsCompilation}
 use Rattle.cl_meaning.specs.View.{unit_of}
 
 -- the names of its files are texts, the numbers of given names are below 2^63, no file is saved twice, and it has
@@ -23,6 +23,6 @@ pub record IsText (text : LaunchText) : Type 0 where
 -- besides, each kernel is as the passes leave it, its program is valid, and it has the name that its launch says
 pub record IsGiven (given : Given) : Type 0 where
   pub text : IsText given.text
-  pub passes : All (IsCompiledAt (text_of given.text).lanes) given.kernels.items
+  pub passes : All (IsCompilation (text_of given.text).lanes) given.kernels.items
   pub valid : All (λ c. IsValid (program_of (unit_of c.program))) given.kernels.items
   pub names : map (λ c. c.group.kernel) given.kernels.items ≡ map (λ p. p.kernel) (text_of given.text).list

@@ -15,7 +15,7 @@ use Rattle.lane_code.specs.Program.{Plain}
 use Rattle.lane_code.specs.Run.{RunEnded, program_end}
 use Rattle.lane_code.specs.Fits.{LaunchFits}
 use Rattle.lane_code.specs.View.{plain_of}
-use Rattle.wg_top.specs.declared.compile.Compiled.{Compiled}
+use Rattle.wg_compile.specs.declared.Compiled.{Compiled}
 use Rattle.wg_top.specs.declared.RunError.{RunError}
 use Rattle.wg_top.specs.declared.RunError.TheVariants as error
 

@@ -1,7 +1,3 @@
-pub mod Compiled
-pub mod Middle
-pub mod Outcome
-pub mod Described
 pub mod Loops
 pub mod Outcomes
 pub mod Units

@@ -3,15 +3,15 @@ use Rattle.std.specs.Prelude.{◌≡◌, ℕ, suc, Bool, List, [], ◌∷◌, �
 use Rattle.launch_file.specs.Texts.{Text, Part}
 use Rattle.cl_meaning.specs.Typed.{Unit'}
 use Rattle.cl_model.specs.Lists.{AllDiffer}
-use Rattle.cl_valid.specs.Erased.{program_of}
+use Rattle.cl_check_sound.specs.Erased.{program_of}
 use Rattle.kir.specs.Inlined.{crossing_of}
-use Rattle.plan_lines.specs.Lines.{plan_lines_of}
-use Rattle.plan_lines.specs.Meaning.{AreLinesOf}
+use Rattle.ctx_plan_text.specs.Lines.{plan_lines_of}
+use Rattle.ctx_plan_text.specs.Meaning.{AreLinesOf}
 use Rattle.lane_code.specs.Listing.{listing_text}
 use Rattle.wg_top.specs.declared.texts.Shown.{Shown}
 use Rattle.wg_top.specs.declared.texts.Shown.TheVariants.{Plan, Code}
-use Rattle.wg_top.specs.Middle.{names_in, kernel_in, plan_in}
-use Rattle.wg_top.specs.Outcomes.{IsCompiledTo}
+use Rattle.wg_compile.specs.Passes.{names_in, kernel_in, plan_in}
+use Rattle.wg_top.specs.Outcomes.{HasGroupProgram}
 
 -- a text of a launch, by the lane width, the name of its kernel and its unit
 abbrev pub Showing : Type 1
@@ -30,7 +30,7 @@ plan_shown width name u text = IsPlanText u text
 
 -- the listing of the group program that the unit is compiled to
 abbrev pub code_shown : Showing
-code_shown width name u text = (compiled : IsCompiledTo width name u) × (text ≡ listing_text name compiled.group)
+code_shown width name u text = (compiled : HasGroupProgram width u) × (text ≡ listing_text name compiled.group)
 
 -- the text that is asked for
 abbrev pub showing : Shown → Showing

@@ -7,7 +7,7 @@ use Rattle.launch_file.specs.declared.refusal.Refusal.{Refusal}
 use Rattle.launch_file.specs.Refusals.{Reads, IsRefused}
 use Rattle.launch_file.specs.Binding.{loads_of}
 use Rattle.cl_prep.specs.declared.prep.Define.{Define}
-use Rattle.wg_front.specs.Compiled.{IsFaulty}
+use Rattle.cl_front.specs.Typed.{IsFaulty}
 use Rattle.launch_file.specs.Texts.{Text, Part}
 use Rattle.wg_top.specs.declared.RunError.{RunError}
 use Rattle.wg_top.specs.declared.RunError.TheVariants.{Failed, Absent, Source, Launch, Range, Parted, Turns, Memory}

@@ -1,5 +1,5 @@
 -- The typed units of a launch file's launches.
-use Rattle.std.specs.Prelude.{◌⊎◌, ⊤, ℕ, List, [], ◌∷◌, Option, None, Some}
+use Rattle.std.specs.Prelude.{◌⊎◌, ⊤, ℕ, List, [], ◌∷◌, map, Option, None, Some}
 use Rattle.wg_num.specs.declared.types.Place.{Place}
 use Rattle.cl_prep.specs.declared.prep.Define.{Define}
 use Rattle.cl_meaning.specs.Typed.{Unit'}
@@ -7,32 +7,34 @@ use Rattle.launch_file.specs.declared.text.BufferText.{BufferText}
 use Rattle.launch_file.specs.declared.refusal.Refusal.{Refusal}
 use Rattle.launch_file.specs.Binding.{Needs, launch_refusal}
 use Rattle.launch_file.specs.Texts.{Text, Part}
-use Rattle.launch_bind.specs.Needed.{needs_of_kernel}
-use Rattle.wg_front.specs.declared.condition.Condition.{Condition}
-use Rattle.wg_front.specs.Compiled.{IsCompiled, IsFaulty}
+use Rattle.launch_file_bind.specs.Needed.{needs_of_kernel}
+use Rattle.cl_front.specs.declared.condition.Condition.{Condition}
+use Rattle.cl_front.specs.Typed.{HasTypedUnit, IsFaulty}
+use Rattle.lane_code.specs.Program.{Plain}
+use Rattle.wg_compile.specs.Passes.{group_in}
 
 -- what the launches of a unit's kernel must meet
 abbrev pub needs_in : Unit' → Needs
 needs_in u = needs_of_kernel u.functions u.kernel
 
 -- for each launch, the source has that typed unit with the launch's kernel
-abbrev pub AreCompiled : List ℕ → List Define → List Part → List Unit' → Type 0
-AreCompiled source defines [] [] = ⊤
-AreCompiled source defines (part ∷ parts) (u ∷ us) =
-    IsCompiled source defines part.kernel u × AreCompiled source defines parts us
-AreCompiled source defines _ _ = ⊥
+abbrev pub HaveTypedUnits : List ℕ → List Define → List Part → List Unit' → Type 0
+HaveTypedUnits source defines [] [] = ⊤
+HaveTypedUnits source defines (part ∷ parts) (u ∷ us) =
+    HasTypedUnit source defines part.kernel u × HaveTypedUnits source defines parts us
+HaveTypedUnits source defines _ _ = ⊥
 
 -- the source has a typed unit with that kernel
-pub record Compiles (source : List ℕ) (defines : List Define) (kernel : List ℕ) : Type 0 where
+pub record HasTyped (source : List ℕ) (defines : List Define) (kernel : List ℕ) : Type 0 where
   pub typed : Unit'
-  pub compiled : IsCompiled source defines kernel typed
+  pub compiled : HasTypedUnit source defines kernel typed
 
 -- the kernel of the first launch that is at fault
 abbrev pub IsFirstRefused : List ℕ → List Define → List Part → Condition → Place → Type 0
 IsFirstRefused source defines [] condition place = ⊥
 IsFirstRefused source defines (part ∷ parts) condition place =
     IsFaulty source defines part.kernel condition place ⊎
-    (Compiles source defines part.kernel × IsFirstRefused source defines parts condition place)
+    (HasTyped source defines part.kernel × IsFirstRefused source defines parts condition place)
 
 -- what is there, or what comes later
 abbrev pub or_later : Option Refusal → Option Refusal → Option Refusal
@@ -48,3 +50,7 @@ first_refusal buffers _ _ = None
 -- the same for a launch file
 abbrev pub bind_refusal : Text → List Unit' → Option Refusal
 bind_refusal text units = first_refusal text.buffers text.list units
+
+-- the programs of the groups of a launch file's launches
+abbrev pub programs_in : Text → List Unit' → List Plain
+programs_in text units = map (group_in text.lanes) units

@@ -8,7 +8,7 @@ ghost use Rattle.cl_model.specs.Objects.{local_arguments};
 ghost use Rattle.lane_code.specs.View.{plain_of};
 ghost use Rattle.lane_code.specs.Fits.{LaunchFits};
 ghost use Rattle.launch_file.specs.Texts.{text_of};
-ghost use Rattle.wg_top.specs.Described.{IsCompiledAt};
+ghost use Rattle.wg_compile.specs.Correct.{IsCompilation};
 ghost use Rattle.wg_top.specs.Units.{bind_refusal};
 ghost use Rattle.wg_top.specs.Given.{IsText};
 ghost use Rattle.wg_top.specs.Stages.{BindCause};
@@ -16,15 +16,15 @@ ghost use Rattle.wg_top.specs.Launches.{launches_in, HasLimits, IsReady, AllFit,
 ghost use Rattle.wg_top.specs.Launches.{start_place, all_groups, all_items};
 ghost use Rattle.cl_meaning.specs.View.{unit_of};
 
-use crate::compile::Compiled;
 use crate::shared::SharedKernel;
 use crate::{RunError, Summary};
 use cl_model::{Bound, Buffers, Launch};
 use group_run::Launcher;
 use lane_code::RunEnd;
-use launch_bind::bind;
 use launch_file::{LaunchError, LaunchText};
+use launch_file_bind::bind;
 use std::alloc::Global;
+use wg_compile::Compiled;
 use wg_num::{Memory, Place};
 
 // The most bytes of local memory that a group has.
@@ -41,7 +41,7 @@ pub(crate) fn bind_each(
 ) -> Result<Vec<Launch>, RunError>
     requires text { IsText text.now }
     requires as_many { length kernels.now ≡ length text.now.list.items }
-    requires passes { All (IsCompiledAt (text_of text.now).lanes) kernels.now }
+    requires passes { All (IsCompilation (text_of text.now).lanes) kernels.now }
     ensures launches { IfOk result (λ v. map launch_of v.items ≡ launches_in (text_of text.now)) }
     ensures ready { IfOk result (λ v. All (IsReady text.now.buffers.items) v.items) }
     ensures fit { IfOk result (λ v. AllFit kernels.now v.items) }

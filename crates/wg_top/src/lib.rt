@@ -10,20 +10,19 @@ ghost use Rattle.wg_top.specs.declared.RunError.{RunError};
 ghost use Rattle.cl_meaning.specs.Typed.{Unit'};
 ghost use Rattle.wg_top.specs.Ends.{sink_standing, outside, AreWords, Ends, EndsShowing, EndsSample, EndsClean};
 ghost use Rattle.wg_top.specs.Ends.{EndsAsked, AcceptedFor, FindsFor, NoStoreFault, EndsSaying, KeepsOut, SaysLine};
-ghost use Rattle.wg_top.specs.Ends.{usage_line};
+ghost use Rattle.wg_top.specs.Ends.{usage_line, EndsUnasked};
 ghost use Rattle.wg_top.specs.Shown.{showing};
 ghost use Rattle.wg_top.specs.Lines.{status_of};
 
 use crate::sample::{SAMPLE, sample_sum};
 use crate::texts::{Shown, show_source};
+use cl_front::Condition;
 use command_words::{FileWords, Words, WordsError, read_words};
 use launch_file::Refusal;
 use std::alloc::Global;
-use wg_front::Condition;
 use wg_num::Place;
 use wg_outside::{Failed, Sink, Store};
 
-mod compile;
 mod launches;
 mod lines;
 mod programs;
@@ -33,7 +32,6 @@ mod sample;
 mod shared;
 mod texts;
 
-pub use compile::{Compiled, compile_program};
 pub use run::run_source;
 
 /// Why a run is refused.
@@ -237,6 +235,12 @@ pub fn wgcc<S: Store, O: Sink, E: Sink>(
         (outside S.files S.faults S.misses O.written O.faults E.written E.faults store.old out.old err.old)
         (outside S.files S.faults S.misses O.written O.faults E.written E.faults store.new out.new err.new)
         usage_line }
+
+    // Words that ask for nothing: nothing happens but one line.
+    ensures unread { ((request : Request) → AreWords (map string_bytes words.now) request → ⊥) → EndsUnasked
+        (outside S.files S.faults S.misses O.written O.faults E.written E.faults store.old out.old err.old)
+        (outside S.files S.faults S.misses O.written O.faults E.written E.faults store.new out.new err.new)
+        result }
 
     // What each status says.
     ensures failed { result ≡ 1 → Rose (S.faults store.old) (S.faults store.new) ⊎

@@ -5,19 +5,19 @@ ghost use Rattle.cl_tree.specs.Syntax.{view};
 ghost use Rattle.cl_token.specs.Places.{place_at};
 ghost use Rattle.cl_prep.specs.declared.prep.Define.{Define};
 ghost use Rattle.launch_file.specs.Texts.{Text, text_of, part_of};
-ghost use Rattle.wg_front.specs.Front.{HasUnit, IsRefusal, IsSource};
-ghost use Rattle.wg_front.specs.Compiled.{IsCompiled, IsUnitRefusal, places_of};
-ghost use Rattle.wg_top.specs.Described.{IsCompiledAt};
-ghost use Rattle.wg_top.specs.Units.{AreCompiled};
+ghost use Rattle.cl_front.specs.Front.{HasUnit, IsRefusal, IsSource};
+ghost use Rattle.cl_front.specs.Typed.{HasTypedUnit, IsUnitRefusal, places_of};
+ghost use Rattle.wg_compile.specs.Correct.{IsCompilation};
+ghost use Rattle.wg_top.specs.Units.{HaveTypedUnits};
 ghost use Rattle.wg_top.specs.Stages.{ProgramCause, KernelCause, KernelsCause};
 ghost use Rattle.cl_meaning.specs.View.{unit_of};
 
 use crate::RunError;
-use crate::compile::compile_program;
 use crate::shared::SharedKernel;
+use cl_front::{Source, SourceError, compile_kernel, read_source};
 use launch_file::{LaunchPart, LaunchText};
 use std::alloc::Global;
-use wg_front::{Source, SourceError, compile_kernel, read_source};
+use wg_compile::compile_program;
 use wg_num::{Memory, Width, Word};
 
 // The refusal of a run by that of its source.
@@ -43,8 +43,8 @@ fn compile_one(
     ensures compiled { IfOk result (λ c. (bytes : List ℕ) (defines : List Define) →
         IsSource bytes defines source.now.tokens.items (view source.now.unit) →
         source.now.places.items ≡ places_of bytes source.now.tokens.items →
-        IsCompiled bytes defines kernel.now (unit_of c.program)) }
-    ensures passes { IfOk result (λ c. IsCompiledAt (lanes_of width) c) }
+        HasTypedUnit bytes defines kernel.now (unit_of c.program)) }
+    ensures passes { IfOk result (λ c. IsCompilation (lanes_of width) c) }
     ensures name { IfOk result (λ c. c.group.kernel ≡ kernel.now) }
     ensures err { IfErr result (λ e. (bytes : List ℕ) (defines : List Define) →
         IsSource bytes defines source.now.tokens.items (view source.now.unit) →
@@ -75,13 +75,13 @@ fn kernel_for(
     requires compiled { (bytes : List ℕ) (defines : List Define) →
         IsSource bytes defines source.now.tokens.items (view source.now.unit) →
         source.now.places.items ≡ places_of bytes source.now.tokens.items →
-        All (λ c. IsCompiled bytes defines c.group.kernel (unit_of c.program)) earlier.now }
-    requires passes { All (IsCompiledAt (lanes_of width)) earlier.now }
+        All (λ c. HasTypedUnit bytes defines c.group.kernel (unit_of c.program)) earlier.now }
+    requires passes { All (IsCompilation (lanes_of width)) earlier.now }
     ensures compiled { IfOk result (λ c. (bytes : List ℕ) (defines : List Define) →
         IsSource bytes defines source.now.tokens.items (view source.now.unit) →
         source.now.places.items ≡ places_of bytes source.now.tokens.items →
-        IsCompiled bytes defines kernel.now (unit_of c.program)) }
-    ensures passes { IfOk result (λ c. IsCompiledAt (lanes_of width) c) }
+        HasTypedUnit bytes defines kernel.now (unit_of c.program)) }
+    ensures passes { IfOk result (λ c. IsCompilation (lanes_of width) c) }
     ensures name { IfOk result (λ c. c.group.kernel ≡ kernel.now) }
     ensures err { IfErr result (λ e. (bytes : List ℕ) (defines : List Define) →
         IsSource bytes defines source.now.tokens.items (view source.now.unit) →
@@ -109,8 +109,8 @@ fn compile_each(
     ensures compiled { IfOk result (λ v. (bytes : List ℕ) (defines : List Define) →
         IsSource bytes defines source.now.tokens.items (view source.now.unit) →
         source.now.places.items ≡ places_of bytes source.now.tokens.items →
-        AreCompiled bytes defines (map part_of list.now) (map (λ c. unit_of c.program) v.items)) }
-    ensures passes { IfOk result (λ v. All (IsCompiledAt (lanes_of width)) v.items) }
+        HaveTypedUnits bytes defines (map part_of list.now) (map (λ c. unit_of c.program) v.items)) }
+    ensures passes { IfOk result (λ v. All (IsCompilation (lanes_of width)) v.items) }
     ensures names { IfOk result (λ v. map (λ c. c.group.kernel) v.items ≡ map (λ p. p.kernel) list.now) }
     ensures err { IfErr result (λ e. (bytes : List ℕ) (defines : List Define) →
         IsSource bytes defines source.now.tokens.items (view source.now.unit) →
@@ -140,9 +140,9 @@ pub(crate) fn compile_all(
     text: &LaunchText,
 ) -> Result<Vec<SharedKernel>, RunError>
     ensures unit { IfOk result (λ v. HasUnit bytes.now (text_of text.now).defines) }
-    ensures compiled { IfOk result (λ v. AreCompiled bytes.now (text_of text.now).defines (text_of text.now).list
+    ensures compiled { IfOk result (λ v. HaveTypedUnits bytes.now (text_of text.now).defines (text_of text.now).list
         (map (λ c. unit_of c.program) v.items)) }
-    ensures passes { IfOk result (λ v. All (IsCompiledAt (text_of text.now).lanes) v.items) }
+    ensures passes { IfOk result (λ v. All (IsCompilation (text_of text.now).lanes) v.items) }
     ensures names { IfOk result (λ v. map (λ c. c.group.kernel) v.items ≡
         map (λ p. p.kernel) (text_of text.now).list) }
     ensures err { IfErr result (ProgramCause bytes.now (text_of text.now)) }

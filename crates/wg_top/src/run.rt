@@ -2,7 +2,7 @@
 ghost use Rattle.std.specs.Prelude.{◌≡◌, All, List, None, IfOk, IfErr, length, map};
 ghost use Rattle.cl_model.specs.View.{launch_of};
 ghost use Rattle.cl_model.specs.Valid.{IsValid};
-ghost use Rattle.cl_valid.specs.Erased.{program_of};
+ghost use Rattle.cl_check_sound.specs.Erased.{program_of};
 ghost use Rattle.cl_meaning.specs.Typed.{Unit'};
 ghost use Rattle.cl_meaning.specs.View.{unit_of};
 ghost use Rattle.launch_file.specs.Texts.{Text, text_of};
@@ -11,7 +11,7 @@ ghost use Rattle.wg_top.specs.declared.RunError.TheVariants as refusals;
 ghost use Rattle.wg_top.specs.Causes.{standing, HasNoFewer, Cause, LeavesFiles, IsRun, IsDone, AcceptedClean};
 ghost use Rattle.wg_top.specs.Causes.{LeavesClean};
 ghost use Rattle.wg_top.specs.Stages.{BackCause, LeavesOthers};
-ghost use Rattle.wg_top.specs.Described.{IsCompiledAt};
+ghost use Rattle.wg_compile.specs.Correct.{IsCompilation};
 ghost use Rattle.wg_top.specs.Units.{bind_refusal};
 ghost use Rattle.wg_top.specs.Given.{IsText, IsGiven};
 ghost use Rattle.wg_top.specs.Launches.{launches_in, IsReady, AllFit};
@@ -38,7 +38,7 @@ fn run_bound<S: Store>(
 ) -> Result<Summary, RunError>
     requires text { IsText text.now }
     requires as_many { length launches.items ≡ length text.now.list.items }
-    requires passes { All (IsCompiledAt (text_of text.now).lanes) kernels.now }
+    requires passes { All (IsCompilation (text_of text.now).lanes) kernels.now }
     requires valid { All (λ c. IsValid (program_of (unit_of c.program))) kernels.now }
     requires names { map (λ c. c.group.kernel) kernels.now ≡ map (λ p. p.kernel) (text_of text.now).list }
     requires launches { map launch_of launches.items ≡ launches_in (text_of text.now) }

@@ -1,10 +1,10 @@
 // A compiled kernel that several launches may have in common.
 ghost use Rattle.std.specs.Prelude.{◌≡◌, IfOk};
 
-use crate::compile::Compiled;
 use std::alloc::Global;
 use std::marker::Model;
 use std::rc::Rc;
+use wg_compile::Compiled;
 use wg_num::Memory;
 
 /// A compiled kernel, which a contract sees as it is. Each launch that names it has one of these,
@@ -20,8 +20,9 @@ impl Model for SharedKernel {
     ghost use Rattle.kir.specs.contracts.kernel.Kernel as kernel;
     ghost use Rattle.diverge.specs.contracts.rounds.Varying as varying;
     ghost use Rattle.ctx_plan.specs.contracts.plan.Plan as plan;
+    ghost use Rattle.regions.specs.contracts.region.RegionTree as regions;
     ghost use Rattle.lane_code.specs.contracts.program.GroupProgram as group;
-    ghost use Rattle.wg_top.specs.declared.compile.Compiled.{Compiled};
+    ghost use Rattle.wg_compile.specs.declared.Compiled.{Compiled};
 
     ghost Value = { Compiled };
 
@@ -31,6 +32,7 @@ impl Model for SharedKernel {
       kernel.the_row.coded,
       varying.the_row.coded,
       plan.the_row.coded,
+      regions.the_row.coded,
       group.the_row.coded,
     ) };
 

@@ -1,10 +1,10 @@
 // What the commands that run nothing print.
 ghost use Rattle.std.specs.Prelude.{◌≡◌, ◌++◌, ℕ, IfOk, IfErr, OnOk, map};
 ghost use Rattle.cl_model.specs.Valid.{IsValid};
-ghost use Rattle.cl_valid.specs.Erased.{program_of};
+ghost use Rattle.cl_check_sound.specs.Erased.{program_of};
 ghost use Rattle.launch_file.specs.Texts.{text_of};
 ghost use Rattle.wg_top.specs.Causes.{standing, ReadingCause};
-ghost use Rattle.wg_top.specs.Described.{IsCompiledAt};
+ghost use Rattle.wg_compile.specs.Correct.{IsCompilation};
 ghost use Rattle.wg_top.specs.Given.{IsGiven};
 ghost use Rattle.wg_top.specs.Shown.{showing, head_of, Shows};
 ghost use Rattle.wg_top.specs.Ends.{ShownRead};
@@ -12,13 +12,13 @@ ghost use Rattle.command_words.specs.Command.{files_of};
 ghost use Rattle.cl_meaning.specs.View.{unit_of};
 
 use crate::RunError;
-use crate::compile::Compiled;
 use crate::reading::{Given, Options, read_all};
 use command_words::FileWords;
+use ctx_plan_text::plan_text;
 use itoa::Buffer;
 use lane_code::listing;
-use plan_lines::plan_text;
 use std::alloc::Global;
+use wg_compile::Compiled;
 use wg_num::Memory;
 use wg_outside::Store;
 
@@ -40,7 +40,7 @@ fn put(text: &mut Vec<u8>, bytes: &[u8]) -> Result<(), Memory>
 
 // The text of one kernel.
 fn kernel_text(alloc: Global, shown: Shown, kernel: &Compiled) -> Result<Vec<u8>, Memory>
-    ensures { IfOk result (λ v. (width : ℕ) → IsCompiledAt width kernel.now →
+    ensures { IfOk result (λ v. (width : ℕ) → IsCompilation width kernel.now →
         IsValid (program_of (unit_of kernel.now.program)) →
         showing shown width kernel.now.group.kernel (unit_of kernel.now.program) v.items) }
 {

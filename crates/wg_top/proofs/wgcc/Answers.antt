@@ -1,4 +1,4 @@
-use Rattle.std.proofs.Common.{map, inr, refl, string_bytes}
+use Rattle.std.proofs.Common.{map, inl, inr, refl, string_bytes}
 use Rattle.command_words.specs.Command.{Request, run, request_of}
 use Rattle.wg_top.specs.Ends.{Outside, outside, EndsSaying, usage_line}
 use Rattle.wg_top.proofs.EndLemmas.{asked_failed, asked_absent, asked_no_save, asked_quiet, asked_line, asked_out}
@@ -159,3 +159,18 @@ returns-in-Err-Usage-clause-clean g c =
 
 pub returns-in-Err-Memory-clause-clean : goal.returns-in-Err-Memory-clause-clean
 returns-in-Err-Memory-clause-clean g c = λ ask text s given all quiet out_quiet. inr (refl, refl)
+
+pub returns-in-Ok-clause-unread : goal.returns-in-Ok-clause-unread
+returns-in-Ok-clause-unread g c =
+    λ none. absurd (none (request_of c.in-Ok.asked) (record {
+      taken = c.in-Ok.ensures.taken;
+      asks = c.in-Ok.ensures.asked;
+    }))
+
+pub returns-in-Err-Usage-clause-unread : goal.returns-in-Err-Usage-clause-unread
+returns-in-Err-Usage-clause-unread g c =
+    λ none. inl (refl, record { store_stays = refl; out_stays = refl; said = c.say_usage.ensures.said })
+
+pub returns-in-Err-Memory-clause-unread : goal.returns-in-Err-Memory-clause-unread
+returns-in-Err-Memory-clause-unread g c =
+    λ none. inr (refl, record { store_stays = refl; out_stays = refl; said = c.say_error.ensures.said })

@@ -5,8 +5,8 @@ use Rattle.cl_meaning.specs.Meant.{kernel_from}
 use Rattle.cl_meaning.specs.View.{function_of, table_of}
 use Rattle.cl_scope.specs.View.{env_of, signature_of}
 use Rattle.cl_faults.specs.View.{asked_of}
-use Rattle.cl_piece.specs.declared.piece.Piece.{Piece}
-use Rattle.cl_piece.specs.View.{piece_of}
+use Rattle.cl_fragment.specs.declared.fragment.Piece.{Piece}
+use Rattle.cl_fragment.specs.View.{piece_of}
 use Rattle.cl_check.proofs.Judging.{fault_then}
 use Rattle.cl_check.proofs.Answering.{all_sound, first_fault, program_is}
 use Rattle.cl_check.proofs.unit.typed.Goals as goal

@@ -1,4 +1,4 @@
-use Rattle.cl_piece.specs.declared.piece.Piece.{Piece}
+use Rattle.cl_fragment.specs.declared.fragment.Piece.{Piece}
 use Rattle.cl_check.specs.declared.walk.Parts.{Parts}
 use Rattle.std.proofs.Common.{map, length, ◌∙◌, ap}
 use Rattle.cl_tree.specs.declared.tree.Tree.TheViews.{out-Tree}
@@ -7,7 +7,7 @@ use Rattle.cl_meaning.specs.Declarations.{form_of}
 use Rattle.cl_scope.specs.View.{env_of}
 use Rattle.cl_scope.specs.Walk.{inner_of}
 use Rattle.cl_faults.specs.View.{asked_of}
-use Rattle.cl_piece.specs.View.{piece_of}
+use Rattle.cl_fragment.specs.View.{piece_of}
 use Rattle.cl_check.proofs.Judging.{fault_then, fault_onto, ok_onto, form_is, parts_is, along_more, along_stopped}
 use Rattle.cl_check.proofs.Judging.{tree_done, tree_at_fault, tree_in_parts}
 use Rattle.cl_check.proofs.walk.+tree.Goals as goal

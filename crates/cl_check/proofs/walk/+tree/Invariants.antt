@@ -2,7 +2,7 @@ use Rattle.std.proofs.Common.{map, length, drop}
 use Rattle.cl_tree.specs.Syntax.{views}
 use Rattle.cl_scope.specs.View.{env_of}
 use Rattle.cl_faults.specs.View.{asked_of}
-use Rattle.cl_piece.specs.View.{piece_of}
+use Rattle.cl_fragment.specs.View.{piece_of}
 use Rattle.cl_check.specs.Walk.{PartsAlong}
 use Rattle.cl_check.proofs.walk.+tree.Given as goal
 

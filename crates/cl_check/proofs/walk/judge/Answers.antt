@@ -1,8 +1,8 @@
-use Rattle.cl_piece.specs.declared.piece.Piece.{Piece}
+use Rattle.cl_fragment.specs.declared.fragment.Piece.{Piece}
 use Rattle.std.proofs.Common.{map, length, refl}
 use Rattle.cl_tree.specs.Syntax.{view}
 use Rattle.cl_faults.specs.View.{asked_of}
-use Rattle.cl_piece.specs.View.{piece_of}
+use Rattle.cl_fragment.specs.View.{piece_of}
 use Rattle.cl_check.proofs.Judging.{fault_reported, at_fault_reported, judged, first_is}
 use Rattle.cl_check.proofs.walk.judge.Goals as goal
 

@@ -1,5 +1,5 @@
 use Rattle.std.proofs.Common.{◌+◌, ◌*◌, min, drop, arith, ◌∙◌, ap}
-use Rattle.cl_meaning.specs.Declarations.{product}
+use Rattle.cl_model.specs.Sizes.{product}
 use Rattle.cl_limits.proofs.Caps.{product_step}
 use Rattle.cl_limits.proofs.memory.product_of.Goals as goal
 

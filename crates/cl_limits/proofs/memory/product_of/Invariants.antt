@@ -1,5 +1,5 @@
 use Rattle.std.proofs.Common.{◌≡◌, ◌*◌, ◌≤◌, min, drop}
-use Rattle.cl_meaning.specs.Declarations.{product}
+use Rattle.cl_model.specs.Sizes.{product}
 use Rattle.cl_limits.proofs.memory.product_of.Given as goal
 
 abbrev pub invariant-loop-length : goal.invariant-loop-length

@@ -1,5 +1,5 @@
 use Rattle.std.proofs.Common.{◌≡◌, drop, map}
-use Rattle.cl_meaning.specs.Pieces.{looked_up}
+use Rattle.cl_meaning.specs.OwnWords.{looked_up}
 use Rattle.cl_meaning.proofs.table.look_up.Given as goal
 
 abbrev pub invariant-loop-text : goal.invariant-loop-text

@@ -1,5 +1,5 @@
 use Rattle.std.proofs.Common.{◌≡◌, drop, map}
-use Rattle.cl_meaning.specs.Pieces.{first_row}
+use Rattle.cl_meaning.specs.OwnWords.{first_row}
 use Rattle.cl_meaning.specs.Types.{spells}
 use Rattle.cl_meaning.proofs.types.look_up_base.Given as goal
 

@@ -1,7 +1,7 @@
 use Rattle.std.proofs.Common.{List, true, drop, subst, sym, arith}
 use Rattle.std.specs.Prelude.{Err}
 use Rattle.cl_token.specs.declared.token.Token.{Token}
-use Rattle.cl_token.specs.declared.piece.Piece.TheVariants.{LineEnd, Skipped, Cut}
+use Rattle.cl_token.specs.declared.lexeme.Piece.TheVariants.{LineEnd, Skipped, Cut}
 use Rattle.cl_token.specs.Cuts.{CutsTo, start}
 use Rattle.cl_token.proofs.Steps.{fits, line_step, skip_step, token_step, found, found_piece, word_some, refused}
 use Rattle.cl_token.proofs.lexer.cut.Goals as goal

@@ -1,6 +1,7 @@
 use Rattle.std.proofs.Common.{◌≡◌, drop}
 use Rattle.cl_model.specs.View.{listed_statements}
-use Rattle.ctx_plan.specs.Points.{all_onto, arms_onto, listed_arms}
+use Rattle.cl_model.specs.Listed.{listed_arms}
+use Rattle.ctx_plan.specs.Points.{all_onto, arms_onto}
 use Rattle.ctx_plan.proofs.holding.+points.Given as goal
 
 abbrev pub invariant-put_all_points-loop-s : goal.invariant-put_all_points-loop-s

@@ -6,8 +6,9 @@ use Rattle.cl_model.specs.View.{expression_of, statement_of, listed_statements}
 use Rattle.kir.specs.Inlined.{holds}
 use Rattle.ctx_plan.specs.Outline.{NoPiece, BlockThen, cut_then, calls_then, outline_then, outlines_then}
 use Rattle.ctx_plan.specs.Outline.{outlines_of_arms, pieces_then}
-use Rattle.ctx_plan.specs.Points.{entry, listed_arms}
-use Rattle.ctx_plan.proofs.Rows.{block_listed, switch_listed}
+use Rattle.cl_model.specs.Listed.{listed_arms}
+use Rattle.ctx_plan.specs.Points.{entry}
+use Rattle.cl_model.proofs.Rows.{block_listed, switch_listed}
 use Rattle.ctx_plan.proofs.Outlines.{block_piece}
 use Rattle.ctx_plan.proofs.outline.+statements.Goals as goal
 

@@ -1,7 +1,8 @@
 use Rattle.std.proofs.Common.{◌≡◌, drop}
 use Rattle.cl_model.specs.View.{listed_statements}
 use Rattle.ctx_plan.specs.Outline.{Outline, pieces_then, outlines_then, outlines_of_arms}
-use Rattle.ctx_plan.specs.Points.{entry, listed_arms}
+use Rattle.cl_model.specs.Listed.{listed_arms}
+use Rattle.ctx_plan.specs.Points.{entry}
 use Rattle.ctx_plan.proofs.outline.+statements.Given as goal
 
 abbrev pub invariant-put_statements-loop-s : goal.invariant-put_statements-loop-s

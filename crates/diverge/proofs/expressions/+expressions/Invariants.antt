@@ -1,7 +1,7 @@
 use Rattle.std.proofs.Common.{◌≡◌, drop, false}
 use Rattle.cl_model.specs.View.{listed_expressions, function_of}
 use Rattle.diverge.specs.Known.{state_of}
-use Rattle.diverge.specs.Listed.{listed_arguments}
+use Rattle.cl_model.specs.Listed.{listed_arguments}
 use Rattle.diverge.specs.Rounds.{seen_among, seen_arguments, unseen}
 use Rattle.diverge.proofs.expressions.+expressions.Given as goal
 

@@ -1,7 +1,7 @@
 use Rattle.std.proofs.Common.{◌≡◌, ◌≤◌, drop}
 use Rattle.cl_model.specs.View.{function_of}
 use Rattle.diverge.specs.Known.{state_of, joined, no_way}
-use Rattle.diverge.specs.Listed.{listed_arms}
+use Rattle.cl_model.specs.Listed.{listed_arms}
 use Rattle.diverge.specs.Rounds.{gone_over_arms}
 use Rattle.diverge.proofs.Blocks.{forward}
 use Rattle.diverge.proofs.statements.+statements.Given as goal

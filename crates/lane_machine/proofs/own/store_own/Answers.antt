@@ -7,10 +7,10 @@ use Rattle.lane_machine.proofs.own.store_own.Goals as goal
 
 pub returns : goal.returns
 returns g c =
-    let m = mask_of c.args.r.now.plain c.args.mask in
-    let index = lanes_of c.args.r.now.plain c.args.index in
-    let lanes = lanes_of c.args.r.now.plain c.args.from in
-    let size = size_of c.args.t in
+    let m = mask_of c.args.r.now.plain c.args.access.mask in
+    let index = lanes_of c.args.r.now.plain c.args.access.index in
+    let lanes = lanes_of c.args.r.now.plain c.args.access.value in
+    let size = size_of c.args.access.of in
     let first = c.args.first in
     let W = g.row.W in
     let xs = c.args.privates.now.items in

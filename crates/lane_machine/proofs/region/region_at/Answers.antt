@@ -16,7 +16,7 @@ use Rattle.lane_machine.proofs.region.region_at.Goals as goal
 
 pub item_in-item-requires : goal.item_in-item-requires
 item_in-item-requires g c =
-    let l = launch_of c.args.launch.now in
+    let l = launch_of c.args.task.launch.now in
     let e : c.whole-size.result ≡ group_size l = c.whole-size.ensures.value in
     let all = all_items (size_at l.global 0) (size_at l.global 1) (size_at l.global 2) (size_at l.local 0)
     (size_at l.local 1) (size_at l.local 2) in
@@ -29,8 +29,9 @@ item_in-item-requires g c =
 pub returns-clause-end : goal.returns-clause-end
 returns-clause-end g c =
     let a = c.args in
-    ap (λ (e : Ended). e.end) (region_is (plain_of a.program.now) (launch_of a.launch.now) a.group.now.number a.chunk
-    g.row.W c.whole-size.result c.first_in-first.result a.turns.now a.code.now.counts a.code.now.steps.items
+    ap (λ (e : Ended). e.end) (region_is (plain_of a.task.program.now) (launch_of a.task.launch.now)
+    a.group.now.number a.task.chunk
+    g.row.W c.whole-size.result c.first_in-first.result a.turns.now a.task.code.now.counts a.task.code.now.steps.items
     c.deref.result.now a.group.now.kept (buffers_of a.buffers.now) c.restart.new.self.plain _ c.requires.width
     c.whole-size.ensures.value c.first_in-first.ensures.value c.restart.ensures.written c.deref.ensures.value
     c.run.ensures.end)
@@ -38,36 +39,38 @@ returns-clause-end g c =
 pub returns-clause-turns : goal.returns-clause-turns
 returns-clause-turns g c =
     let a = c.args in
-    ap (λ (e : Ended). e.turns) (region_is (plain_of a.program.now) (launch_of a.launch.now) a.group.now.number
-    a.chunk g.row.W c.whole-size.result c.first_in-first.result a.turns.now a.code.now.counts
-    a.code.now.steps.items c.deref.result.now a.group.now.kept (buffers_of a.buffers.now)
+    ap (λ (e : Ended). e.turns) (region_is (plain_of a.task.program.now) (launch_of a.task.launch.now)
+    a.group.now.number
+    a.task.chunk g.row.W c.whole-size.result c.first_in-first.result a.turns.now a.task.code.now.counts
+    a.task.code.now.steps.items c.deref.result.now a.group.now.kept (buffers_of a.buffers.now)
     c.restart.new.self.plain _ c.requires.width c.whole-size.ensures.value c.first_in-first.ensures.value
     c.restart.ensures.written c.deref.ensures.value c.run.ensures.end)
 
 pub returns-clause-group : goal.returns-clause-group
 returns-clause-group g c =
     let a = c.args in
-    ap (λ (e : Ended). e.state.group) (region_is (plain_of a.program.now) (launch_of a.launch.now) a.group.now.number
-    a.chunk g.row.W c.whole-size.result c.first_in-first.result a.turns.now a.code.now.counts
-    a.code.now.steps.items c.deref.result.now a.group.now.kept (buffers_of a.buffers.now)
+    ap (λ (e : Ended). e.state.group) (region_is (plain_of a.task.program.now) (launch_of a.task.launch.now)
+    a.group.now.number
+    a.task.chunk g.row.W c.whole-size.result c.first_in-first.result a.turns.now a.task.code.now.counts
+    a.task.code.now.steps.items c.deref.result.now a.group.now.kept (buffers_of a.buffers.now)
     c.restart.new.self.plain _ c.requires.width c.whole-size.ensures.value c.first_in-first.ensures.value
     c.restart.ensures.written c.deref.ensures.value c.run.ensures.end)
 
 pub returns-clause-buffers : goal.returns-clause-buffers
 returns-clause-buffers g c =
     let a = c.args in
-    ap (λ (e : Ended). e.state.buffers) (region_is (plain_of a.program.now) (launch_of a.launch.now)
-    a.group.now.number a.chunk g.row.W c.whole-size.result c.first_in-first.result a.turns.now a.code.now.counts
-    a.code.now.steps.items c.deref.result.now a.group.now.kept (buffers_of a.buffers.now)
+    ap (λ (e : Ended). e.state.buffers) (region_is (plain_of a.task.program.now) (launch_of a.task.launch.now)
+    a.group.now.number a.task.chunk g.row.W c.whole-size.result c.first_in-first.result a.turns.now
+    a.task.code.now.counts a.task.code.now.steps.items c.deref.result.now a.group.now.kept (buffers_of a.buffers.now)
     c.restart.new.self.plain _ c.requires.width c.whole-size.ensures.value c.first_in-first.ensures.value
     c.restart.ensures.written c.deref.ensures.value c.run.ensures.end)
 
 pub run-requires : goal.run-requires
 run-requires g c =
     let a = c.args in
-    let l = launch_of a.launch.now in
-    let names = names_of (plain_of a.program.now) in
-    let counts = a.code.now.counts in
+    let l = launch_of a.task.launch.now in
+    let names = names_of (plain_of a.task.program.now) in
+    let counts = a.task.code.now.counts in
     let e : c.whole-size.result ≡ group_size l = c.whole-size.ensures.value in
     let first : c.first_in-first.result < 2 ^ 32 =
     omega (arith, c.first_in-first.ensures.below, e, c.requires.sizes.local.few) in
@@ -81,11 +84,28 @@ run-requires g c =
     let few : c.item_in-item.result < 2 ^ 32 = omega (arith, b, item) in
     let tests : (steps : List Step) → Test
     = λ steps. all_steps (step_fits names counts (length steps)) 0 steps in
-    let fits : tests a.code.now.steps.items ≡ true =
-    right (nat_lt 0 counts.masks) (tests a.code.now.steps.items) c.requires.code in
+    let fits : tests a.task.code.now.steps.items ≡ true =
+    right (nat_lt 0 counts.masks) (tests a.task.code.now.steps.items) c.requires.code in
     let code : all_steps (step_fits names counts (length c.deref.result.now)) 0 c.deref.result.now ≡ true =
     subst (λ s. tests s ≡ true) (sym c.deref.ensures.value) fits in
     let registers : HasCounts counts c.restart.new.self.plain =
     started counts g.row.W c.whole-size.result c.first_in-first.result c.restart.new.self.plain
-    c.restart.ensures.written in
-    (omega arith, (c.requires.lanes, (first, (item, (few, (c.requires.sizes, (code, (registers, c.requires.names))))))))
+    c.restart.ensures.written in (
+      omega arith,
+      (
+        c.requires.lanes,
+        (
+          first,
+          (
+            item,
+            (
+              few,
+              (
+                c.requires.sizes,
+                (code, (registers, c.requires.names)),
+              ),
+            ),
+          ),
+        ),
+      ),
+    )

@@ -7,10 +7,10 @@ use Rattle.lane_machine.proofs.shared.store_into.Goals as goal
 
 pub returns : goal.returns
 returns g c =
-    let m = mask_of c.args.r.now.plain c.args.mask in
-    let index = lanes_of c.args.r.now.plain c.args.index in
-    let lanes = lanes_of c.args.r.now.plain c.args.from in
-    let size = size_of c.args.t in
+    let m = mask_of c.args.r.now.plain c.args.access.mask in
+    let index = lanes_of c.args.r.now.plain c.args.access.index in
+    let lanes = lanes_of c.args.r.now.plain c.args.access.value in
+    let size = size_of c.args.access.of in
     let lists = map (λ (v : Vec ℕ Global). v.items) c.args.objects.now.items in
     let long = length_mapped (λ (v : Vec ℕ Global). v.items) c.args.objects.now.items in
     let l : length c.args.objects.now.items ≤ c.args.object = search rules in

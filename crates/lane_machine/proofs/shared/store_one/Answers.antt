@@ -7,10 +7,10 @@ use Rattle.lane_machine.proofs.shared.store_one.Goals as goal
 
 pub returns : goal.returns
 returns g c =
-    let m = mask_of c.args.r.now.plain c.args.mask in
-    let index = lanes_of c.args.r.now.plain c.args.index in
-    let lanes = lanes_of c.args.r.now.plain c.args.from in
-    let size = size_of c.args.t in
+    let m = mask_of c.args.r.now.plain c.args.access.mask in
+    let index = lanes_of c.args.r.now.plain c.args.access.index in
+    let lanes = lanes_of c.args.r.now.plain c.args.access.value in
+    let size = size_of c.args.access.of in
     let xs = c.args.objects.now.items in
     store_moves [] c.store_shared.result (map (λ (v : Vec ℕ Global). v.items) xs) c.args.object
     c.index_mut.result.now.items c.store_shared.new.bytes.items _ (λ b. lowest (faults size (length b) m index))

@@ -2,8 +2,8 @@ use Rattle.std.proofs.Common.{sym, subst}
 use Rattle.kir.specs.View.{kernel_of}
 use Rattle.regions.specs.Tree.{NoRegion}
 use Rattle.regions.specs.View.{tree_before}
-use Rattle.regions.specs.Pieces.{EachRegion, IsPiece}
-use Rattle.regions.proofs.Pieces.{split_pieces}
+use Rattle.regions.specs.Fragments.{EachRegion, IsPiece}
+use Rattle.regions.proofs.Fragments.{split_pieces}
 use Rattle.regions.proofs.Interleaving.{runs_interleave}
 use Rattle.regions.proofs.splitting.split.Goals as goal
 

@@ -10,8 +10,8 @@ use Rattle.launch_file.specs.Texts.{Part, part_of, text_of}
 use Rattle.launch_file.specs.Values.{HasOneLength}
 use Rattle.cl_meaning.specs.Typed.{Unit'}
 use Rattle.cl_meaning.specs.View.{unit_of}
-use Rattle.wg_top.specs.declared.compile.Compiled.{Compiled}
-use Rattle.wg_top.specs.Described.{IsCompiledAt}
+use Rattle.wg_compile.specs.declared.Compiled.{Compiled}
+use Rattle.wg_compile.specs.Correct.{IsCompilation}
 use Rattle.wg_top.specs.Units.{needs_in}
 use Rattle.wg_top.proofs.BoundLemmas.{one_bound, all_ready, is_ready, is_fit, more_fit, part_has, refused_later}
 use Rattle.wg_top.proofs.BoundLemmas.{refused_here, at_place}
@@ -40,8 +40,8 @@ loop-which-preserved c =
     let pushed : c.push.new.self.items ≡ c.loop-which.list.items ++ c.in-Ok.launch ∷ [] = search rules in
     let one : HasOneLength part =
     part_has c.args.text.now.list.items c.loop-which.which _ in_list c.requires.text.lengths in
-    let passed : IsCompiledAt (text_of c.args.text.now).lanes kernel =
-    holds_at (IsCompiledAt (text_of c.args.text.now).lanes) c.args.kernels.now c.loop-which.which kernel
+    let passed : IsCompilation (text_of c.args.text.now).lanes kernel =
+    holds_at (IsCompilation (text_of c.args.text.now).lanes) c.args.kernels.now c.loop-which.which kernel
     in_kernels is c.requires.passes in
     let params : (needs_in u).kinds ≡ (plain_of kernel.group).params =
     params_in (text_of c.args.text.now).lanes kernel passed in

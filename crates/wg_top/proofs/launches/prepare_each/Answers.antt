@@ -11,7 +11,7 @@ use Rattle.lane_code.specs.Fits.{LaunchFits}
 use Rattle.lane_code.specs.Program.{Plain}
 use Rattle.lane_code.specs.View.{plain_of}
 use Rattle.wg_top.specs.Launches.{AllFit}
-use Rattle.wg_top.specs.declared.compile.Compiled.{Compiled}
+use Rattle.wg_compile.specs.declared.Compiled.{Compiled}
 use Rattle.wg_top.proofs.LaunchLemmas.{made_next, taken_next}
 use Rattle.wg_top.proofs.launches.prepare_each.Goals as goal
 

@@ -3,7 +3,7 @@ use Rattle.std.proofs.lemmas.Result.{IfErr-weaker}
 use Rattle.launch_file.specs.declared.text.LaunchPart.{LaunchPart}
 use Rattle.launch_file.specs.Texts.{Part, part_of, text_of}
 use Rattle.std.specs.Prelude.{IfOk}
-use Rattle.wg_top.specs.declared.compile.Compiled.{Compiled}
+use Rattle.wg_compile.specs.declared.Compiled.{Compiled}
 use Rattle.wg_top.proofs.ProgramLemmas.{kernels_cause, names_of_parts}
 use Rattle.wg_top.proofs.programs.compile_all.Goals as goal
 

@@ -1,5 +1,5 @@
 use Rattle.std.proofs.Common.{List, ℕ, subst}
-use Rattle.wg_front.specs.Compiled.{IsUnitRefusal}
+use Rattle.cl_front.specs.Typed.{IsUnitRefusal}
 use Rattle.wg_top.proofs.programs.compile_one.Goals as goal
 
 pub returns-in-Err-clause-err : goal.returns-in-Err-clause-err

@@ -12,9 +12,9 @@ use Rattle.lane_code.specs.Program.{Plain}
 use Rattle.lane_code.specs.View.{plain_of}
 use Rattle.launch_file.specs.Binding.{lengths_of}
 use Rattle.launch_file.specs.Texts.{text_of}
-use Rattle.wg_top.specs.declared.compile.Compiled.{Compiled}
+use Rattle.wg_compile.specs.declared.Compiled.{Compiled}
 use Rattle.wg_top.specs.Causes.{standing, BuffersLoaded, HasRun}
-use Rattle.wg_top.specs.Middle.{programs_in}
+use Rattle.wg_top.specs.Units.{programs_in}
 use Rattle.wg_top.specs.Launches.{IsReady, launches_in}
 use Rattle.wg_top.proofs.MeaningLemmas.{AreLike}
 use Rattle.wg_top.proofs.LaunchLemmas.{lengths_twice}
@@ -22,7 +22,7 @@ use Rattle.wg_top.proofs.RunLemmas.{ready_first, load_texts, save_texts, started
 use Rattle.wg_top.proofs.RunLemmas.{programs_are, is_stopped, stopped_leaves, has_run, save_stopped, is_run, apart}
 use Rattle.wg_top.proofs.RunLemmas.{map_twice, ready_launcher, buffers_fit}
 use Rattle.wg_top.proofs.OutcomeLemmas.{AllPrepared, all_made, all_compiled, prepared, ran_outcome, stop_outcome}
-use Rattle.wg_top.specs.Outcomes.{AreMade, AreCompiledTo}
+use Rattle.wg_top.specs.Outcomes.{AreMade, HaveGroupPrograms}
 use Rattle.wg_top.proofs.run.run_bound.Goals as goal
 
 pub load_all-requires-clause-texts : goal.load_all-requires-clause-texts
@@ -79,7 +79,7 @@ returns-in-Err-run_each-clause-err g c =
     subst (λ (ls : List Launch). AllPrepared groups ls) are (subst (λ (ps : List Plain). AllPrepared ps launches)
     c.in-Ok-prepare_each.ensures.programs (prepared all c.in-Ok-prepare_each.ensures.fit)) in
     let made : AreMade units = all_made text.lanes c.args.kernels.now c.requires.passes c.requires.valid in
-    let compiled : AreCompiledTo text.lanes text.list units =
+    let compiled : HaveGroupPrograms text.lanes text.list units =
     all_compiled text.lanes c.args.kernels.now text.list c.requires.passes c.requires.valid c.requires.names in
     is_stopped (standing g.S.Store.files g.S.Store.faults g.S.Store.misses c.args.store.now)
     (standing g.S.Store.files g.S.Store.faults g.S.Store.misses c.load_all.new.store) text units before programs
@@ -238,7 +238,7 @@ returns-in-Ok-save_all-clause-ok g c =
     subst (λ (ls : List Launch). AllPrepared groups ls) are (subst (λ (ps : List Plain). AllPrepared ps launches)
     c.in-Ok-prepare_each.ensures.programs (prepared all c.in-Ok-prepare_each.ensures.fit)) in
     let made : AreMade units = all_made text.lanes c.args.kernels.now c.requires.passes c.requires.valid in
-    let compiled : AreCompiledTo text.lanes text.list units =
+    let compiled : HaveGroupPrograms text.lanes text.list units =
     all_compiled text.lanes c.args.kernels.now text.list c.requires.passes c.requires.valid c.requires.names in
     let run : HasRun (g.S.Store.files c.args.store.now) text units after =
     has_run (g.S.Store.files c.args.store.now) text units before after programs launches loaded like are
@@ -287,7 +287,7 @@ returns-clause-left g c =
     subst (λ (ls : List Launch). AllPrepared groups ls) are (subst (λ (ps : List Plain). AllPrepared ps launches)
     c.in-Ok-prepare_each.ensures.programs (prepared all c.in-Ok-prepare_each.ensures.fit)) in
     let made : AreMade units = all_made text.lanes c.args.kernels.now c.requires.passes c.requires.valid in
-    let compiled : AreCompiledTo text.lanes text.list units =
+    let compiled : HaveGroupPrograms text.lanes text.list units =
     all_compiled text.lanes c.args.kernels.now text.list c.requires.passes c.requires.valid c.requires.names in
     let run : HasRun (g.S.Store.files c.args.store.now) text units after =
     has_run (g.S.Store.files c.args.store.now) text units before after programs launches loaded like are

@@ -2,7 +2,7 @@ use Rattle.std.proofs.Common.{List, map}
 use Rattle.cl_meaning.specs.Typed.{Unit'}
 use Rattle.cl_meaning.specs.View.{unit_of}
 use Rattle.launch_file.specs.Texts.{Text, text_of}
-use Rattle.wg_top.specs.declared.compile.Compiled.{Compiled}
+use Rattle.wg_compile.specs.declared.Compiled.{Compiled}
 use Rattle.wg_top.proofs.OutcomeLemmas.{all_made, all_compiled}
 use Rattle.wg_top.proofs.texts.show_source.Goals as goal
 

@@ -4,11 +4,11 @@ use Rattle.std.proofs.lemmas.List.{length-map, get_or_default}
 use Rattle.cl_meaning.specs.Typed.{Unit'}
 use Rattle.cl_meaning.specs.View.{unit_of}
 use Rattle.cl_model.specs.Valid.{IsValid}
-use Rattle.cl_valid.specs.Erased.{program_of}
+use Rattle.cl_check_sound.specs.Erased.{program_of}
 use Rattle.launch_file.specs.Binding.{part_at}
 use Rattle.launch_file.specs.Texts.{Part, text_of}
-use Rattle.wg_top.specs.declared.compile.Compiled.{Compiled}
-use Rattle.wg_top.specs.Described.{IsCompiledAt}
+use Rattle.wg_compile.specs.declared.Compiled.{Compiled}
+use Rattle.wg_compile.specs.Correct.{IsCompilation}
 use Rattle.wg_top.specs.Shown.{showing, head_of, AreTexts}
 use Rattle.wg_top.proofs.BoundLemmas.{at_place}
 use Rattle.wg_top.proofs.LaunchLemmas.{holds_at}
@@ -32,8 +32,8 @@ loop-k-preserved c = λ later texts.
     (ap length c.requires.names ∙ length-map text.list (λ (p : Part). p.kernel)) in
     let in_parts : c.loop-k.k < length text.list = omega (arith, in_kernels, many) in
     let part : Part = part_at text k in
-    let passed : IsCompiledAt text.lanes kernel =
-    holds_at (IsCompiledAt text.lanes) kernels k kernel in_kernels is c.requires.passes in
+    let passed : IsCompilation text.lanes kernel =
+    holds_at (IsCompilation text.lanes) kernels k kernel in_kernels is c.requires.passes in
     let valid : IsValid (program_of (unit kernel)) =
     holds_at (λ (q : Compiled). IsValid (program_of (unit_of q.program))) kernels k kernel in_kernels is
     c.requires.valid in

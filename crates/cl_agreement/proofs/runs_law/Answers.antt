@@ -1,7 +1,0 @@
-use Rattle.cl_model.specs.View.{program_of, launch_of, buffers_of}
-use Rattle.cl_agreement.proofs.Carried.{carries}
-use Rattle.cl_agreement.proofs.runs_law.Goals as goal
-
-pub returns : goal.returns
-returns c = carries (program_of c.args.program.now) (launch_of c.args.launch.now) (buffers_of c.args.buffers.now)
-    c.requires.valid c.requires.fits

@@ -1,0 +1,4 @@
+pub mod Conditions
+pub mod Front
+pub mod Typed
+pub mod Law

@@ -1,0 +1,183 @@
+//! From the bytes of a source to its unit.
+ghost use Rattle.std.specs.Prelude.{◌≡◌, ◌≤◌, List, length, All, IfOk, IfErr};
+ghost use Rattle.cl_token.specs.declared.token.Token.{Token as AnyToken};
+ghost use Rattle.cl_token.specs.Answers.{IsRefusedOrMemory as IsUncutOrMemory};
+ghost use Rattle.cl_token.specs.Cuts.{Cuts, limit};
+ghost use Rattle.cl_prep.specs.declared.prep.Define.{Define};
+ghost use Rattle.cl_prep.specs.Expands.{token_limit};
+ghost use Rattle.cl_prep.specs.Progress.{IsRefusedOrMemory as IsUnexpandedOrMemory};
+ghost use Rattle.cl_tree.specs.Syntax.{view, nesting};
+ghost use Rattle.cl_tree.specs.Grammar.{SpellsUnit};
+ghost use Rattle.cl_front.specs.Front.{Reads, AreExpanded, IsRefusal, place_of_token, condition_of_lexical};
+ghost use Rattle.cl_front.specs.Front.{condition_of_expansion};
+
+use crate::condition::Condition;
+use cl_parse::{ParseError, parse};
+use cl_prep::{Defines, PrepError, expand};
+use cl_token::{LexError, Token, place_of, tokens};
+use cl_tree::Tree;
+use std::alloc::Global;
+use wg_num::Place;
+
+/// Why a source is refused.
+#[derive(Clone, Copy)]
+pub enum SourceError {
+    /// The condition stands at that place.
+    Refused { condition: Condition, place: Place },
+    Memory,
+}
+
+// The place of the token with that number, or of the end of the source.
+pub(crate) fn token_place(source: &[u8], tokens: &[Token], number: u32) -> Place
+    requires short { length source.now ≤ limit }
+    requires inside { All (λ t. t.start ≤ length source.now) tokens.now }
+    ensures { result ≡ place_of_token source.now tokens.now number }
+{
+    match tokens.get(number as usize) {
+        Some(token) => place_of(source, token.start),
+        None => place_of(source, source.len() as u32),
+    }
+}
+
+// The condition of an error of the tokens and the offset at which it stands, or none where memory
+// ran out.
+fn lexical_condition(error: LexError) -> Option<(Condition, u32)>
+    ensures { result ≡ condition_of_lexical error }
+{
+    match error {
+        LexError::NoToken { at } => Some((Condition::NoToken, at)),
+        LexError::OpenComment { at } => Some((Condition::OpenComment, at)),
+        LexError::BadNumber { at } => Some((Condition::BadNumber, at)),
+        LexError::LargeNumber { at } => Some((Condition::LargeNumber, at)),
+        LexError::TooLong => Some((Condition::TooLong, 0)),
+        LexError::Memory => None,
+    }
+}
+
+// The refusal of a source that is not cut into tokens.
+fn uncut(source: &[u8], error: LexError) -> SourceError
+    requires { IsUncutOrMemory source.now error }
+    ensures { (defines : List Define) → IsRefusal source.now defines result }
+{
+    match lexical_condition(error) {
+        Some((condition, at)) => SourceError::Refused {
+            condition,
+            place: place_of(source, at),
+        },
+        None => SourceError::Memory,
+    }
+}
+
+// The tokens of a source.
+fn cut_source(alloc: Global, source: &[u8]) -> Result<Vec<Token>, SourceError>
+    ensures short { IfOk result (λ ts. length source.now ≤ limit) }
+    ensures cuts { IfOk result (λ ts. Cuts source.now ts.items) }
+    ensures inside { IfOk result (λ ts. All (λ t. t.start ≤ length source.now) ts.items) }
+    ensures err { IfErr result (λ e. (defines : List Define) → IsRefusal source.now defines e) }
+{
+    match tokens(alloc, source) {
+        Ok(tokens) => Ok(tokens),
+        Err(error) => Err(uncut(source, error)),
+    }
+}
+
+// The condition of an error of the expansion and the token at which it stands, or none where memory
+// ran out.
+fn expansion_condition(error: PrepError) -> Option<(Condition, u32)>
+    ensures { result ≡ condition_of_expansion error }
+{
+    match error {
+        PrepError::BadDirective { token } => Some((Condition::BadDirective, token)),
+        PrepError::NoName { token } => Some((Condition::NoName, token)),
+        PrepError::Redefined { token } => Some((Condition::Redefined, token)),
+        PrepError::NoOpening { token } => Some((Condition::NoOpening, token)),
+        PrepError::NotClosed { token } => Some((Condition::NotClosed, token)),
+        PrepError::TooMany { token } => Some((Condition::TooMany, token)),
+        PrepError::Memory => None,
+    }
+}
+
+// The refusal of tokens that are not expanded.
+fn unexpanded(source: &[u8], defines: &Defines, tokens: &[Token], error: PrepError) -> SourceError
+    requires short { length source.now ≤ limit }
+    requires cuts { Cuts source.now tokens.now }
+    requires inside { All (λ t. t.start ≤ length source.now) tokens.now }
+    requires refused { IsUnexpandedOrMemory tokens.now defines.now.list.items error }
+    ensures { IsRefusal source.now defines.now.list.items result }
+{
+    match expansion_condition(error) {
+        Some((condition, token)) => SourceError::Refused {
+            condition,
+            place: token_place(source, tokens, token),
+        },
+        None => SourceError::Memory,
+    }
+}
+
+// What the tokens of a source expand to.
+fn expand_tokens(
+    alloc: Global,
+    source: &[u8],
+    defines: &Defines,
+    tokens: &[Token],
+) -> Result<Vec<Token>, SourceError>
+    requires short { length source.now ≤ limit }
+    requires cuts { Cuts source.now tokens.now }
+    requires inside { All (λ t. t.start ≤ length source.now) tokens.now }
+    ensures reads { IfOk result (λ ts. Reads source.now defines.now.list.items tokens.now ts.items) }
+    ensures inside { IfOk result (λ ts. All (λ t. t.start ≤ length source.now) ts.items) }
+    ensures few { IfOk result (λ ts. length ts.items ≤ token_limit) }
+    ensures err { IfErr result (λ e. IsRefusal source.now defines.now.list.items e) }
+{
+    match expand(alloc, tokens, defines) {
+        Ok(expanded) => Ok(expanded),
+        Err(error) => Err(unexpanded(source, defines, tokens, error)),
+    }
+}
+
+/// The tokens of a source after directives, conditionals and the replacement of names (C99, sections
+/// 6.4 and 6.10), with these given names.
+///
+/// A source is refused by its bytes first (E101 to E105), and then by its tokens (E201 to E206), at
+/// the place that the condition names.
+pub fn read_tokens(
+    alloc: Global,
+    source: &[u8],
+    defines: &Defines,
+) -> Result<Vec<Token>, SourceError>
+    ensures expanded { IfOk result (λ ts. AreExpanded source.now defines.now.list.items ts.items) }
+    ensures short { IfOk result (λ ts. length source.now ≤ limit) }
+    ensures inside { IfOk result (λ ts. All (λ t. t.start ≤ length source.now) ts.items) }
+    ensures few { IfOk result (λ ts. length ts.items ≤ token_limit) }
+    ensures err { IfErr result (λ e. IsRefusal source.now defines.now.list.items e) }
+{
+    let tokens = match cut_source(alloc, source) {
+        Ok(tokens) => tokens,
+        Err(error) => return Err(error),
+    };
+    expand_tokens(alloc, source, defines, &tokens)
+}
+
+/// The unit that the expanded tokens of a source spell (OpenCL 1.2, chapter 6; C99, sections 6.5 to
+/// 6.9), or its refusal (E301 and E302) at the place that the condition names.
+pub fn read_unit(alloc: Global, source: &[u8], expanded: &[Token]) -> Result<Tree, SourceError>
+    requires short { length source.now ≤ limit }
+    requires inside { All (λ t. t.start ≤ length source.now) expanded.now }
+    requires few { length expanded.now ≤ token_limit }
+    ensures ok { IfOk result (λ t. SpellsUnit (view t) expanded.now × (nesting (view t) ≤ 256)) }
+    ensures err { IfErr result (λ e. (defines : List Define) (tokens : List AnyToken) →
+        Reads source.now defines tokens expanded.now → IsRefusal source.now defines e) }
+{
+    match parse(alloc, expanded) {
+        Ok(unit) => Ok(unit),
+        Err(ParseError::Syntax { token }) => Err(SourceError::Refused {
+            condition: Condition::Syntax,
+            place: token_place(source, expanded, token),
+        }),
+        Err(ParseError::Nesting { token }) => Err(SourceError::Refused {
+            condition: Condition::Nesting,
+            place: token_place(source, expanded, token),
+        }),
+        Err(ParseError::Memory) => Err(SourceError::Memory),
+    }
+}

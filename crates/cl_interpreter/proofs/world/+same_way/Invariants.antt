@@ -1,5 +1,0 @@
-use Rattle.std.proofs.Common.{length}
-use Rattle.cl_interpreter.proofs.world.+same_way.Given as goal
-
-abbrev pub decreases-same_way : goal.decreases-same_way
-decreases-same_way l = length l.way.now

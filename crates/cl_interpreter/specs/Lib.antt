@@ -1,9 +1,0 @@
-pub mod Entries
-pub mod Lists
-pub mod Marks
-pub mod Nexts
-pub mod Objects
-pub mod Reasons
-pub mod Tasks
-pub mod Trees
-pub mod Worlds

@@ -1,5 +1,0 @@
-pub mod Living
-pub mod Alike
-pub mod Places
-pub mod Reached
-pub mod Even

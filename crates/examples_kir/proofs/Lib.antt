@@ -1,0 +1,4 @@
+mod Computed
+mod Meeting
+mod Uniformly
+mod Holding

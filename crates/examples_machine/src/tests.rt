@@ -1,0 +1,285 @@
+//! Ends, the tally and votes, on small codes.
+ghost use Rattle.std.specs.Prelude.{IfOk};
+ghost use Rattle.examples_machine.specs.Examples.{IsReady};
+
+use crate::Example;
+use cl_model::{Buffers, Query, Root};
+use lane_code::{Bank, Reg, RegionEnd, Step};
+use lane_machine::Answers;
+use std::alloc::Global;
+use std::test::Fail;
+use wg_num::{Bin, IntType, Width};
+
+const V0: Reg = Reg {
+    bank: Bank::Narrow,
+    number: 0,
+};
+
+const V1: Reg = Reg {
+    bank: Bank::Narrow,
+    number: 1,
+};
+
+const W0: Reg = Reg {
+    bank: Bank::Wide,
+    number: 0,
+};
+
+const W1: Reg = Reg {
+    bank: Bank::Wide,
+    number: 1,
+};
+
+const W2: Reg = Reg {
+    bank: Bank::Wide,
+    number: 2,
+};
+
+const M0: Reg = Reg {
+    bank: Bank::Mask,
+    number: 0,
+};
+
+const M1: Reg = Reg {
+    bank: Bank::Mask,
+    number: 1,
+};
+
+/// One buffer of so many ints, each of this value.
+fn ints(alloc: Global, count: usize, value: u8) -> Result<Buffers, Fail> {
+    let mut bytes = Vec::new(alloc);
+    for _ in 0..count {
+        bytes.push(value)?;
+        bytes.push(0)?;
+        bytes.push(0)?;
+        bytes.push(0)?;
+    }
+    let mut list = Vec::new(alloc);
+    list.push(bytes)?;
+    Ok(Buffers { list })
+}
+
+/// The lowest byte of an int of the buffer.
+fn int_at(buffers: &Buffers, item: usize) -> u8 {
+    let Some(place) = item.checked_mul(4) else {
+        return 0;
+    };
+    match buffers.list.get(0) {
+        Some(bytes) => match bytes.get(place) {
+            Some(byte) => *byte,
+            None => 0,
+        },
+        None => 0,
+    }
+}
+
+/// Sets the lowest byte of an int of the buffer.
+fn set_int(buffers: &mut Buffers, item: usize, value: u8) {
+    let Some(place) = item.checked_mul(4) else {
+        return;
+    };
+    if let Some(bytes) = buffers.list.get_mut(0) {
+        if let Some(byte) = bytes.get_mut(place) {
+            *byte = value;
+        }
+    }
+}
+
+/// Loads, doubles and stores the ints of all items.
+const DOUBLING: [Step; 5] = [
+    Step::Const {
+        to: V0,
+        of: IntType::Uint,
+        value: 0,
+    },
+    Step::Ask {
+        what: Query::GlobalId,
+        to: W0,
+        dim: V0,
+        mask: M0,
+    },
+    Step::Load {
+        site: 0,
+        of: IntType::Int,
+        root: Root::Param(0),
+        index: W0,
+        to: V1,
+        mask: M0,
+    },
+    Step::Binary {
+        op: Bin::Add,
+        of: IntType::Int,
+        to: V1,
+        a: V1,
+        b: V1,
+        mask: M0,
+    },
+    Step::Store {
+        site: 1,
+        of: IntType::Int,
+        root: Root::Param(0),
+        index: W0,
+        from: V1,
+        mask: M0,
+    },
+];
+
+fn doubling(alloc: Global) -> Result<Example, Fail>
+    ensures { IfOk result (λ e. IsReady e.program e.launch e.machine e.group) }
+{
+    Ok(Example::new(alloc, Width::W8, DOUBLING.to_vec(alloc)?)?)
+}
+
+#[test]
+fn the_tally_counts_the_calls_on_vectors(rt: HostRuntime) -> Result<(), Fail> {
+    let mut example = doubling(rt.alloc())?;
+    let mut turns = 0;
+    let mut buffers = ints(rt.alloc(), 20, 7)?;
+    let before = example.machine.tally.count();
+    let end = example.first_chunk(&mut buffers, &mut turns);
+    let after = example.machine.tally.count();
+    assert_eq!(rt; (before, end, after), (0, RegionEnd::Done, 3));
+    assert_eq!(rt; (int_at(&buffers, 7), int_at(&buffers, 8)), (14, 7));
+    Ok(())
+}
+
+#[test]
+fn the_lowest_lane_out_of_range_is_the_end(rt: HostRuntime) -> Result<(), Fail> {
+    let mut example = doubling(rt.alloc())?;
+    let mut turns = 0;
+    let mut few = ints(rt.alloc(), 3, 7)?;
+    let end = example.first_chunk(&mut few, &mut turns);
+    assert_eq!(rt; end, RegionEnd::Range { lane: 3, site: 0 });
+    assert_eq!(rt; int_at(&few, 2), 7);
+    Ok(())
+}
+
+/// Stores 9 in the ints of all items, and ends at a mark in those that are not below 2.
+const MARKING: [Step; 9] = [
+    Step::Const {
+        to: V0,
+        of: IntType::Uint,
+        value: 0,
+    },
+    Step::Ask {
+        what: Query::GlobalId,
+        to: W0,
+        dim: V0,
+        mask: M0,
+    },
+    Step::Const {
+        to: W1,
+        of: IntType::Ulong,
+        value: 2,
+    },
+    Step::Binary {
+        op: Bin::Lt,
+        of: IntType::Ulong,
+        to: W2,
+        a: W0,
+        b: W1,
+        mask: M0,
+    },
+    Step::Test {
+        to: M1,
+        from: W2,
+        mask: M0,
+    },
+    Step::Const {
+        to: V1,
+        of: IntType::Int,
+        value: 9,
+    },
+    Step::Store {
+        site: 1,
+        of: IntType::Int,
+        root: Root::Param(0),
+        index: W0,
+        from: V1,
+        mask: M0,
+    },
+    Step::MaskLess {
+        to: M1,
+        a: M0,
+        b: M1,
+    },
+    Step::Mark { site: 0, mask: M1 },
+];
+
+fn marking(alloc: Global) -> Result<Example, Fail>
+    ensures { IfOk result (λ e. IsReady e.program e.launch e.machine e.group) }
+{
+    Ok(Example::new(alloc, Width::W4, MARKING.to_vec(alloc)?)?)
+}
+
+#[test]
+fn stores_below_the_first_fault_are_done_and_a_mark_names_its_lowest_lane(
+    rt: HostRuntime,
+) -> Result<(), Fail> {
+    let mut example = marking(rt.alloc())?;
+    let mut turns = 0;
+    let mut few = ints(rt.alloc(), 3, 7)?;
+    let end = example.first_chunk(&mut few, &mut turns);
+    assert_eq!(rt; end, RegionEnd::Range { lane: 3, site: 1 });
+    assert_eq!(rt; int_at(&few, 2), 9);
+    let mut buffers = ints(rt.alloc(), 20, 7)?;
+    let end = example.first_chunk(&mut buffers, &mut turns);
+    assert_eq!(rt; end, RegionEnd::AtBarrier { lane: 2, site: 0 });
+    Ok(())
+}
+
+/// Votes yes in the items whose int is not 0.
+const VOTING: [Step; 5] = [
+    Step::Const {
+        to: V0,
+        of: IntType::Uint,
+        value: 0,
+    },
+    Step::Ask {
+        what: Query::GlobalId,
+        to: W0,
+        dim: V0,
+        mask: M0,
+    },
+    Step::Load {
+        site: 0,
+        of: IntType::Int,
+        root: Root::Param(0),
+        index: W0,
+        to: V1,
+        mask: M0,
+    },
+    Step::Test {
+        to: M1,
+        from: V1,
+        mask: M0,
+    },
+    Step::VotePut { from: M1, mask: M0 },
+];
+
+fn voting(alloc: Global) -> Result<Example, Fail>
+    ensures { IfOk result (λ e. IsReady e.program e.launch e.machine e.group) }
+{
+    Ok(Example::new(alloc, Width::W16, VOTING.to_vec(alloc)?)?)
+}
+
+/// The answers of a group whose items have these ints.
+fn answers_to(alloc: Global, buffers: &mut Buffers) -> Result<Answers, Fail> {
+    let mut example = voting(alloc)?;
+    let mut turns = 0;
+    let _ = example.chunks(buffers, &mut turns);
+    Ok(example.group.answers())
+}
+
+#[test]
+fn votes_of_all_items_come_together(rt: HostRuntime) -> Result<(), Fail> {
+    let mut buffers = ints(rt.alloc(), 20, 0)?;
+    let none = answers_to(rt.alloc(), &mut buffers)?;
+    set_int(&mut buffers, 19, 1);
+    let one = answers_to(rt.alloc(), &mut buffers)?;
+    let mut full = ints(rt.alloc(), 20, 1)?;
+    let all = answers_to(rt.alloc(), &mut full)?;
+    let wanted = (Answers::No, Answers::Mixed, Answers::Yes);
+    assert_eq!(rt; (none, one, all), wanted);
+    Ok(())
+}

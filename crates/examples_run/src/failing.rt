@@ -1,0 +1,146 @@
+// The increment over a store and sinks in memory: what a run leaves where one of their calls fails, or has no room.
+
+use std::alloc::Global;
+use std::test::Fail;
+use wg_outside::{MemorySink, MemoryStore};
+use wg_top::wgcc;
+
+const INC: &str =
+    "__kernel void inc(__global int *a) { a[get_global_id(0)] = a[get_global_id(0)] + 1; }";
+
+const LAUNCH: &str =
+    "format = 1\nkernel = \"inc\"\nglobal = 4\nlocal = 2\n[[buffer]]\nname = \"a\"\nbytes = 16\nload = \"a.bin\"\nsave = \"a.out\"\n[[arg]]\nbuffer = \"a\"\n";
+
+const SHORT_LAUNCH: &str =
+    "format = 1\nkernel = \"inc\"\nglobal = 4\nlocal = 2\n[[buffer]]\nname = \"a\"\nbytes = 8\nload = \"a.bin\"\nsave = \"a.out\"\n[[arg]]\nbuffer = \"a\"\n";
+
+const BEFORE: [u8; 16] = [1, 0, 0, 0, 2, 0, 0, 0, 3, 0, 0, 0, 4, 0, 0, 0];
+
+const AFTER: [u8; 16] = [2, 0, 0, 0, 3, 0, 0, 0, 4, 0, 0, 0, 5, 0, 0, 0];
+
+const DONE: &str = "wgcc: done, 2 groups, 4 items\n";
+
+const CANNOT: &str = "wgcc: cannot read or write\n";
+
+// Which calls of the store and of the two sinks fail, what room a saved file and standard output have, and what the run is to
+// leave: its status, whether the file is saved, and the lines.
+#[derive(Clone, Copy)]
+struct Row<'a> {
+    launch: &'a str,
+    store: &'a [u32],
+    out: &'a [u32],
+    err: &'a [u32],
+    file_room: u64,
+    line_room: u64,
+    status: u8,
+    saved: bool,
+    said: &'a str,
+    told: &'a str,
+}
+
+// The run without a failure.
+const WHOLE: Row = Row {
+    launch: LAUNCH,
+    store: &[],
+    out: &[],
+    err: &[],
+    file_room: 4096,
+    line_room: 4096,
+    status: 0,
+    saved: true,
+    said: DONE,
+    told: "",
+};
+
+// A run that cannot read or write, and saves nothing.
+const FAILED: Row = Row {
+    status: 1,
+    saved: false,
+    said: "",
+    told: CANNOT,
+    ..WHOLE
+};
+
+// A run out of range.
+const RANGE: Row = Row {
+    launch: SHORT_LAUNCH,
+    status: 5,
+    saved: false,
+    said: "",
+    told: "wgcc: range: group 1, item 2, 1:60\n",
+    ..WHOLE
+};
+
+// The source, the launch file and the buffer are loaded by the calls 0 to 2, and the buffer is saved by call 3.
+const ROWS: [Row; 10] = [
+    WHOLE,
+    Row {
+        store: &[0],
+        ..FAILED
+    },
+    Row {
+        store: &[1],
+        ..FAILED
+    },
+    Row {
+        store: &[2],
+        ..FAILED
+    },
+    Row {
+        store: &[3],
+        ..FAILED
+    },
+    Row {
+        file_room: 8,
+        ..FAILED
+    },
+    Row {
+        out: &[0],
+        saved: true,
+        ..FAILED
+    },
+    Row {
+        line_room: 0,
+        saved: true,
+        ..FAILED
+    },
+    RANGE,
+    Row {
+        err: &[0],
+        told: "",
+        ..RANGE
+    },
+];
+
+// Whether a run leaves what its row says.
+fn leaves(alloc: Global, row: &Row) -> Result<bool, Fail> {
+    let mut words = Vec::new(alloc);
+    words.push(String::from_str(alloc, "run")?)?;
+    words.push(String::from_str(alloc, "k.cl")?)?;
+    words.push(String::from_str(alloc, "k.toml")?)?;
+    let mut store = MemoryStore::new(alloc, row.store, 8, row.file_room)?;
+    store.add(alloc, "k.cl", INC.as_bytes())?;
+    store.add(alloc, "k.toml", row.launch.as_bytes())?;
+    store.add(alloc, "a.bin", &BEFORE)?;
+    let mut out = MemorySink::new(alloc, row.out, row.line_room)?;
+    let mut err = MemorySink::new(alloc, row.err, 4096)?;
+    let status = wgcc(alloc, &words, &mut store, &mut out, &mut err);
+    let saved = match store.file("a.out") {
+        Some(bytes) => row.saved && bytes == AFTER.as_slice(),
+        None => !row.saved,
+    };
+    Ok(
+        status == row.status
+            && saved
+            && out.bytes() == row.said.as_bytes()
+            && err.bytes() == row.told.as_bytes(),
+    )
+}
+
+#[test]
+fn a_call_that_fails_is_told_and_ends_the_run(rt: HostRuntime) -> Result<(), Fail> {
+    for (number, row) in ROWS.iter().enumerate() {
+        assert!(rt; leaves(rt.alloc(), row)?, "at {number}");
+    }
+    Ok(())
+}

@@ -1,0 +1,5 @@
+pub mod Living
+pub mod Alike
+pub mod Places
+pub mod Reached
+pub mod UniformCells

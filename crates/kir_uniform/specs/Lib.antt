@@ -1,0 +1,3 @@
+pub mod Uniform
+pub mod Does
+pub mod Path

@@ -1,4 +1,0 @@
-pub mod Names
-pub mod Marks
-pub mod CodeMarks
-pub mod Spots

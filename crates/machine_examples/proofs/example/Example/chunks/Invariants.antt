@@ -1,9 +1,0 @@
-use Rattle.std.proofs.Common.{◌≡◌}
-use Rattle.machine_examples.specs.Examples.{IsReady}
-use Rattle.machine_examples.proofs.example.Example.chunks.Given as goal
-
-abbrev pub invariant-loop-chunk : goal.invariant-loop-chunk
-invariant-loop-chunk l = record {
-  ready : IsReady l.self.program l.self.launch l.self.machine l.self.group;
-  width : l.self.program.width ≡ l.fn.self.program.width;
-}

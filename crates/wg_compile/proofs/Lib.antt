@@ -1,0 +1,14 @@
+pub mod Sums
+pub mod Names
+pub mod Alike
+pub mod Fits
+pub mod Exact
+pub mod Chain
+pub mod Outcomes
+pub mod Quiet
+pub mod Shape
+pub mod Sites
+pub mod Follow
+pub mod Plans
+pub mod Lowered
+pub mod Correct

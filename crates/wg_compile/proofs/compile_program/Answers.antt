@@ -1,0 +1,46 @@
+use Rattle.std.proofs.Common.{refl}
+use Rattle.kir.specs.View.{kernel_of}
+use Rattle.ctx_plan.specs.View.{planned_of}
+use Rattle.diverge.specs.Marks.{marks}
+use Rattle.lane_code.specs.View.{plain_of}
+use Rattle.wg_num.specs.Operators.{lanes_of}
+use Rattle.cl_meaning.specs.View.{unit_of}
+use Rattle.cl_check_sound.specs.Erased.{program_of}
+use Rattle.diverge_exact.proofs.Answers.{varying_exact}
+use Rattle.regions.specs.Tree.{NoRegion}
+use Rattle.regions.specs.View.{tree_before}
+use Rattle.item_loops.proofs.Codes.{codes_well}
+use Rattle.wg_compile.specs.Passes.{group_in}
+use Rattle.wg_compile.proofs.Alike.{ends_alike}
+use Rattle.wg_compile.proofs.Exact.{kernel_is, varying_is, plan_is, regions_are, like_built, group_is}
+use Rattle.wg_compile.proofs.Correct.{correct_in}
+use Rattle.wg_compile.proofs.compile_program.Goals as goal
+
+pub returns-clause-passes : goal.returns-clause-passes
+returns-clause-passes c =
+    let u = unit_of c.args.program in
+    let k = kernel_of c.in_ok-kernel.kernel in
+    let q = planned_of c.in_ok-plan.plan in
+    let p = plain_of c.in_ok-group.group in
+    let kernel = kernel_is c.args.program k c.in_ok-kernel.ensures in
+    let plan = plan_is c.args.program k (marks c.in_ok-varying.varying) q kernel c.in_ok-varying.ensures.exact
+    c.in_ok-plan.ensures.made in
+    let like = group_is (lanes_of c.args.width) c.args.program k q p kernel plan
+    (like_built k q c.args.width c.in_ok-regions.regions p c.in_ok-group.ensures.plain c.in_ok-regions.ensures.cut
+    c.in_ok-group.ensures.built) in
+    record {
+      kernel = kernel;
+      varying = varying_is c.args.program (marks c.in_ok-varying.varying) c.in_ok-varying.ensures.exact;
+      plan = plan;
+      regions = regions_are c.args.program k (tree_before c.in_ok-regions.regions NoRegion) kernel
+          c.in_ok-regions.ensures.cut;
+      group = like;
+      same_end = ends_alike (group_in (lanes_of c.args.width) u) p like;
+      lanes = c.args.width;
+      lanes_are = refl;
+      correct = λ valid.
+          correct_in u c.args.width k q p kernel plan c.in_ok-kernel.kernel.valid c.in_ok-plan.ensures.counted
+          c.in_ok-group.ensures.parts like (λ quiet. c.in_ok-group.ensures.one (c.in_ok-regions.ensures.one quiet))
+          c.in_ok-group.group.valid (codes_well c.in_ok-group.group.top) valid
+          (λ v. varying_exact (program_of u) valid v.function v.number);
+    }

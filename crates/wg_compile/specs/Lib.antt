@@ -1,0 +1,4 @@
+pub mod Passes
+pub mod Ends
+pub mod Shape
+pub mod Correct

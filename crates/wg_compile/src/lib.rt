@@ -1,0 +1,71 @@
+//! A typed program through the passes to the program of a work-group, and what says that it is right.
+#![tactic(auto)]
+
+ghost use Rattle.std.specs.Prelude.{◌≡◌, IfOk};
+ghost use Rattle.wg_num.specs.Operators.{lanes_of};
+ghost use Rattle.cl_meaning.specs.View.{unit_of};
+ghost use Rattle.wg_compile.specs.Correct.{IsCompilation};
+
+use cl_model::Program;
+use ctx_plan::Plan;
+use ctx_plan::planning::plan;
+use diverge::{Varying, analyse};
+use item_loops::build;
+use kir::Kernel;
+use kir_lower::lower;
+use lane_code::GroupProgram;
+use regions::{RegionTree, split};
+use std::alloc::Global;
+use wg_num::{Memory, Width, Word};
+
+/// A kernel with what each pass answers, in the order of the calls.
+#[derive(Drop)]
+pub struct Compiled {
+    /// The typed program, as the checker leaves it.
+    pub program: Program,
+    /// The kernel without calls, of `lower`.
+    pub kernel: Kernel,
+    /// Which variables vary between the work-items of a group, of `analyse`.
+    pub varying: Varying,
+    /// Where the kernel's cells are kept between its regions, of `plan`.
+    pub plan: Plan,
+    /// The kernel cut at its barriers, of `split`.
+    pub regions: RegionTree,
+    /// The program of a work-group, of `build`.
+    pub group: GroupProgram,
+}
+
+/// The kernel of a typed program, under this name, at a lane width: the passes, one after the other.
+/// What each answers is its function of the program; of a valid program (OpenCL 1.2, 6.11 and the
+/// clauses that `docs/MEANING.md` names) all are correct, each as its field of `IsCorrect` says, so that
+/// the program of a work-group ends in outcomes of the program in each launch that fits. `Memory` where
+/// none is to be had, and where a number of a pass has no room in 32 or 64 bits.
+pub fn compile_program(
+    alloc: Global,
+    program: Program,
+    name: &Word,
+    width: Width,
+) -> Result<Compiled, Memory>
+    ensures program { IfOk result (λ c. unit_of c.program ≡ unit_of program) }
+    ensures name { IfOk result (λ c. c.group.kernel ≡ name.now) }
+    ensures passes { IfOk result (λ c. IsCompilation (lanes_of width) c) }
+{
+    // `lowered`: kir_lower_shape, kir_lower_parting, kir_lower_simulation, kir_lower_uniform
+    let kernel = lower(alloc, &program)?;
+    // `varies`: diverge_exact; that what does not vary agrees: diverge_sound
+    let varying = analyse(alloc, &program)?;
+    // `homes`, `once`: ctx_plan_correct
+    let plan = plan(alloc, &kernel, &program, &varying)?;
+    // its runs are interleavings: clauses of `split`
+    let regions = split(alloc, &kernel)?;
+    // `codes`: mask_lower_correct, of the code of each region; `regions`, `groups`: item_loops
+    let group = build(alloc, &regions, &plan, &kernel, name, width)?;
+    Ok(Compiled {
+        program,
+        kernel,
+        varying,
+        plan,
+        regions,
+        group,
+    })
+}

@@ -1,4 +1,0 @@
-pub mod Conditions
-pub mod Front
-pub mod Compiled
-pub mod Law
