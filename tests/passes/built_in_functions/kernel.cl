@@ -1,0 +1,1 @@
+__kernel void bi(__global int *a) { a[0] = add_sat(2147483647, 1); a[1] = hadd(-3, -4); a[2] = rhadd(-3, -4); a[3] = mul_hi(1 << 20, 1 << 20); a[4] = rotate((uchar)0x81, (uchar)1); a[5] = clz((uchar)1); a[6] = clz(0); a[7] = popcount(255); a[8] = abs(-5); a[9] = abs_diff(-5, 7); a[10] = clamp(9, 5, 3); }
