@@ -1,0 +1,68 @@
+"""The form of a listing of lane code: its nodes and its steps."""
+
+# Of each step of lane code its fields, in order; a code's listing has nothing else below its nodes.
+STEPS = {name: fields.split() for name, fields in (row.split(':') for row in '''Const:to of value
+Copy:to from mask
+Unary:op of to a mask
+Binary:op of to a b mask
+Builtin:f of to a b c mask
+Convert:to kind from was mask
+Spread:to from
+First:to from of mask
+Ask:what to dim mask
+Argument:number to mask
+Load:site of root index to mask
+Store:site of root index from mask
+Clear:array mask
+ColumnGet:column to
+ColumnPut:column from mask
+OnceGet:slot to
+OncePut:slot from
+VoteGet:to
+VotePut:from mask
+Test:to from mask
+MaskAnd:to a b
+MaskOr:to a b
+MaskLess:to a b
+Jump:target
+SkipNone:mask target
+SkipZero:from target
+Turn:mask target
+Mark:site mask'''.split('\n'))}
+NODES = ('items', 'seq', 'vote', 'loop', 'loop after', 'test', 'yes', 'no', 'mixed', 'body', 'rest')
+
+
+def step_of(line):
+    """The step's number and name, or None where the line is no step of the table."""
+    for kind in ('Param', 'Constant', 'Local', 'Private'):
+        line = line.replace(kind + ' ', kind + '_')
+    words = line.split(' ')
+    if len(words) < 2 or not words[0].isdecimal() or words[1] not in STEPS:
+        return None
+    if [word.split('=')[0] for word in words[2:]] != STEPS[words[1]]:
+        return None
+    return int(words[0]), words[1]
+
+
+def counts_fault(counts, seen):
+    """What is wrong with how often steps stand in a listing, or nothing."""
+    for line in counts.split('\n'):
+        if line and seen.get(line.split()[1], 0) != int(line.split()[0]):
+            return 'not %s, but %d' % (line, seen.get(line.split()[1], 0))
+    return None
+
+
+def listing_fault(text, counts):
+    """What is wrong with the form of a listing, behind its first line, or with how often steps stand in it."""
+    seen = {}
+    number = 0
+    for line in text.rstrip('\n').split('\n')[1:]:
+        step = step_of(line.lstrip(' '))
+        if line.lstrip(' ') in NODES:
+            number = 0
+        elif step is None or step[0] != number:
+            return 'no node and no step %d: %s' % (number, line)
+        else:
+            number += 1
+            seen[step[1]] = seen.get(step[1], 0) + 1
+    return counts_fault(counts, seen)

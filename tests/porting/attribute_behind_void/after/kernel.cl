@@ -1,0 +1,5 @@
+__kernel __attribute__((reqd_work_group_size(4, 1, 1))) void k(__global int *a)
+{
+  int i = get_global_id(0);
+  a[i] += 1;
+}

@@ -1,0 +1,13 @@
+__kernel void k(__global int *a, __global int *b)
+{
+  int i = get_global_id(0);
+  int n = 0;
+  for (int x = 0; x < 4; x++)
+    for (int y = 0; y < 4; y++) {
+      n++;
+      if (a[x] + y == 12)
+        goto found;
+    }
+  found:
+  b[i] = n;
+}

@@ -1,0 +1,6 @@
+#include "one.h"
+__kernel void k(__global int *a)
+{
+  int i = get_global_id(0);
+  a[i] += ONE;
+}

@@ -1,0 +1,5 @@
+__kernel void k(__global int *a)
+{
+  int i = get_global_id(0);
+  a[i] = mul_hi(a[i], 1 << 20) + 9;
+}

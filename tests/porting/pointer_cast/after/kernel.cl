@@ -1,0 +1,5 @@
+__kernel void k(__global int *base)
+{
+  int i = get_global_id(0);
+  base[i] += 1;
+}

@@ -1,0 +1,5 @@
+__kernel void k(__global uchar *base)
+{
+  int i = get_global_id(0);
+  *(__global int *)(base + 4 * i) += 1;
+}

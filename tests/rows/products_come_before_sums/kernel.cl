@@ -1,0 +1,3 @@
+
+__kernel  void
+inc(__global int*a){a[get_global_id(0)]=2+a[get_global_id(0)]*a [ get_global_id ( 0 ) ]-3*4+10;}
