@@ -1,0 +1,227 @@
+-- The walk that folds lines: what is counted, what is known, and what becomes of a line.
+use Rattle.std.proofs.Common.{◌≡◌, ℕ, zero, suc, ◌+◌, ◌<◌, ◌≤◌, pos, List, [], ◌∷◌, ◌++◌, append_assoc, length, get_or}
+use Rattle.std.proofs.Common.{map, drop, refl, ap, ap₂, sym, ◌∙◌, arith, Global, Option, Some, None, if◌then◌else◌}
+use Rattle.std.proofs.Common.{slice_get}
+use Rattle.std.specs.Prelude.{◌&&◌, nat_eq}
+use Rattle.std.specs.Prelude.{Bool as Test, true, false}
+use Rattle.std.specs.declared.vec.Vec.{Vec}
+use mathlib.Core.Path.{fun_ext}
+use Rattle.std.proofs.lemmas.List.{drop_all, append-nil}
+use Rattle.std.proofs.lemmas.Option.{same_Some, none-some}
+use Rattle.cl_model.specs.Steps.{nth}
+use Rattle.kir.specs.declared.line.Atom.{Atom}
+use Rattle.kir.specs.declared.line.Line.{Line}
+use Rattle.kir.specs.declared.line.Line.TheVariants as line
+use Rattle.kir.specs.Tree.{Work, Lines, NoLine, SetThen, IfThen, LoopThen, Kernel, joined_to}
+use Rattle.kir.specs.Listed.{line_before, lines_in, lines_of}
+use Rattle.kir.proofs.Firsts.{first_left}
+use Rattle.kir.proofs.Rows.{if_listed, loop_listed}
+use Rattle.kir_simplify.specs.Reading.{sets_in}
+use Rattle.kir_simplify.specs.Simple.{is_plain}
+use Rattle.kir_simplify.specs.Faithful.{with_body}
+use Rattle.kir_simplify.specs.Passes.{Known, learned, learnt, known_atom, known_work, settled_work}
+use Rattle.kir_simplify.specs.Passes.{copied, constant_value, folded, folded_of}
+use Rattle.kir_simplify.specs.Tables.{known_by, is_one_at, plain_of}
+
+-- ---- lists
+
+pub map_step : {A B : Type 0} (f : A → B) (made longer : List B) (xs : List A) (i : ℕ) (x : A) (y : B) →
+    i < length xs → x ≡ get_or xs i x → y ≡ f x → longer ≡ made ++ y ∷ [] → made ++ map f (drop i xs) ≡ map f xs →
+    longer ++ map f (drop (i + 1) xs) ≡ map f xs
+map_step f made longer xs i x y lt is e l same =
+    ap (λ z. z ++ map f (drop (i + 1) xs)) l ∙
+    (append_assoc made (y ∷ []) (map f (drop (i + 1) xs)) ∙
+    (ap (λ z. made ++ z ∷ map f (drop (i + 1) xs)) e ∙
+    (ap (λ z. made ++ map f z) (sym (first_left xs i x lt is)) ∙ same)))
+
+pub map_end : {A B : Type 0} (f : A → B) (made : List B) (xs : List A) (i : ℕ) → length xs ≤ i →
+    made ++ map f (drop i xs) ≡ map f xs → made ≡ map f xs
+map_end f made xs i done same =
+    sym (append-nil made) ∙ (sym (ap (λ z. made ++ map f z) (drop_all i xs done)) ∙ same)
+
+-- entries that all are the same
+pub one_same : {A : Type 0} (xs longer : List A) (d : A) → longer ≡ xs ++ d ∷ [] → ((c : ℕ) → get_or xs c d ≡ d) →
+    (c : ℕ) → get_or longer c d ≡ d
+one_same xs longer d e h c = ap (λ l. get_or l c d) e ∙ more xs d h c
+  where
+    more : {A : Type 0} (xs : List A) (d : A) → ((c : ℕ) → get_or xs c d ≡ d) → (c : ℕ) →
+        get_or (xs ++ d ∷ []) c d ≡ d
+    more [] d h zero = refl
+    more [] d h (suc c) = refl
+    more (x ∷ xs) d h zero = h 0
+    more (x ∷ xs) d h (suc c) = more xs d (λ n. h (suc n)) c
+
+-- ---- counting
+
+sets_first : (c : ℕ) (l : Line) (rest : Lines) →
+    sets_in c (line_before l rest) ≡ sets_in c (line_before l NoLine) + sets_in c rest
+sets_first c (line.Set to w) rest = omega arith
+sets_first c (line.Load site to element root index) rest = omega arith
+sets_first c (line.Store site element root index from) rest = omega arith
+sets_first c (line.Clear array) rest = omega arith
+sets_first c (line.If' site test _ chosen _ other) rest =
+    let a = sets_in c (lines_in chosen) in
+    let b = sets_in c (lines_in other) in
+    thrice a b (sets_in c rest)
+  where
+    thrice : (a b r : ℕ) → a + (b + r) ≡ (a + (b + 0)) + r
+    thrice a b r = omega arith
+sets_first c (line.Loop' site first _ test answer _ body) rest =
+    thrice (sets_in c (lines_in test)) (sets_in c (lines_in body)) (sets_in c rest)
+  where
+    thrice : (a b r : ℕ) → a + (b + r) ≡ (a + (b + 0)) + r
+    thrice a b r = omega arith
+sets_first c (line.Barrier site) rest = omega arith
+
+pub count_step : (old mid new : List ℕ) (ls : List Line) (i : ℕ) (l : Line) → i < length ls → l ≡ get_or ls i l →
+    ((c : ℕ) → get_or new c 0 ≡ sets_in c (line_before l NoLine) + get_or mid c 0) →
+    ((c : ℕ) → sets_in c (lines_of (drop i ls)) + get_or mid c 0 ≡ sets_in c (lines_of ls) + get_or old c 0) →
+    (c : ℕ) → sets_in c (lines_of (drop (i + 1) ls)) + get_or new c 0 ≡ sets_in c (lines_of ls) + get_or old c 0
+count_step old mid new ls i l lt is one so_far c =
+    let first = ap (λ xs. sets_in c (lines_of xs)) (first_left ls i l lt is) ∙
+    sets_first c l (lines_of (drop (i + 1) ls)) in
+    swapped _ _ _ _ _ _ (one c) first (so_far c)
+  where
+    swapped : (r n s m f t : ℕ) → n ≡ s + m → f ≡ s + r → f + m ≡ t → r + n ≡ t
+    swapped r n s m f t e g h = omega (arith, e, g, h)
+
+pub count_end : (old new : List ℕ) (ls : List Line) (i : ℕ) → length ls ≤ i →
+    ((c : ℕ) → sets_in c (lines_of (drop i ls)) + get_or new c 0 ≡ sets_in c (lines_of ls) + get_or old c 0) →
+    (c : ℕ) → get_or new c 0 ≡ sets_in c (lines_of ls) + get_or old c 0
+count_end old new ls i done h c =
+    none _ _ _ (ap (λ xs. sets_in c (lines_of xs) + get_or new c 0) (sym (drop_all i ls done)) ∙ h c)
+  where
+    none : (n s o : ℕ) → 0 + n ≡ s + o → n ≡ s + o
+    none n s o e = omega (arith, e)
+
+pub if_counted : (l : Line) (site : ℕ) (test : Atom) (chosen other : Vec Line Global) (old mid new : List ℕ) →
+    l ≡ line.If site test chosen other →
+    ((c : ℕ) → get_or mid c 0 ≡ sets_in c (lines_of chosen.items) + get_or old c 0) →
+    ((c : ℕ) → get_or new c 0 ≡ sets_in c (lines_of other.items) + get_or mid c 0) →
+    (c : ℕ) → get_or new c 0 ≡ sets_in c (line_before l NoLine) + get_or old c 0
+if_counted l site test chosen other old mid new e a b c =
+    both _ _ _ _ _ (a c) (b c) ∙ sym (ap (λ x. x + get_or old c 0)
+    (ap (λ x. sets_in c (line_before x NoLine)) e ∙ ap (sets_in c) (if_listed site test chosen other NoLine)))
+  where
+    both : (m n s t o : ℕ) → m ≡ s + o → n ≡ t + m → n ≡ (s + (t + 0)) + o
+    both m n s t o e f = omega (arith, e, f)
+
+pub loop_counted : (l : Line) (site : ℕ) (first : Test) (test : Vec Line Global) (answer : Atom)
+    (body : Vec Line Global) (old mid new : List ℕ) → l ≡ line.Loop site first test answer body →
+    ((c : ℕ) → get_or mid c 0 ≡ sets_in c (lines_of test.items) + get_or old c 0) →
+    ((c : ℕ) → get_or new c 0 ≡ sets_in c (lines_of body.items) + get_or mid c 0) →
+    (c : ℕ) → get_or new c 0 ≡ sets_in c (line_before l NoLine) + get_or old c 0
+loop_counted l site first test answer body old mid new e a b c =
+    both _ _ _ _ _ (a c) (b c) ∙ sym (ap (λ x. x + get_or old c 0)
+    (ap (λ x. sets_in c (line_before x NoLine)) e ∙ ap (sets_in c) (loop_listed site first test answer body NoLine)))
+  where
+    both : (m n s t o : ℕ) → m ≡ s + o → n ≡ t + m → n ≡ (s + (t + 0)) + o
+    both m n s t o e f = omega (arith, e, f)
+
+pub all_counted : (new : List ℕ) (zeros : List ℕ) (lines : Lines) → ((c : ℕ) → get_or zeros c 0 ≡ 0) →
+    ((c : ℕ) → get_or new c 0 ≡ sets_in c lines + get_or zeros c 0) → (c : ℕ) → get_or new c 0 ≡ sets_in c lines
+all_counted new zeros lines z h c = none _ _ _ (h c) (z c)
+  where
+    none : (n s o : ℕ) → n ≡ s + o → o ≡ 0 → n ≡ s
+    none n s o e f = omega (arith, e, f)
+
+-- ---- what is known
+
+nothing_learnt : (once : ℕ → Test) (known : Known) (to : ℕ) (work : Work) → (once to && is_plain work) ≡ false →
+    (c : ℕ) → known c ≡ learnt once known to work c
+nothing_learnt once known to work e c =
+    sym (ap (λ (b : Test). (if b then learned known to (copied work) else known) c) e)
+
+and_none : (a b : Test) → b ≡ false → (a && b) ≡ false
+and_none true b e = e
+and_none false b e = refl
+
+plain_none : (work : Work) (b : Test) → is_plain work ≡ b → (if b then Some (copied work) else None) ≡ None → b ≡ false
+plain_none work true e h = absurd (none-some _ (sym h))
+plain_none work false e h = refl
+
+plain_some : (work : Work) (a : Atom) (b : Test) → is_plain work ≡ b →
+    (if b then Some (copied work) else None) ≡ Some a → (b ≡ true) × (copied work ≡ a)
+plain_some work a true e h = (refl, same_Some _ a h)
+plain_some work a false e h = absurd (none-some a h)
+
+pub learnt_none : (once : ℕ → Test) (known : Known) (to : ℕ) (work : Work) → plain_of work ≡ None →
+    (c : ℕ) → known c ≡ learnt once known to work c
+learnt_none once known to work h =
+    nothing_learnt once known to work (and_none (once to) (is_plain work) (plain_none work (is_plain work) refl h))
+
+pub learnt_not : (once : ℕ → Test) (known : Known) (to : ℕ) (work : Work) → once to ≡ false →
+    (c : ℕ) → known c ≡ learnt once known to work c
+learnt_not once known to work h = nothing_learnt once known to work (ap (λ b. b && is_plain work) h)
+
+pub learnt_some : (once : ℕ → Test) (known new : Known) (to : ℕ) (work : Work) (a : Atom) → once to ≡ true →
+    plain_of work ≡ Some a → ((c : ℕ) → new c ≡ learned known to a c) → (c : ℕ) → new c ≡ learnt once known to work c
+learnt_some once known new to work a o h n c =
+    let p = plain_some work a (is_plain work) refl h in
+    let t : (once to && is_plain work) ≡ true = ap₂ (λ x y. x && y) o p.0 in
+    n c ∙ (ap (λ x. learned known to x c) (sym p.1) ∙
+    sym (ap (λ (b : Test). (if b then learned known to (copied work) else known) c) t))
+
+-- ---- arguments
+
+pub nth_none : (args : List Atom) (n : ℕ) → slice_get args n ≡ None → pos 0 ≡ nth (map constant_value args) n
+nth_none [] n h = refl
+nth_none (a ∷ args) zero h = absurd (none-some a (sym h))
+nth_none (a ∷ args) (suc n) h = nth_none args n h
+
+pub nth_some : (args : List Atom) (n : ℕ) (a : Atom) → slice_get args n ≡ Some a →
+    constant_value a ≡ nth (map constant_value args) n
+nth_some [] n a h = absurd (none-some a h)
+nth_some (b ∷ args) zero a h = ap constant_value (sym (same_Some b a h))
+nth_some (b ∷ args) (suc n) a h = nth_some args n a h
+
+-- ---- lines
+
+pub set_folded : (once : ℕ → Test) (known new : Known) (to : ℕ) (work made : Work) →
+    made ≡ settled_work (known_work known work) → ((c : ℕ) → new c ≡ learnt once known to made c) → (rest : Lines) →
+    SetThen to made (folded once new rest) ≡ folded once known (SetThen to work rest)
+set_folded once known new to work made e h rest =
+    ap₂ (λ (w : Work) (k : Known). SetThen to w (folded once k rest)) e
+    (fun_ext h ∙ ap (learnt once known to) e)
+
+pub if_folded : (once : ℕ → Test) (known : Known) (l : Line) (site : ℕ) (test test' : Atom)
+    (chosen other : Vec Line Global) (made ys ns : Lines) → l ≡ line.If site test chosen other →
+    test' ≡ known_atom known test → ys ≡ folded once known (lines_of chosen.items) →
+    ns ≡ folded once known (lines_of other.items) → (rest : Lines) →
+    joined_to made (IfThen site test' ys ns (folded once known rest)) ≡
+    joined_to made (folded once known (line_before l rest))
+if_folded once known l site test test' chosen other made ys ns e et ey en rest =
+    ap (joined_to made) (ap (λ t. IfThen site t ys ns (folded once known rest)) et ∙
+    (ap₂ (λ a b. IfThen site (known_atom known test) a b (folded once known rest)) ey en ∙
+    sym (ap (λ x. folded once known (line_before x rest)) e ∙
+    ap (folded once known) (if_listed site test chosen other rest))))
+
+pub loop_folded : (once : ℕ → Test) (known : Known) (l : Line) (site : ℕ) (first : Test) (test : Vec Line Global)
+    (answer answer' : Atom) (body : Vec Line Global) (made ts bs : Lines) →
+    l ≡ line.Loop site first test answer body → answer' ≡ known_atom known answer →
+    ts ≡ folded once known (lines_of test.items) → bs ≡ folded once known (lines_of body.items) → (rest : Lines) →
+    joined_to made (LoopThen site first ts answer' bs (folded once known rest)) ≡
+    joined_to made (folded once known (line_before l rest))
+loop_folded once known l site first test answer answer' body made ts bs e ea et eb rest =
+    ap (joined_to made) (ap (λ a. LoopThen site first ts a bs (folded once known rest)) ea ∙
+    (ap₂ (λ x y. LoopThen site first x (known_atom known answer) y (folded once known rest)) et eb ∙
+    sym (ap (λ x. folded once known (line_before x rest)) e ∙
+    ap (folded once known) (loop_listed site first test answer body rest))))
+
+-- one line on, where what is known may change
+pub fold_step : (walk next : Lines → Lines) (made longer all : Lines) (ls : List Line) (i : ℕ) (l : Line) →
+    i < length ls → l ≡ get_or ls i l →
+    ((rest : Lines) → joined_to longer (next rest) ≡ joined_to made (walk (line_before l rest))) →
+    joined_to made (walk (lines_of (drop i ls))) ≡ all → joined_to longer (next (lines_of (drop (i + 1) ls))) ≡ all
+fold_step walk next made longer all ls i l lt is onto same =
+    onto (lines_of (drop (i + 1) ls)) ∙
+    (ap (λ x. joined_to made (walk (lines_of x))) (sym (first_left ls i l lt is)) ∙ same)
+
+pub kernel_folded : (kernel : Kernel) (sets : List ℕ) (known : List (Option Atom)) (body : Lines) →
+    ((c : ℕ) → get_or sets c 0 ≡ sets_in c kernel.body) → ((c : ℕ) → known_by known c ≡ None) →
+    body ≡ folded (is_one_at sets) (known_by known) kernel.body → with_body kernel body ≡ folded_of kernel
+kernel_folded kernel sets known body s k e =
+    ap (with_body kernel) (e ∙
+    ap₂ (λ (o : ℕ → Test) (n : Known). folded o n kernel.body)
+    (fun_ext (λ c. ap (λ n. nat_eq n 1) (s c)))
+    (fun_ext k))

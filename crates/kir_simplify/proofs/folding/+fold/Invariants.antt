@@ -1,0 +1,12 @@
+use Rattle.std.proofs.Common.{◌≡◌, drop}
+use Rattle.kir.specs.Tree.{joined_to}
+use Rattle.kir.specs.Listed.{lines_of}
+use Rattle.kir_simplify.specs.Passes.{folded}
+use Rattle.kir_simplify.specs.Tables.{is_one_at, known_by}
+use Rattle.kir_simplify.proofs.folding.+fold.Given as goal
+
+abbrev pub invariant-fold_lines-loop-line : goal.invariant-fold_lines-loop-line
+invariant-fold_lines-loop-line l =
+    joined_to (lines_of l.made.items)
+    (folded (is_one_at l.sets) (known_by l.here.items) (lines_of (drop l.line-index l.lines))) ≡
+    folded (is_one_at l.sets) (known_by l.known) (lines_of l.lines)

@@ -1,0 +1,5 @@
+pub mod Reading
+pub mod Simple
+pub mod Faithful
+pub mod Passes
+pub mod Tables

@@ -1,0 +1,257 @@
+//! What lines compute of constants, computed beforehand.
+
+ghost use Rattle.std.specs.Prelude.{◌≡◌, ℕ, IfOk, OnOk, map, slice_get};
+ghost use Rattle.cl_model.specs.Steps.{nth};
+ghost use Rattle.wg_num.specs.Operators.{IsOperand};
+ghost use Rattle.wg_num.specs.Wrap.{IsValue};
+ghost use Rattle.kir.specs.Tree as tree;
+ghost use Rattle.kir.specs.Listed.{work_of};
+ghost use Rattle.kir_simplify.specs.Passes.{constant_value, known_atom, known_work, settled_work, learned, learnt};
+ghost use Rattle.kir_simplify.specs.Simple as simple;
+ghost use Rattle.kir_simplify.specs.Tables.{is_one_at, known_by, plain_of};
+
+use crate::counting::is_one;
+use cl_model::types::{binary_type, unary_type};
+use kir::{Atom, Work};
+use std::alloc::Global;
+use wg_num::{
+    Bin, Fun, IntType, Memory, Un, binary, builtin, convert, is_shift, push, result_type, unary,
+};
+
+/// What stands for an atom.
+pub(crate) fn known_atom(known: &[Option<Atom>], atom: Atom) -> Atom
+    ensures { result ≡ known_atom (known_by known.now) atom }
+{
+    match atom {
+        Atom::Const { .. } => atom,
+        Atom::Cell(cell) => match known.get(cell as usize) {
+            Some(Some(found)) => *found,
+            Some(None) | None => atom,
+        },
+    }
+}
+
+/// What stands for atoms.
+fn known_atoms(alloc: Global, known: &[Option<Atom>], atoms: &[Atom]) -> Result<Vec<Atom>, Memory>
+    ensures { IfOk result (λ v. v.items ≡ map (known_atom (known_by known.now)) atoms.now) }
+{
+    let mut found = Vec::new(alloc);
+    for atom in atoms {
+        push(&mut found, known_atom(known, *atom))?;
+    }
+    Ok(found)
+}
+
+/// The value, which is one of the type. Memory where it is none.
+fn value_in(of: IntType, value: i128) -> Result<i128, Memory>
+    ensures same { IfOk result (λ v. v ≡ value) }
+    ensures value { IfOk result (λ v. IsValue of v) }
+{
+    let wrapped = convert(of, value);
+    if wrapped == value {
+        Ok(wrapped)
+    } else {
+        Err(Memory)
+    }
+}
+
+/// The value, which may be the right operand. Memory where it may not.
+fn operand_in(op: Bin, of: IntType, value: i128) -> Result<i128, Memory>
+    ensures same { IfOk result (λ v. v ≡ value) }
+    ensures operand { IfOk result (λ v. IsOperand op of v) }
+{
+    if value < -9_223_372_036_854_775_808 || value > 18_446_744_073_709_551_615 {
+        return Err(Memory);
+    }
+    if is_shift(op) {
+        Ok(value)
+    } else {
+        value_in(of, value)
+    }
+}
+
+/// An operator of one operand, computed now where it can be.
+fn fold_unary(op: Un, of: IntType, a: Atom) -> Result<Work, Memory>
+    ensures { IfOk result (λ w. work_of w ≡ settled_work (tree.Unary op of a)) }
+{
+    match a {
+        Atom::Cell(_) => Ok(Work::Unary { op, of, a }),
+        Atom::Const { value, .. } => {
+            let value = value_in(of, value)?;
+            Ok(Work::Copy(Atom::Const {
+                value: unary(op, of, value),
+                of: unary_type(op, of),
+            }))
+        }
+    }
+}
+
+/// An operator of two, computed now where it can be.
+fn fold_binary(op: Bin, of: IntType, a: Atom, b: Atom) -> Result<Work, Memory>
+    ensures { IfOk result (λ w. work_of w ≡ settled_work (tree.Binary op of a b)) }
+{
+    match (a, b) {
+        (Atom::Const { value: left, .. }, Atom::Const { value: right, .. }) => {
+            let left = value_in(of, left)?;
+            let right = operand_in(op, of, right)?;
+            Ok(Work::Copy(Atom::Const {
+                value: binary(op, of, left, right),
+                of: binary_type(op, of),
+            }))
+        }
+        (Atom::Cell(_), _) | (Atom::Const { .. }, Atom::Cell(_)) => Ok(Work::Binary {
+            op,
+            of,
+            a,
+            b,
+        }),
+    }
+}
+
+/// A conversion, computed now where it can be.
+fn fold_convert(to: IntType, a: Atom) -> Work
+    ensures { work_of result ≡ settled_work (tree.Convert to a) }
+{
+    match a {
+        Atom::Cell(_) => Work::Convert { to, a },
+        Atom::Const { value, .. } => Work::Copy(Atom::Const {
+            value: convert(to, value),
+            of: to,
+        }),
+    }
+}
+
+fn is_constant(atom: Atom) -> bool
+    ensures { result ≡ simple.is_constant atom }
+{
+    match atom {
+        Atom::Const { .. } => true,
+        Atom::Cell(_) => false,
+    }
+}
+
+/// Whether all are constants.
+fn are_constants(atoms: &[Atom]) -> bool
+    ensures { result ≡ simple.are_constants atoms.now }
+{
+    for atom in atoms {
+        if !is_constant(*atom) {
+            return false;
+        }
+    }
+    true
+}
+
+fn constant_value(atom: Atom) -> i128
+    ensures { result ≡ constant_value atom }
+{
+    match atom {
+        Atom::Const { value, .. } => value,
+        Atom::Cell(_) => 0,
+    }
+}
+
+/// The value of a constant by its number, 0 where there is none. Memory where it is none of the
+/// type.
+fn argument(of: IntType, args: &[Atom], n: usize) -> Result<i128, Memory>
+    ensures same { IfOk result (λ v. v ≡ nth (map constant_value args.now) n) }
+    ensures value { IfOk result (λ v. IsValue of v) }
+{
+    match args.get(n) {
+        Some(atom) => value_in(of, constant_value(*atom)),
+        None => value_in(of, 0),
+    }
+}
+
+/// A built-in function, computed now where it can be.
+fn fold_builtin(f: Fun, of: IntType, args: Vec<Atom>) -> Result<Work, Memory>
+    ensures { IfOk result (λ w. work_of w ≡ settled_work (tree.Builtin f of args.items)) }
+{
+    if !are_constants(&args) {
+        return Ok(Work::Builtin { f, of, args });
+    }
+    let first = argument(of, &args, 0)?;
+    let second = argument(of, &args, 1)?;
+    let third = argument(of, &args, 2)?;
+    Ok(Work::Copy(Atom::Const {
+        value: builtin(f, of, [first, second, third]),
+        of: result_type(f, of),
+    }))
+}
+
+/// What a line computes where these constants are known, computed now where it can be.
+pub(crate) fn fold_work(alloc: Global, known: &[Option<Atom>], work: &Work) -> Result<Work, Memory>
+    ensures { IfOk result (λ w. work_of w ≡ settled_work (known_work (known_by known.now) (work_of work.now))) }
+{
+    match work {
+        Work::Unary { op, of, a } => fold_unary(*op, *of, known_atom(known, *a)),
+        Work::Binary { op, of, a, b } => {
+            fold_binary(*op, *of, known_atom(known, *a), known_atom(known, *b))
+        }
+        Work::Builtin { f, of, args } => {
+            let args = known_atoms(alloc, known, args)?;
+            fold_builtin(*f, *of, args)
+        }
+        Work::Convert { to, a } => Ok(fold_convert(*to, known_atom(known, *a))),
+        Work::Ask { what, dim } => Ok(Work::Ask {
+            what: *what,
+            dim: known_atom(known, *dim),
+        }),
+        Work::Argument(number) => Ok(Work::Argument(*number)),
+        Work::Copy(a) => Ok(Work::Copy(known_atom(known, *a))),
+    }
+}
+
+/// The constant that is copied, where one is.
+fn plain_constant(work: &Work) -> Option<Atom>
+    ensures { result ≡ plain_of (work_of work.now) }
+{
+    match work {
+        Work::Copy(Atom::Const { value, of }) => Some(Atom::Const {
+            value: *value,
+            of: *of,
+        }),
+        Work::Copy(Atom::Cell(_))
+        | Work::Unary { .. }
+        | Work::Binary { .. }
+        | Work::Builtin { .. }
+        | Work::Convert { .. }
+        | Work::Ask { .. }
+        | Work::Argument(_) => None,
+    }
+}
+
+/// The atom is known for the cell. Memory where there is no such cell.
+fn put(known: &mut Vec<Option<Atom>>, to: u32, atom: Atom) -> Result<(), Memory>
+    ensures { OnOk result ((c : ℕ) → known_by known.new.items c ≡ learned (known_by known.old.items) to atom c) }
+{
+    let at = to as usize;
+    if at < known.len() {
+        known[at] = Some(atom);
+        Ok(())
+    } else {
+        Err(Memory)
+    }
+}
+
+/// What is known behind a line that sets the cell to this work.
+pub(crate) fn learn(
+    sets: &[u64],
+    known: &mut Vec<Option<Atom>>,
+    to: u32,
+    work: &Work,
+) -> Result<(), Memory>
+    ensures { OnOk result ((c : ℕ) → known_by known.new.items c ≡
+        learnt (is_one_at sets.now) (known_by known.old.items) to (work_of work.now) c) }
+{
+    match plain_constant(work) {
+        None => Ok(()),
+        Some(atom) => {
+            if is_one(sets, to) {
+                put(known, to, atom)
+            } else {
+                Ok(())
+            }
+        }
+    }
+}
