@@ -3,6 +3,8 @@
 root=$(cd "$(dirname "$(readlink -f "${BASH_SOURCE[0]}")")/.." && pwd) || exit 125
 program=$root/crates/wgcc/out/wgcc
 stamp=$root/crates/wgcc/out/wgcc.sources
+# In an unpacked package the program stands at the top, and there is nothing to build it of.
+[ ! -e "$root/PACKAGE" ] || program=$root/wgcc
 
 # The crates that a crate stands on, lowest first, and last the crate itself.
 crates_below() {
@@ -39,6 +41,7 @@ newer() {
 # Only `rt` writes the file, and it builds a program only once all crates below it are proved.
 why_to_build() {
   local since=$stamp names found
+  [ ! -e "$root/PACKAGE" ] || return 0
   if [ ! -x "$program" ]; then
     echo 'the program is not built yet'
     return
