@@ -8,6 +8,7 @@ use Rattle.std.specs.declared.vec.Vec.{Vec}
 use mathlib.Core.Path.{fun_ext}
 use Rattle.std.proofs.lemmas.List.{drop_all, append-nil}
 use Rattle.std.proofs.lemmas.Option.{same_Some, none-some}
+use Rattle.std.proofs.lemmas.Bool.{eqb-true}
 use Rattle.cl_model.specs.Steps.{nth}
 use Rattle.kir.specs.declared.line.Atom.{Atom}
 use Rattle.kir.specs.declared.line.Line.{Line}
@@ -21,7 +22,8 @@ use Rattle.kir_simplify.specs.Simple.{is_plain}
 use Rattle.kir_simplify.specs.Faithful.{with_body}
 use Rattle.kir_simplify.specs.Passes.{Known, learned, learnt, known_atom, known_work, settled_work}
 use Rattle.kir_simplify.specs.Passes.{copied, constant_value, folded, folded_of}
-use Rattle.kir_simplify.specs.Tables.{known_by, is_one_at, plain_of}
+use Rattle.kir_simplify.specs.Tables.{known_by, is_one_at, plain_of, put_known, unlearned}
+use Rattle.kir_simplify.specs.declared.settling.Learned.{Learned}
 
 -- ---- lists
 
@@ -184,7 +186,7 @@ set_folded once known new to work made e h rest =
     ap₂ (λ (w : Work) (k : Known). SetThen to w (folded once k rest)) e
     (fun_ext h ∙ ap (learnt once known to) e)
 
-pub if_folded : (once : ℕ → Test) (known : Known) (l : Line) (site : ℕ) (test test' : Atom)
+if_folded : (once : ℕ → Test) (known : Known) (l : Line) (site : ℕ) (test test' : Atom)
     (chosen other : Vec Line Global) (made ys ns : Lines) → l ≡ line.If site test chosen other →
     test' ≡ known_atom known test → ys ≡ folded once known (lines_of chosen.items) →
     ns ≡ folded once known (lines_of other.items) → (rest : Lines) →
@@ -196,7 +198,7 @@ if_folded once known l site test test' chosen other made ys ns e et ey en rest =
     sym (ap (λ x. folded once known (line_before x rest)) e ∙
     ap (folded once known) (if_listed site test chosen other rest))))
 
-pub loop_folded : (once : ℕ → Test) (known : Known) (l : Line) (site : ℕ) (first : Test) (test : Vec Line Global)
+loop_folded : (once : ℕ → Test) (known : Known) (l : Line) (site : ℕ) (first : Test) (test : Vec Line Global)
     (answer answer' : Atom) (body : Vec Line Global) (made ts bs : Lines) →
     l ≡ line.Loop site first test answer body → answer' ≡ known_atom known answer →
     ts ≡ folded once known (lines_of test.items) → bs ≡ folded once known (lines_of body.items) → (rest : Lines) →
@@ -216,6 +218,77 @@ pub fold_step : (walk next : Lines → Lines) (made longer all : Lines) (ls : Li
 fold_step walk next made longer all ls i l lt is onto same =
     onto (lines_of (drop (i + 1) ls)) ∙
     (ap (λ x. joined_to made (walk (lines_of x))) (sym (first_left ls i l lt is)) ∙ same)
+
+-- ---- what was learned, forgotten
+
+unlearned_snoc : (ls : List Learned) (l : Learned) (known : Known) (c : ℕ) →
+    unlearned (ls ++ l ∷ []) known c ≡ unlearned ls (put_known known l.cell l.before) c
+unlearned_snoc [] l known c = refl
+unlearned_snoc (m ∷ ls) l known c =
+    ap (λ (x : Option Atom). if nat_eq c m.cell then m.before else x) (unlearned_snoc ls l known c)
+
+unlearned_same : (ls : List Learned) (known new : Known) → ((c : ℕ) → new c ≡ known c) → (c : ℕ) →
+    unlearned ls new c ≡ unlearned ls known c
+unlearned_same ls known new h c = ap (λ (k : Known). unlearned ls k c) (fun_ext h)
+
+put_again : (known : Known) (to : ℕ) (a : Atom) (c : ℕ) → put_known (learned known to a) to (known to) c ≡ known c
+put_again known to a c = by_cell (nat_eq c to) refl
+  where
+    by_cell : (t : Test) → nat_eq c to ≡ t →
+        (if t then known to else (if t then Some a else known c)) ≡ known c
+    by_cell true e = ap known (sym (eqb-true c to e))
+    by_cell false e = refl
+
+-- one more was learned
+pub noted : (ls longer : List Learned) (l : Learned) (known new : Known) (to : ℕ) (a : Atom) → longer ≡ ls ++ l ∷ [] →
+    l.cell ≡ to → l.before ≡ known to → ((c : ℕ) → new c ≡ learned known to a c) → (c : ℕ) →
+    unlearned longer new c ≡ unlearned ls known c
+noted ls longer l known new to a e cell before h c =
+    ap (λ x. unlearned x new c) e ∙ (unlearned_snoc ls l new c ∙
+    unlearned_same ls known (put_known new l.cell l.before) again c)
+  where
+    again : (c : ℕ) → put_known new l.cell l.before c ≡ known c
+    again c =
+        ap₂ (λ (x : ℕ) (o : Option Atom). put_known new x o c) cell before ∙
+        (ap (λ (k : Known). put_known k to (known to) c) (fun_ext h) ∙ put_again known to a c)
+
+-- the last one is forgotten
+pub forgets_last : (ls shorter : List Learned) (l : Learned) (known new all : Known) → ls ≡ shorter ++ l ∷ [] →
+    ((c : ℕ) → new c ≡ put_known known l.cell l.before c) → ((c : ℕ) → unlearned ls known c ≡ all c) → (c : ℕ) →
+    unlearned shorter new c ≡ all c
+forgets_last ls shorter l known new all e h same c =
+    unlearned_same shorter (put_known known l.cell l.before) new h c ∙
+    (sym (unlearned_snoc shorter l known c) ∙ (ap (λ x. unlearned x known c) (sym e) ∙ same c))
+
+-- lines inside leave what is known
+pub kept_known : (ls : List Learned) (known mid new : Known) → ((c : ℕ) → mid c ≡ known c) →
+    ((c : ℕ) → new c ≡ mid c) → (c : ℕ) → unlearned ls new c ≡ unlearned ls known c
+kept_known ls known mid new m n = unlearned_same ls known new (λ c. n c ∙ m c)
+
+pub if_folded_on : (once : ℕ → Test) (known mid new : Known) (l : Line) (site : ℕ) (test test' : Atom)
+    (chosen other : Vec Line Global) (made ys ns : Lines) → ((c : ℕ) → mid c ≡ known c) →
+    ((c : ℕ) → new c ≡ mid c) → l ≡ line.If site test chosen other →
+    test' ≡ known_atom known test → ys ≡ folded once known (lines_of chosen.items) →
+    ns ≡ folded once mid (lines_of other.items) → (rest : Lines) →
+    joined_to made (IfThen site test' ys ns (folded once new rest)) ≡
+    joined_to made (folded once known (line_before l rest))
+if_folded_on once known mid new l site test test' chosen other made ys ns m n e et ey en rest =
+    ap (λ (k : Known). joined_to made (IfThen site test' ys ns (folded once k rest))) (fun_ext (λ c. n c ∙ m c)) ∙
+    if_folded once known l site test test' chosen other made ys ns e et ey
+    (en ∙ ap (λ (k : Known). folded once k (lines_of other.items)) (fun_ext m)) rest
+
+pub loop_folded_on : (once : ℕ → Test) (known mid new : Known) (l : Line) (site : ℕ) (first : Test)
+    (test : Vec Line Global) (answer answer' : Atom) (body : Vec Line Global) (made ts bs : Lines) →
+    ((c : ℕ) → mid c ≡ known c) → ((c : ℕ) → new c ≡ mid c) → l ≡ line.Loop site first test answer body →
+    answer' ≡ known_atom known answer → ts ≡ folded once known (lines_of test.items) →
+    bs ≡ folded once mid (lines_of body.items) → (rest : Lines) →
+    joined_to made (LoopThen site first ts answer' bs (folded once new rest)) ≡
+    joined_to made (folded once known (line_before l rest))
+loop_folded_on once known mid new l site first test answer answer' body made ts bs m n e ea et eb rest =
+    ap (λ (k : Known). joined_to made (LoopThen site first ts answer' bs (folded once k rest)))
+    (fun_ext (λ c. n c ∙ m c)) ∙
+    loop_folded once known l site first test answer answer' body made ts bs e ea et
+    (eb ∙ ap (λ (k : Known). folded once k (lines_of body.items)) (fun_ext m)) rest
 
 pub kernel_folded : (kernel : Kernel) (sets : List ℕ) (known : List (Option Atom)) (body : Lines) →
     ((c : ℕ) → get_or sets c 0 ≡ sets_in c kernel.body) → ((c : ℕ) → known_by known c ≡ None) →

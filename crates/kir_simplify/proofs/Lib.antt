@@ -19,3 +19,4 @@ pub mod SplicedParting
 pub mod Tables
 pub mod Walks
 pub mod Folds
+pub mod Sizes

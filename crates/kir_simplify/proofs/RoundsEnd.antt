@@ -1,9 +1,9 @@
 -- A round makes a kernel smaller, or the kernel is simple. So as many rounds as it is large make it simple.
-use Rattle.std.proofs.Common.{◌≡◌, ℕ, zero, suc, ◌+◌, ◌≤◌, List, [], ◌∷◌, map, Option, Some, None, unwrap_or}
+use Rattle.std.proofs.Common.{◌≡◌, ℕ, zero, suc, ◌+◌, ◌<◌, ◌≤◌, List, [], ◌∷◌, map, Option, Some, None, unwrap_or}
 use Rattle.std.proofs.Common.{refl, sym, ap, ap₂, ◌∙◌, subst, arith, true, false, if◌then◌else◌, ◌⊎◌, inl, inr, eq-eqb}
 use Rattle.std.proofs.Common.{Bool as Test}
-use Rattle.std.specs.Prelude.{nat_eq, not, ◌&&◌, ◌||◌}
-use Rattle.std.proofs.lemmas.Bool.{true≢false, and_parts, eqb-true}
+use Rattle.std.specs.Prelude.{nat_eq, nat_lt, not, ◌&&◌, ◌||◌}
+use Rattle.std.proofs.lemmas.Bool.{true≢false, and_parts, eqb-true, lt-ltb, ltb-true}
 use Rattle.std.proofs.lemmas.Option.{none-some}
 use Rattle.cl_model.specs.Values.{is_zero}
 use Rattle.kir.specs.declared.line.Atom.{Atom}
@@ -14,14 +14,15 @@ use Rattle.kir.specs.Live.{reads, some_reads, work_reads}
 use Rattle.kir_simplify.specs.Reading.{reads_in}
 use Rattle.kir_simplify.specs.Simple.{is_foregone, is_plain, is_value_cell, is_set_once, is_unread}
 use Rattle.kir_simplify.specs.Simple.{stands_for_constant, is_decided, none_foregone, none_decided, none_unread}
-use Rattle.kir_simplify.specs.Simple.{none_stands, is_simple, IsSimple}
-use Rattle.kir_simplify.specs.Faithful.{with_body}
+use Rattle.kir_simplify.specs.Simple.{none_stands, IsSimple}
+use Rattle.kir_simplify.specs.Faithful.{with_body, IsFaithful}
 use Rattle.kir_simplify.specs.Passes.{Known, nothing_known, learned, known_atom, known_work, constant_value}
 use Rattle.kir_simplify.specs.Passes.{foregone_value}
 use Rattle.kir_simplify.specs.Passes.{foregone_type, settled_work, copied, learnt, folded, folded_of, spliced}
 use Rattle.kir_simplify.specs.Passes.{spliced_of}
-use Rattle.kir_simplify.specs.Passes.{swept, atom_size, atoms_size, work_size, size_of, round_of, rounds}
+use Rattle.kir_simplify.specs.Passes.{swept, atom_size, atoms_size, work_size, size_of, round_of, shrinks, rounds}
 use Rattle.kir_simplify.specs.Passes.{simplified_of}
+use Rattle.kir_simplify.proofs.Chained.{chained}
 use Rattle.kir_simplify.proofs.FoldedItems.{AreConstants}
 use Rattle.kir_simplify.proofs.FoldedLess.{no_constants, constants_on}
 
@@ -53,6 +54,13 @@ no_more now was (inr (same, p)) = omega arith
 
 neither : (x y : Test) → x ≡ false → y ≡ false → (x || y) ≡ false
 neither x y e f = ap₂ (λ a b. a || b) e f
+
+nothing_less : (m n : ℕ) → n ≤ 0 → nat_lt m n ≡ false
+nothing_less m n small = by_test (nat_lt m n) refl
+  where
+    by_test : (b : Test) → nat_lt m n ≡ b → b ≡ false
+    by_test true e = let less = ltb-true m n e in absurd (omega arith)
+    by_test false e = refl
 
 each_of : (x y : Test) → x ≡ true → y ≡ true → (x && y) ≡ true
 each_of x y e f = ap₂ (λ a b. a && b) e f
@@ -382,8 +390,9 @@ module _ (kernel : Kernel) where
 
 -- ---- rounds
 
--- a round makes the kernel smaller, or it is simple
-pub round_out : (kernel : Kernel) → Out (size_of (round_of kernel).body) (size_of kernel.body) (IsSimple kernel)
+-- a round makes the kernel smaller, or it changes nothing, and the kernel is simple
+pub round_out : (kernel : Kernel) →
+    Out (size_of (round_of kernel).body) (size_of kernel.body) ((round_of kernel ≡ kernel) × IsSimple kernel)
 round_out kernel =
     then_out {Q = IsSpliced (folded_of kernel).body × IsDone kernel nothing_known kernel.body} _
     (size_of (spliced_of (folded_of kernel)).body) _
@@ -392,39 +401,136 @@ round_out kernel =
     (lines_out kernel nothing_known no_constants kernel.body) (λ p q. (p, q)))
     (λ p q.
     let one = q.1.same in
-    let two = q.0.0 ∙ one in
-    each_of _ _ q.1.none
-    (each_of _ _ (subst (λ lines. none_decided lines ≡ true) one q.0.1)
-    (each_of _ _ (subst (λ lines. none_unread (with_body kernel lines) lines ≡ true) two p.1) q.1.stands)))
+    let two = q.0.0 ∙ one in (
+      ap (with_body kernel) (p.0 ∙ two),
+      each_of _ _ q.1.none
+          (each_of _ _ (subst (λ lines. none_decided lines ≡ true) one q.0.1)
+          (each_of _ _ (subst (λ lines. none_unread (with_body kernel lines) lines ≡ true) two p.1) q.1.stands)),
+    ))
 
-empty_is : (lines : Lines) → size_of lines ≤ 0 → lines ≡ NoLine
-empty_is NoLine e = refl
-empty_is (SetThen to work rest) e = absurd (omega arith)
-empty_is (LoadThen site to element root index rest) e = absurd (omega arith)
-empty_is (StoreThen site element root index from rest) e = absurd (omega arith)
-empty_is (ClearThen array rest) e = absurd (omega arith)
-empty_is (IfThen site test chosen other rest) e = absurd (omega arith)
-empty_is (LoopThen site test_first test answer body rest) e = absurd (omega arith)
-empty_is (BarrierThen site rest) e = absurd (omega arith)
+-- one that makes it no smaller
+pub last_round : (kernel : Kernel) → shrinks kernel ≡ false → (round_of kernel ≡ kernel) × IsSimple kernel
+last_round kernel e = by_size (round_out kernel)
+  where
+    by_size : Out (size_of (round_of kernel).body) (size_of kernel.body) ((round_of kernel ≡ kernel) × IsSimple kernel)
+        → (round_of kernel ≡ kernel) × IsSimple kernel
+    by_size (inl less) = absurd (true≢false (sym (lt-ltb _ _ less) ∙ e))
+    by_size (inr (same, last)) = last
 
-by_round : (n : ℕ) (kernel : Kernel) → size_of kernel.body ≤ suc n →
-    (size_of (round_of kernel).body ≤ n → IsSimple (rounds n (round_of kernel))) → is_simple kernel ≡ false →
-    Out (size_of (round_of kernel).body) (size_of kernel.body) (IsSimple kernel) → IsSimple (rounds n (round_of kernel))
-by_round n kernel small f e (inl less) = f (omega arith)
-by_round n kernel small f e (inr (same, simple)) = absurd (true≢false (sym simple ∙ e))
-
-by_simple : (n : ℕ) (kernel : Kernel) → size_of kernel.body ≤ suc n →
-    (size_of (round_of kernel).body ≤ n → IsSimple (rounds n (round_of kernel))) → (b : Test) → is_simple kernel ≡ b →
-    IsSimple (if b then kernel else rounds n (round_of kernel))
-by_simple n kernel small f true e = e
-by_simple n kernel small f false e = by_round n kernel small f e (round_out kernel)
+by_shrinking : (n : ℕ) (kernel : Kernel) → size_of kernel.body ≤ suc n →
+    (size_of (round_of kernel).body ≤ n → IsSimple (rounds n (round_of kernel))) → (b : Test) → shrinks kernel ≡ b →
+    IsSimple (if b then rounds n (round_of kernel) else kernel)
+by_shrinking n kernel small f true e =
+    let less = ltb-true (size_of (round_of kernel).body) (size_of kernel.body) e in f (omega arith)
+by_shrinking n kernel small f false e = (last_round kernel e).1
 
 rounds_simple : (n : ℕ) (kernel : Kernel) → size_of kernel.body ≤ n → IsSimple (rounds n kernel)
-rounds_simple zero kernel small = ap (λ lines. is_simple (with_body kernel lines)) (empty_is kernel.body small)
+rounds_simple zero kernel small =
+    (last_round kernel (nothing_less (size_of (round_of kernel).body) (size_of kernel.body) small)).1
 rounds_simple (suc n) kernel small =
-    by_simple n kernel small (λ less. rounds_simple n (round_of kernel) less) (is_simple kernel) refl
+    by_shrinking n kernel small (λ less. rounds_simple n (round_of kernel) less) (shrinks kernel) refl
 
 -- what is answered is simple
 pub simplified_simple : (kernel : Kernel) → IsSimple (simplified_of kernel)
 unfolding simplified_of
 simplified_simple kernel = rounds_simple (size_of kernel.body) kernel (omega arith)
+
+-- ---- how many rounds there may be at most makes no difference from the size on
+
+none_left : (m : ℕ) (kernel : Kernel) → size_of kernel.body ≤ 0 → rounds m kernel ≡ kernel
+none_left zero kernel small = refl
+none_left (suc m) kernel small =
+    ap (λ (b : Test). if b then rounds m (round_of kernel) else kernel)
+    (nothing_less (size_of (round_of kernel).body) (size_of kernel.body) small)
+
+either_count : (n m : ℕ) (kernel : Kernel) → size_of kernel.body ≤ suc n → size_of kernel.body ≤ suc m →
+    (size_of (round_of kernel).body ≤ n → size_of (round_of kernel).body ≤ m →
+    rounds n (round_of kernel) ≡ rounds m (round_of kernel)) → (b : Test) → shrinks kernel ≡ b →
+    (if b then rounds n (round_of kernel) else kernel) ≡ (if b then rounds m (round_of kernel) else kernel)
+either_count n m kernel s t f true e =
+    let less = ltb-true (size_of (round_of kernel).body) (size_of kernel.body) e in f (omega arith) (omega arith)
+either_count n m kernel s t f false e = refl
+
+enough : (n m : ℕ) (kernel : Kernel) → size_of kernel.body ≤ n → size_of kernel.body ≤ m →
+    rounds n kernel ≡ rounds m kernel
+enough zero m kernel s t = sym (none_left m kernel s)
+enough (suc n) zero kernel s t = none_left (suc n) kernel t
+enough (suc n) (suc m) kernel s t =
+    either_count n m kernel s t (λ l k. enough n m (round_of kernel) l k) (shrinks kernel) refl
+
+-- a round that makes it smaller is one on the way
+pub simplified_on : (kernel : Kernel) → shrinks kernel ≡ true → simplified_of (round_of kernel) ≡ simplified_of kernel
+unfolding simplified_of
+simplified_on kernel e = by_count (size_of kernel.body) refl
+  where
+    by_count : (n : ℕ) → size_of kernel.body ≡ n →
+        rounds (size_of (round_of kernel).body) (round_of kernel) ≡ rounds n kernel
+    by_count zero s =
+        absurd (true≢false (sym e ∙ nothing_less (size_of (round_of kernel).body) (size_of kernel.body) (omega (arith, s))))
+    by_count (suc n) s =
+        let less = ltb-true (size_of (round_of kernel).body) (size_of kernel.body) e in
+        enough (size_of (round_of kernel).body) n (round_of kernel) (omega arith) (omega (arith, s, less)) ∙
+        sym (ap (λ (b : Test). if b then rounds n (round_of kernel) else kernel) e)
+
+-- one that does not is the last
+pub simplified_last : (kernel : Kernel) → shrinks kernel ≡ false → round_of kernel ≡ simplified_of kernel
+unfolding simplified_of
+simplified_last kernel e = (last_round kernel e).0 ∙ sym (by_count (size_of kernel.body))
+  where
+    by_count : (n : ℕ) → rounds n kernel ≡ kernel
+    by_count zero = refl
+    by_count (suc n) = ap (λ (b : Test). if b then rounds n (round_of kernel) else kernel) e
+
+-- only the lines are others
+either_kept : (n : ℕ) (kernel : Kernel) →
+    rounds n (round_of kernel) ≡ with_body (round_of kernel) (rounds n (round_of kernel)).body → (b : Test) →
+    (if b then rounds n (round_of kernel) else kernel) ≡
+    with_body kernel (if b then rounds n (round_of kernel) else kernel).body
+either_kept n kernel same true = same
+either_kept n kernel same false = refl
+
+kept_by : (n : ℕ) (kernel : Kernel) → rounds n kernel ≡ with_body kernel (rounds n kernel).body
+kept_by zero kernel = refl
+kept_by (suc n) kernel = either_kept n kernel (kept_by n (round_of kernel)) (shrinks kernel)
+
+pub simplified_kept : (kernel : Kernel) → simplified_of kernel ≡ with_body kernel (simplified_of kernel).body
+unfolding simplified_of
+simplified_kept kernel = kept_by (size_of kernel.body) kernel
+
+-- ---- the loop over rounds
+
+-- sizes tell whether the kernel shrinks
+pub does_shrink : (kernel next : Kernel) (before after : ℕ) → before ≡ size_of kernel.body → next ≡ round_of kernel →
+    after ≡ size_of next.body → after < before → shrinks kernel ≡ true
+does_shrink kernel next before after b n a less =
+    lt-ltb _ _ (subst (λ s. size_of (round_of kernel).body < s) b
+    (subst (λ s. s < before) (a ∙ ap (λ (k : Kernel). size_of k.body) n) less))
+
+pub does_not_shrink : (kernel next : Kernel) (before after : ℕ) → before ≡ size_of kernel.body →
+    next ≡ round_of kernel → after ≡ size_of next.body → before ≤ after → shrinks kernel ≡ false
+does_not_shrink kernel next before after b n a most =
+    not_less _ _ (subst (λ s. s ≤ size_of (round_of kernel).body) b
+    (subst (λ s. before ≤ s) (a ∙ ap (λ (k : Kernel). size_of k.body) n) most))
+  where
+    not_less : (m n : ℕ) → n ≤ m → nat_lt m n ≡ false
+    not_less m n most = by_test (nat_lt m n) refl
+      where
+        by_test : (t : Test) → nat_lt m n ≡ t → t ≡ false
+        by_test true e = let less = ltb-true m n e in absurd (omega arith)
+        by_test false e = refl
+
+-- what is left behind the last round
+pub finished : (kernel now next : Kernel) → next ≡ round_of now → shrinks now ≡ false →
+    simplified_of now ≡ simplified_of kernel → next ≡ simplified_of kernel
+finished kernel now next n last same = n ∙ (simplified_last now last ∙ same)
+
+-- and behind one on the way
+pub goes_on : (kernel now next : Kernel) → next ≡ round_of now → shrinks now ≡ true →
+    simplified_of now ≡ simplified_of kernel → simplified_of next ≡ simplified_of kernel
+goes_on kernel now next n more same = ap simplified_of n ∙ (simplified_on now more ∙ same)
+
+-- each is faithful to the first
+pub faithful_on : (kernel now next : Kernel) → (now ≡ kernel) ⊎ IsFaithful kernel now → IsFaithful now next →
+    IsFaithful kernel next
+faithful_on kernel now next (inl same) f = subst (λ k. IsFaithful k next) same f
+faithful_on kernel now next (inr before) f = chained kernel now next before f

@@ -1,9 +1,9 @@
--- The simplification of a kernel: rounds of three passes, until the kernel is simple. Each pass is one walk over the
+-- The simplification of a kernel: rounds of three passes, until one changes nothing. Each pass is one walk over the
 -- lines. The first computes what is computed of constants alone and puts constants in place of cells that stand for
 -- them; it leaves each line where it is. The second puts the branch that a constant chooses in place of its if. The
 -- third leaves out values that no line reads.
 use Rattle.std.specs.Prelude.{ℕ, zero, suc, ◌+◌, ℤ, pos, List, [], ◌∷◌, Option, Some, None, map, unwrap_or}
-use Rattle.std.specs.Prelude.{◌&&◌, nat_eq, if◌then◌else◌}
+use Rattle.std.specs.Prelude.{◌&&◌, nat_eq, nat_lt, if◌then◌else◌}
 use Rattle.std.specs.Prelude.{Bool as Test}
 use Rattle.wg_num.specs.declared.types.IntType.{IntType}
 use Rattle.wg_num.specs.declared.types.IntType.TheVariants.{Int}
@@ -17,7 +17,7 @@ use Rattle.kir.specs.declared.line.Atom.{Atom}
 use Rattle.kir.specs.declared.line.Atom.TheVariants.{Const, Cell as CellAtom}
 use Rattle.kir.specs.Tree.{Work, Unary, Binary, Builtin, Convert, Ask, Argument, Copy, Lines, NoLine, SetThen}
 use Rattle.kir.specs.Tree.{LoadThen, StoreThen, ClearThen, IfThen, LoopThen, BarrierThen, joined_to, Kernel}
-use Rattle.kir_simplify.specs.Simple.{is_foregone, is_plain, is_decided, is_unread, is_set_once, is_simple}
+use Rattle.kir_simplify.specs.Simple.{is_foregone, is_plain, is_decided, is_unread, is_set_once}
 use Rattle.kir_simplify.specs.Faithful.{with_body}
 
 -- ---- constants
@@ -185,10 +185,14 @@ size_of (BarrierThen site rest) = suc (size_of rest)
 abbrev pub round_of : Kernel → Kernel
 round_of kernel = swept_of (spliced_of (folded_of kernel))
 
--- so many rounds at most
+-- a round makes the kernel smaller
+abbrev pub shrinks : Kernel → Test
+shrinks kernel = nat_lt (size_of (round_of kernel).body) (size_of kernel.body)
+
+-- so many rounds at most, while one makes the kernel smaller
 abbrev pub rounds : ℕ → Kernel → Kernel
 rounds zero kernel = kernel
-rounds (suc n) kernel = if is_simple kernel then kernel else rounds n (round_of kernel)
+rounds (suc n) kernel = if shrinks kernel then rounds n (round_of kernel) else kernel
 
 -- the kernel that `simplify` answers
 unfoldable pub simplified_of : Kernel → Kernel

@@ -1,5 +1,5 @@
 -- Lists that say something of each cell.
-use Rattle.std.specs.Prelude.{◌≡◌, ℕ, ◌<◌, List, length, map, Option, None, Some, slice_index_or, nat_eq}
+use Rattle.std.specs.Prelude.{◌≡◌, ℕ, ◌<◌, List, [], ◌∷◌, length, map, Option, None, Some, slice_index_or, nat_eq}
 use Rattle.std.specs.Prelude.{Bool as Test, true, false, if◌then◌else◌}
 use Rattle.cl_model.specs.Values.{is_zero}
 use Rattle.kir.specs.declared.line.Atom.{Atom}
@@ -7,6 +7,7 @@ use Rattle.kir.specs.declared.line.Line.{Line}
 use Rattle.kir.specs.declared.line.Line.TheVariants as line
 use Rattle.kir.specs.Listed.{line_before}
 use Rattle.kir.specs.Tree.{Cell, Lines, Work}
+use Rattle.kir_simplify.specs.declared.settling.Learned.{Learned}
 use Rattle.kir_simplify.specs.Simple.{is_value_kind, is_decided, is_plain}
 use Rattle.kir_simplify.specs.Passes.{Known, constant_value, copied}
 
@@ -46,6 +47,15 @@ decision test chosen other =
 -- what the list says stands for a cell
 abbrev pub known_by : List (Option Atom) → Known
 known_by table c = slice_index_or table c None
+
+-- something else is known of the cell, or nothing
+abbrev pub put_known : Known → ℕ → Option Atom → Known
+put_known known to found c = if nat_eq c to then found else known c
+
+-- what was known before, where these were learned one behind the other
+abbrev pub unlearned : List Learned → Known → Known
+unlearned [] known = known
+unlearned (l ∷ later) known = put_known (unlearned later known) l.cell l.before
 
 -- one line alone sets the cell, where the list says how many do
 abbrev pub is_one_at : List ℕ → ℕ → Test

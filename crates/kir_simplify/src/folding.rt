@@ -7,14 +7,14 @@ ghost use Rattle.kir.specs.Listed.{line_before, lines_of, work_of};
 ghost use Rattle.kir.specs.View.{kernel_of};
 ghost use Rattle.kir_simplify.specs.Faithful.{IsFaithful};
 ghost use Rattle.kir_simplify.specs.Passes.{folded, folded_of};
-ghost use Rattle.kir_simplify.specs.Tables.{is_one_at, known_by};
+ghost use Rattle.kir_simplify.specs.Tables.{is_one_at, known_by, unlearned};
 
 use crate::adding::{add_if, add_line, add_loop};
 use crate::counting::counted;
-use crate::settling::{fold_work, known_atom, learn};
+use crate::settling::{Learned, fold_work, forget, known_atom, learn};
 use kir::{Atom, Kernel, KernelParts, Line, Work};
 use std::alloc::Global;
-use wg_num::{Memory, copy_list, push};
+use wg_num::{Memory, push};
 
 /// Nothing is known of so many cells.
 fn none_known(alloc: Global, cells: usize) -> Result<Vec<Option<Atom>>, Memory>
@@ -33,17 +33,20 @@ fn fold_set(
     alloc: Global,
     sets: &[u64],
     known: &mut Vec<Option<Atom>>,
+    trail: &mut Vec<Learned>,
     to: u32,
     work: &Work,
     made: &mut Vec<Line>,
 ) -> Result<(), Memory>
-    ensures { OnOk result ((rest : Lines) →
+    ensures before { OnOk result ((c : ℕ) → unlearned trail.new.items (known_by known.new.items) c ≡
+        unlearned trail.old.items (known_by known.old.items) c) }
+    ensures made { OnOk result ((rest : Lines) →
         joined_to (lines_of made.new.items) (folded (is_one_at sets.now) (known_by known.new.items) rest) ≡
         joined_to (lines_of made.old.items)
         (folded (is_one_at sets.now) (known_by known.old.items) (SetThen to (work_of work.now) rest))) }
 {
     let work = fold_work(alloc, known, work)?;
-    learn(sets, known, to, &work)?;
+    learn(sets, known, trail, to, &work)?;
     add_line(made, Line::Set { to, work })?;
     Ok(())
 }
@@ -99,44 +102,51 @@ fn fold_plain(known: &[Option<Atom>], line: &Line, made: &mut Vec<Line>) -> Resu
     Ok(())
 }
 
-/// The lines, where these constants are known before them.
+/// The lines, where these constants are known before them. What is learned in them is forgotten behind
+/// them.
 #[cycle(fold)]
 #[inline(never)]
 fn fold_lines(
     alloc: Global,
     sets: &[u64],
-    known: &[Option<Atom>],
+    known: &mut Vec<Option<Atom>>,
     lines: &[Line],
 ) -> Result<Vec<Line>, Memory>
-    ensures { IfOk result (λ made. lines_of made.items ≡
-        folded (is_one_at sets.now) (known_by known.now) (lines_of lines.now)) }
+    ensures forgotten { IfOk result (λ made. (c : ℕ) →
+        known_by known.new.items c ≡ known_by known.old.items c) }
+    ensures made { IfOk result (λ made. lines_of made.items ≡
+        folded (is_one_at sets.now) (known_by known.old.items) (lines_of lines.now)) }
 {
-    let mut here = copy_list(alloc, known)?;
+    let mut trail = Vec::new(alloc);
     let mut made = Vec::new(alloc);
     for line in lines {
-        fold_onto(alloc, sets, &mut here, line, &mut made)?;
+        fold_onto(alloc, sets, known, &mut trail, line, &mut made)?;
     }
+    forget(known, &mut trail)?;
     Ok(made)
 }
 
-/// The list with a line more, and what is known behind it.
+/// The list with a line more, what is known behind it, and what was learned with it.
 #[cycle(fold)]
 #[inline(never)]
 fn fold_onto(
     alloc: Global,
     sets: &[u64],
     known: &mut Vec<Option<Atom>>,
+    trail: &mut Vec<Learned>,
     line: &Line,
     made: &mut Vec<Line>,
 ) -> Result<(), Memory>
-    ensures { OnOk result ((rest : Lines) →
+    ensures before { OnOk result ((c : ℕ) → unlearned trail.new.items (known_by known.new.items) c ≡
+        unlearned trail.old.items (known_by known.old.items) c) }
+    ensures made { OnOk result ((rest : Lines) →
         joined_to (lines_of made.new.items) (folded (is_one_at sets.now) (known_by known.new.items) rest) ≡
         joined_to (lines_of made.old.items)
         (folded (is_one_at sets.now) (known_by known.old.items) (line_before line.now rest))) }
 {
     match line {
         Line::Set { to, work } => {
-            fold_set(alloc, sets, known, *to, work, made)?;
+            fold_set(alloc, sets, known, trail, *to, work, made)?;
             Ok(())
         }
         Line::If {
@@ -176,8 +186,8 @@ fn folded_kernel(alloc: Global, kernel: Kernel) -> Result<Kernel, Memory>
     ensures { IfOk result (λ k. kernel_of k ≡ folded_of (kernel_of kernel)) }
 {
     let sets = counted(alloc, kernel.cells.len(), &kernel.body)?;
-    let known = none_known(alloc, kernel.cells.len())?;
-    let body = fold_lines(alloc, &sets, &known, &kernel.body)?;
+    let mut known = none_known(alloc, kernel.cells.len())?;
+    let body = fold_lines(alloc, &sets, &mut known, &kernel.body)?;
     let parts = KernelParts {
         params: kernel.params,
         cells: kernel.cells,

@@ -7,6 +7,7 @@ pub mod folding;
 mod reading;
 pub mod rounds;
 mod settling;
+mod sizing;
 pub mod splicing;
 pub mod sweeping;
 
@@ -21,7 +22,7 @@ ghost use Rattle.kir_simplify.specs.Simple.{IsSimple};
 use cl_model::Program;
 pub use folding::fold;
 use kir::Kernel;
-pub use rounds::round;
+pub use rounds::{round, simplify};
 pub use splicing::splice;
 pub use sweeping::sweep;
 

@@ -8,7 +8,7 @@ ghost use Rattle.kir.specs.Tree as tree;
 ghost use Rattle.kir.specs.Listed.{work_of};
 ghost use Rattle.kir_simplify.specs.Passes.{constant_value, known_atom, known_work, settled_work, learned, learnt};
 ghost use Rattle.kir_simplify.specs.Simple as simple;
-ghost use Rattle.kir_simplify.specs.Tables.{is_one_at, known_by, plain_of};
+ghost use Rattle.kir_simplify.specs.Tables.{is_one_at, known_by, plain_of, put_known, unlearned};
 
 use crate::counting::is_one;
 use cl_model::types::{binary_type, unary_type};
@@ -221,37 +221,86 @@ fn plain_constant(work: &Work) -> Option<Atom>
     }
 }
 
-/// The atom is known for the cell. Memory where there is no such cell.
-fn put(known: &mut Vec<Option<Atom>>, to: u32, atom: Atom) -> Result<(), Memory>
-    ensures { OnOk result ((c : ℕ) → known_by known.new.items c ≡ learned (known_by known.old.items) to atom c) }
+/// A cell of which something was learned, and what was known of it before.
+#[derive(Clone, Copy)]
+pub(crate) struct Learned {
+    cell: u32,
+    before: Option<Atom>,
+}
+
+/// What is known of a cell.
+fn found_for(known: &[Option<Atom>], cell: u32) -> Option<Atom>
+    ensures { result ≡ known_by known.now cell }
 {
-    let at = to as usize;
+    match known.get(cell as usize) {
+        Some(found) => *found,
+        None => None,
+    }
+}
+
+/// This is known of the cell, or nothing. Memory where there is no such cell.
+fn put_known(known: &mut Vec<Option<Atom>>, cell: u32, found: Option<Atom>) -> Result<(), Memory>
+    ensures { OnOk result ((c : ℕ) → known_by known.new.items c ≡ put_known (known_by known.old.items) cell found c) }
+{
+    let at = cell as usize;
     if at < known.len() {
-        known[at] = Some(atom);
+        known[at] = found;
         Ok(())
     } else {
         Err(Memory)
     }
 }
 
+/// The atom is learned for the cell.
+fn note(
+    known: &mut Vec<Option<Atom>>,
+    trail: &mut Vec<Learned>,
+    to: u32,
+    atom: Atom,
+) -> Result<(), Memory>
+    ensures known { OnOk result ((c : ℕ) →
+        known_by known.new.items c ≡ learned (known_by known.old.items) to atom c) }
+    ensures before { OnOk result ((c : ℕ) → unlearned trail.new.items (known_by known.new.items) c ≡
+        unlearned trail.old.items (known_by known.old.items) c) }
+{
+    let before = found_for(known, to);
+    push(trail, Learned { cell: to, before })?;
+    put_known(known, to, Some(atom))?;
+    Ok(())
+}
+
 /// What is known behind a line that sets the cell to this work.
 pub(crate) fn learn(
     sets: &[u64],
     known: &mut Vec<Option<Atom>>,
+    trail: &mut Vec<Learned>,
     to: u32,
     work: &Work,
 ) -> Result<(), Memory>
-    ensures { OnOk result ((c : ℕ) → known_by known.new.items c ≡
+    ensures known { OnOk result ((c : ℕ) → known_by known.new.items c ≡
         learnt (is_one_at sets.now) (known_by known.old.items) to (work_of work.now) c) }
+    ensures before { OnOk result ((c : ℕ) → unlearned trail.new.items (known_by known.new.items) c ≡
+        unlearned trail.old.items (known_by known.old.items) c) }
 {
     match plain_constant(work) {
         None => Ok(()),
         Some(atom) => {
             if is_one(sets, to) {
-                put(known, to, atom)
+                note(known, trail, to, atom)
             } else {
                 Ok(())
             }
         }
     }
+}
+
+/// What was learned is forgotten, the last first.
+pub(crate) fn forget(known: &mut Vec<Option<Atom>>, trail: &mut Vec<Learned>) -> Result<(), Memory>
+    ensures { OnOk result ((c : ℕ) →
+        known_by known.new.items c ≡ unlearned trail.old.items (known_by known.old.items) c) }
+{
+    while let Some(learned) = trail.pop() {
+        put_known(known, learned.cell, learned.before)?;
+    }
+    Ok(())
 }
