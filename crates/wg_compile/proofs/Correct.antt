@@ -11,6 +11,7 @@ use Rattle.kir.specs.Tree.{Kernel}
 use Rattle.kir.specs.Cuts.{holds_barrier}
 use Rattle.kir.specs.Fits.{is_kernel, lines_fit}
 use Rattle.kir_lower.specs.Whole.{lowered_of}
+use Rattle.kir_simplify.specs.Faithful.{Simplifies}
 use Rattle.kir.specs.Lowering.{Named, IsLoweringOf, BeginsWithArguments}
 use Rattle.ctx_plan.specs.Planned.{Planned, IsPlan, IsCounted, AreVarying}
 use Rattle.lane_code.specs.Program.{Plain, is_group_program}
@@ -53,10 +54,12 @@ pub record ArePasses (program : Program) (varying : List (List Test)) (kernel : 
 -- where the kernel comes from a valid program, all that the passes answer is correct
 pub correct_from : (program : Program) (names : List (List Named)) (varying : List (List Test)) (kernel : Kernel)
     (plan : Planned) (width : Width) (p : Plain) → IsValid program → IsLoweringOf program names kernel →
-    BeginsWithArguments program (lowered_of program names) → ArePasses program varying kernel plan width p → IsCorrect program names varying kernel plan width p
-correct_from program names varying kernel plan width p valid lowered begins passes = record {
+    BeginsWithArguments program (lowered_of program names) → Simplifies (lowered_of program names) kernel →
+    ArePasses program varying kernel plan width p → IsCorrect program names varying kernel plan width p
+correct_from program names varying kernel plan width p valid lowered begins simple passes = record {
   lowered = lowered;
   begins = begins;
+  simplified = simple;
   varies = passes.varies;
   homes = passes.planned;
   once = kept_once program kernel plan valid passes.planned;
@@ -96,22 +99,28 @@ correct_from program names varying kernel plan width p valid lowered begins pass
         (suits program names kernel plan lowered passes.planned) passes.well passes.built
 
 -- the same of the kernel and the plan of a unit
-pub correct_in : (u : Unit') (width : Width) (kernel : Kernel) (plan : Planned) (p : Plain) → kernel ≡ kernel_in u →
-    plan ≡ plan_in u → is_kernel kernel ≡ true → IsCounted kernel plan → HasPartsOf kernel plan width p →
+pub correct_in : (u : Unit') (width : Width) (first kernel : Kernel) (plan : Planned) (p : Plain) →
+    first ≡ lowered_of (program_of u) (names_in u) → kernel ≡ kernel_in u → plan ≡ plan_in u →
+    is_kernel first ≡ true → Simplifies first kernel → is_kernel kernel ≡ true → IsCounted kernel plan →
+    HasPartsOf kernel plan width p →
     IsLike (group_in (lanes_of width) u) p → (holds_barrier kernel.body ≡ false → IsOneCode p.top)
     → is_group_program p ≡ true → EachCode IsWell p.top → IsValid (program_of u) →
     AreVarying (program_of u) (varying_of (program_of u)) → IsCorrectFor u width p
-correct_in u width kernel plan p kernel_is plan_is fits counted parts like one group_valid well valid varies =
-    correct_from (program_of u) (names_in u) (varying_of (program_of u)) (kernel_in u) (plan_in u) width p valid
-    (lowered_in u valid (subst (λ (k : Kernel). is_kernel k ≡ true) kernel_is fits)) (begins_in u valid)
+correct_in u width first kernel plan p first_is kernel_is plan_is first_fits simple fits counted parts like one valid
+    well typed varies =
+    let simpler = subst (λ (k : Kernel). Simplifies (lowered_of (program_of u) (names_in u)) k) kernel_is
+    (subst (λ (k : Kernel). Simplifies k kernel) first_is simple) in
+    let lowered = lowered_in u typed (subst (λ (k : Kernel). is_kernel k ≡ true) first_is first_fits) simpler in
+    correct_from (program_of u) (names_in u) (varying_of (program_of u)) (kernel_in u) (plan_in u) width p typed
+    lowered (begins_in u typed) simpler
     (record {
       fits = subst (λ (k : Kernel). is_kernel k ≡ true) kernel_is fits;
       varies = varies;
-      planned = homes_in u valid varies (subst (λ (x : Planned). IsCounted (kernel_in u) x) plan_is
+      planned = homes_in u typed lowered.cells varies (subst (λ (x : Planned). IsCounted (kernel_in u) x) plan_is
           (subst (λ (k : Kernel). IsCounted k plan) kernel_is counted));
       parts = parts_in u width kernel plan p kernel_is plan_is parts;
       built = built_in u width p like;
       one = subst (λ (k : Kernel). holds_barrier k.body ≡ false → IsOneCode p.top) kernel_is one;
-      valid = group_valid;
+      valid = valid;
       well = well;
     })

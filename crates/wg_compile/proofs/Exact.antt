@@ -8,6 +8,7 @@ use Rattle.cl_model.specs.View.{program_of}
 use Rattle.kir.specs.Tree.{Kernel}
 use Rattle.kir.specs.Lowering.{names_of}
 use Rattle.kir_lower.specs.Whole.{lowered_of}
+use Rattle.kir_simplify.specs.Passes.{simplified_of}
 use Rattle.diverge.specs.Rounds.{varying_of}
 use Rattle.ctx_plan.specs.Planned.{Planned}
 use Rattle.ctx_plan.specs.Made.{plan_of}
@@ -20,7 +21,7 @@ use Rattle.lane_code.specs.Program.{Plain}
 use Rattle.lane_laws.specs.Chain.{NoWork, work_before}
 use Rattle.item_loops.specs.Program.{IsBuilt}
 use Rattle.item_loops.specs.Built.{built_of}
-use Rattle.wg_compile.specs.Passes.{kernel_in, plan_in, group_with, group_in, IsLike}
+use Rattle.wg_compile.specs.Passes.{names_in, kernel_in, plan_in, group_with, group_in, IsLike}
 use Rattle.wg_compile.proofs.Alike.{one_chain}
 use Rattle.cl_check_sound.specs.Erased as erased
 use Rattle.cl_check_sound.proofs.ErasedPrograms.{program_same}
@@ -40,9 +41,15 @@ like_built kernel plan width tree p is cut built = record {
 }
 
 -- the kernel and the plan of a unit
-pub kernel_is : (p : Program) (k : Kernel) → k ≡ lowered_of (program_of p) (names_of p) → k ≡ kernel_in (unit_of p)
+pub lowered_is : (p : Program) (k : Kernel) → k ≡ lowered_of (program_of p) (names_of p) →
+    k ≡ lowered_of (erased.program_of (unit_of p)) (names_in (unit_of p))
+lowered_is p k is = is ∙ sym (ap₂ lowered_of (program_same p) (names_same p))
+
+pub kernel_is : (p : Program) (lowered k : Kernel) →
+    lowered ≡ lowered_of (erased.program_of (unit_of p)) (names_in (unit_of p)) → k ≡ simplified_of lowered →
+    k ≡ kernel_in (unit_of p)
 unfolding kernel_in
-kernel_is p k is = is ∙ sym (ap₂ lowered_of (program_same p) (names_same p))
+kernel_is p lowered k is simple = simple ∙ ap simplified_of is
 
 -- what varies of it
 pub varying_is : (p : Program) (varying : List (List Test)) → varying ≡ varying_of (program_of p) →

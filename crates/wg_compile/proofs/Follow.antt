@@ -71,8 +71,8 @@ of_regions P code (tree.LoopThen first test body others rest) (CodeThen c behind
 of_regions P code (tree.LoopThen first test body others rest) (VoteWork t a r m behind) e b = absurd b
 
 -- what follows for each region that is one of the tree
-pub each_with : (W P : RegionOf → Type 0) (t : tree.Tree) → ((r : RegionOf) → IsAmong r t → W r → P r) → EachRegion W t →
-    EachRegion P t
+pub each_with : (W P : RegionOf → Type 0) (t : tree.Tree) → ((r : RegionOf) → IsAmong r t → W r → P r) →
+    EachRegion W t → EachRegion P t
 each_with W P tree.NoRegion f e = tt
 each_with W P (tree.RegionThen region rest) f e =
     (f region here e.0, each_with W P rest (λ r m. f r (behind_region m)) e.1)

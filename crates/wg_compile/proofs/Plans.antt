@@ -13,8 +13,7 @@ use Rattle.cl_meaning.specs.Environment.{Variable}
 use Rattle.cl_meaning.specs.Typed.{Unit', Function}
 use Rattle.cl_check_sound.specs.Erased.{program_of, function_of}
 use Rattle.kir.specs.Tree.{Kernel}
-use Rattle.kir.specs.Lowering.{Named}
-use Rattle.kir_lower_shape.proofs.Cells.{has_cells}
+use Rattle.kir.specs.Lowering.{Named, HasCells}
 use Rattle.diverge.specs.Rounds.{varying_of}
 use Rattle.ctx_plan.specs.Planned.{Planned, AreVarying, IsCounted, IsPlan}
 use Rattle.ctx_plan_correct.proofs.Plan.{is_plan}
@@ -64,12 +63,12 @@ built_in u width p like =
     (works_built code (split_of (kernel_in u)))
 
 -- each cell has its home
-pub homes_in : (u : Unit') → IsValid (program_of u) → AreVarying (program_of u) (varying_of (program_of u)) →
-    IsCounted (kernel_in u) (plan_in u) → IsPlan (program_of u) (kernel_in u) (plan_in u)
-unfolding kernel_in plan_in
-homes_in u valid varies counted =
-    is_plan (program_of u) (names_in u) (kernel_in u) (varying_of (program_of u)) valid
-    (has_cells (program_of u) (names_in u) valid (named_as u.functions)) varies counted
+pub homes_in : (u : Unit') → IsValid (program_of u) → HasCells (program_of u) (names_in u) (kernel_in u) →
+    AreVarying (program_of u) (varying_of (program_of u)) → IsCounted (kernel_in u) (plan_in u) →
+    IsPlan (program_of u) (kernel_in u) (plan_in u)
+unfolding plan_in
+homes_in u valid cells varies counted =
+    is_plan (program_of u) (names_in u) (kernel_in u) (varying_of (program_of u)) valid cells varies counted
 
 -- the parts of a group program are those of the unit's kernel and plan
 pub parts_in : (u : Unit') (width : Width) (kernel : Kernel) (plan : Planned) (p : Plain) → kernel ≡ kernel_in u →

@@ -9,6 +9,7 @@ use Rattle.cl_model.specs.Sizes.{Launch}
 use Rattle.cl_model.specs.Fitting.{FitsProgram}
 use Rattle.cl_model.specs.Agreement.{Agrees, AgreesInRuns}
 use Rattle.cl_model.specs.Valid.{IsValid}
+use Rattle.cl_model.specs.View as model
 use Rattle.cl_meaning.specs.Typed.{Unit'}
 use Rattle.cl_meaning.specs.View.{unit_of}
 use Rattle.cl_check_sound.specs.Erased.{program_of}
@@ -17,6 +18,7 @@ use Rattle.kir.specs.Homes.{IsCellOf}
 use Rattle.kir.specs.Lowering.{Named, IsLoweringOf, BeginsWithArguments}
 use Rattle.kir.specs.View.{kernel_of}
 use Rattle.kir_lower.specs.Whole.{lowered_of}
+use Rattle.kir_simplify.specs.Faithful.{Simplifies}
 use Rattle.diverge.specs.Marks.{marks}
 use Rattle.diverge.specs.Rounds.{varying_of}
 use Rattle.ctx_plan.specs.declared.plan.Home.TheVariants as home
@@ -55,8 +57,9 @@ KeepsOnceWhatIsEqual program kernel plan =
     HoldsEqual program v
 
 -- what each pass means, one field a pass in the order of the calls:
--- `lower`: the kernel without calls comes from the program, its histories and runs are matched by the program's, and
--- its body begins with one `Set` from its argument for each parameter;
+-- `lower`: the kernel without calls begins with one `Set` from its argument for each parameter;
+-- `simplify`: the kernel that is made of it is simple, and whatever an item of it does an item of the given one does; so
+-- it comes from the program, and its histories and runs are matched by the program's;
 -- `analyse`: exactly the variables are marked that vary;
 -- `plan`: each cell has its home, and what is kept once for a group has equal values in all its work-items;
 -- `split` and `lower_region`: the code of each region does on a chunk what the chunk's items do in some order of their
@@ -70,6 +73,7 @@ pub record IsCorrect (program : Program) (names : List (List Named)) (varying : 
     (plan : Planned) (width : Width) (p : Plain) : Type 0 where
   pub lowered : IsLoweringOf program names kernel
   pub begins : BeginsWithArguments program (lowered_of program names)
+  pub simplified : Simplifies (lowered_of program names) kernel
   pub varies : AreVarying program varying
   pub homes : IsPlan program kernel plan
   pub once : KeepsOnceWhatIsEqual program kernel plan
@@ -88,10 +92,12 @@ abbrev pub IsCorrectFor : Unit' → Width → Plain → Type 0
 IsCorrectFor u width p =
     IsCorrect (program_of u) (names_in u) (varying_of (program_of u)) (kernel_in u) (plan_in u) width p
 
--- a kernel as the passes leave it, at so many lanes: what each pass answers is its function of the unit, the group
--- program up to how its parts are nested, so that it ends as that of the unit does; and where the unit's program is
--- valid, all of them are correct
+-- a kernel as the passes leave it, at so many lanes: the unit's program, of which all is said here, is the typed
+-- program as the model sees it; what each pass answers is its function of the unit, the group program up to how its
+-- parts are nested, so that it ends as that of the unit does; and where the unit's program is valid, all of them are
+-- correct
 pub record IsCompilation (width : ℕ) (c : Compiled) : Type 0 where
+  pub program : program_of (unit_of c.program) ≡ model.program_of c.program
   pub kernel : kernel_of c.kernel ≡ kernel_in (unit_of c.program)
   pub varying : marks c.varying ≡ varying_of (program_of (unit_of c.program))
   pub plan : planned_of c.plan ≡ plan_in (unit_of c.program)

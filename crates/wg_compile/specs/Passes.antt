@@ -1,4 +1,4 @@
--- A typed unit through the passes: the kernel without calls, which variables vary, where its cells are kept, its
+-- A typed unit through the passes: the kernel without calls, made simple, which variables vary, where its cells are kept, its
 -- regions, and the program of a group.
 use Rattle.std.specs.Prelude.{◌≡◌, ℕ, true, false, List, map}
 use Rattle.cl_model.specs.Tree.{Table}
@@ -14,6 +14,7 @@ use Rattle.regions.specs.Split.{split_of}
 use Rattle.mask_lower.specs.Lowered.{region_code}
 use Rattle.item_loops.specs.Built.{array_sizes}
 use Rattle.kir_lower.specs.Whole.{lowered_of}
+use Rattle.kir_simplify.specs.Passes.{simplified_of}
 use Rattle.diverge.specs.Rounds.{varying_of}
 use Rattle.ctx_plan.specs.Made.{plan_of}
 
@@ -21,9 +22,9 @@ use Rattle.ctx_plan.specs.Made.{plan_of}
 abbrev pub names_in : Unit' → List (List Named)
 names_in u = map (λ g. map (λ v. record { name = v.name; place = v.place }) g.variables) u.functions
 
--- the kernel without calls
+-- the kernel without calls, made simple
 unfoldable pub kernel_in : Unit' → Kernel
-kernel_in u = lowered_of (program_of u) (names_in u)
+kernel_in u = simplified_of (lowered_of (program_of u) (names_in u))
 
 -- where its cells are kept
 unfoldable pub plan_in : Unit' → Planned

@@ -13,6 +13,7 @@ use diverge::{Varying, analyse};
 use item_loops::build;
 use kir::Kernel;
 use kir_lower::lower;
+use kir_simplify::simplify;
 use lane_code::GroupProgram;
 use regions::{RegionTree, split};
 use std::alloc::Global;
@@ -23,7 +24,7 @@ use wg_num::{Memory, Width, Word};
 pub struct Compiled {
     /// The typed program, as the checker leaves it.
     pub program: Program,
-    /// The kernel without calls, of `lower`.
+    /// The kernel without calls, of `lower`, made simple by `simplify`.
     pub kernel: Kernel,
     /// Which variables vary between the work-items of a group, of `analyse`.
     pub varying: Varying,
@@ -51,7 +52,9 @@ pub fn compile_program(
     ensures passes { IfOk result (λ c. IsCompilation (lanes_of width) c) }
 {
     // `lowered`: kir_lower_shape, kir_lower_parting, kir_lower_simulation, kir_lower_uniform
-    let kernel = lower(alloc, &program)?;
+    let lowered = lower(alloc, &program)?;
+    // `simplified`: clauses of `simplify`
+    let kernel = simplify(alloc, lowered)?;
     // `varies`: diverge_exact; that what does not vary agrees: diverge_sound
     let varying = analyse(alloc, &program)?;
     // `homes`, `once`: ctx_plan_correct

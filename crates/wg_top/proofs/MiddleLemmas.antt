@@ -8,15 +8,11 @@ use Rattle.cl_model.specs.Calls.{kernel_of, no_function}
 use Rattle.cl_model.specs.Valid.{parameter_kinds}
 use Rattle.lane_code.specs.View.{plain_of}
 use Rattle.wg_compile.specs.declared.Compiled.{Compiled}
-use Rattle.kir_lower.specs.Whole.{lowered_of}
 use Rattle.wg_compile.specs.Passes.{kernel_in, group_in}
 use Rattle.wg_compile.specs.Correct.{IsCompilation}
+use Rattle.wg_compile.proofs.Lowered.{params_are}
 use Rattle.launch_file_bind.specs.Needed.{needs_of_kernel}
 use Rattle.wg_top.specs.Units.{needs_in}
-
-kernel_params : (u : Unit') → (kernel_in u).params ≡ parameter_kinds (kernel_of (program_of u))
-unfolding kernel_in lowered_of
-kernel_params u = refl
 
 group_params : (width : ℕ) (u : Unit') → (group_in width u).params ≡ (kernel_in u).params
 unfolding group_in
@@ -32,7 +28,7 @@ kinds_at (g ∷ functions) (suc k) = kinds_at functions k
 
 -- the parameters of the program of a group are those that its launches meet
 params_of : (width : ℕ) (u : Unit') → (group_in width u).params ≡ (needs_in u).kinds
-params_of width u = group_params width u ∙ (kernel_params u ∙ kinds_at u.functions u.kernel)
+params_of width u = group_params width u ∙ (params_are u ∙ kinds_at u.functions u.kernel)
 
 pub params_in : (width : ℕ) (c : Compiled) → IsCompilation width c →
     (needs_in (unit_of c.program)).kinds ≡ (plain_of c.group).params

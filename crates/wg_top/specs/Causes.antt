@@ -20,7 +20,8 @@ use Rattle.wg_top.specs.Units.{HaveTypedUnits, IsFirstRefused, bind_refusal}
 use Rattle.wg_top.specs.Launches.{launches_in, LaunchesRan, EndsSo, all_groups, all_items}
 use Rattle.wg_top.specs.Units.{programs_in}
 use Rattle.wg_top.specs.Loops.{HaveNoLoop}
-use Rattle.wg_top.specs.Outcomes.{AreMade, HaveGroupPrograms, models_in, RanInOutcomes, StopsAsOutcome, AreClean, AllLeave}
+use Rattle.wg_top.specs.Outcomes.{AreMade, HaveGroupPrograms, models_in, RanInOutcomes, StopsAsOutcome, AreClean}
+use Rattle.wg_top.specs.Outcomes.{AllLeave}
 
 -- a store at one moment
 pub record Standing : Type 0 where

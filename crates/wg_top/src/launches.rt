@@ -122,8 +122,9 @@ fn local_bytes_of(arg: Bound) -> u64
     }
 }
 
-// Whether the local arrays of a kernel and the local arguments of a launch have room together.
-fn has_room(locals: &[u64], args: &[Bound]) -> bool
+/// Whether the local arrays of a kernel, of so many bytes each, and the local arguments of a launch have room
+/// together: 65,536 bytes for a work-group (CL_DEVICE_LOCAL_MEM_SIZE of OpenCL 1.2, section 4.2).
+pub fn has_room(locals: &[u64], args: &[Bound]) -> bool
     ensures { IsTrue result ↔ (sum locals.now + sum (local_arguments args.now) ≤ 65536) }
 {
     let mut bytes = 0u64;

@@ -32,6 +32,7 @@ mod sample;
 mod shared;
 mod texts;
 
+pub use launches::has_room;
 pub use run::run_source;
 
 /// Why a run is refused.

@@ -6,13 +6,14 @@ use Rattle.lane_code.specs.View.{plain_of}
 use Rattle.wg_num.specs.Operators.{lanes_of}
 use Rattle.cl_meaning.specs.View.{unit_of}
 use Rattle.cl_check_sound.specs.Erased.{program_of}
+use Rattle.cl_check_sound.proofs.ErasedPrograms.{program_same}
 use Rattle.diverge_exact.proofs.Answers.{varying_exact}
 use Rattle.regions.specs.Tree.{NoRegion}
 use Rattle.regions.specs.View.{tree_before}
 use Rattle.item_loops.proofs.Codes.{codes_well}
 use Rattle.wg_compile.specs.Passes.{group_in}
 use Rattle.wg_compile.proofs.Alike.{ends_alike}
-use Rattle.wg_compile.proofs.Exact.{kernel_is, varying_is, plan_is, regions_are, like_built, group_is}
+use Rattle.wg_compile.proofs.Exact.{lowered_is, kernel_is, varying_is, plan_is, regions_are, like_built, group_is}
 use Rattle.wg_compile.proofs.Correct.{correct_in}
 use Rattle.wg_compile.proofs.compile_program.Goals as goal
 
@@ -22,13 +23,16 @@ returns-clause-passes c =
     let k = kernel_of c.in_ok-kernel.kernel in
     let q = planned_of c.in_ok-plan.plan in
     let p = plain_of c.in_ok-group.group in
-    let kernel = kernel_is c.args.program k c.in_ok-kernel.ensures in
+    let first = kernel_of c.in_ok-lowered.lowered in
+    let first_is = lowered_is c.args.program first c.in_ok-lowered.ensures in
+    let kernel = kernel_is c.args.program first k first_is c.in_ok-kernel.ensures.exact in
     let plan = plan_is c.args.program k (marks c.in_ok-varying.varying) q kernel c.in_ok-varying.ensures.exact
     c.in_ok-plan.ensures.made in
     let like = group_is (lanes_of c.args.width) c.args.program k q p kernel plan
     (like_built k q c.args.width c.in_ok-regions.regions p c.in_ok-group.ensures.plain c.in_ok-regions.ensures.cut
     c.in_ok-group.ensures.built) in
     record {
+      program = program_same c.args.program;
       kernel = kernel;
       varying = varying_is c.args.program (marks c.in_ok-varying.varying) c.in_ok-varying.ensures.exact;
       plan = plan;
@@ -39,7 +43,11 @@ returns-clause-passes c =
       lanes = c.args.width;
       lanes_are = refl;
       correct = λ valid.
-          correct_in u c.args.width k q p kernel plan c.in_ok-kernel.kernel.valid c.in_ok-plan.ensures.counted
+          correct_in u c.args.width first k q p first_is kernel plan c.in_ok-lowered.lowered.valid
+          (record {
+            simple_now = c.in_ok-kernel.ensures.simple;
+            faithful = c.in_ok-kernel.ensures.faithful;
+          }) c.in_ok-kernel.kernel.valid c.in_ok-plan.ensures.counted
           c.in_ok-group.ensures.parts like (λ quiet. c.in_ok-group.ensures.one (c.in_ok-regions.ensures.one quiet))
           c.in_ok-group.group.valid (codes_well c.in_ok-group.group.top) valid
           (λ v. varying_exact (program_of u) valid v.function v.number);

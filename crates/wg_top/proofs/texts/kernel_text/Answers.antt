@@ -1,7 +1,5 @@
 use Rattle.std.proofs.Common.{sym, subst}
 use Rattle.std.proofs.lemmas.Result.{IfOk-weaker}
-use Rattle.kir.specs.View.{kernel_of}
-use Rattle.ctx_plan.specs.View.{planned_of}
 use Rattle.wg_top.specs.declared.texts.Shown.{Shown}
 use Rattle.wg_top.specs.Shown.{showing}
 use Rattle.wg_top.proofs.OutcomeLemmas.{code_text_of}
@@ -15,7 +13,7 @@ returns-in-Plan c =
     IfOk-weaker c.plan_text.result _ _
     (λ t e width passed valid.
     subst (λ (s : Shown). showing s width k.group.kernel (unit_of k.program) t.items) (sym c.in-Plan.is)
-    (plan_text_of k.program (kernel_of k.kernel) (planned_of k.plan) t.items valid passed.kernel passed.plan e))
+    (plan_text_of width k t.items passed valid e))
     c.plan_text.ensures.lines
 
 pub returns-in-Code : goal.returns-in-Code
