@@ -4,7 +4,7 @@ ghost use Rattle.examples_machine.specs.Examples.{IsReady};
 
 use crate::Example;
 use cl_model::{Buffers, Query, Root};
-use lane_code::{Bank, Reg, RegionEnd, Step};
+use lane_code::{Bank, Code, Reg, RegionEnd, Step};
 use lane_machine::Answers;
 use std::alloc::Global;
 use std::test::Fail;
@@ -228,6 +228,68 @@ fn stores_below_the_first_fault_are_done_and_a_mark_names_its_lowest_lane(
     Ok(())
 }
 
+/// Stores 256 as a bool in the array of each item, loads its byte, and stores that twice as a bool.
+const STORING_BOOLS: [Step; 6] = [
+    Step::Const {
+        to: V0,
+        of: IntType::Uint,
+        value: 256,
+    },
+    Step::Const {
+        to: W0,
+        of: IntType::Long,
+        value: 0,
+    },
+    Step::Store {
+        site: 0,
+        of: IntType::Bool,
+        root: Root::Private(0),
+        index: W0,
+        from: V0,
+        mask: M0,
+    },
+    Step::Load {
+        site: 0,
+        of: IntType::Uchar,
+        root: Root::Private(0),
+        index: W0,
+        to: V1,
+        mask: M0,
+    },
+    Step::Binary {
+        op: Bin::Add,
+        of: IntType::Int,
+        to: V1,
+        a: V1,
+        b: V1,
+        mask: M0,
+    },
+    Step::Store {
+        site: 1,
+        of: IntType::Bool,
+        root: Root::Param(0),
+        index: W0,
+        from: V1,
+        mask: M0,
+    },
+];
+
+fn storing_bools(alloc: Global) -> Result<Example, Fail>
+    ensures { IfOk result (λ e. IsReady e.program e.launch e.machine e.group) }
+{
+    Ok(Example::new(alloc, Width::W8, STORING_BOOLS.to_vec(alloc)?)?)
+}
+
+#[test]
+fn a_stored_bool_is_0_or_1(rt: HostRuntime) -> Result<(), Fail> {
+    let mut example = storing_bools(rt.alloc())?;
+    let mut turns = 0;
+    let mut buffers = ints(rt.alloc(), 20, 7)?;
+    let end = example.first_chunk(&mut buffers, &mut turns);
+    assert_eq!(rt; (end, int_at(&buffers, 0)), (RegionEnd::Done, 1));
+    Ok(())
+}
+
 /// Votes yes in the items whose int is not 0.
 const VOTING: [Step; 5] = [
     Step::Const {
@@ -281,5 +343,37 @@ fn votes_of_all_items_come_together(rt: HostRuntime) -> Result<(), Fail> {
     let all = answers_to(rt.alloc(), &mut full)?;
     let wanted = (Answers::No, Answers::Mixed, Answers::Yes);
     assert_eq!(rt; (none, one, all), wanted);
+    Ok(())
+}
+
+/// A constant of a narrow type into a register, and a copy of the register into itself.
+fn set_and_copied(alloc: Global, to: Reg) -> Result<Vec<Step>, Fail> {
+    let set = Step::Const {
+        to,
+        of: IntType::Int,
+        value: 1,
+    };
+    let copied = Step::Copy {
+        to,
+        from: to,
+        mask: M0,
+    };
+    Ok(vec![in alloc; set, copied]?)
+}
+
+/// Whether these steps are a code.
+fn is_code(steps: Vec<Step>) -> bool {
+    let code = Code::new(steps);
+    let is = code.is_some();
+    drop(code);
+    is
+}
+
+#[test]
+fn no_step_of_a_code_writes_mask_0(rt: HostRuntime) -> Result<(), Fail> {
+    let narrow = is_code(set_and_copied(rt.alloc(), V0)?);
+    let other = is_code(set_and_copied(rt.alloc(), M1)?);
+    let existing = is_code(set_and_copied(rt.alloc(), M0)?);
+    assert_eq!(rt; (narrow, other, existing), (true, true, false));
     Ok(())
 }

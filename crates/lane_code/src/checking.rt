@@ -1,14 +1,14 @@
 //! Makes codes and programs of groups from their parts, which it checks.
 
-ghost use Rattle.std.specs.Prelude.{◌≡◌, ◌+◌, ◌&&◌, max, is_some, IfSome, nat_lt, true};
-ghost use Rattle.lane_code.specs.Fits.{is_below, is_ahead, is_well_register, well_test, and_test, all_pass, is_well};
-ghost use Rattle.lane_code.specs.Fits.{is_code, count_of};
+ghost use Rattle.std.specs.Prelude.{◌≡◌, ◌+◌, max, is_some, IfSome, true};
+ghost use Rattle.lane_code.specs.Fits.{is_below, is_ahead, own_test, keeps_mask_0, well_test, and_test, all_pass};
+ghost use Rattle.lane_code.specs.Fits.{is_well, is_code_step, is_code, count_of};
 ghost use Rattle.lane_code.specs.Rows.{row_of};
 ghost use Rattle.lane_code.specs.Counting.{counted_at, counted_among, counted_in, counted, are_few, make_code};
 ghost use Rattle.wg_num.specs.Types.{is_value};
 
 use crate::code::{Code, Counts};
-use crate::operand::{Operand, Role};
+use crate::operand::{Label, Operand};
 use crate::row::row_of;
 use crate::step::{Bank, Reg, Step};
 use wg_num::is_value;
@@ -122,28 +122,28 @@ pub(crate) fn goes_ahead(end: usize, place: usize, target: u32) -> bool
     place < target as usize && target as usize <= end
 }
 
-/// Whether there is such a register, and it is not the one with number 0.
-fn has_own(counts: Counts, x: Reg) -> bool
-    ensures { result ≡ is_below counts x && nat_lt 0 x.number }
+/// Whether the operand is not mask 0 where the step writes it; `None` where the step does not.
+fn own_test(operand: Operand) -> Option<bool>
+    ensures { result ≡ own_test operand }
 {
-    has(counts, x) && 0 < x.number
-}
-
-/// Whether there is such a register, which is not mask 0 where the step writes a mask.
-fn is_well_register(c: Counts, role: Role, x: Reg) -> bool
-    ensures { result ≡ is_well_register c role x }
-{
-    match role {
-        Role::OwnMask => has_own(c, x),
-        Role::Any
-        | Role::In(_)
-        | Role::Lanes(_)
-        | Role::Values(_)
-        | Role::Numbers
-        | Role::NumbersOrScalar
-        | Role::Argument(_)
-        | Role::Dimension(_, _)
-        | Role::Converted { .. } => has(c, x),
+    match operand {
+        Operand::Register(Label::To, _, x) => Some(!(x.bank == Bank::Mask && x.number == 0)),
+        Operand::Register(_, _, _)
+        | Operand::Value(_, _)
+        | Operand::Ahead(_)
+        | Operand::Back(_)
+        | Operand::Site(_)
+        | Operand::Array(_)
+        | Operand::Column(_)
+        | Operand::Slot(_)
+        | Operand::Parameter(_)
+        | Operand::Type(_, _)
+        | Operand::Unary(_)
+        | Operand::Binary(_)
+        | Operand::Function(_)
+        | Operand::Query(_)
+        | Operand::Read(_)
+        | Operand::Written(_) => None,
     }
 }
 
@@ -153,7 +153,7 @@ fn well_test(c: Counts, end: usize, place: usize, operand: Operand) -> Option<bo
     ensures { result ≡ well_test c end place operand }
 {
     match operand {
-        Operand::Register(_, role, x) => Some(is_well_register(c, role, x)),
+        Operand::Register(_, _, x) => Some(has(c, x)),
         Operand::Value(t, value) => Some(is_value(t, value)),
         Operand::Ahead(target) => Some(goes_ahead(end, place, target)),
         Operand::Back(target) => Some(target as usize <= place),
@@ -193,6 +193,25 @@ fn operands_well(c: Counts, end: usize, place: usize, operands: &[Operand]) -> b
     well
 }
 
+/// Whether none of the operands is mask 0 where the step writes it.
+fn operands_own(operands: &[Operand]) -> bool
+    ensures { result ≡ all_pass own_test true operands.now }
+{
+    let mut own = true;
+    for operand in operands {
+        own = and_test(own, own_test(*operand));
+    }
+    own
+}
+
+/// Whether the step does not write mask 0.
+fn keeps_mask_0(step: Step) -> bool
+    ensures { result ≡ keeps_mask_0 step }
+{
+    let row = row_of(step);
+    operands_own(row.list())
+}
+
 /// Whether the step is well at this place of a code with so many steps and registers.
 fn is_well_at(c: Counts, end: usize, place: usize, step: Step) -> bool
     ensures { result ≡ is_well c end place step }
@@ -201,12 +220,19 @@ fn is_well_at(c: Counts, end: usize, place: usize, step: Step) -> bool
     operands_well(c, end, place, row.list())
 }
 
-/// Whether the steps are well, each at its place.
+/// Whether the step is well there, and does not write mask 0.
+fn is_code_step(c: Counts, end: usize, place: usize, step: Step) -> bool
+    ensures { result ≡ is_code_step c end place step }
+{
+    keeps_mask_0(step) && is_well_at(c, end, place, step)
+}
+
+/// Whether the steps are well, each at its place, and do not write mask 0.
 fn are_well(counts: Counts, steps: &[Step]) -> bool
     ensures { result ≡ is_code counts steps.now }
 {
     for i in 0..steps.len() {
-        if !is_well_at(counts, steps.len(), i, steps[i]) {
+        if !is_code_step(counts, steps.len(), i, steps[i]) {
             return false;
         }
     }

@@ -100,6 +100,7 @@ pub enum Step {
         to: Reg,
         mask: Reg,
     },
+    /// The active lanes' values of the type `of`, lane 0 first: of a bool 0 or 1.
     Store {
         site: u32,
         of: IntType,

@@ -4,7 +4,7 @@ ghost use Rattle.std.specs.Prelude.{false, not, length, take, map, slice_index_o
 ghost use Rattle.std.specs.Prelude.{MatchOption, MatchResult};
 ghost use Rattle.std.specs.Bool.{OnTrue, OnFalse};
 ghost use Rattle.wg_num.specs.Bytes.{size_of};
-ghost use Rattle.lane_values.specs.Access.{is_fault, lane_from, lane_put};
+ghost use Rattle.lane_values.specs.Access.{is_fault, lane_from, lane_put, stored_lanes};
 ghost use Rattle.lane_values.specs.Lanes.{FitsLane};
 ghost use Rattle.lane_code.specs.Registers.{written, lanes_of, mask_of, bits_in, lowest};
 ghost use Rattle.lane_code.specs.Groups.{window, with_window, own_faults, own_loaded, own_stored, own_cleared};
@@ -16,6 +16,7 @@ use crate::group_state::Group;
 use crate::group_steps::{lanes_for_column, low_halves};
 use crate::operands::Access;
 use crate::registers::Registers;
+use crate::shared::stored64;
 use lane_code::{Bank, Reg};
 use lane_kernels::{Tally, blend32, blend64, gather64, scatter64};
 use std::simd::prelude::*;
@@ -369,14 +370,14 @@ fn store_objects<const W: usize>(
         own) ≡ None)
         × (map (λ v. v.items) objects.new.items ≡
         with_window old first (own_stored (size_of access.of) (mask_of r.now.plain access.mask)
-        (lanes_of r.now.plain access.index) (lanes_of r.now.plain access.value) own)))
+        (lanes_of r.now.plain access.index) (stored_lanes access.of (lanes_of r.now.plain access.value)) own)))
         (λ k. (lowest (own_faults (size_of access.of) (mask_of r.now.plain access.mask)
         (lanes_of r.now.plain access.index) own) ≡ Some k)
         × (map (λ v. v.items) objects.new.items ≡
         with_window old first (own_stored (size_of access.of) (take k (mask_of r.now.plain access.mask))
-        (take k (lanes_of r.now.plain access.index)) (take k (lanes_of r.now.plain access.value)) own))) }
+        (take k (lanes_of r.now.plain access.index)) (take k (stored_lanes access.of (lanes_of r.now.plain access.value))) own))) }
 {
-    let lanes = lanes_for_column(r, access.value).to_array();
+    let lanes = stored64(access.of, lanes_for_column(r, access.value)).to_array();
     let places = r.wide[access.index.number as usize].to_array();
     scatter_own(
         objects,
@@ -418,13 +419,13 @@ pub(crate) fn store_own<const W: usize>(
         × (map (λ a. map (λ v. v.items) a.items) privates.new.items ≡
         slice_set arrays array (with_window old first (own_stored (size_of access.of)
         (mask_of r.now.plain access.mask)
-        (lanes_of r.now.plain access.index) (lanes_of r.now.plain access.value) own))))
+        (lanes_of r.now.plain access.index) (stored_lanes access.of (lanes_of r.now.plain access.value)) own))))
         (λ k. (lowest (own_faults (size_of access.of) (mask_of r.now.plain access.mask)
         (lanes_of r.now.plain access.index) own) ≡ Some k)
         × (map (λ a. map (λ v. v.items) a.items) privates.new.items ≡
         slice_set arrays array (with_window old first (own_stored (size_of access.of)
         (take k (mask_of r.now.plain access.mask))
-        (take k (lanes_of r.now.plain access.index)) (take k (lanes_of r.now.plain access.value)) own)))) }
+        (take k (lanes_of r.now.plain access.index)) (take k (stored_lanes access.of (lanes_of r.now.plain access.value))) own)))) }
 {
     store_objects(r, &mut privates[array], first, access, tally)
 }

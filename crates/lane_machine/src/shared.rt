@@ -2,7 +2,7 @@
 ghost use Rattle.std.specs.Prelude.{◌≡◌, ◌≢◌, ◌<◌, ◌≤◌, None, Some, [], length, take, map};
 ghost use Rattle.std.specs.Prelude.{slice_index_or, slice_set, MatchOption, MatchResult};
 ghost use Rattle.wg_num.specs.Bytes.{size_of};
-ghost use Rattle.lane_values.specs.Access.{faults, gathered, scattered};
+ghost use Rattle.lane_values.specs.Access.{faults, gathered, stored_lanes, scattered};
 ghost use Rattle.lane_values.specs.Lanes.{FitsLane};
 ghost use Rattle.lane_code.specs.Registers.{written, lanes_of, mask_of, bits_in, lowest};
 ghost use Rattle.lane_code.specs.declared.step.Bank.TheVariants.{Narrow, Wide, Scalar};
@@ -206,6 +206,30 @@ fn scatter_wide<const W: usize>(
     }
 }
 
+/// The lanes that a store of the type writes: of a bool 0 or 1, and else the lanes as they are.
+fn stored32<const W: usize>(t: IntType, lanes: Simd<u32, W>) -> Simd<u32, W>
+    ensures { result ≡ stored_lanes t lanes.entry }
+{
+    if let IntType::Bool = t {
+        return lanes
+            .simd_eq(Simd::splat(0))
+            .select(Simd::splat(0), Simd::splat(1));
+    }
+    lanes
+}
+
+/// The same of wide lanes.
+pub(crate) fn stored64<const W: usize>(t: IntType, lanes: Simd<u64, W>) -> Simd<u64, W>
+    ensures { result ≡ stored_lanes t lanes.entry }
+{
+    if let IntType::Bool = t {
+        return lanes
+            .simd_eq(Simd::splat(0))
+            .select(Simd::splat(0), Simd::splat(1));
+    }
+    lanes
+}
+
 pub(crate) fn store_slice<const W: usize>(
     r: &Registers<W>,
     bytes: &mut [u8],
@@ -223,22 +247,22 @@ pub(crate) fn store_slice<const W: usize>(
         ((lowest (faults (size_of access.of) (length bytes.old) (mask_of r.now.plain access.mask)
         (lanes_of r.now.plain access.index)) ≡
         None) × (bytes.new ≡ scattered (size_of access.of) bytes.old (mask_of r.now.plain access.mask)
-        (lanes_of r.now.plain access.index) (lanes_of r.now.plain access.value)))
+        (lanes_of r.now.plain access.index) (stored_lanes access.of (lanes_of r.now.plain access.value))))
         (λ k. (lowest (faults (size_of access.of) (length bytes.old) (mask_of r.now.plain access.mask)
         (lanes_of r.now.plain access.index))
         ≡ Some k)
         × (bytes.new ≡ scattered (size_of access.of) bytes.old (take k (mask_of r.now.plain access.mask))
-        (take k (lanes_of r.now.plain access.index)) (take k (lanes_of r.now.plain access.value)))) }
+        (take k (lanes_of r.now.plain access.index)) (take k (stored_lanes access.of (lanes_of r.now.plain access.value))))) }
 {
     let places = r.wide[access.index.number as usize];
     let active = r.masks[access.mask.number as usize];
     match access.value.bank {
         Bank::Narrow => {
-            let lanes = r.narrow[access.value.number as usize];
+            let lanes = stored32(access.of, r.narrow[access.value.number as usize]);
             scatter_narrow(bytes, access.of, places, lanes, active, tally)
         }
         Bank::Wide => {
-            let lanes = r.wide[access.value.number as usize];
+            let lanes = stored64(access.of, r.wide[access.value.number as usize]);
             scatter_wide(bytes, access.of, places, lanes, active, tally)
         }
         Bank::Scalar | Bank::Mask => None,
@@ -262,11 +286,11 @@ fn store_shared<const W: usize>(
         ((lowest (faults (size_of access.of) (length bytes.old.items) (mask_of r.now.plain access.mask)
         (lanes_of r.now.plain access.index))
         ≡ None) × (bytes.new.items ≡ scattered (size_of access.of) bytes.old.items (mask_of r.now.plain access.mask)
-        (lanes_of r.now.plain access.index) (lanes_of r.now.plain access.value)))
+        (lanes_of r.now.plain access.index) (stored_lanes access.of (lanes_of r.now.plain access.value))))
         (λ k. (lowest (faults (size_of access.of) (length bytes.old.items) (mask_of r.now.plain access.mask)
         (lanes_of r.now.plain access.index)) ≡ Some k)
         × (bytes.new.items ≡ scattered (size_of access.of) bytes.old.items (take k (mask_of r.now.plain access.mask))
-        (take k (lanes_of r.now.plain access.index)) (take k (lanes_of r.now.plain access.value)))) }
+        (take k (lanes_of r.now.plain access.index)) (take k (stored_lanes access.of (lanes_of r.now.plain access.value))))) }
 {
     store_slice(r, bytes, access, tally)
 }
@@ -295,12 +319,12 @@ fn store_one<const W: usize>(
         (lanes_of r.now.plain access.index)) ≡ None)
         × (map (λ v. v.items) objects.new.items ≡
         slice_set old object (scattered (size_of access.of) bytes (mask_of r.now.plain access.mask)
-        (lanes_of r.now.plain access.index) (lanes_of r.now.plain access.value))))
+        (lanes_of r.now.plain access.index) (stored_lanes access.of (lanes_of r.now.plain access.value)))))
         (λ k. (lowest (faults (size_of access.of) (length bytes) (mask_of r.now.plain access.mask)
         (lanes_of r.now.plain access.index)) ≡ Some k)
         × (map (λ v. v.items) objects.new.items ≡
         slice_set old object (scattered (size_of access.of) bytes (take k (mask_of r.now.plain access.mask))
-        (take k (lanes_of r.now.plain access.index)) (take k (lanes_of r.now.plain access.value))))) }
+        (take k (lanes_of r.now.plain access.index)) (take k (stored_lanes access.of (lanes_of r.now.plain access.value)))))) }
 {
     store_shared(r, &mut objects[object], access, tally)
 }
@@ -327,12 +351,12 @@ pub(crate) fn store_into<const W: usize>(
         (lanes_of r.now.plain access.index)) ≡ None)
         × (map (λ v. v.items) objects.new.items ≡
         slice_set old object (scattered (size_of access.of) bytes (mask_of r.now.plain access.mask)
-        (lanes_of r.now.plain access.index) (lanes_of r.now.plain access.value))))
+        (lanes_of r.now.plain access.index) (stored_lanes access.of (lanes_of r.now.plain access.value)))))
         (λ k. (lowest (faults (size_of access.of) (length bytes) (mask_of r.now.plain access.mask)
         (lanes_of r.now.plain access.index)) ≡ Some k)
         × (map (λ v. v.items) objects.new.items ≡
         slice_set old object (scattered (size_of access.of) bytes (take k (mask_of r.now.plain access.mask))
-        (take k (lanes_of r.now.plain access.index)) (take k (lanes_of r.now.plain access.value))))) }
+        (take k (lanes_of r.now.plain access.index)) (take k (stored_lanes access.of (lanes_of r.now.plain access.value)))))) }
 {
     if object < objects.len() {
         return store_one(r, objects, object, access, tally);

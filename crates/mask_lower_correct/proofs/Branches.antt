@@ -45,10 +45,11 @@ use Rattle.mask_lower_correct.proofs.View.{code_well, mask_length}
 use Rattle.mask_lower_correct.proofs.Frames.{some_left, some_right, held_left, held_right}
 use Rattle.mask_lower_correct.proofs.Standing.{same_outer, cond_set, cond_unset, sim_go}
 use Rattle.mask_lower_correct.proofs.Atoms.{operand_is}
-use Rattle.mask_lower_correct.proofs.Masks.{some_is, none_below, no_lane, and_false, branch_done, branch_idle, flip_cond}
+use Rattle.mask_lower_correct.proofs.Masks.{some_is, none_below, no_lane, and_false, branch_done, branch_idle}
+use Rattle.mask_lower_correct.proofs.Masks.{flip_cond}
 use Rattle.mask_lower_correct.proofs.Through.{no_line_is, through}
-use Rattle.mask_lower_correct.proofs.Soundness.{in_width, named, masks_then, pass_end, rest_sound, masks_step, masked_sim}
-use Rattle.mask_lower_correct.proofs.Soundness.{masked_below, type_there, test_runs, yes_is}
+use Rattle.mask_lower_correct.proofs.Soundness.{in_width, named, masks_then, pass_end, rest_sound, masks_step}
+use Rattle.mask_lower_correct.proofs.Soundness.{masked_sim, masked_below, type_there, test_runs, yes_is}
 use Rattle.mask_lower_correct.proofs.Soundness as soundness
 
 module _ (kernel : Kernel) (launch : Launch) (width : ℕ) (chunk : ChunkOf kernel launch width) (turns : ℕ)
@@ -176,9 +177,9 @@ module _ (kernel : Kernel) (launch : Launch) (width : ℕ) (chunk : ChunkOf kern
           subst (λ x. Good (end_from t x st)) n (go t st r.0 (omega arith) r.1 (λ r l lt ltl. refl))
       by false e has go =
           let s = step.MaskLess (mask_reg free) (mask_reg m) (mask_reg free) in
-          let w1 = and_parts (is_below counts (mask_reg free) && nat_lt 0 free && is_below counts (mask_reg m))
+          let w1 = and_parts (is_below counts (mask_reg free) && is_below counts (mask_reg m))
           (is_below counts (mask_reg free)) (code_well counts code q s valid has.0) in
-          let w2 = and_parts (is_below counts (mask_reg free) && nat_lt 0 free) (is_below counts (mask_reg m)) w1.0 in
+          let w2 = and_parts (is_below counts (mask_reg free)) (is_below counts (mask_reg m)) w1.0 in
           let lm = mask_length counts width st.registers sim.shape m w2.1 in
           let lf = mask_length counts width st.registers sim.shape free w1.1 in
           let fn = λ (x : Test) (z : Test). x && not z in

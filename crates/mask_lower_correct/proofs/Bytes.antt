@@ -1,21 +1,21 @@
 -- The bytes of an object after lanes have stored, one lane after the other.
-use Rattle.std.proofs.Common.{◌≡◌, ◌≢◌, ℕ, zero, suc, ◌+◌, ◌*◌, ◌/◌, ◌%◌, ◌^◌, ◌<◌, ℤ, List, [], ◌∷◌, length, refl}
-use Rattle.std.proofs.Common.{sym, ap, ap₂, ◌∙◌, subst, ⊎_elim, arith, cond}
-use Rattle.std.specs.Prelude.{slice_index_or}
+use Rattle.std.proofs.Common.{◌≡◌, ◌≢◌, ℕ, zero, suc, ◌+◌, ◌*◌, ◌/◌, ◌%◌, ◌^◌, ◌<◌, ℤ, pos, List, [], ◌∷◌, length}
+use Rattle.std.proofs.Common.{refl, sym, ap, ap₂, ◌∙◌, subst, ⊎_elim, arith, cond}
+use Rattle.std.specs.Prelude.{slice_index_or, nat_eq, if◌then◌else◌}
 use Rattle.std.specs.Prelude.{Bool as Test, true, false}
 use Rattle.std.specs.Simd.Lanes.{put_chunk, digits_l}
 use Rattle.std.proofs.lemmas.Nat.{mod-pow-add, field_of}
-use Rattle.std.proofs.lemmas.Bool.{cases_eq}
+use Rattle.std.proofs.lemmas.Bool.{cases_eq, eqb-true}
 use Rattle.work_items.specs.Memory.{Memory, bytes_of, overwritten, first_byte, stored}
 use Rattle.work_items.proofs.MemoryLemmas.{bytes_of-stored, bytes_of-stored_other, length-stored}
 use Rattle.wg_num.specs.declared.types.IntType.{IntType}
 use Rattle.wg_num.specs.declared.types.IntType.TheVariants as types
-use Rattle.wg_num.specs.Wrap.{bits_of}
+use Rattle.wg_num.specs.Wrap.{IsValue, bits_of, value_of, wrap_of}
 use Rattle.wg_num.specs.Bytes.{size_of, bytes_of as bytes_of_value}
 use Rattle.lane_values.specs.Lanes.{lane}
-use Rattle.lane_values.specs.Access.{put_element, lane_put, scattered}
+use Rattle.lane_values.specs.Access.{put_element, lane_put, stored_lane, scattered}
 use Rattle.lane_code.specs.Groups.{own_stored}
-use Rattle.mask_lower_correct.proofs.LaneValues.{lane_in, lane_32, lane_64}
+use Rattle.mask_lower_correct.proofs.LaneValues.{lane_in, lane_32, lane_64, value_lane}
 
 pub overwritten_is : (xs : List ℕ) (p : ℕ) (bs : List ℕ) → overwritten xs p bs ≡ put_chunk p xs bs
 overwritten_is [] zero bs = refl
@@ -50,6 +50,41 @@ bytes_low types.Int v = narrow_low 4 0 v refl
 bytes_low types.Uint v = narrow_low 4 0 v refl
 bytes_low types.Long v = ap (digits_l 256 8) (lane_64 v)
 bytes_low types.Ulong v = ap (digits_l 256 8) (lane_64 v)
+
+lane_of_one : lane 32 (pos 1) ≡ 1
+unfolding lane
+lane_of_one = refl
+
+bool_of_more : (n : ℕ) → value_of types.Bool (suc n) ≡ pos 1
+unfolding value_of wrap_of
+bool_of_more n = refl
+
+not_zero : (n : ℕ) → nat_eq (suc n) 0 ≡ false
+not_zero n = by_test (nat_eq (suc n) 0) refl
+  where
+    by_test : (b : Test) → nat_eq (suc n) 0 ≡ b → b ≡ false
+    by_test true e = let none = eqb-true (suc n) 0 e in absurd (omega (arith, none))
+    by_test false e = refl
+
+-- a store of a type writes the lane of a value of the type as it is
+pub stored_is : (t : IntType) (z : ℤ) → IsValue t z → stored_lane t (lane_in t z) ≡ lane_in t z
+stored_is types.Bool z v = go (lane 32 z) refl
+  where
+    go : (x : ℕ) → lane 32 z ≡ x → stored_lane types.Bool x ≡ x
+    go zero e = refl
+    go (suc n) e =
+        ap (λ (b : Test). if b then 0 else 1) (not_zero n)
+        ∙ sym lane_of_one
+        ∙ ap (lane 32) (sym (bool_of_more n) ∙ ap (value_of types.Bool) (sym e) ∙ value_lane types.Bool z v)
+        ∙ e
+stored_is types.Char z v = refl
+stored_is types.Uchar z v = refl
+stored_is types.Short z v = refl
+stored_is types.Ushort z v = refl
+stored_is types.Int z v = refl
+stored_is types.Uint z v = refl
+stored_is types.Long z v = refl
+stored_is types.Ulong z v = refl
 
 -- ---- lanes that store to one object
 

@@ -334,5 +334,6 @@ module _ (kernel : Kernel) (launch : Launch) (width : ℕ) (chunk : ChunkOf kern
           group_is l lane =
               let first = chunk.is_chunk.first_is in
               let n : chunk.lanes.first + l ≡ chunk.group * group_size launch + (chunk.first + l) = omega arith in
-              ap (group_of launch) n ∙ Rattle.mask_lower_correct.proofs.Objects.group_there launch chunk.group (chunk.first +
-              l) (ltb-true (chunk.first + l) (group_size launch) (item_of l lane).1)
+              ap (group_of launch) n
+              ∙ Rattle.mask_lower_correct.proofs.Objects.group_there launch chunk.group (chunk.first + l)
+              (ltb-true (chunk.first + l) (group_size launch) (item_of l lane).1)

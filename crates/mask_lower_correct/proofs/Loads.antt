@@ -279,8 +279,9 @@ module _ (kernel : Kernel) (launch : Launch) (width : ℕ) (chunk : ChunkOf kern
           let set : a l ≡ true = sym (lanes.mask l within) ∙ fault.0 in
           let lane : IsLane chunk.lanes l = ((let wi = chunk.is_chunk.width_is in omega arith), lanes.alive l set) in
           let i = w.items (chunk.lanes.first + l) in
-          let good = Rattle.mask_lower_correct.proofs.Standing.good_there kernel launch width chunk turns w0 g0 f counts r0
-          ground w lanes.sim.reached (chunk.lanes.first + l) in
+          let good =
+          Rattle.mask_lower_correct.proofs.Standing.good_there kernel launch width chunk turns w0 g0 f counts r0 ground
+          w lanes.sim.reached (chunk.lanes.first + l) in
           let stands = lanes.sim.stand l lane in
           let tasks : i.tasks ≡ before = stands.0 ∙ lanes.stand l lane set in
           let ag : Agrees f st.registers l before i.cells =

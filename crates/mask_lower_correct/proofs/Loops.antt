@@ -50,8 +50,8 @@ use Rattle.mask_lower_correct.proofs.Standing.{same_outer, cond_else, cond_set, 
 use Rattle.mask_lower_correct.proofs.Atoms.{operand_is}
 use Rattle.mask_lower_correct.proofs.Masks.{some_is, none_below, and_same, flip_cond, standing}
 use Rattle.mask_lower_correct.proofs.Through.{run_through, through}
-use Rattle.mask_lower_correct.proofs.Soundness.{in_width, named, masks_then, rest_sound, masks_step, masked_sim, masked_below}
-use Rattle.mask_lower_correct.proofs.Soundness.{type_there, test_runs, yes_is}
+use Rattle.mask_lower_correct.proofs.Soundness.{in_width, named, masks_then, rest_sound, masks_step, masked_sim}
+use Rattle.mask_lower_correct.proofs.Soundness.{masked_below, type_there, test_runs, yes_is}
 use Rattle.mask_lower_correct.proofs.Soundness as soundness
 
 module _ (kernel : Kernel) (launch : Launch) (width : ℕ) (chunk : ChunkOf kernel launch width) (turns : ℕ)
@@ -454,15 +454,14 @@ module _ (kernel : Kernel) (launch : Launch) (width : ℕ) (chunk : ChunkOf kern
           held = held2.0;
         } in
         let s = step.MaskAnd (mask_reg free) (mask_reg m) (mask_reg m) in
-        let w1 = and_parts (is_below counts (mask_reg free) && nat_lt 0 free && is_below counts (mask_reg m))
+        let w1 = and_parts (is_below counts (mask_reg free) && is_below counts (mask_reg m))
         (is_below counts (mask_reg m)) (code_well counts code p s valid has.0) in
-        let w2 = and_parts (is_below counts (mask_reg free) && nat_lt 0 free) (is_below counts (mask_reg m)) w1.0 in
-        let w3 = and_parts (is_below counts (mask_reg free)) (nat_lt 0 free) w2.0 in
+        let w2 = and_parts (is_below counts (mask_reg free)) (is_below counts (mask_reg m)) w1.0 in
         let lm = mask_length counts width st.registers lanes.sim.shape m w1.1 in
         let fn = λ (x : Test) (z : Test). x && z in
         let ms = mask_of st.registers (mask_reg m) in
         masks_step kernel launch width chunk turns w0 g0 f counts r0 ground atoms framed code valid Good Sites Goal
-        closed t p free s st (zip2 fn ms ms) has.0 refl lanes.sim.shape w3.0 (length-zip2 fn ms ms refl ∙ lm)
+        closed t p free s st (zip2 fn ms ms) has.0 refl lanes.sim.shape w2.0 (length-zip2 fn ms ms refl ∙ lm)
         (λ after k1.
         let st1 = with_registers st after in
         let kept1 = masked_below kernel launch width chunk turns w0 g0 f counts r0 ground atoms framed code valid Good

@@ -62,7 +62,8 @@ use Rattle.mask_lower_correct.specs.Framed.{number_in, Held}
 use Rattle.mask_lower_correct.specs.Sim.{Ground, Agrees, Above, Sim, Closed}
 use Rattle.mask_lower_correct.specs.Fits.{RegionFits}
 use Rattle.mask_lower_correct.proofs.LaneValues.{lane_in}
-use Rattle.mask_lower_correct.proofs.Frames.{register_bank, type_lane, framed, some_left, some_right, held_left, held_right}
+use Rattle.mask_lower_correct.proofs.Frames.{register_bank, type_lane, framed, some_left, some_right, held_left}
+use Rattle.mask_lower_correct.proofs.Frames.{held_right}
 use Rattle.mask_lower_correct.proofs.Standing.{sim_names, cond_set}
 use Rattle.mask_lower_correct.proofs.Entering.{Filled, Entered, constants_run, entry_runs, loaded_lane}
 use Rattle.mask_lower_correct.proofs.Masks.{flip_cond}
@@ -610,11 +611,10 @@ module _ (kernel : Kernel) (plan : Planned) (suits : Suits kernel plan) (launch 
               let sim0 = sim_from st b Into w1 m.reached m.memory m.more (λ l lane. m.below l lane.0 lane) in
               let seen = window false st.group.votes chunk.first width in
               let ls = window_length false st.group.votes chunk.first width in
-              let well1 = and_parts (is_below counts (mask_reg 1)) true
-              (code_well counts code p (step.VoteGet (mask_reg 1)) valid has_rests.0) in
+              let well1 = code_well counts code p (step.VoteGet (mask_reg 1)) valid has_rests.0 in
               masks_step kernel launch width chunk turns w0 g0 frame counts r0 ground atoms (framed kernel atoms) code
               valid Good Site e closed turns p 1 (step.VoteGet (mask_reg 1)) st seen has_rests.0 refl b.shape
-              well1.0 ls (λ after1 k1.
+              well1 ls (λ after1 k1.
               let st1 = with_registers st after1 in
               let sim1 = masked_sim kernel launch width chunk turns w0 g0 frame counts r0 ground atoms
               (framed kernel atoms) code valid Good Site e closed turns 1 Into st w1
@@ -622,16 +622,16 @@ module _ (kernel : Kernel) (plan : Planned) (suits : Suits kernel plan) (launch 
               let fn = λ (x : Test) (z : Test). x && z in
               let ms0 = mask_of after1 (mask_reg 0) in
               let ms1 = mask_of after1 (mask_reg 1) in
-              let w2 = and_parts (is_below counts (mask_reg 1) && nat_lt 0 1 && is_below counts (mask_reg 0))
+              let w2 = and_parts (is_below counts (mask_reg 1) && is_below counts (mask_reg 0))
               (is_below counts (mask_reg 1))
               (code_well counts code (p + 1) (step.MaskAnd (mask_reg 1) (mask_reg 0) (mask_reg 1)) valid
               has_rests.1.0) in
-              let w3 = and_parts (is_below counts (mask_reg 1) && nat_lt 0 1) (is_below counts (mask_reg 0)) w2.0 in
+              let w3 = and_parts (is_below counts (mask_reg 1)) (is_below counts (mask_reg 0)) w2.0 in
               let l0 = mask_length counts width after1 k1.shape 0 w3.1 in
               let l1 = mask_length counts width after1 k1.shape 1 w2.1 in
               masks_step kernel launch width chunk turns w0 g0 frame counts r0 ground atoms (framed kernel atoms) code
               valid Good Site e closed turns (p + 1) 1 (step.MaskAnd (mask_reg 1) (mask_reg 0) (mask_reg 1)) st1
-              (zip2 fn ms0 ms1) has_rests.1.0 refl k1.shape well1.0 (length-zip2 fn ms0 ms1 (l0 ∙ sym l1) ∙
+              (zip2 fn ms0 ms1) has_rests.1.0 refl k1.shape well1 (length-zip2 fn ms0 ms1 (l0 ∙ sym l1) ∙
               l0) (λ after2 k2.
               let st2 = with_registers st1 after2 in
               let sim2 = masked_sim kernel launch width chunk turns w0 g0 frame counts r0 ground atoms

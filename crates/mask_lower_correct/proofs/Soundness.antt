@@ -393,15 +393,14 @@ module _ (kernel : Kernel) (launch : Launch) (width : ℕ) (chunk : ChunkOf kern
   test_runs next atom ty m to p t st at one shape go =
       let x = (operand f.cells next atom).at in
       let s = test_step f next atom to m in
-      let w1 = and_parts (is_below counts (mask_reg to) && nat_lt 0 to && is_below counts x)
+      let w1 = and_parts (is_below counts (mask_reg to) && is_below counts x)
       (is_below counts (mask_reg m)) (code_well counts code p s valid at) in
-      let w2 = and_parts (is_below counts (mask_reg to) && nat_lt 0 to) (is_below counts x) w1.0 in
-      let w3 = and_parts (is_below counts (mask_reg to)) (nat_lt 0 to) w2.0 in
+      let w2 = and_parts (is_below counts (mask_reg to)) (is_below counts x) w1.0 in
       let xlen = lanes_length counts width st.registers shape x (ap is_lane one.bank ∙ type_lane ty) w2.1 in
       let mlen = mask_length counts width st.registers shape m w1.1 in
       let fn = λ (on : Test) (y : ℕ). on && not (nat_eq y 0) in
       let lanes = zip2 fn (mask_of st.registers (mask_reg m)) (lanes_of st.registers x) in
-      masks_step t p to s st lanes at refl shape w3.0 (length-zip2 fn (mask_of st.registers (mask_reg m))
+      masks_step t p to s st lanes at refl shape w2.0 (length-zip2 fn (mask_of st.registers (mask_reg m))
       (lanes_of st.registers x) (mlen ∙ sym xlen) ∙ mlen) (λ after k.
       go after (record {
         here = λ l lt. k.here l lt ∙ get_or-zip2 fn (mask_of st.registers (mask_reg m)) (lanes_of st.registers x) l

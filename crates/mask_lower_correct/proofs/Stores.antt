@@ -6,6 +6,7 @@ use Rattle.std.specs.Prelude.{slice_get, slice_index_or, ◌&&◌, ◌||◌, not
 use Rattle.std.specs.Prelude.{Bool as Test, true, false}
 use Rattle.std.proofs.lemmas.Bool.{true≢false, and_parts, or_left, or_right}
 use Rattle.std.proofs.lemmas.Bool.{lt-ltb}
+use Rattle.std.proofs.lemmas.List.{get_or-map, length-map}
 use Rattle.std.proofs.lemmas.Simd.{get_or-zip2, length-zip2}
 use Rattle.work_items.specs.Memory.{bytes_of, first_byte, has_element, is_in_range, Memory}
 use Rattle.work_items.specs.Memory.{overwritten}
@@ -14,7 +15,7 @@ use Rattle.wg_num.specs.declared.types.IntType.{IntType}
 use Rattle.wg_num.specs.declared.types.IntType.TheVariants as types
 use Rattle.wg_num.specs.Bytes.{size_of, bytes_of as bytes_of_value}
 use Rattle.lane_values.specs.Lanes.{lane as lane_bits}
-use Rattle.lane_values.specs.Access.{is_within, is_fault, faults, put_element, scattered}
+use Rattle.lane_values.specs.Access.{is_within, is_fault, faults, stored_lane, stored_lanes, put_element, scattered}
 use Rattle.cl_model.specs.declared.program.Root.{Root}
 use Rattle.cl_model.specs.Objects.{local_arrays, first_private, private_sizes, first_local}
 use Rattle.cl_model.specs.Sizes.{Launch, group_size}
@@ -63,13 +64,17 @@ use Rattle.mask_lower_correct.proofs.Soundness.{Lanes, Fit, Accesses}
 use Rattle.wg_num.proofs.ByteLaws.{length-bytes}
 use Rattle.group_moves.proofs.Moves.{lanes_do}
 use Rattle.kir_moves.specs.Leads.{past_store}
-use Rattle.mask_lower_correct.proofs.Bytes.{overwritten_is, bytes_low, stored_below, scattered_is, below_same, memory_below}
-use Rattle.mask_lower_correct.proofs.Bytes.{below_length, below_other, below_shared, below_own, own_stored_read}
-use Rattle.mask_lower_correct.proofs.Bytes.{own_stored_length}
+use Rattle.mask_lower_correct.proofs.Bytes.{overwritten_is, bytes_low, stored_below, scattered_is, below_same}
+use Rattle.mask_lower_correct.proofs.Bytes.{memory_below, below_length, below_other, below_shared, below_own}
+use Rattle.mask_lower_correct.proofs.Bytes.{own_stored_read, own_stored_length, stored_is}
 use Rattle.mask_lower_correct.proofs.Numbers.{privates_differ}
 use Rattle.mask_lower_correct.proofs.Mirroring.{Mirrored, buffer_mirrored, local_mirrored, own_mirrored}
-use Rattle.mask_lower_correct.proofs.Loads.{within_is, first_is, own_faults_read, own_faults_length, lane_item, number_is}
-use Rattle.mask_lower_correct.proofs.Loads.{in_group}
+use Rattle.mask_lower_correct.proofs.Loads.{within_is, first_is, own_faults_read, own_faults_length, lane_item}
+use Rattle.mask_lower_correct.proofs.Loads.{number_is, in_group}
+
+-- what a store of the type writes of a lane of a register
+abbrev stored_at : IntType → Registers → Reg → ℕ → ℕ
+stored_at t r x l = stored_lane t (value_at r x l)
 
 module _ (kernel : Kernel) (launch : Launch) (width : ℕ) (chunk : ChunkOf kernel launch width) (turns : ℕ)
     (w0 : Stage Item) (g0 : Group) (f : Frame) (counts : Counts) (r0 : Registers) (ground : Ground kernel launch w0)
@@ -210,7 +215,7 @@ module _ (kernel : Kernel) (launch : Launch) (width : ℕ) (chunk : ChunkOf kern
       → overwritten xs (first_byte (length (bytes_of_value element (atom_value (item_at w l).cells from)))
       (atom_value (item_at w l).cells index)) (bytes_of_value element (atom_value (item_at w l).cells from))
       ≡ put_element (size_of element) xs (value_at st.registers (operand f.cells next index).at l)
-      (value_at st.registers (operand f.cells (past_atom next index) from).at l))
+      (stored_at element st.registers (operand f.cells (past_atom next index) from).at l))
       → Mirrored kernel launch chunk.group w.memory
       (memory_below w.memory a (λ l. object_at kernel launch (item_at w l) r)
       (λ l. atom_value (item_at w l).cells index)
@@ -334,7 +339,7 @@ module _ (kernel : Kernel) (launch : Launch) (width : ℕ) (chunk : ChunkOf kern
               → overwritten xs (first_byte (length (bytes_of_value element (atom_value (item_at w l).cells from)))
               (atom_value (item_at w l).cells index))
               (bytes_of_value element (atom_value (item_at w l).cells from))
-              ≡ put_element (size_of element) xs (value_at st.registers ireg l) (value_at st.registers freg l)
+              ≡ put_element (size_of element) xs (value_at st.registers ireg l) (stored_at element st.registers freg l)
           put l lane set calm xs =
               let z = atom_value (item_at w l).cells index in
               let v = atom_value (item_at w l).cells from in
@@ -350,7 +355,9 @@ module _ (kernel : Kernel) (launch : Launch) (width : ℕ) (chunk : ChunkOf kern
               ap (λ n. n * size_of element) (sym (index_lane l lane set)))
               ∙ ap (λ bs. Rattle.std.specs.Simd.Lanes.put_chunk (value_at st.registers ireg l * size_of element) xs
               bs) (sym (bytes_low element v) ∙
-              ap (Rattle.std.specs.Simd.Lanes.digits_l 256 (size_of element)) (sym (from_lane l lane set)))
+              ap (Rattle.std.specs.Simd.Lanes.digits_l 256 (size_of element)) (sym (ap (stored_lane element)
+              (from_lane l lane set) ∙ stored_is element v (atom_typed kernel (item_at w l).cells from element
+              (good l).typed type_f))))
 
   -- so a store does, whatever its root names
   pub store_runs : (site : ℕ) (element : IntType) (r : Root) (index from : Atom) →
@@ -399,7 +406,7 @@ module _ (kernel : Kernel) (launch : Launch) (width : ℕ) (chunk : ChunkOf kern
       places = lanes_of st.registers ireg
 
       values : List ℕ
-      values = lanes_of st.registers freg
+      values = stored_lanes element (lanes_of st.registers freg)
 
       wells : (is_below counts ireg && is_below counts freg ≡ true) × (is_below counts (mask_reg m) ≡ true)
       wells = and_parts (is_below counts ireg && is_below counts freg) (is_below counts (mask_reg m))
@@ -417,14 +424,21 @@ module _ (kernel : Kernel) (launch : Launch) (width : ℕ) (chunk : ChunkOf kern
           lanes_length counts width st.registers lanes.sim.shape ireg (ap is_lane bank)
           (and_parts (is_below counts ireg) (is_below counts freg) wells.0).0
 
-      values_length : length values ≡ width
-      values_length =
+      raw_length : length (lanes_of st.registers freg) ≡ width
+      raw_length =
           let bank = (operand_is kernel width f atoms counts r0 framed (past_atom next index) from element
           st.registers (has_type_is element (atom_type kernel from) f1.1)
           (λ c e. fit.names c (or_right (reads c index) (reads c from || false)
           (or_left (reads c from) false e))) fit.held.1.0 lanes.sim.above).bank in
           lanes_length counts width st.registers lanes.sim.shape freg (ap is_lane bank ∙
           type_lane element) (and_parts (is_below counts ireg) (is_below counts freg) wells.0).1
+
+      values_length : length values ≡ width
+      values_length = length-map (lanes_of st.registers freg) (stored_lane element) ∙ raw_length
+
+      value_is : (l : ℕ) → l < width → slice_index_or values l 0 ≡ stored_at element st.registers freg l
+      value_is l lt = get_or-map (stored_lane element) (lanes_of st.registers freg) l 0 0
+          (let h = raw_length in omega arith)
 
       lane_of : (l : ℕ) → l < width → a l ≡ true → IsLane chunk.lanes l
       lane_of l lt set = ((let wi = chunk.is_chunk.width_is in omega arith), lanes.alive l set)
@@ -456,13 +470,14 @@ module _ (kernel : Kernel) (launch : Launch) (width : ℕ) (chunk : ChunkOf kern
           (below_shared w.memory a (λ l. object_at kernel launch (item_at w l) r)
           (λ l. atom_value (item_at w l).cells index)
           (λ l. bytes_of_value element (atom_value (item_at w l).cells from)) (size_of element) x
-          (λ l. value_at st.registers ireg l) (λ l. value_at st.registers freg l) width
+          (λ l. value_at st.registers ireg l) (λ l. stored_at element st.registers freg l) width
           (λ l lt set. is l (lane_of l lt set)) (λ l lt set xs. put l (lane_of l lt set) set xs)
           ∙ ap (λ bs. stored_below (size_of element) bs a (λ l. value_at st.registers ireg l)
-          (λ l. value_at st.registers freg l) width) there
+          (λ l. stored_at element st.registers freg l) width) there
           ∙ below_same (size_of element) bytes a (λ l. slice_index_or active l false)
-          (λ l. value_at st.registers ireg l) (λ l. slice_index_or places l 0) (λ l. value_at st.registers freg l)
-          (λ l. slice_index_or values l 0) width (λ l lt. sym (lanes.mask l lt)) (λ l lt. refl) (λ l lt. refl)
+          (λ l. value_at st.registers ireg l) (λ l. slice_index_or places l 0) (λ l. stored_at element st.registers freg l)
+          (λ l. slice_index_or values l 0) width (λ l lt. sym (lanes.mask l lt)) (λ l lt. refl)
+          (λ l lt. sym (value_is l lt))
           ∙ ap (stored_below (size_of element) bytes (λ l. slice_index_or active l false)
           (λ l. slice_index_or places l 0) (λ l. slice_index_or values l 0)) (sym active_length)
           ∙ sym (scattered_is (size_of element) bytes active places values (active_length ∙
@@ -515,11 +530,13 @@ module _ (kernel : Kernel) (launch : Launch) (width : ℕ) (chunk : ChunkOf kern
           differ n lt is i l ne e)
           ∙ with_put put l lane (bytes_of w.memory (object_at kernel launch (item_at w l) r)) (a l) refl
           ∙ ap (λ (bs : List ℕ). cond (a l) (put_element (size_of element) bs (value_at st.registers ireg l)
-          (value_at st.registers freg l)) bs) (before n lt is l lane ∙
+          (stored_at element st.registers freg l)) bs) (before n lt is l lane ∙
           sym (window_read [] row chunk.first width l [] ltw))
           ∙ ap (λ b. cond b (put_element (size_of element) (slice_index_or objects l [])
-          (value_at st.registers ireg l) (value_at st.registers freg l)) (slice_index_or objects l []))
+          (value_at st.registers ireg l) (stored_at element st.registers freg l)) (slice_index_or objects l []))
           (sym (lanes.mask l ltw))
+          ∙ ap (λ x. cond (mask_at st.registers m l) (put_element (size_of element) (slice_index_or objects l [])
+          (value_at st.registers ireg l) x) (slice_index_or objects l [])) (sym (value_is l ltw))
           ∙ sym (own_stored_read (size_of element) active places values objects l (active_length ∙
           sym places_length) (active_length ∙ sym values_length) (active_length ∙
           sym olen) (let h = active_length in omega arith)))
@@ -558,7 +575,7 @@ module _ (kernel : Kernel) (launch : Launch) (width : ℕ) (chunk : ChunkOf kern
               → overwritten xs (first_byte (length (bytes_of_value element (atom_value (item_at w l).cells from)))
               (atom_value (item_at w l).cells index))
               (bytes_of_value element (atom_value (item_at w l).cells from))
-              ≡ put_element (size_of element) xs (value_at st.registers ireg l) (value_at st.registers freg l))
+              ≡ put_element (size_of element) xs (value_at st.registers ireg l) (stored_at element st.registers freg l))
               → (l : ℕ) → IsLane chunk.lanes l → (xs : List ℕ) → (x : Test) → a l ≡ x
               →
               cond (a l) (overwritten xs (first_byte
@@ -566,7 +583,7 @@ module _ (kernel : Kernel) (launch : Launch) (width : ℕ) (chunk : ChunkOf kern
               (atom_value (item_at w l).cells index))
               (bytes_of_value element (atom_value (item_at w l).cells from))) xs
               ≡ cond (a l) (put_element (size_of element) xs (value_at st.registers ireg l)
-              (value_at st.registers freg l)) xs
+              (stored_at element st.registers freg l)) xs
           with_put put l lane xs true e = ap (λ ys. cond (a l) ys xs) (put l lane e xs)
           with_put put l lane xs false e = cond_unset (a l) _ xs e ∙ sym (cond_unset (a l) _ xs e)
 

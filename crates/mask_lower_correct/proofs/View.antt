@@ -14,7 +14,7 @@ use Rattle.lane_code.specs.declared.step.Step.{Step}
 use Rattle.lane_code.specs.declared.code.Counts.{Counts}
 use Rattle.lane_code.specs.Registers.{Registers, lane_count, lanes_in, lanes_of, with_lanes, mask_of, with_mask}
 use Rattle.lane_code.specs.Registers.{written}
-use Rattle.lane_code.specs.Fits.{is_below, is_well, all_steps, is_code}
+use Rattle.lane_code.specs.Fits.{is_below, keeps_mask_0, is_well, is_code_step, all_steps, is_code}
 use Rattle.lane_laws.specs.Reading.{mask_at, narrow_at, wide_at, NarrowSet, WideSet}
 use Rattle.lane_laws.proofs.Reading.{narrow_written, wide_written, narrow_filled, wide_filled, mask_written}
 use Rattle.lane_laws.proofs.Reading.{narrow_shape, wide_shape, mask_shape}
@@ -24,24 +24,27 @@ use Rattle.mask_lower_correct.specs.View.{is_lane, Shaped, Wrote, Masked}
 -- ---- steps of a code are well
 
 pub well_at : (counts : Counts) (end : ℕ) (steps : List Step) (place p : ℕ) (s : Step) →
-    all_steps (is_well counts end) place steps ≡ true → slice_get steps p ≡ Some s →
-    is_well counts end (place + p) s ≡ true
+    all_steps (is_code_step counts end) place steps ≡ true → slice_get steps p ≡ Some s →
+    is_code_step counts end (place + p) s ≡ true
 well_at counts end [] place p s e at = absurd (none-some s at)
 well_at counts end (x ∷ steps) place zero s e at =
     let same : x ≡ s = same_Some x s at in
     let n : place ≡ place + 0 = omega arith in
-    subst (λ k. is_well counts end k s ≡ true) n (subst (λ y. is_well counts end place y ≡ true) same
-    (and_parts (is_well counts end place x) _ e).0)
+    subst (λ k. is_code_step counts end k s ≡ true) n (subst (λ y. is_code_step counts end place y ≡ true) same
+    (and_parts (is_code_step counts end place x) _ e).0)
 well_at counts end (x ∷ steps) place (suc p) s e at =
     let n : suc place + p ≡ place + suc p = omega arith in
-    subst (λ k. is_well counts end k s ≡ true) n
-    (well_at counts end steps (suc place) p s (and_parts (is_well counts end place x) _ e).1 at)
+    subst (λ k. is_code_step counts end k s ≡ true) n
+    (well_at counts end steps (suc place) p s (and_parts (is_code_step counts end place x) _ e).1 at)
 
 -- the step at a place of a code is well there
 pub code_well : (counts : Counts) (code : List Step) (p : ℕ) (s : Step) → is_code counts code ≡ true →
     slice_get code p ≡ Some s → is_well counts (length code) p s ≡ true
-code_well counts code p s e at = let n : 0 + p ≡ p =
-    omega arith in subst (λ k. is_well counts (length code) k s ≡ true) n (well_at counts (length code) code 0 p s e at)
+code_well counts code p s e at =
+    let n : 0 + p ≡ p = omega arith in
+    let step = well_at counts (length code) code 0 p s e at in
+    subst (λ k. is_well counts (length code) k s ≡ true) n
+    (and_parts (keeps_mask_0 s) (is_well counts (length code) (0 + p) s) step).1
 
 -- ---- writes
 

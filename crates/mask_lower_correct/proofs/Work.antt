@@ -54,9 +54,9 @@ use Rattle.mask_lower_correct.proofs.LaneValues.{binary_amount, amount_lane, amo
 use Rattle.mask_lower_correct.proofs.View.{code_well, lanes_length}
 use Rattle.mask_lower_correct.proofs.Frames.{type_lane, register_bank}
 use Rattle.mask_lower_correct.proofs.Standing.{SameOuter}
-use Rattle.mask_lower_correct.proofs.Atoms.{Reading, IsOperand, cell_entry, entry_type, entry_bank, const_is, operand_is}
-use Rattle.mask_lower_correct.proofs.Atoms.{scratch_differs, entry_lane, scratch_lane, scratch_above, cell_above}
-use Rattle.mask_lower_correct.proofs.Atoms.{writes_step}
+use Rattle.mask_lower_correct.proofs.Atoms.{Reading, IsOperand, cell_entry, entry_type, entry_bank, const_is}
+use Rattle.mask_lower_correct.proofs.Atoms.{operand_is, scratch_differs, entry_lane, scratch_lane, scratch_above}
+use Rattle.mask_lower_correct.proofs.Atoms.{cell_above, writes_step}
 
 -- a value is converted lane by lane
 pub convert_is : (bits : ℕ) (to from : IntType) (z : ℤ) → IsValue from z →

@@ -46,8 +46,8 @@ use Rattle.mask_lower_correct.proofs.LaneValues.{lane_in, value_lane}
 use Rattle.mask_lower_correct.proofs.View.{code_well, lanes_length, lane_count_is, zip3_read, zip3_length}
 use Rattle.mask_lower_correct.proofs.Frames.{type_lane}
 use Rattle.mask_lower_correct.proofs.Atoms.{IsOperand, operand_is, entry_lane, cell_above, writes_step}
-use Rattle.mask_lower_correct.proofs.Work.{convert_is, Worked, Mine, Gives, Works, Target, target, some_type, unary_works}
-use Rattle.mask_lower_correct.proofs.Work.{binary_works}
+use Rattle.mask_lower_correct.proofs.Work.{convert_is, Worked, Mine, Gives, Works, Target, target, some_type}
+use Rattle.mask_lower_correct.proofs.Work.{unary_works, binary_works}
 
 -- ---- what lanes are given
 

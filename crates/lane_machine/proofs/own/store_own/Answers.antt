@@ -1,5 +1,6 @@
 use Rattle.std.proofs.Common.{[], take, map}
 use Rattle.wg_num.specs.Bytes.{size_of}
+use Rattle.lane_values.specs.Access.{stored_lanes}
 use Rattle.lane_code.specs.Registers.{lowest, mask_of, lanes_of}
 use Rattle.lane_code.specs.Groups.{window, with_window, own_faults, own_stored}
 use Rattle.lane_machine.proofs.NestedLaws.{map-set, store_moves, read_array, objects_in}
@@ -9,7 +10,7 @@ pub returns : goal.returns
 returns g c =
     let m = mask_of c.args.r.now.plain c.args.access.mask in
     let index = lanes_of c.args.r.now.plain c.args.access.index in
-    let lanes = lanes_of c.args.r.now.plain c.args.access.value in
+    let lanes = stored_lanes c.args.access.of (lanes_of c.args.r.now.plain c.args.access.value) in
     let size = size_of c.args.access.of in
     let first = c.args.first in
     let W = g.row.W in

@@ -1,6 +1,6 @@
 use Rattle.std.proofs.Common.{◌≤◌, ℕ, length, [], take, map, rules, Vec, Global}
 use Rattle.wg_num.specs.Bytes.{size_of}
-use Rattle.lane_values.specs.Access.{faults, scattered}
+use Rattle.lane_values.specs.Access.{faults, stored_lanes, scattered}
 use Rattle.lane_code.specs.Registers.{lowest, mask_of, lanes_of}
 use Rattle.lane_machine.proofs.NestedLaws.{store_past, length_mapped}
 use Rattle.lane_machine.proofs.shared.store_into.Goals as goal
@@ -9,7 +9,7 @@ pub returns : goal.returns
 returns g c =
     let m = mask_of c.args.r.now.plain c.args.access.mask in
     let index = lanes_of c.args.r.now.plain c.args.access.index in
-    let lanes = lanes_of c.args.r.now.plain c.args.access.value in
+    let lanes = stored_lanes c.args.access.of (lanes_of c.args.r.now.plain c.args.access.value) in
     let size = size_of c.args.access.of in
     let lists = map (λ (v : Vec ℕ Global). v.items) c.args.objects.now.items in
     let long = length_mapped (λ (v : Vec ℕ Global). v.items) c.args.objects.now.items in

@@ -1,6 +1,6 @@
 use Rattle.std.proofs.Common.{ℕ, length, [], take, map, Vec, Global}
 use Rattle.wg_num.specs.Bytes.{size_of}
-use Rattle.lane_values.specs.Access.{faults, scattered}
+use Rattle.lane_values.specs.Access.{faults, stored_lanes, scattered}
 use Rattle.lane_code.specs.Registers.{lowest, mask_of, lanes_of}
 use Rattle.lane_machine.proofs.NestedLaws.{map-set, store_moves, read_one}
 use Rattle.lane_machine.proofs.shared.store_one.Goals as goal
@@ -9,7 +9,7 @@ pub returns : goal.returns
 returns g c =
     let m = mask_of c.args.r.now.plain c.args.access.mask in
     let index = lanes_of c.args.r.now.plain c.args.access.index in
-    let lanes = lanes_of c.args.r.now.plain c.args.access.value in
+    let lanes = stored_lanes c.args.access.of (lanes_of c.args.r.now.plain c.args.access.value) in
     let size = size_of c.args.access.of in
     let xs = c.args.objects.now.items in
     store_moves [] c.store_shared.result (map (λ (v : Vec ℕ Global). v.items) xs) c.args.object
