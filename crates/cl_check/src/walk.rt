@@ -21,7 +21,7 @@ ghost use Rattle.cl_faults.specs.Least.{IsLeast};
 use crate::error::CheckError;
 use cl_faults::{Asked, Looked, fault_at, kind_of};
 use cl_fragment::Piece;
-use cl_fragment::make::make;
+use cl_fragment::make::{Node, make};
 use cl_meaning::{Fault, Kind, Role};
 use cl_scope::{Environment, Inner, enter, later, leave, restore};
 use cl_tree::{Form, Tree};
@@ -176,16 +176,12 @@ fn build(
 {
     let pieces = parts.pieces;
     let kinds = parts.kinds;
-    let what = make(
-        walk.alloc,
+    let node = Node {
         environment,
-        inner.body,
-        inner.sizes,
         tree,
-        walk.places,
-        sites,
-        pieces,
-    )?;
+        places: walk.places,
+    };
+    let what = make(walk.alloc, node, inner.body, inner.sizes, sites, pieces)?;
     leave(
         walk.alloc,
         environment,

@@ -43,8 +43,8 @@ use Rattle.cl_check_sound.proofs.Calls as calls
 use Rattle.cl_check_sound.proofs.Expressions.{fits_expression, fits_arguments, arguments_known}
 use Rattle.cl_check_sound.proofs.Typed.{type_declares}
 use Rattle.cl_check_sound.proofs.Grown.{Extends, extends_then, is_deep, deep_outer, outer_whole, Grown}
-use Rattle.cl_check_sound.proofs.Growth.{expression_leaves, list_leaves, star_leaves, declarator_leaves, declarator_visible}
-use Rattle.cl_check_sound.proofs.Growth.{one_declarator_grows, declarators_grow, next_declarator}
+use Rattle.cl_check_sound.proofs.Growth.{expression_leaves, list_leaves, star_leaves, declarator_leaves}
+use Rattle.cl_check_sound.proofs.Growth.{declarator_visible, one_declarator_grows, declarators_grow, next_declarator}
 use Rattle.cl_check_sound.proofs.Parts.{typed_env, declare_behind, declare_sound, declare_built}
 use Rattle.cl_check_sound.proofs.Naming.{Scoped, expression_scoped, operand_scoped}
 use Rattle.cl_check_sound.proofs.Facing.{Finals, At, at_later}

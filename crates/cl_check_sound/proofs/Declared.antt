@@ -24,8 +24,8 @@ use Rattle.cl_check_sound.proofs.Cases.{neither_first, neither_second}
 use Rattle.cl_check_sound.proofs.Grown.{Extends, is_deep}
 use Rattle.cl_check_sound.proofs.Facing.{Finals, At}
 use Rattle.cl_check_sound.proofs.Lining.{Line}
-use Rattle.cl_check_sound.proofs.Declaring.{InitOk, pointer_line, kept_own, scalar_any, array_any, scalar_value, count_fits}
-use Rattle.cl_check_sound.proofs.Declaring.{dims_fit}
+use Rattle.cl_check_sound.proofs.Declaring.{InitOk, pointer_line, kept_own, scalar_any, array_any, scalar_value}
+use Rattle.cl_check_sound.proofs.Declaring.{count_fits, dims_fit}
 
 -- the values of an array
 pub record ValuesOk (P : Program) (f : Function) (scope : Scope) (t : IntType) (n : ℕ) (es : List Expression) : Type 0

@@ -23,8 +23,8 @@ use Rattle.cl_meaning.specs.Types.{base_in}
 use Rattle.cl_meaning.specs.Kinds.{is_some}
 use Rattle.cl_check_sound.specs.Shape.{IsType, PrefixOf, indexes, IsExpression, AreExpressions, IsList, AreLengths}
 use Rattle.cl_check_sound.specs.Shape.{IsDeclarator, AreDeclarators, IsDeclaration, IsOptional, IsSimple, IsStatement}
-use Rattle.cl_check_sound.specs.Shape.{AreStatements, AreLines, IsBlock, IsHead, IsResult, IsParam, AreParams, BehindHeads}
-use Rattle.cl_check_sound.specs.Shape.{IsFunction, IsPrototype, AreItems, IsUnit}
+use Rattle.cl_check_sound.specs.Shape.{AreStatements, AreLines, IsBlock, IsHead, IsResult, IsParam, AreParams}
+use Rattle.cl_check_sound.specs.Shape.{BehindHeads, IsFunction, IsPrototype, AreItems, IsUnit}
 use Rattle.cl_check_sound.proofs.WordFacts.{is_operand, Word}
 use Rattle.cl_check_sound.proofs.TypeFacts.{words, Qualifiers, BaseOk, type_spelled, qualifiers_append}
 

@@ -17,8 +17,8 @@ use Rattle.cl_check_sound.proofs.Growth.{declaration_grows, labels_kept, value_k
 use Rattle.cl_check_sound.proofs.Growth.{break_leaves, continue_leaves, block_is, like_apart, like_loop, like_switch}
 use Rattle.cl_check_sound.proofs.Growth.{like_for, like_block, like_label, within_opened, within_block, within_marked}
 use Rattle.cl_check_sound.proofs.Parts.{if_behind, else_behind, while_behind, do_behind, for_behind, for1_behind}
-use Rattle.cl_check_sound.proofs.Parts.{for2_behind, at_labels, on_labels, switch_behind, on_behind, case_env, default_env}
-use Rattle.cl_check_sound.proofs.Parts.{case_behind, default_behind, block_behind, line_behind}
+use Rattle.cl_check_sound.proofs.Parts.{for2_behind, at_labels, on_labels, switch_behind, on_behind, case_env}
+use Rattle.cl_check_sound.proofs.Parts.{default_env, case_behind, default_behind, block_behind, line_behind}
 use Rattle.cl_check_sound.proofs.Induction.{IsFirst, Cases}
 
 -- what is shown of a statement, of lines, and of the statements of a switch

@@ -20,9 +20,9 @@ use Rattle.cl_check_sound.specs.Shape.{AreDeclarators, IsDeclaration, IsOptional
 use Rattle.cl_check_sound.specs.Sound.{SoundTree, SoundParts}
 use Rattle.cl_check_sound.proofs.Neutral.{closed_same, neutral, behind_type}
 use Rattle.cl_check_sound.proofs.Shapes.{of_expressions}
-use Rattle.cl_check_sound.proofs.Grown.{extends_same, SameOuter, outer_same, outer_whole, is_deep, deep_outer, deep_opened}
-use Rattle.cl_check_sound.proofs.Grown.{deep_inside, Grown, Kept, grown_same, kept_same, grown_then, Within, Like, Placed}
-use Rattle.cl_check_sound.proofs.Grown.{declarator_grows}
+use Rattle.cl_check_sound.proofs.Grown.{extends_same, SameOuter, outer_same, outer_whole, is_deep, deep_outer}
+use Rattle.cl_check_sound.proofs.Grown.{deep_opened, deep_inside, Grown, Kept, grown_same, kept_same, grown_then}
+use Rattle.cl_check_sound.proofs.Grown.{Within, Like, Placed, declarator_grows}
 
 -- an expression leaves what was visible before it
 pub expression_leaves : (env : Env) (t : Syntax) → IsExpression t → behind env t ≡ env

@@ -29,11 +29,12 @@ use Rattle.cl_meaning.specs.Meant as meants
 use Rattle.cl_meaning.specs.Meant.{MadeParts, meant, parts_meant}
 use Rattle.cl_check_sound.specs.Shape.{IsExpression}
 use Rattle.cl_check_sound.proofs.Growth.{simple_leaves, return_leaves, break_leaves, continue_leaves}
-use Rattle.cl_check_sound.proofs.Parts.{if_behind, if_built, else_behind, else_built, while_behind, while_built, do_behind}
-use Rattle.cl_check_sound.proofs.Parts.{do_built, for_behind, for_built, for1_behind, for1_built, for1_pieces, for2_behind}
-use Rattle.cl_check_sound.proofs.Parts.{for2_built, on_labels, switch_behind, switch_built, on_meant, case_env, default_env}
-use Rattle.cl_check_sound.proofs.Parts.{case_behind, case_built, default_behind, default_built, break_built, continue_built}
-use Rattle.cl_check_sound.proofs.Parts.{simple0_built, simple_built, return0_built, return_built}
+use Rattle.cl_check_sound.proofs.Parts.{if_behind, if_built, else_behind, else_built, while_behind, while_built}
+use Rattle.cl_check_sound.proofs.Parts.{do_behind, do_built, for_behind, for_built, for1_behind, for1_built}
+use Rattle.cl_check_sound.proofs.Parts.{for1_pieces, for2_behind, for2_built, on_labels, switch_behind, switch_built}
+use Rattle.cl_check_sound.proofs.Parts.{on_meant, case_env, default_env, case_behind, case_built, default_behind}
+use Rattle.cl_check_sound.proofs.Parts.{default_built, break_built, continue_built, simple0_built, simple_built}
+use Rattle.cl_check_sound.proofs.Parts.{return0_built, return_built}
 use Rattle.cl_check_sound.proofs.Induction.{SoundNode, Cases}
 
 -- ---- the labels in front of a statement

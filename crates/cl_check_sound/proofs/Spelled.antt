@@ -22,11 +22,11 @@ use Rattle.cl_check_sound.proofs.TypeFacts.{type_spelled, qualifiers_append}
 use Rattle.cl_check_sound.proofs.Grammatical.{AllWords, left, right, ShapeOf, many_none, many_and, are_expressions}
 use Rattle.cl_check_sound.proofs.Grammatical.{are_items, are_lines, are_statements, are_declarators, are_params}
 use Rattle.cl_check_sound.proofs.Grammatical.{are_lengths, are_set, is_optional, maybe_parts, starred, param_shape}
-use Rattle.cl_check_sound.proofs.Grammatical.{type_with, base_type_word, base_of_sign, sign_core, one_word, core_of_char}
-use Rattle.cl_check_sound.proofs.Grammatical.{core_of_int, core_of_length, core_of_both, front_words, qualifier_word}
-use Rattle.cl_check_sound.proofs.Grammatical.{operand_prefix, prefix_word, set_word, size_word, index_word, level_shape}
-use Rattle.cl_check_sound.proofs.Grammatical.{sizeof_shape, index_shape, for_shape, block_statement, simple_statement}
-use Rattle.cl_check_sound.proofs.Grammatical.{behind_heads, head_shape}
+use Rattle.cl_check_sound.proofs.Grammatical.{type_with, base_type_word, base_of_sign, sign_core, one_word}
+use Rattle.cl_check_sound.proofs.Grammatical.{core_of_char, core_of_int, core_of_length, core_of_both, front_words}
+use Rattle.cl_check_sound.proofs.Grammatical.{qualifier_word, operand_prefix, prefix_word, set_word, size_word}
+use Rattle.cl_check_sound.proofs.Grammatical.{index_word, level_shape, sizeof_shape, index_shape, for_shape}
+use Rattle.cl_check_sound.proofs.Grammatical.{block_statement, simple_statement, behind_heads, head_shape}
 
 pub shape : {s : Sort} {v : Value} {x : List Leaf} → Spells s v x → AllWords x → ShapeOf s v
 shape grammar.maybe_none h = tt

@@ -26,15 +26,17 @@ use Rattle.cl_check_sound.proofs.Measure.{Weights, measure, operand_small}
 use Rattle.cl_check_sound.proofs.Small.{held, held_more, Small}
 use Rattle.cl_check_sound.proofs.Holding.{extra, extras, holds}
 use Rattle.cl_check_sound.proofs.Grown.{Grown, Within, within_later}
-use Rattle.cl_check_sound.proofs.Growth.{declaration_grows, within_opened, within_block, within_marked, block_is, value_kept}
+use Rattle.cl_check_sound.proofs.Growth.{declaration_grows, within_opened, within_block, within_marked, block_is}
+use Rattle.cl_check_sound.proofs.Growth.{value_kept}
 use Rattle.cl_check_sound.proofs.Growing.{StatementGrows, LinesGrow, SwitchGrows, first_grows, growing}
 use Rattle.cl_check_sound.proofs.Labelling.{body_by}
 use Rattle.cl_check_sound.proofs.Arms.{bodies}
 use Rattle.cl_check_sound.proofs.Induction.{IsFirst, Cases}
 use Rattle.cl_check_sound.proofs.Parts.{built_of, if_built, else_pieces, else_built, while_built, do_built, for_built}
-use Rattle.cl_check_sound.proofs.Parts.{for1_built, for2_built, at_labels, on_labels, switch_pieces, switch_built, on_meant}
-use Rattle.cl_check_sound.proofs.Parts.{case_env, default_env, case_built, default_built, break_built, continue_built}
-use Rattle.cl_check_sound.proofs.Parts.{simple0_built, simple_built, return0_built, return_built, block_built, line_meant}
+use Rattle.cl_check_sound.proofs.Parts.{for1_built, for2_built, at_labels, on_labels, switch_pieces, switch_built}
+use Rattle.cl_check_sound.proofs.Parts.{on_meant, case_env, default_env, case_built, default_built, break_built}
+use Rattle.cl_check_sound.proofs.Parts.{continue_built, simple0_built, simple_built, return0_built, return_built}
+use Rattle.cl_check_sound.proofs.Parts.{block_built, line_meant}
 use Rattle.cl_check_sound.proofs.Weighing.{measure_optional, weigh, weigh_all, weigh_followed, arms_weighed, one_by}
 use Rattle.cl_check_sound.proofs.Weighing.{Weighed, free_of, declaration_weighed, if_extra, while_extra, else_extra}
 use Rattle.cl_check_sound.proofs.Weighing.{do_extra, for_extra, for1_extra, for2_extra, switch_extra, case_extra}

@@ -25,7 +25,8 @@ use Rattle.cl_meaning.specs.Typed as typed_specs
 use Rattle.cl_meaning.specs.Typed.{nothing, Built}
 use Rattle.cl_meaning.specs.Statements.{functions_in, function_before}
 use Rattle.cl_meaning.specs.Meant.{MadeParts, with_piece, meant, parts_meant, make}
-use Rattle.cl_check_sound.specs.Shape.{IsDefinition, IsAnnouncement, BehindHeads, IsDeclaration, AreDeclarators, AreItems}
+use Rattle.cl_check_sound.specs.Shape.{IsDefinition, IsAnnouncement, BehindHeads, IsDeclaration, AreDeclarators}
+use Rattle.cl_check_sound.specs.Shape.{AreItems}
 use Rattle.cl_check_sound.specs.Sound.{SoundTree, SoundParts}
 use Rattle.cl_check_sound.specs.Erased.{table_of, function_of}
 use Rattle.cl_check_sound.specs.Fits.{CalledFits, MeaningFits}
@@ -36,7 +37,8 @@ use Rattle.cl_check_sound.proofs.Declarators.{declare_meant}
 use Rattle.cl_check_sound.proofs.Weighing.{weigh_all, one_weighed}
 use Rattle.cl_check_sound.proofs.Grown.{Extends, extends_then}
 use Rattle.cl_check_sound.proofs.Fronts.{Front, function_front, Fore, prototype_fore}
-use Rattle.cl_check_sound.proofs.Functions.{bare, made_lines, typed, function_is, called_fits, function_valid, defined_scoped}
+use Rattle.cl_check_sound.proofs.Functions.{bare, made_lines, typed, function_is, called_fits, function_valid}
+use Rattle.cl_check_sound.proofs.Functions.{defined_scoped}
 use Rattle.cl_check_sound.proofs.Constants.{OneScope, AtUnit, unit_named, UnitGrown, unit_same, unit_then, AllTables}
 use Rattle.cl_check_sound.proofs.Constants.{constant_line}
 use Rattle.cl_check_sound.proofs.Items.{same_bytes, bytes_same, name_of, definition_first, AllCalled, meaning_known}

@@ -45,18 +45,19 @@ use Rattle.cl_check_sound.proofs.Growth.{break_leaves, continue_leaves}
 use Rattle.cl_check_sound.proofs.Growing.{StatementGrows, LinesGrow, SwitchGrows, first_grows, growing}
 use Rattle.cl_check_sound.proofs.Naming.{expression_scoped, operand_scoped}
 use Rattle.cl_check_sound.proofs.Facing.{Finals, At}
-use Rattle.cl_check_sound.proofs.Lining.{all_fit_followed, exits_followed, declarations_followed, scoped_line, one_below}
-use Rattle.cl_check_sound.proofs.Lining.{AllRoots, Line}
+use Rattle.cl_check_sound.proofs.Lining.{all_fit_followed, exits_followed, declarations_followed, scoped_line}
+use Rattle.cl_check_sound.proofs.Lining.{one_below, AllRoots, Line}
 use Rattle.cl_check_sound.proofs.Labelling.{StatementLabels, BlockLabels, SwitchLabels, body_by, labelling}
 use Rattle.cl_check_sound.proofs.Arms.{bodies, arms_fit, arms_scoped, arms_exit, arms_counted, arms_labels}
 use Rattle.cl_check_sound.proofs.Declarators.{declaration_line}
 use Rattle.cl_check_sound.proofs.Induction.{SoundNode, IsFirst, Cases}
-use Rattle.cl_check_sound.proofs.Parts.{if_behind, if_built, else_behind, else_built, while_behind, while_built, do_behind}
-use Rattle.cl_check_sound.proofs.Parts.{do_built, for_role, for_behind, for_built, for1_behind, for1_built, for2_behind}
-use Rattle.cl_check_sound.proofs.Parts.{for2_built, at_labels, on_labels, switch_behind, switch_pieces, switch_built}
-use Rattle.cl_check_sound.proofs.Parts.{on_behind, on_meant, case_env, default_env, case_behind, case_built, default_behind}
-use Rattle.cl_check_sound.proofs.Parts.{default_built, break_built, continue_built, simple0_built, simple_built}
-use Rattle.cl_check_sound.proofs.Parts.{return0_built, return_built, block_behind, block_built, line_behind, line_meant}
+use Rattle.cl_check_sound.proofs.Parts.{if_behind, if_built, else_behind, else_built, while_behind, while_built}
+use Rattle.cl_check_sound.proofs.Parts.{do_behind, do_built, for_role, for_behind, for_built, for1_behind, for1_built}
+use Rattle.cl_check_sound.proofs.Parts.{for2_behind, for2_built, at_labels, on_labels, switch_behind, switch_pieces}
+use Rattle.cl_check_sound.proofs.Parts.{switch_built, on_behind, on_meant, case_env, default_env, case_behind}
+use Rattle.cl_check_sound.proofs.Parts.{case_built, default_behind, default_built, break_built, continue_built}
+use Rattle.cl_check_sound.proofs.Parts.{simple0_built, simple_built, return0_built, return_built, block_behind}
+use Rattle.cl_check_sound.proofs.Parts.{block_built, line_behind, line_meant}
 use Rattle.cl_check_sound.proofs.Stating.{Here, here_later, here_marked, here_for, here_block, here_line, Stated}
 use Rattle.cl_check_sound.proofs.Stating.{idle_simple, expression_simple, simple_stated, what_is, first_line, tested}
 use Rattle.cl_check_sound.proofs.Stating.{valued}

@@ -38,8 +38,8 @@ use Rattle.cl_check_sound.proofs.Holding.{extra, extras, extras_here, holds, all
 use Rattle.cl_check_sound.proofs.Grown.{is_deep, deep_outer}
 use Rattle.cl_check_sound.proofs.Growth.{declarator_visible, expression_leaves, type_next, next_declarator}
 use Rattle.cl_check_sound.proofs.Growth.{one_declarator_grows}
-use Rattle.cl_check_sound.proofs.Declarators.{Leaves, expressions_neutral, declarator_neutral, meant_here, list_meant_here}
-use Rattle.cl_check_sound.proofs.Declarators.{declare_meant}
+use Rattle.cl_check_sound.proofs.Declarators.{Leaves, expressions_neutral, declarator_neutral, meant_here}
+use Rattle.cl_check_sound.proofs.Declarators.{list_meant_here, declare_meant}
 use Rattle.cl_check_sound.proofs.Arms.{bodies, arms_sum}
 use Rattle.cl_check_sound.proofs.Parts.{built_of, at_labels, on_labels, case_env, default_env, typed_env, declare_built}
 use Rattle.cl_check_sound.proofs.Parts.{declare_sound}

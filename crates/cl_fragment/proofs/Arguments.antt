@@ -10,7 +10,8 @@ use Rattle.cl_meaning.specs.declared.kind.Parameter.{Parameter}
 use Rattle.cl_meaning.specs.Expressions.{root_in, roots_passed, passed, all_passed}
 use Rattle.cl_fragment.specs.declared.fragment.Piece as rust
 use Rattle.cl_fragment.specs.View.{piece_of}
-use Rattle.cl_fragment.proofs.Lists.{arguments_then, arguments_none, arguments_more, arguments_end, roots_more, roots_end}
+use Rattle.cl_fragment.proofs.Lists.{arguments_then, arguments_none, arguments_more, arguments_end, roots_more}
+use Rattle.cl_fragment.proofs.Lists.{roots_end}
 
 pub drop_step : {A : Type 0} (xs : List A) (i : ℕ) (d : A) → i < length xs → drop i xs ≡ get_or xs i d ∷ drop (i + 1) xs
 drop_step xs i d h = rw (add-one, drop-cons xs i d)

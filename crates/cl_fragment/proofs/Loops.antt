@@ -28,6 +28,9 @@ loop_is place sites parts tested (i ∷ e ∷ a ∷ []) h =
 loop_is place sites parts tested (i ∷ c ∷ e ∷ a ∷ []) h = refl
 loop_is place sites parts tested (i ∷ c ∷ e ∷ a ∷ b ∷ rest) h = refl
 
+-- what a loop is read by, from its tree
+pub ruleset loop_parts = (view_out, loop_is)
+
 second_is : (i e : Tree) (rest : List Tree) →
     second_is_test (views (i ∷ e ∷ rest)) ≡ nat_eq (out-Tree e).first (suc (out-Tree i).last)
 second_is i e rest = ap₂ (λ (a b : Syntax). nat_eq (first_of b) (suc (last_of a))) (view_out i) (view_out e)

@@ -1,5 +1,5 @@
 -- What a node stands for, whole; and the productions by what makes them.
-use Rattle.std.specs.Prelude.{Bool, true, false, List}
+use Rattle.std.specs.Prelude.{Bool, true, false, ◌||◌, List}
 use Rattle.wg_num.specs.declared.types.Place.{Place}
 use Rattle.cl_tree.specs.declared.tree.Form.{Form}
 use Rattle.cl_tree.specs.declared.tree.Form.TheVariants as forms
@@ -61,6 +61,10 @@ is_fixed forms.CastNode = true
 is_fixed forms.UnaryNode = true
 is_fixed forms.PostfixNode = true
 is_fixed form = false
+
+-- an expression
+abbrev pub is_expression : Form → Bool
+is_expression form = is_primary form || (is_joined form || is_fixed form)
 
 -- a declaration, or a statement that stands for its parts in order
 abbrev pub is_line : Form → Bool

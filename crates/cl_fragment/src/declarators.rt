@@ -5,8 +5,8 @@ ghost use Rattle.cl_model.specs.View.{expression_of, optional_expression, statem
 ghost use Rattle.cl_meaning.specs.Typed as typed;
 ghost use Rattle.cl_meaning.specs.Expressions as expressions;
 ghost use Rattle.cl_meaning.specs.Statements as meaning;
-ghost use Rattle.cl_fragment.specs.Declares.{initial_in, variable_line, kept_line, scalar_what, array_built, value_built};
-ghost use Rattle.cl_fragment.specs.Declares.{declared_built};
+ghost use Rattle.cl_fragment.specs.Declares.{initial_in, variable_line, kept_line, scalar_what, array_built};
+ghost use Rattle.cl_fragment.specs.Declares.{value_built, declared_built};
 ghost use Rattle.cl_fragment.specs.View.{piece_of, what_of, built_of};
 
 use crate::fragment::{Piece, What};

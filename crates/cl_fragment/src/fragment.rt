@@ -3,7 +3,7 @@
 use cl_meaning::Kind;
 use cl_model::{Expr, Function, Stmt, Target};
 
-/// What a node stands for.
+/// What a node of the syntax tree stands for in the typed program.
 #[derive(Drop)]
 pub enum What {
     /// Nothing by itself.

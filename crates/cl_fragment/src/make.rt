@@ -1,13 +1,10 @@
 //! What each node stands for.
 
 ghost use Rattle.std.specs.Prelude.{◌≡◌, IfOk, true, map, option_map};
-ghost use Rattle.cl_tree.specs.Syntax.{view};
-ghost use Rattle.cl_scope.specs.View.{env_of};
 ghost use Rattle.cl_scope.specs.Walk.{inner_at, body_view};
 ghost use Rattle.cl_meaning.specs.Environment.{Env};
-ghost use Rattle.cl_meaning.specs.Declarations.{form_of};
-ghost use Rattle.cl_fragment.specs.Making.{make_at, made_at, form_at, first_place, is_primary, is_joined, is_fixed};
-ghost use Rattle.cl_fragment.specs.Making.{is_line, is_test, is_jump};
+ghost use Rattle.cl_fragment.specs.Making.{made_at, form_at, first_place, is_primary, is_joined, is_fixed};
+ghost use Rattle.cl_fragment.specs.Making.{is_expression, is_line, is_test, is_jump};
 ghost use Rattle.cl_fragment.specs.View.{piece_of, what_of, built_of};
 
 use crate::boxes::as_statement;
@@ -22,10 +19,10 @@ use wg_num::{Memory, Place};
 
 /// A node, what is visible at it behind its parts, and the places of the tokens of its unit.
 #[derive(Clone, Copy)]
-struct Node<'a> {
-    environment: &'a Environment,
-    tree: &'a Tree,
-    places: &'a [Place],
+pub struct Node<'a> {
+    pub environment: &'a Environment,
+    pub tree: &'a Tree,
+    pub places: &'a [Place],
 }
 
 /// The place of the first token of a node, which is that of its site.
@@ -141,7 +138,7 @@ fn line(
 }
 
 /// What a statement that tests stands for.
-#[tactic(auto, using(cl_meaning::proofs::Views::view_out, crate::proofs::Loops::loop_is), unfolding(cl_meaning::specs::Meant::make))]
+#[tactic(auto, using(crate::proofs::Loops::loop_parts), unfolding(cl_meaning::specs::Meant::make))]
 fn test(
     alloc: Global,
     node: Node,
@@ -191,32 +188,18 @@ fn jump(
     }
 }
 
-/// What a node stands for, from what its parts stand for, with the environment that is visible at it behind
-/// its parts; `body` and `sizes` are what is known at the end of a function alone. `sites` are those so far. An error
-/// is that memory was refused, or that there are more than 2^32 of something.
+/// What an expression stands for, whatever its operator (C99, section 6.5).
 #[tactic(auto, using(cl_meaning::proofs::Views::view_out), unfolding(cl_meaning::specs::Meant::make))]
-pub fn make(
+fn expression(
     alloc: Global,
-    environment: &Environment,
-    body: Option<Body>,
-    sizes: Option<[u64; 3]>,
-    tree: &Tree,
-    places: &[Place],
+    node: Node,
     sites: &mut Vec<Place>,
     pieces: Vec<Piece>,
 ) -> Result<What, Memory>
-    ensures { IfOk result (λ w. (inner : Env) →
-        option_map body_view body ≡ (inner_at (form_of (view tree.now)) inner).body →
-        sizes ≡ (inner_at (form_of (view tree.now)) inner).sizes →
-        make_at (env_of places.now environment.now) inner (view tree.now) sites.old.items
-        (map piece_of pieces.items) ≡ record { what = what_of w; sites = sites.new.items }) }
+    ensures { IfOk result (λ w. (inner : Env) → is_expression (form_at node.entry) ≡ true →
+        made_at node.entry inner sites.old.items (map piece_of pieces.items) ≡ built_of w sites.new.items) }
 {
-    let node = Node {
-        environment,
-        tree,
-        places,
-    };
-    match tree.form {
+    match node.tree.form {
         Form::NumberNode
         | Form::TruthNode
         | Form::VariableNode
@@ -237,6 +220,30 @@ pub fn make(
         | Form::SumNode
         | Form::TermNode => joined(alloc, node, sites, pieces),
         Form::CastNode | Form::UnaryNode | Form::PostfixNode => fixed(alloc, node, sites, pieces),
+        _ => Ok(What::Nothing),
+    }
+}
+
+/// What a node stands for, from what its parts stand for; `body` and `sizes` are what is known at the end of a
+/// function alone: its variables and arrays, and the work-group size that its heads require (OpenCL 1.2, section
+/// 6.7.2). `sites` are those so far, to which the node adds its own. An error is that memory was refused, or that
+/// there are more than 2^32 of something.
+#[tactic(auto, using(cl_meaning::proofs::Views::view_out), unfolding(cl_meaning::specs::Meant::make))]
+pub fn make(
+    alloc: Global,
+    node: Node,
+    body: Option<Body>,
+    sizes: Option<[u64; 3]>,
+    sites: &mut Vec<Place>,
+    pieces: Vec<Piece>,
+) -> Result<What, Memory>
+    ensures { IfOk result (λ w. (inner : Env) →
+        option_map body_view body ≡ (inner_at (form_at node.entry) inner).body →
+        sizes ≡ (inner_at (form_at node.entry) inner).sizes →
+        made_at node.entry inner sites.old.items (map piece_of pieces.items) ≡
+        record { what = what_of w; sites = sites.new.items }) }
+{
+    match node.tree.form {
         Form::DeclaratorNode | Form::DeclareNode | Form::SimpleNode | Form::BlockNode => {
             line(alloc, node, sites, pieces)
         }
@@ -249,6 +256,7 @@ pub fn make(
         | Form::ContinueNode
         | Form::ReturnNode => jump(alloc, node, sites, pieces),
         Form::FunctionNode => {
+            let tree = node.tree;
             function_at(alloc, body, sizes, tree.word.bytes(), &tree.parts, pieces)
         }
         Form::UnitNode => {
@@ -264,5 +272,6 @@ pub fn make(
         | Form::TypeNode
         | Form::SpaceNode
         | Form::StarNode => Ok(What::Nothing),
+        _ => expression(alloc, node, sites, pieces),
     }
 }

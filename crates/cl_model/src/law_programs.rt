@@ -14,6 +14,13 @@ use crate::program::{Array, Expr, Function, Program, Query, Root, Space, Stmt, V
 use std::alloc::Global;
 use wg_num::{Bin, IntType, Memory, Place, Word};
 
+/// A place in the one line that each of these sources has.
+fn in_column(column: u32) -> Place
+    ensures { result ≡ record { line = 1; column = column } }
+{
+    Place { line: 1, column }
+}
+
 /// The element offset of `a[get_global_id(0)]`.
 fn own_offset(alloc: Global) -> Result<Expr, Memory>
     ensures { IfOk result (λ e. expression_of e ≡ increment.own_offset) }
@@ -67,14 +74,7 @@ fn increment_kernel(alloc: Global) -> Result<Function, Memory>
 {
     let assignment = increment_assignment(alloc)?;
     let name = Word::new(alloc, b"inc")?;
-    let parameter = global_ints(
-        alloc,
-        b"a",
-        Place {
-            line: 1,
-            column: 33,
-        },
-    )?;
+    let parameter = global_ints(alloc, b"a", in_column(33))?;
     let vars = also(Vec::new(alloc), parameter)?;
     let body = also(Vec::new(alloc), Stmt::Do(assignment))?;
     Ok(Function {
@@ -95,20 +95,8 @@ pub fn increment_program(alloc: Global) -> Result<Program, Memory>
 {
     let kernel = increment_kernel(alloc)?;
     let functions = also(Vec::new(alloc), kernel)?;
-    let sites = also(
-        Vec::new(alloc),
-        Place {
-            line: 1,
-            column: 38,
-        },
-    )?;
-    let sites = also(
-        sites,
-        Place {
-            line: 1,
-            column: 60,
-        },
-    )?;
+    let sites = also(Vec::new(alloc), in_column(38))?;
+    let sites = also(sites, in_column(60))?;
     Ok(Program {
         tables: Vec::new(alloc),
         functions,
@@ -249,10 +237,7 @@ fn pair_of_ints(alloc: Global) -> Result<Array, Memory>
         space: Space::Local,
         element: IntType::Int,
         dims,
-        place: Place {
-            line: 1,
-            column: 49,
-        },
+        place: in_column(49),
     })
 }
 
@@ -262,21 +247,11 @@ fn exchange_kernel(alloc: Global) -> Result<Function, Memory>
     ensures head { IfOk result (λ f. head_of f ≡ exchange.exchange_head) }
 {
     let name = Word::new(alloc, b"ex")?;
-    let parameter = global_ints(
-        alloc,
-        b"a",
-        Place {
-            line: 1,
-            column: 32,
-        },
-    )?;
+    let parameter = global_ints(alloc, b"a", in_column(32))?;
     let number = Var {
         name: Word::new(alloc, b"l")?,
         kind: VarKind::Scalar(IntType::Int),
-        place: Place {
-            line: 1,
-            column: 59,
-        },
+        place: in_column(59),
     };
     let vars = also(Vec::new(alloc), parameter)?;
     let vars = also(vars, number)?;
@@ -301,41 +276,11 @@ pub fn exchange_program(alloc: Global) -> Result<Program, Memory>
 {
     let kernel = exchange_kernel(alloc)?;
     let functions = also(Vec::new(alloc), kernel)?;
-    let sites = also(
-        Vec::new(alloc),
-        Place {
-            line: 1,
-            column: 80,
-        },
-    )?;
-    let sites = also(
-        sites,
-        Place {
-            line: 1,
-            column: 87,
-        },
-    )?;
-    let sites = also(
-        sites,
-        Place {
-            line: 1,
-            column: 93,
-        },
-    )?;
-    let sites = also(
-        sites,
-        Place {
-            line: 1,
-            column: 123,
-        },
-    )?;
-    let sites = also(
-        sites,
-        Place {
-            line: 1,
-            column: 130,
-        },
-    )?;
+    let sites = also(Vec::new(alloc), in_column(80))?;
+    let sites = also(sites, in_column(87))?;
+    let sites = also(sites, in_column(93))?;
+    let sites = also(sites, in_column(123))?;
+    let sites = also(sites, in_column(130))?;
     Ok(Program {
         tables: Vec::new(alloc),
         functions,

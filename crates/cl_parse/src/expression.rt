@@ -58,7 +58,7 @@ pub(crate) fn expression(
 }
 
 #[cycle(expression)]
-#[tactic(auto, using(cl_read::proofs::Chains::chain_stops, cl_read::proofs::Chains::chain_ends, cl_read::proofs::Chains::chain_full, cl_read::proofs::Chains::chain_goes), unfolding(cl_read::specs::Reading::expr_step))]
+#[tactic(auto, using(crate::proofs::Chains::chains), unfolding(cl_read::specs::Reading::expr_step))]
 fn expression_chain(
     alloc: Global,
     room: u32,
@@ -113,7 +113,7 @@ pub(crate) fn assignment(
 }
 
 #[cycle(expression)]
-#[tactic(auto, using(cl_read::proofs::Equations::none_cond, cl_read::proofs::Equations::open_cond, cl_read::proofs::Equations::level_top), unfolding(cl_read::specs::Reading::cond_of))]
+#[tactic(auto, using(crate::proofs::Chains::conditions), unfolding(cl_read::specs::Reading::cond_of))]
 pub(crate) fn conditional(
     alloc: Global,
     budget: u32,
@@ -164,7 +164,7 @@ fn level(alloc: Global, budget: u32, number: u32, items: &[Leaf]) -> Result<(Nod
 }
 
 #[cycle(expression)]
-#[tactic(auto, using(cl_read::proofs::Chains::chain_stops, cl_read::proofs::Chains::chain_ends, cl_read::proofs::Chains::chain_full, cl_read::proofs::Chains::chain_goes), unfolding(cl_read::specs::Reading::level_step))]
+#[tactic(auto, using(crate::proofs::Chains::chains), unfolding(cl_read::specs::Reading::level_step))]
 fn level_chain(
     alloc: Global,
     room: u32,
@@ -347,7 +347,7 @@ fn size_of(alloc: Global, room: u32, items: &[Leaf]) -> Result<(Node, &[Leaf]), 
 
 /// The indexes and steps behind an operand.
 #[cycle(expression)]
-#[tactic(auto, using(cl_read::proofs::Chains::chain_stops, cl_read::proofs::Chains::chain_ends, cl_read::proofs::Chains::chain_full, cl_read::proofs::Chains::chain_goes), unfolding(cl_read::specs::Reading::postfixed))]
+#[tactic(auto, using(crate::proofs::Chains::chains), unfolding(cl_read::specs::Reading::postfixed))]
 fn postfix_parts(
     alloc: Global,
     room: u32,

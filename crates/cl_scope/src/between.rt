@@ -250,8 +250,9 @@ fn behind_label(environment: &mut Environment, front: bool, part: &Tree) -> Resu
     Ok(())
 }
 
-/// Goes behind a part of a node of that production, where `front` is whether it is the first part, and
-/// `kind` its kind.
+/// Goes behind a part of a node of that production, on to the next part: what the part declares or says is visible
+/// then. `front` is whether it is the first part, and `kind` its kind, where it is an expression (C99, sections
+/// 6.2.1, 6.7 and 6.8.4.2). `Memory` where memory was refused or a number has no room.
 pub fn later(
     alloc: Global,
     environment: &mut Environment,

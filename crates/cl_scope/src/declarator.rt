@@ -13,10 +13,10 @@ use cl_tree::{Form, Tree};
 use std::alloc::Global;
 use wg_num::{Memory, push};
 
-/// The most elements that an array has, and its greatest length.
+/// The most elements that an array has, and its greatest length, in elements: a limit of this compiler.
 pub const MOST_ELEMENTS: u64 = 1_048_576;
 
-/// A declarator (C99, section 6.7.5).
+/// A declarator: what is declared, apart from the type in front of it (C99, sections 6.7.5 and 6.7.8).
 #[derive(Clone, Copy)]
 pub struct Declarator<'a> {
     pub name: &'a [u8],
@@ -31,7 +31,8 @@ pub struct Declarator<'a> {
     pub init: Option<&'a Tree>,
 }
 
-/// The star in front of some parts: whether it is `const`.
+/// Whether the pointer whose star is in front of some parts is `const` itself; `None` where there is no star (C99,
+/// section 6.7.5.1).
 #[tactic(auto, using(cl_meaning::proofs::Views::view_out))]
 pub fn star_in(parts: &[Tree]) -> Option<bool>
     ensures { result ≡ spec.star_in (views parts.now) }
@@ -96,7 +97,8 @@ fn last_one(trees: &[Tree]) -> Option<&Tree>
     }
 }
 
-/// The declarator with these own words, this first token and these parts.
+/// The declarator of a node with these own words, this first token and these parts (C99, section 6.7.5). `Memory`
+/// where the number of the token behind its star would pass 32 bits.
 pub fn declarator_in<'a>(
     word: &'a [u8],
     first: u32,
@@ -129,7 +131,8 @@ pub fn declarator_in<'a>(
     })
 }
 
-/// A length: a constant from 1 to 1,048,576.
+/// A length of an array, in elements: the value of a constant expression from 1 to 1,048,576; `None` where it is none
+/// (C99, section 6.7.5.2).
 pub fn length_in(tree: &Tree) -> Option<u64>
     ensures same { result ≡ spec.length_in (view tree.now) }
     ensures most { IfSome result (λ n. n ≤ 1048576) }
@@ -183,7 +186,7 @@ fn allowed_lengths(alloc: Global, trees: &[Tree]) -> Result<Option<Vec<u64>>, Me
     }
 }
 
-/// Whether the initialiser is a list in braces.
+/// Whether there is an initialiser, and it is a list in braces (C99, section 6.7.8).
 #[tactic(auto, using(cl_meaning::proofs::Views::view_out))]
 pub fn has_list(declarator: &Declarator) -> bool
     ensures { result ≡ spec.is_list (declarator_view declarator.now).init }
@@ -197,7 +200,8 @@ pub fn has_list(declarator: &Declarator) -> bool
     }
 }
 
-/// How many parts the initialiser has.
+/// How many parts the initialiser has: those of a list in braces are its values; 0 where there is none (C99, section
+/// 6.7.8).
 #[tactic(auto, using(cl_meaning::proofs::Views::view_out))]
 pub fn initialiser_count(declarator: &Declarator) -> usize
     ensures { result ≡ length (spec.initialisers (declarator_view declarator.now).init) }
@@ -225,7 +229,9 @@ fn counted_length(alloc: Global, declarator: &Declarator) -> Result<Option<Vec<u
     Ok(Some(lengths))
 }
 
-/// The lengths of an array; `None` where they are at fault.
+/// The lengths of an array in elements, outermost first; a list in braces gives that of a single pair of empty
+/// brackets (C99, sections 6.7.5.2 and 6.7.8). `None` where they are at fault: no constant from 1 to 1,048,576, more
+/// than three, or a product above that. `Memory` where memory was refused.
 pub fn dims_of(alloc: Global, declarator: &Declarator) -> Result<Option<Vec<u64>>, Memory>
     ensures { IfOk result (λ o. option_map (λ v. v.items) o ≡ spec.dims_of (declarator_view declarator.now)) }
 {
@@ -244,7 +250,8 @@ pub(crate) fn one_length(alloc: Global) -> Result<Vec<u64>, Memory>
     Ok(lengths)
 }
 
-/// What indexing an array of these lengths reaches.
+/// What one index of an array of these lengths reaches: an element, a row of so many, or a plane of so many rows
+/// (C99, section 6.5.2.1).
 pub fn each_of(lengths: &[u64]) -> Each
     ensures { result ≡ spec.each_of lengths.now }
 {
@@ -258,7 +265,8 @@ pub fn each_of(lengths: &[u64]) -> Each
     }
 }
 
-/// The type among the parts of a parameter.
+/// The type that is the first of these parts, as in a parameter or a cast; `None` where there is none, or it is
+/// outside the profile (C99, section 6.7.2).
 pub fn first_type(parts: &[Tree]) -> Option<Declared>
     ensures { result ≡ spec.first_type (views parts.now) }
 {
@@ -268,7 +276,8 @@ pub fn first_type(parts: &[Tree]) -> Option<Declared>
     }
 }
 
-/// The star behind the type of a parameter: whether it is `const`.
+/// Whether the pointer whose star is behind the type of a parameter is `const` itself; `None` where there is no star
+/// (C99, section 6.7.5.1).
 pub fn second_star(parts: &[Tree]) -> Option<bool>
     ensures { result ≡ spec.second_star (views parts.now) }
 {

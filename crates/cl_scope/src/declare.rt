@@ -22,7 +22,7 @@ use cl_tree::Tree;
 use std::alloc::Global;
 use wg_num::{Memory, Place, Word, push};
 
-/// The place of a token; the start of the source where there is no such token.
+/// The line and column of the token with that number; those of the start of the source where there is no such token.
 pub fn place_of(places: &[Place], token: u32) -> Place
     ensures { result ≡ environments.or_start (slice_get places.now token) }
 {
@@ -51,8 +51,8 @@ pub fn pointed_space(declared: Declared) -> Space
     }
 }
 
-/// Where an array or a scalar without a star is kept: constant memory in the unit, local memory where it
-/// is marked so, and else the item's own.
+/// The space in which an array, or a scalar without a star, is kept: constant memory outside of functions, local
+/// memory where it is marked so, and else the item's private memory (OpenCL 1.2, section 6.5).
 pub fn kept_in(environment: &Environment, declared: Declared) -> Space
     ensures { result ≡ spec.kept_in (visible_in environment.now) declared }
 {
@@ -86,7 +86,7 @@ fn root_of(kind: Option<Kind>) -> Root
     }
 }
 
-/// The kind of the last part.
+/// The kind of the last part; `None` where there are no parts, or the last one is no expression.
 pub fn last_kind(kinds: &[Option<Kind>]) -> Option<Kind>
     ensures { result ≡ spec.last_kind kinds.now }
 {

@@ -6,7 +6,8 @@ use cl_model::{Array, Table, Var};
 use indexmap::IndexMap;
 use wg_num::{IntType, Word};
 
-/// What a function or prototype says of itself before its block.
+/// What a function or prototype says of itself in front of its block: its name, whether it is a kernel, its result,
+/// and its parameters in order (C99, section 6.7.5.3; OpenCL 1.2, section 6.7.1).
 #[derive(Drop)]
 pub struct Signature {
     pub name: Word,
@@ -26,8 +27,8 @@ pub struct Owner {
     pub sizes: Option<[u64; 3]>,
 }
 
-/// The labels before a statement at the outer level of a switch body: the type to which they are converted,
-/// their values, and whether `default` is one of them.
+/// The labels in front of a statement at the outer level of a switch body: the type to which they are converted,
+/// their values, and whether `default` is one of them (C99, section 6.8.4.2).
 #[derive(Drop)]
 pub struct Labels {
     pub of: IntType,
@@ -35,10 +36,10 @@ pub struct Labels {
     pub other: bool,
 }
 
-/// The names that a scope declares.
+/// The names that a scope declares, by their bytes, and what each stands for (C99, section 6.2.1).
 pub type Names = IndexMap<Vec<u8>, Entry>;
 
-/// What is visible at a node, and what is around it.
+/// What is visible at a node, and what is around it (C99, section 6.2.1).
 #[derive(Drop)]
 pub struct Environment {
     /// The functions that the unit defines, in order.

@@ -71,8 +71,9 @@ fn leave_parameter(
     add_parameter(alloc, environment, name, tree.last, &tree.parts, places)
 }
 
-/// Leaves a node behind its parts, whose kinds these are: what it declares is visible then, and behind a
-/// label the labels inside are those of the statement.
+/// Leaves a node behind its parts, whose kinds these are: what it declares is visible then, and behind a label the
+/// labels inside are those of the statement (C99, sections 6.2.1 and 6.8.1). `Memory` where memory was refused or a
+/// number has no room.
 pub fn leave(
     alloc: Global,
     environment: &mut Environment,
@@ -118,7 +119,8 @@ fn number_outside(functions: &[Signature]) -> Result<u32, Memory>
     }
 }
 
-/// What is visible at a unit: nothing but what is defined later.
+/// What is visible at a unit: no name is declared, and the functions are those that it defines, in order (C99,
+/// section 6.9). `Memory` where memory was refused, or the unit defines 2^32 functions or more.
 pub fn start(alloc: Global, unit: &Tree) -> Result<Environment, Memory>
     ensures { IfOk result (λ e. (places : List Place) → env_of places e ≡ start_of places (view unit.now)) }
 {

@@ -42,7 +42,8 @@ fn found_in_last(scopes: &[Names], name: &[u8]) -> Option<Entry>
     }
 }
 
-/// What the name stands for; an inner scope hides the outer ones (C99, section 6.2.1).
+/// What the name stands for; `None` where no scope declares it. An inner scope hides the outer ones (C99, section
+/// 6.2.1).
 pub fn meaning_of(environment: &Environment, name: &[u8]) -> Option<Meaning>
     ensures { result ≡ spec.meaning_of (visible_in environment.now) name.now }
 {
@@ -52,7 +53,7 @@ pub fn meaning_of(environment: &Environment, name: &[u8]) -> Option<Meaning>
     }
 }
 
-/// Whether the name is already declared in the innermost scope, prototypes aside.
+/// Whether the innermost scope declares the name, prototypes aside: then it cannot do so again (C99, section 6.7).
 pub fn is_declared(environment: &Environment, name: &[u8]) -> bool
     ensures { result ≡ spec.is_declared (visible_in environment.now) name.now }
 {
@@ -62,21 +63,22 @@ pub fn is_declared(environment: &Environment, name: &[u8]) -> bool
     }
 }
 
-/// Whether the node is outside all functions.
+/// Whether the node is outside of all functions, so that the unit's scope is the only one (C99, section 6.2.1).
 pub fn is_at_unit(environment: &Environment) -> bool
     ensures { result ≡ spec.at_unit (visible_in environment.now) }
 {
     environment.scopes.len() == 1
 }
 
-/// Whether the innermost scope is that of a function's parameters and outermost block.
+/// Whether the innermost scope is that of a function's parameters and outermost block, the one scope of a kernel in
+/// which local memory may be declared (OpenCL 1.2, section 6.5.2).
 pub fn is_at_outermost(environment: &Environment) -> bool
     ensures { result ≡ spec.at_outermost (visible_in environment.now) }
 {
     environment.scopes.len() == 3
 }
 
-/// What a call calls.
+/// What a call calls (C99, section 6.5.2.2).
 #[derive(Clone, Copy)]
 pub enum Callee<'a> {
     /// A function of the unit, by the number of its definition.
@@ -90,7 +92,8 @@ pub enum Callee<'a> {
     Known(Intrinsic),
 }
 
-/// What a call of that name calls; `None` where the name is not visible as a function.
+/// What a call of that name calls; `None` where the name is visible as no function, or as a kernel (C99, section
+/// 6.5.2.2).
 pub fn callee_of<'a>(environment: &'a Environment, name: &[u8]) -> Option<Callee<'a>>
     ensures { option_map callee_view result ≡ kinds.callee_of (visible_in environment.now) name.now }
 {
@@ -137,7 +140,8 @@ fn pointer_to(
     })
 }
 
-/// The kind of a name that stands for this; `None` for functions.
+/// The kind of an expression that is a name which stands for this; `None` for functions and kernels (C99, section
+/// 6.5.1).
 pub fn kind_of_meaning(meaning: Meaning) -> Option<Kind>
     ensures { result ≡ kinds.kind_of_meaning meaning }
 {
@@ -177,7 +181,9 @@ pub fn kind_of_meaning(meaning: Meaning) -> Option<Kind>
     }
 }
 
-/// The kind of a name; `None` where it is not visible as a number, pointer or array.
+/// The kind of an expression that is this name; `None` where it is not visible as a number, pointer or array (C99,
+/// section 6.5.1). The two names of memory fences are numbers in the argument of a fence (OpenCL 1.2, section
+/// 6.12.8).
 pub fn name_kind(environment: &Environment, name: &[u8]) -> Option<Kind>
     ensures { result ≡ kinds.name_kind (visible_in environment.now) name.now }
 {
@@ -203,14 +209,15 @@ pub(crate) fn function_meaning(kernel: bool, number: u32) -> Meaning
     Meaning::Function { number }
 }
 
-/// The first definition of a function.
+/// The first definition of a function: its number among those of the unit, from 0, and whether it is a kernel.
 #[derive(Clone, Copy)]
 pub struct Definition {
     pub number: usize,
     pub kernel: bool,
 }
 
-/// The first definition of that name in the unit.
+/// The first definition of that name in the unit, in front of the node or behind it; `None` where there is none (C99,
+/// section 6.9.1).
 pub fn definition_of(environment: &Environment, name: &[u8]) -> Option<Definition>
     ensures { option_map definition_view result ≡ visible.definition_of (visible_in environment.now) name.now }
 {
@@ -225,8 +232,8 @@ pub fn definition_of(environment: &Environment, name: &[u8]) -> Option<Definitio
     None
 }
 
-/// Whether a prototype of that name declares it: nothing in the innermost scope does yet, and it is not
-/// known without a declaration.
+/// Whether a prototype of that name declares it: nothing in the innermost scope does yet, and it is not known without
+/// a declaration (C99, section 6.7.5.3).
 pub fn is_announced(environment: &Environment, name: &[u8]) -> bool
     ensures { result ≡ visible.announced (visible_in environment.now) name.now }
 {

@@ -14,7 +14,8 @@ use cl_tree::{Form, Tree};
 use std::alloc::Global;
 use wg_num::{Memory, Word, push};
 
-/// What a result says: `void`, or a type.
+/// What a function whose result has these parts gives back: nothing for `void`, which has no parts, else a number of
+/// that type, or a type outside the profile (C99, section 6.7.5.3).
 pub fn yield_of(parts: &[Tree]) -> Yield
     ensures { result ≡ spec.yield_of (views parts.now) }
 {
@@ -27,7 +28,8 @@ pub fn yield_of(parts: &[Tree]) -> Yield
     }
 }
 
-/// What a parameter with these parts takes.
+/// What a parameter with these parts takes: a number of its type, a pointer to elements of it in a space, or
+/// something outside the profile (C99, section 6.7.5.3; OpenCL 1.2, section 6.5).
 pub fn parameter_of(parts: &[Tree]) -> Parameter
     ensures { result ≡ spec.parameter_of (views parts.now) }
 {
@@ -85,7 +87,8 @@ fn add_part(alloc: Global, signature: &mut Signature, part: &Tree) -> Result<(),
     }
 }
 
-/// What a function or prototype with these own words and these parts says of itself.
+/// What a function or prototype with these own words and these parts says of itself (C99, section 6.7.5.3). `Memory`
+/// where memory was refused.
 pub fn signature_in(alloc: Global, word: &[u8], parts: &[Tree]) -> Result<Signature, Memory>
     ensures { IfOk result (λ g. signature_of g ≡ spec.signature_in word.now (views parts.now)) }
 {
@@ -127,7 +130,8 @@ fn add_definition(
     }
 }
 
-/// The functions that a unit with these parts defines, in order.
+/// What each function says of itself that a unit with these parts defines, in their order, prototypes left out (C99,
+/// section 6.9.1). `Memory` where memory was refused.
 pub fn definitions_in(alloc: Global, parts: &[Tree]) -> Result<Vec<Signature>, Memory>
     ensures { IfOk result (λ v. map signature_of v.items ≡ spec.definitions_in (views parts.now)) }
 {
@@ -167,7 +171,9 @@ fn three_sizes(parts: &[Tree]) -> Result<[u64; 3], Memory>
     }
 }
 
-/// The work-group size that an attribute requires, if it requires one (OpenCL 1.2, section 6.7.2).
+/// The work-group size that an attribute requires, in items in each of three dimensions; `None` where it requires
+/// none (OpenCL 1.2, section 6.7.2). A size that is no constant, or a negative one, counts as 0. `Memory` where a
+/// size would pass 64 bits, or there are not three of them.
 #[tactic(auto, using(cl_meaning::proofs::Views::view_out))]
 pub fn sizes_in(tree: &Tree) -> Result<Option<[u64; 3]>, Memory>
     ensures { IfOk result (λ o. o ≡ spec.sizes_in (view tree.now)) }

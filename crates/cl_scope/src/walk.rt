@@ -20,7 +20,7 @@ use std::alloc::Global;
 use std::mem::replace;
 use wg_num::Memory;
 
-/// The variables and arrays of a function.
+/// The variables and arrays of a function, each in the order of its declarations.
 #[derive(Drop)]
 pub struct Body {
     pub variables: Vec<Var>,
@@ -289,7 +289,8 @@ fn enter_form(
     }
 }
 
-/// Goes into a node: what is visible then is what is visible at its first part.
+/// Goes into a node: what is visible then is what is visible at its first part (C99, section 6.2.1). Answers what
+/// `restore` is to put back behind the parts. `Memory` where memory was refused or a number has no room.
 pub fn enter(alloc: Global, environment: &mut Environment, tree: &Tree) -> Result<Saved, Memory>
     ensures inside { OnOk result ((places : List Place) →
         env_of places environment.new ≡ spec.entered (env_of places environment.old) (view tree.now)) }

@@ -62,7 +62,8 @@ call_onto e site function args xs ps qs h k q =
     let one : List CallSite = record { site = site; function = function } ∷ [] in
     ap (calls_onto one) (q ∙ ap (λ l. calls_onto (calls_among (listed_arguments l)) ps) k)
     ∙ (sym (calls_onto_both (calls_among (listed_arguments args.items)) one ps)
-    ∙ sym (ap (λ x. calls_onto x ps) (ap (λ y. calls_in (expression_of y)) h ∙ ap calls_in (call_listed site function args))))
+    ∙ sym (ap (λ x. calls_onto x ps)
+    (ap (λ y. calls_in (expression_of y)) h ∙ ap calls_in (call_listed site function args))))
 
 pub builtin_onto : (e : Expr) (f : Fun) (of : IntType) (args : Vec Expr Global) (xs : List Expr) (ps : List Piece) →
     e ≡ expr.Builtin f of args → xs ≡ args.items

@@ -14,8 +14,8 @@ use kir::{Atom, Line, Work};
 use std::alloc::Global;
 use wg_num::Memory;
 
-/// Where cells are named: the number of the piece of the text between two cuts in which each was
-/// named first, whether it was named in another one too, and the number of the present piece.
+/// Where cells are named: by the number of a cell, the number of the piece of the text between two cuts in which it
+/// was named first, from 0, and whether it was named in another one too; and the number of the present piece.
 #[derive(Drop)]
 pub struct Naming {
     pub first: Vec<Option<u64>>,

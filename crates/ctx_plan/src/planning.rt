@@ -46,10 +46,10 @@ fn private_bytes(arrays: &[Array]) -> Result<u32, Memory>
     Ok(sum)
 }
 
-/// The plan of a kernel that comes from the program, whose varying variables are given: a variable
-/// that crosses has a once slot of its own where it does not vary, and a column where it varies,
-/// which variables of disjoint scopes share; a keep has a column of its own. Memory where it was
-/// refused, or a number has no room.
+/// The plan of a kernel that comes from the program, whose varying variables are given: a variable that crosses a
+/// barrier has a once slot of its own where it does not vary, and a column where it varies, which variables of
+/// disjoint scopes share; a keep has a column of its own. `Memory` where memory was refused, or a number would pass
+/// 32 bits.
 pub fn plan(
     alloc: Global,
     kernel: &Kernel,

@@ -6,7 +6,8 @@ ghost use Rattle.cl_model.specs.View.{expression_of, argument_of, listed_express
 ghost use Rattle.cl_model.specs.View.{statement_of, listed_statements, function_of};
 ghost use Rattle.cl_model.specs.Listed.{listed_arguments};
 ghost use Rattle.cl_model.specs.Listed.{listed_arms};
-ghost use Rattle.ctx_plan_text.specs.Entries.{call_entries, statement_entries, all_entries, arm_entries, function_entries};
+ghost use Rattle.ctx_plan_text.specs.Entries.{call_entries, statement_entries, all_entries, arm_entries};
+ghost use Rattle.ctx_plan_text.specs.Entries.{function_entries};
 
 use cl_model::{Arg, Expr, Function, Stmt, SwitchArm, Target};
 use std::alloc::Global;

@@ -29,8 +29,8 @@ pub struct Known {
     pub grew: bool,
 }
 
-/// Where a walk is: in this function of a program whose kernel is given, under this innermost
-/// condition that varies, by its site.
+/// Where a walk is: in the function with this number, of a program whose kernel has that number, under the innermost
+/// condition that varies, by its site; none where no condition around it varies.
 #[derive(Clone, Copy)]
 pub struct Spot {
     pub kernel: u32,

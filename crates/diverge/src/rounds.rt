@@ -136,7 +136,8 @@ fn listed(alloc: Global, known: &Known) -> Result<Varying, Memory>
     Ok(Varying { list })
 }
 
-/// Which variables of which functions of a program vary; `Memory` where memory is refused.
+/// Which variables of which functions of a program vary: the least answer that is closed under the rules of what
+/// varies. `Memory` where memory was refused.
 pub fn analyse(alloc: Global, program: &Program) -> Result<Varying, Memory>
     ensures exact { IfOk result (λ v. marks v ≡ spec.varying_of (program_of program.now)) }
     ensures settled { IsSettled (program_of program.now) }

@@ -36,9 +36,9 @@ use Rattle.diverge_exact.proofs.Steps.{apart_right, apart_rest, apart_on, apart_
 use Rattle.diverge_exact.proofs.Full.{by_marks, Facts, facts_none, facts_both, facts_less, facts_on, facts_node}
 use Rattle.diverge_exact.proofs.Full.{facts_condition, facts_inner, sp, fun, assign_onto, assign_marked, seen_full}
 use Rattle.diverge_exact.proofs.Full.{among_full}
-use Rattle.diverge_exact.proofs.Scopes.{no_exit, no_exit_optional, no_exit_among, Cover, inner_declarations, cover_first}
-use Rattle.diverge_exact.proofs.Scopes.{cover_rest, cover_declared, cover_chosen, cover_other, cover_body, cover_arms}
-use Rattle.diverge_exact.proofs.Scopes.{cover_arm, cover_arms_rest}
+use Rattle.diverge_exact.proofs.Scopes.{no_exit, no_exit_optional, no_exit_among, Cover, inner_declarations}
+use Rattle.diverge_exact.proofs.Scopes.{cover_first, cover_rest, cover_declared, cover_chosen, cover_other, cover_body}
+use Rattle.diverge_exact.proofs.Scopes.{cover_arms, cover_arm, cover_arms_rest}
 use Rattle.diverge_exact.proofs.WaysOut.{given, Outs, outs_quiet, outs_both, behind_held, joined_held, outs_condition}
 use Rattle.diverge_exact.proofs.WaysOut.{outs_behind, do_gives, declare_gives, no_gives, lone_declare, lone_break}
 use Rattle.diverge_exact.proofs.WaysOut.{lone_continue, lone_barrier, fill_gives, block_gives, if_splits, branch_splits}

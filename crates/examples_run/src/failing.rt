@@ -8,11 +8,31 @@ use wg_top::wgcc;
 const INC: &str =
     "__kernel void inc(__global int *a) { a[get_global_id(0)] = a[get_global_id(0)] + 1; }";
 
-const LAUNCH: &str =
-    "format = 1\nkernel = \"inc\"\nglobal = 4\nlocal = 2\n[[buffer]]\nname = \"a\"\nbytes = 16\nload = \"a.bin\"\nsave = \"a.out\"\n[[arg]]\nbuffer = \"a\"\n";
+const LAUNCH: &str = r#"format = 1
+kernel = "inc"
+global = 4
+local = 2
+[[buffer]]
+name = "a"
+bytes = 16
+load = "a.bin"
+save = "a.out"
+[[arg]]
+buffer = "a"
+"#;
 
-const SHORT_LAUNCH: &str =
-    "format = 1\nkernel = \"inc\"\nglobal = 4\nlocal = 2\n[[buffer]]\nname = \"a\"\nbytes = 8\nload = \"a.bin\"\nsave = \"a.out\"\n[[arg]]\nbuffer = \"a\"\n";
+const SHORT_LAUNCH: &str = r#"format = 1
+kernel = "inc"
+global = 4
+local = 2
+[[buffer]]
+name = "a"
+bytes = 8
+load = "a.bin"
+save = "a.out"
+[[arg]]
+buffer = "a"
+"#;
 
 const BEFORE: [u8; 16] = [1, 0, 0, 0, 2, 0, 0, 0, 3, 0, 0, 0, 4, 0, 0, 0];
 
@@ -22,8 +42,8 @@ const DONE: &str = "wgcc: done, 2 groups, 4 items\n";
 
 const CANNOT: &str = "wgcc: cannot read or write\n";
 
-// Which calls of the store and of the two sinks fail, what room a saved file and standard output have, and what the run is to
-// leave: its status, whether the file is saved, and the lines.
+// Which calls of the store and of the two sinks fail, what room a saved file and standard output have, and what the run
+// is to leave: its status, whether the file is saved, and the lines.
 #[derive(Clone, Copy)]
 struct Row<'a> {
     launch: &'a str,

@@ -192,10 +192,9 @@ fn parts_for(
     })
 }
 
-/// The program of a work-group for the regions of a kernel whose cells are kept as the plan says:
-/// node for node the tree, with the code of each region. `Memory` also answers where an array's
-/// bytes pass 64 bits, and parts that do not fit each other, as a region or a plan of another
-/// kernel.
+/// The program of a work-group for the regions of a kernel whose cells are kept as the plan says: node for node the
+/// tree, with the code of each region (OpenCL 1.2, section 3.2). `Memory` where memory was refused, and also where an
+/// array's bytes pass 64 bits, and for parts that do not fit each other, as a region or a plan of another kernel.
 pub fn build(
     alloc: Global,
     tree: &RegionTree,

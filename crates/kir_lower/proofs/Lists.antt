@@ -42,6 +42,8 @@ join_none (LoopThen site test_first test answer body rest) =
     ap (λ z. LoopThen site test_first test answer body z) (join_none rest)
 join_none (BarrierThen site rest) = ap (λ z. BarrierThen site z) (join_none rest)
 
+pub ruleset joins = (join_assoc, join_none)
+
 pub first_alone : (x : Option ℕ) → first_of x None ≡ x
 first_alone None = refl
 first_alone (Some site) = refl

@@ -24,7 +24,7 @@ use wg_num::{Memory, push};
 
 /// The lines of an expression, whose value takes the place of the value before.
 #[cycle(lowering)]
-#[tactic(auto, using(crate::proofs::Lists::join_assoc, crate::proofs::Lists::join_none), unfolding(crate::specs::Code::expression_code))]
+#[tactic(auto, using(crate::proofs::Lists::joins), unfolding(crate::specs::Code::expression_code))]
 #[inline(never)]
 pub fn put_expression(
     alloc: Global,
@@ -59,7 +59,10 @@ pub fn put_expression(
             target,
             value: from,
         } => put_assignment(alloc, here, made, lines, target, from, value),
-        Expr::Update { .. } => put_update(alloc, here, made, lines, e, value),
+        Expr::Update { target, .. } => match target {
+            Target::Var(_) => put_update(alloc, here, made, lines, e, value),
+            Target::Element { .. } => put_element_update(alloc, here, made, lines, e, value),
+        },
         Expr::Call { .. } => put_call(alloc, here, made, lines, e, value),
     }
 }
@@ -67,7 +70,7 @@ pub fn put_expression(
 /// The lines of an operator with one operand, a conversion, a work-item function or `a, b`; of
 /// another expression there are none.
 #[cycle(lowering)]
-#[tactic(auto, using(crate::proofs::Lists::join_assoc, crate::proofs::Lists::join_none), unfolding(crate::specs::Code::expression_code))]
+#[tactic(auto, using(crate::proofs::Lists::joins), unfolding(crate::specs::Code::expression_code))]
 #[inline(never)]
 fn put_operation(
     alloc: Global,
@@ -107,7 +110,7 @@ fn put_operation(
 
 /// The lines of an operator with two operands; of another expression there are none.
 #[cycle(lowering)]
-#[tactic(auto, using(crate::proofs::Lists::join_assoc, crate::proofs::Lists::join_none), unfolding(crate::specs::Code::expression_code))]
+#[tactic(auto, using(crate::proofs::Lists::joins), unfolding(crate::specs::Code::expression_code))]
 #[inline(never)]
 fn put_pair(
     alloc: Global,
@@ -137,7 +140,7 @@ fn put_pair(
 
 /// The lines of a load; of another expression there are none.
 #[cycle(lowering)]
-#[tactic(auto, using(crate::proofs::Lists::join_assoc, crate::proofs::Lists::join_none), unfolding(crate::specs::Code::expression_code))]
+#[tactic(auto, using(crate::proofs::Lists::joins), unfolding(crate::specs::Code::expression_code))]
 #[inline(never)]
 fn put_load(
     alloc: Global,
@@ -176,7 +179,7 @@ fn put_load(
 
 /// The lines of a built-in function; of another expression there are none.
 #[cycle(lowering)]
-#[tactic(auto, using(crate::proofs::Lists::join_assoc, crate::proofs::Lists::join_none), unfolding(crate::specs::Code::expression_code))]
+#[tactic(auto, using(crate::proofs::Lists::joins), unfolding(crate::specs::Code::expression_code))]
 #[inline(never)]
 fn put_application(
     alloc: Global,
@@ -204,7 +207,7 @@ fn put_application(
 
 /// The lines of `&&` or `||`; of another expression there are none.
 #[cycle(lowering)]
-#[tactic(auto, using(crate::proofs::Lists::join_assoc, crate::proofs::Lists::join_none), unfolding(crate::specs::Code::expression_code))]
+#[tactic(auto, using(crate::proofs::Lists::joins), unfolding(crate::specs::Code::expression_code))]
 #[inline(never)]
 fn put_decision(
     alloc: Global,
@@ -242,7 +245,7 @@ fn put_decision(
 
 /// The lines of whether an expression is not 0.
 #[cycle(lowering)]
-#[tactic(auto, using(crate::proofs::Lists::join_assoc, crate::proofs::Lists::join_none), unfolding(crate::specs::Code::expression_code))]
+#[tactic(auto, using(crate::proofs::Lists::joins), unfolding(crate::specs::Code::expression_code))]
 #[inline(never)]
 fn put_truth_of(
     alloc: Global,
@@ -265,7 +268,7 @@ fn put_truth_of(
 
 /// The lines of `?:`; of another expression there are none.
 #[cycle(lowering)]
-#[tactic(auto, using(crate::proofs::Lists::join_assoc, crate::proofs::Lists::join_none), unfolding(crate::specs::Code::expression_code))]
+#[tactic(auto, using(crate::proofs::Lists::joins), unfolding(crate::specs::Code::expression_code))]
 #[inline(never)]
 fn put_alternative(
     alloc: Global,
@@ -308,7 +311,7 @@ fn put_alternative(
 
 /// The lines of an assignment.
 #[cycle(lowering)]
-#[tactic(auto, using(crate::proofs::Lists::join_assoc, crate::proofs::Lists::join_none), unfolding(crate::specs::Code::expression_code))]
+#[tactic(auto, using(crate::proofs::Lists::joins), unfolding(crate::specs::Code::expression_code))]
 #[inline(never)]
 fn put_assignment(
     alloc: Global,
@@ -354,9 +357,10 @@ fn put_assignment(
     }
 }
 
-/// The lines of a compound assignment, `++` or `--`; of another expression there are none.
+/// The lines of a compound assignment, `++` or `--` of a variable (C99, sections 6.5.2.4, 6.5.3.1 and 6.5.16.2);
+/// of another expression there are none.
 #[cycle(lowering)]
-#[tactic(auto, using(crate::proofs::Lists::join_assoc, crate::proofs::Lists::join_none), unfolding(crate::specs::Code::expression_code))]
+#[tactic(auto, using(crate::proofs::Lists::joins), unfolding(crate::specs::Code::expression_code))]
 #[inline(never)]
 fn put_update(
     alloc: Global,
@@ -395,6 +399,49 @@ fn put_update(
                     put_expression(alloc, here, made, lines, by, value)?;
                     step_changed(here, made, lines, *x, change, &was, value)
                 }
+                Target::Element { .. } => Err(Memory),
+            }
+        }
+        _ => Err(Memory),
+    }
+}
+
+/// The lines of a compound assignment, `++` or `--` of an element; of another expression there are none.
+#[cycle(lowering)]
+#[tactic(auto, using(crate::proofs::Lists::joins), unfolding(crate::specs::Code::expression_code))]
+#[inline(never)]
+fn put_element_update(
+    alloc: Global,
+    here: &Instance<'_>,
+    made: &mut Made,
+    lines: &mut Vec<Line>,
+    e: &Expr,
+    value: &mut Value,
+) -> Result<(), Memory>
+    ensures lines { OnOk result (lines_of lines.new.items ≡ joined_to (lines_of lines.old.items)
+        (expression_code (calls_in here.now) (instance_of here.now) (expression_of e.now) (made_of made.old)).lines) }
+    ensures value { OnOk result (value.new ≡
+        (expression_code (calls_in here.now) (instance_of here.now) (expression_of e.now) (made_of made.old)).value) }
+    ensures made { OnOk result (made_of made.new ≡
+        (expression_code (calls_in here.now) (instance_of here.now) (expression_of e.now) (made_of made.old)).made) }
+{
+    match e {
+        Expr::Update {
+            target,
+            op,
+            of,
+            back,
+            value: by,
+            old,
+        } => {
+            let change = Change {
+                op: *op,
+                of: *of,
+                back: *back,
+                old: *old,
+            };
+            match target {
+                Target::Var(_) => Err(Memory),
                 Target::Element {
                     site,
                     element,
@@ -421,7 +468,7 @@ fn put_update(
 
 /// The lines of expressions in order, and their values.
 #[cycle(lowering)]
-#[tactic(auto, using(crate::proofs::Lists::join_assoc, crate::proofs::Lists::join_none), unfolding(crate::specs::Code::expression_code))]
+#[tactic(auto, using(crate::proofs::Lists::joins), unfolding(crate::specs::Code::expression_code))]
 #[inline(never)]
 pub fn put_expressions(
     alloc: Global,
@@ -453,7 +500,7 @@ pub fn put_expressions(
 
 /// The lines of an argument.
 #[cycle(lowering)]
-#[tactic(auto, using(crate::proofs::Lists::join_assoc, crate::proofs::Lists::join_none), unfolding(crate::specs::Code::expression_code))]
+#[tactic(auto, using(crate::proofs::Lists::joins), unfolding(crate::specs::Code::expression_code))]
 #[inline(never)]
 fn put_argument(
     alloc: Global,
@@ -481,7 +528,7 @@ fn put_argument(
 
 /// The lines of arguments in order, and their values; that of a pointer is its offset.
 #[cycle(lowering)]
-#[tactic(auto, using(crate::proofs::Lists::join_assoc, crate::proofs::Lists::join_none), unfolding(crate::specs::Code::expression_code))]
+#[tactic(auto, using(crate::proofs::Lists::joins), unfolding(crate::specs::Code::expression_code))]
 #[inline(never)]
 fn put_arguments(
     alloc: Global,
@@ -513,7 +560,7 @@ fn put_arguments(
 
 /// The lines of a call, with the function's own in place; of another expression there are none.
 #[cycle(lowering)]
-#[tactic(auto, using(crate::proofs::Lists::join_assoc, crate::proofs::Lists::join_none), unfolding(crate::specs::Code::expression_code, crate::specs::Whole::call_code))]
+#[tactic(auto, using(crate::proofs::Lists::joins), unfolding(crate::specs::Code::expression_code, crate::specs::Whole::call_code))]
 #[inline(never)]
 fn put_call(
     alloc: Global,

@@ -26,7 +26,7 @@ use wg_num::{IntType, Memory};
 
 /// The lines of the body of a function; what a call of it gives takes the place of the value before.
 #[cycle(lowering)]
-#[tactic(auto, using(crate::proofs::Lists::join_assoc, crate::proofs::Lists::join_none), unfolding(crate::specs::Code::statement_code))]
+#[tactic(auto, using(crate::proofs::Lists::joins), unfolding(crate::specs::Code::statement_code))]
 #[inline(never)]
 pub fn put_body(
     alloc: Global,
@@ -55,7 +55,7 @@ pub fn put_body(
 /// The lines of a statement; `exit` is the cell of the construct around it that says which way out
 /// is pending.
 #[cycle(lowering)]
-#[tactic(auto, using(crate::proofs::Lists::join_assoc, crate::proofs::Lists::join_none), unfolding(crate::specs::Code::statement_code))]
+#[tactic(auto, using(crate::proofs::Lists::joins), unfolding(crate::specs::Code::statement_code))]
 #[inline(never)]
 fn put_statement(
     alloc: Global,
@@ -94,7 +94,7 @@ fn put_statement(
 
 /// The lines of an array with initial values; of another statement there are none.
 #[cycle(lowering)]
-#[tactic(auto, using(crate::proofs::Lists::join_assoc, crate::proofs::Lists::join_none), unfolding(crate::specs::Code::statement_code))]
+#[tactic(auto, using(crate::proofs::Lists::joins), unfolding(crate::specs::Code::statement_code))]
 #[inline(never)]
 fn put_array(
     alloc: Global,
@@ -129,7 +129,7 @@ fn put_array(
 
 /// The lines of a declaration.
 #[cycle(lowering)]
-#[tactic(auto, using(crate::proofs::Lists::join_assoc, crate::proofs::Lists::join_none), unfolding(crate::specs::Code::statement_code))]
+#[tactic(auto, using(crate::proofs::Lists::joins), unfolding(crate::specs::Code::statement_code))]
 #[inline(never)]
 fn put_declared(
     alloc: Global,
@@ -159,7 +159,7 @@ fn put_declared(
 
 /// The lines of a `return`.
 #[cycle(lowering)]
-#[tactic(auto, using(crate::proofs::Lists::join_assoc, crate::proofs::Lists::join_none), unfolding(crate::specs::Code::statement_code))]
+#[tactic(auto, using(crate::proofs::Lists::joins), unfolding(crate::specs::Code::statement_code))]
 #[inline(never)]
 fn put_returned(
     alloc: Global,
@@ -189,7 +189,7 @@ fn put_returned(
 
 /// The lines of an `if`; of another statement there are none.
 #[cycle(lowering)]
-#[tactic(auto, using(crate::proofs::Lists::join_assoc, crate::proofs::Lists::join_none), unfolding(crate::specs::Code::statement_code))]
+#[tactic(auto, using(crate::proofs::Lists::joins), unfolding(crate::specs::Code::statement_code))]
 #[inline(never)]
 fn put_branches(
     alloc: Global,
@@ -228,7 +228,7 @@ fn put_branches(
 
 /// The lines behind `else`, if it is there.
 #[cycle(lowering)]
-#[tactic(auto, using(crate::proofs::Lists::join_assoc, crate::proofs::Lists::join_none), unfolding(crate::specs::Code::statement_code))]
+#[tactic(auto, using(crate::proofs::Lists::joins), unfolding(crate::specs::Code::statement_code))]
 #[inline(never)]
 fn put_other(
     alloc: Global,
@@ -254,7 +254,7 @@ fn put_other(
 
 /// The lines of the test or step of a loop, which may be absent; a test then is 1.
 #[cycle(lowering)]
-#[tactic(auto, using(crate::proofs::Lists::join_assoc, crate::proofs::Lists::join_none), unfolding(crate::specs::Code::statement_code))]
+#[tactic(auto, using(crate::proofs::Lists::joins), unfolding(crate::specs::Code::statement_code))]
 #[inline(never)]
 fn put_optional(
     alloc: Global,
@@ -285,7 +285,7 @@ fn put_optional(
 
 /// The lines of a loop; of another statement there are none.
 #[cycle(lowering)]
-#[tactic(auto, using(crate::proofs::Lists::join_assoc, crate::proofs::Lists::join_none), unfolding(crate::specs::Code::statement_code))]
+#[tactic(auto, using(crate::proofs::Lists::joins), unfolding(crate::specs::Code::statement_code))]
 #[inline(never)]
 fn put_loop(
     alloc: Global,
@@ -338,7 +338,7 @@ fn put_loop(
 
 /// The lines of a `switch`; of another statement there are none.
 #[cycle(lowering)]
-#[tactic(auto, using(crate::proofs::Lists::join_assoc, crate::proofs::Lists::join_none), unfolding(crate::specs::Code::statement_code))]
+#[tactic(auto, using(crate::proofs::Lists::joins), unfolding(crate::specs::Code::statement_code))]
 #[inline(never)]
 fn put_switch(
     alloc: Global,
@@ -371,7 +371,7 @@ fn put_switch(
 
 /// The lines of a `switch` behind its value, for its site and the cell of what is pending around it.
 #[cycle(lowering)]
-#[tactic(auto, using(crate::proofs::Lists::join_assoc, crate::proofs::Lists::join_none), unfolding(crate::specs::Code::statement_code))]
+#[tactic(auto, using(crate::proofs::Lists::joins), unfolding(crate::specs::Code::statement_code))]
 #[inline(never)]
 fn put_cases(
     alloc: Global,
@@ -407,7 +407,7 @@ fn put_cases(
 
 /// The lines of an arm; whether the next one is fallen into takes the place of the value before.
 #[cycle(lowering)]
-#[tactic(auto, using(crate::proofs::Lists::join_assoc, crate::proofs::Lists::join_none), unfolding(crate::specs::Code::statement_code))]
+#[tactic(auto, using(crate::proofs::Lists::joins), unfolding(crate::specs::Code::statement_code))]
 #[inline(never)]
 fn put_arm(
     alloc: Global,
@@ -439,7 +439,7 @@ fn put_arm(
 
 /// The lines of the arms of a `switch`.
 #[cycle(lowering)]
-#[tactic(auto, using(crate::proofs::Lists::join_assoc, crate::proofs::Lists::join_none), unfolding(crate::specs::Code::statement_code))]
+#[tactic(auto, using(crate::proofs::Lists::joins), unfolding(crate::specs::Code::statement_code))]
 #[inline(never)]
 fn put_arms(
     alloc: Global,
@@ -471,7 +471,7 @@ fn put_arms(
 /// Statements in order. Those behind one with a way out, as far as the next such, are guarded
 /// together; where a guarded one declares a variable, all that follow stand under its guard.
 #[cycle(lowering)]
-#[tactic(auto, using(crate::proofs::Lists::join_assoc, crate::proofs::Lists::join_none), unfolding(crate::specs::Code::statement_code))]
+#[tactic(auto, using(crate::proofs::Lists::joins), unfolding(crate::specs::Code::statement_code))]
 #[inline(never)]
 fn put_statements(
     alloc: Global,

@@ -10,9 +10,9 @@ use Rattle.kir.specs.Cuts.{holds_barrier}
 use Rattle.kir_lower_shape.specs.Marks.{Way, further, Marks, MarkThen, FormThen, marks_then, marks_behind, marks_one}
 use Rattle.kir_lower_shape.specs.Marks.{marks_two, first_way, Shaped, no_line, set_line, load_line, store_line}
 use Rattle.kir_lower_shape.specs.Marks.{clear_line, if_line, loop_line, barrier_line}
-use Rattle.kir_lower_shape.specs.BarrierPoints.{Spot, at_barrier, past_barrier, past_set, past_load, past_store, past_clear}
-use Rattle.kir_lower_shape.specs.BarrierPoints.{past_if, in_chosen, in_other, past_loop, in_test, in_body, loops_in}
-use Rattle.kir_lower_shape.specs.BarrierPoints.{behind_first, IsFair, AreTold, IsTold}
+use Rattle.kir_lower_shape.specs.BarrierPoints.{Spot, at_barrier, past_barrier, past_set, past_load, past_store}
+use Rattle.kir_lower_shape.specs.BarrierPoints.{past_clear, past_if, in_chosen, in_other, past_loop, in_test, in_body}
+use Rattle.kir_lower_shape.specs.BarrierPoints.{loops_in, behind_first, IsFair, AreTold, IsTold}
 use Rattle.kir_lower_shape.proofs.Quiet.{or_parts, true_false}
 use Rattle.kir_lower_shape.proofs.Cutless.{Cutless}
 

@@ -19,9 +19,9 @@ use Rattle.kir_lower_shape.specs.Marks.{Way, further, Marks, NoMark, all_marked,
 use Rattle.kir_lower_shape.specs.Marks.{marks_at, first_way, point_marked, Shaped, no_line, set_line, load_line}
 use Rattle.kir_lower_shape.specs.Marks.{store_line, clear_line, if_line, loop_line, barrier_line}
 use Rattle.kir_lower_shape.specs.CodeMarks.{call_marks, kernel_marks}
-use Rattle.kir_lower_shape.specs.BarrierPoints.{Spot, at_barrier, past_barrier, past_set, past_load, past_store, past_clear}
-use Rattle.kir_lower_shape.specs.BarrierPoints.{past_if, in_chosen, in_other, past_loop, in_test, in_body, loops_in, IsFair}
-use Rattle.kir_lower_shape.specs.BarrierPoints.{AreTold}
+use Rattle.kir_lower_shape.specs.BarrierPoints.{Spot, at_barrier, past_barrier, past_set, past_load, past_store}
+use Rattle.kir_lower_shape.specs.BarrierPoints.{past_clear, past_if, in_chosen, in_other, past_loop, in_test, in_body}
+use Rattle.kir_lower_shape.specs.BarrierPoints.{loops_in, IsFair, AreTold}
 use Rattle.kir_lower_shape.proofs.Quiet.{true_false}
 use Rattle.kir_lower_shape.proofs.Cutless.{parameters_cutless}
 use Rattle.kir_lower_shape.proofs.Keeps.{bound_cutless}

@@ -21,7 +21,8 @@ use Rattle.kir_lower.specs.Code.{Calls, expression_code, operands_code, optional
 use Rattle.kir_lower.specs.Code.{entry_code, around_arm, statement_code, list_code, arms_code, result_code}
 use Rattle.kir_lower.specs.Whole.{names_at, way_behind, instance_at, with_instance, parameter_lines, call_code}
 use Rattle.kir_lower.specs.Whole.{bound_lines, kernel_way, nothing_made}
-use Rattle.kir_lower_shape.specs.Marks.{Way, further, in_turn, Marks, NoMark, MarkThen, FormThen, marks_then, all_marked}
+use Rattle.kir_lower_shape.specs.Marks.{Way, further, in_turn, Marks, NoMark, MarkThen, FormThen, marks_then}
+use Rattle.kir_lower_shape.specs.Marks.{all_marked}
 
 -- the marks of the lines of a call: at this way, of a call with this site of a function, with these roots and values
 abbrev pub CallMarks : Type 0

@@ -37,13 +37,13 @@ use Rattle.kir_lower.specs.declared.places.Value.{Value}
 use Rattle.kir_lower.specs.Made.{Made, next_cell, with_cell, root_in}
 use Rattle.kir_lower.specs.Actions.{first, second, atoms_of, action_code, changed}
 use Rattle.kir_lower_shape.specs.Marks.{Way, Marks, MarkThen, marks_then, all_marked, marks_behind, marks_at}
-use Rattle.kir_lower_simulation.specs.Setting.{Setting, Store, updated, kernel_item, Activation, inside, behind_variables}
-use Rattle.kir_lower_simulation.specs.Setting.{own_variable}
+use Rattle.kir_lower_simulation.specs.Setting.{Setting, Store, updated, kernel_item, Activation, inside}
+use Rattle.kir_lower_simulation.specs.Setting.{behind_variables, own_variable}
 use Rattle.kir_lower_simulation.specs.Held.{Within, IsFixed, AreFixed, Holding, Kept, Same, IsWithin}
 use Rattle.kir_lower_simulation.specs.Facts.{Rules}
 use Rattle.kir_lower_simulation.specs.Ready.{IsSoundAction, IsUnderWay}
-use Rattle.kir_lower_simulation.proofs.Lines.{PlainWork, plain_facts, apart_cell, Comes, at_once, own_value, updated_same}
-use Rattle.kir_lower_simulation.proofs.Lines.{Sim, value_line, read_line, set_line}
+use Rattle.kir_lower_simulation.proofs.Lines.{PlainWork, plain_facts, apart_cell, Comes, at_once, own_value}
+use Rattle.kir_lower_simulation.proofs.Lines.{updated_same, Sim, value_line, read_line, set_line}
 use Rattle.kir_lower_simulation.proofs.Keeping.{Grows, grows_before, grows_count, next_with, within_less, grows_with}
 use Rattle.kir_lower_simulation.proofs.Keeping.{value_made, made_no_variable, cell_plain, fixed_plain, some_plain}
 use Rattle.kir_lower_simulation.proofs.Keeping.{fixed_kept, value_fixed, kept_refl, kept_trans, kept_set, kept_own}

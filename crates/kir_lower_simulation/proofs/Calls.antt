@@ -54,8 +54,8 @@ use Rattle.kir_lower_simulation.proofs.Keeping.{Grows, grows_same, grows_before,
 use Rattle.kir_lower_simulation.proofs.Keeping.{within_less, value_made, flag_made, made_no_variable, fixed_plain}
 use Rattle.kir_lower_simulation.proofs.Keeping.{fixed_more}
 use Rattle.kir_lower_simulation.proofs.Fixing.{has_owned}
-use Rattle.kir_lower_simulation.proofs.Expressions.{marks_assoc, pushed, below_pushed, taken_pushed, at_lines, CallsFollow}
-use Rattle.kir_lower_simulation.proofs.Expressions.{AreCalls}
+use Rattle.kir_lower_simulation.proofs.Expressions.{marks_assoc, pushed, below_pushed, taken_pushed, at_lines}
+use Rattle.kir_lower_simulation.proofs.Expressions.{CallsFollow, AreCalls}
 use Rattle.kir_lower_simulation.proofs.Loops.{own_cell}
 use Rattle.kir_lower_simulation.proofs.Turning.{exits_opened, has_opened}
 use Rattle.kir_lower_simulation.proofs.Statements.{in_order_follows}

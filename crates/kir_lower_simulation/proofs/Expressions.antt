@@ -30,20 +30,23 @@ use Rattle.kir_lower_shape.specs.Marks.{marks_behind, marks_one, marks_two, mark
 use Rattle.kir_lower_shape.specs.CodeMarks.{CallMarks, expression_marks, operands_marks}
 use Rattle.kir_lower_shape.proofs.Joined.{join_assoc}
 use Rattle.kir_lower_shape.proofs.Making.{call_of}
-use Rattle.kir_lower_simulation.specs.Setting.{Setting, Store, updated, kernel_item, Activation, inside, behind_variables}
+use Rattle.kir_lower_simulation.specs.Setting.{Setting, Store, updated, kernel_item, Activation, inside}
+use Rattle.kir_lower_simulation.specs.Setting.{behind_variables}
 use Rattle.kir_lower_simulation.specs.Held.{Within, IsFixed, AreFixed, Holding, Kept, Same, IsWithin}
 use Rattle.kir_lower_simulation.specs.Facts.{Rules}
 use Rattle.kir_lower_simulation.specs.Ready.{IsSoundCall, AreNext, Adds, IsUnderWay, ReadyExpression, ReadyOperands}
-use Rattle.kir_lower_simulation.proofs.Lines.{PlainAtom, plain_facts, apart_cell, updated_same, Sim, end_line, value_line}
-use Rattle.kir_lower_simulation.proofs.Keeping.{Grows, grows_count, next_with, within_less, value_made, made_no_variable}
-use Rattle.kir_lower_simulation.proofs.Keeping.{fixed_plain, fixed_more, fixed_kept, value_fixed, kept_refl, kept_trans}
-use Rattle.kir_lower_simulation.proofs.Keeping.{kept_set, same_set}
-use Rattle.kir_lower_simulation.proofs.Actions.{Stays, Done, changed_follows, changed_fixed, either_holds, action_follows}
+use Rattle.kir_lower_simulation.proofs.Lines.{PlainAtom, plain_facts, apart_cell, updated_same, Sim, end_line}
+use Rattle.kir_lower_simulation.proofs.Lines.{value_line}
+use Rattle.kir_lower_simulation.proofs.Keeping.{Grows, grows_count, next_with, within_less, value_made}
+use Rattle.kir_lower_simulation.proofs.Keeping.{made_no_variable, fixed_plain, fixed_more, fixed_kept, value_fixed}
+use Rattle.kir_lower_simulation.proofs.Keeping.{kept_refl, kept_trans, kept_set, same_set}
+use Rattle.kir_lower_simulation.proofs.Actions.{Stays, Done, changed_follows, changed_fixed, either_holds}
+use Rattle.kir_lower_simulation.proofs.Actions.{action_follows}
 use Rattle.kir_lower_simulation.proofs.Readying.{next_right}
 use Rattle.kir_lower_simulation.proofs.Fixing.{operands_add, here_in_scope, has_owned, expression_grows, operands_grow}
-use Rattle.kir_lower_simulation.proofs.Fixing.{apply_operands, operands_first, operands_rest, call_arguments, update_index}
-use Rattle.kir_lower_simulation.proofs.Fixing.{update_value, choose_test, choose_chosen, choose_other, expression_fixed}
-use Rattle.kir_lower_simulation.proofs.Fixing.{operands_fixed}
+use Rattle.kir_lower_simulation.proofs.Fixing.{apply_operands, operands_first, operands_rest, call_arguments}
+use Rattle.kir_lower_simulation.proofs.Fixing.{update_index, update_value, choose_test, choose_chosen, choose_other}
+use Rattle.kir_lower_simulation.proofs.Fixing.{expression_fixed, operands_fixed}
 
 -- ---- marks and values
 

@@ -37,10 +37,10 @@ use Rattle.kir_lower_parting.proofs.Reached.{parting_alike}
 use Rattle.kir_lower_simulation.specs.Setting.{Setting, Store, kernel_item, program_item}
 use Rattle.kir_lower_simulation.specs.Facts.{HoldsTypes, Facts, Rules}
 use Rattle.kir_lower_simulation.proofs.CellTypes.{fits_keep, types_start}
-use Rattle.kir_lower_simulation.proofs.Covered.{step_leads, may_go, may_begin, may_wait, may_load, may_store, fewer_covers}
-use Rattle.kir_lower_simulation.proofs.Covered.{task_covers, line_covers, branch_leads, test_covers, round_covers}
-use Rattle.kir_lower_simulation.proofs.Covered.{begins_covers, loads_cover, stores_cover, waits_cover, ends_cover}
-use Rattle.kir_lower_simulation.proofs.Covered.{select_covers, types_on, fits_on}
+use Rattle.kir_lower_simulation.proofs.Covered.{step_leads, may_go, may_begin, may_wait, may_load, may_store}
+use Rattle.kir_lower_simulation.proofs.Covered.{fewer_covers, task_covers, line_covers, branch_leads, test_covers}
+use Rattle.kir_lower_simulation.proofs.Covered.{round_covers, begins_covers, loads_cover, stores_cover, waits_cover}
+use Rattle.kir_lower_simulation.proofs.Covered.{ends_cover, select_covers, types_on, fits_on}
 
 module _ (S : Setting) (names : List (List Named)) (lowered : S.kernel ≡ lowered_of S.program names)
     (marked : S.marks ≡ kernel_marks S.program names) (fits : FitsProgram (shell_of S.kernel) S.launch)

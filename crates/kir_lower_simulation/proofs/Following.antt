@@ -22,9 +22,9 @@ use Rattle.kir_lower_simulation.specs.Ready.{IsUnderWay}
 use Rattle.kir_lower_simulation.specs.Bodies.{IsBody, ReadyStatement, ReadyList, ReadyArms}
 use Rattle.kir_lower_simulation.proofs.Expressions.{AreCalls}
 use Rattle.kir_lower_simulation.proofs.Containing.{block_part, if_chosen, if_other, list_first, list_rest}
-use Rattle.kir_lower_simulation.proofs.Statements.{StatementFollows, ListFollows, do_follows, declare_follows, fill_follows}
-use Rattle.kir_lower_simulation.proofs.Statements.{block_follows, if_follows, break_follows, continue_follows}
-use Rattle.kir_lower_simulation.proofs.Statements.{return_follows, barrier_follows}
+use Rattle.kir_lower_simulation.proofs.Statements.{StatementFollows, ListFollows, do_follows, declare_follows}
+use Rattle.kir_lower_simulation.proofs.Statements.{fill_follows, block_follows, if_follows, break_follows}
+use Rattle.kir_lower_simulation.proofs.Statements.{continue_follows, return_follows, barrier_follows}
 use Rattle.kir_lower_simulation.proofs.Lists.{list_ends, also_follows}
 use Rattle.kir_lower_simulation.proofs.Turning.{HeadFollows, loop_parts, any_head, loop_follows}
 use Rattle.kir_lower_simulation.proofs.Arming.{arm_body, arm_rest}

@@ -20,8 +20,8 @@ use Rattle.kir_lower.specs.declared.places.Value.{Value}
 use Rattle.kir_lower.specs.Made.{Made, next_cell, with_cell}
 use Rattle.kir_lower.specs.Actions.{atoms_of, first, second}
 use Rattle.kir_lower_simulation.specs.Setting.{Setting, Store, updated, Activation, behind_variables}
-use Rattle.kir_lower_simulation.specs.Held.{Within, IsPassing, IsMade, IsFixedAtom, IsFixed, AreFixed, Holding, Apart, Kept}
-use Rattle.kir_lower_simulation.specs.Held.{Same, IsWithin}
+use Rattle.kir_lower_simulation.specs.Held.{Within, IsPassing, IsMade, IsFixedAtom, IsFixed, AreFixed, Holding, Apart}
+use Rattle.kir_lower_simulation.specs.Held.{Kept, Same, IsWithin}
 use Rattle.kir_lower_simulation.proofs.Lines.{NoVariable, PlainAtom, updated_same, updated_other}
 
 -- ---- cells are only put behind those that are there

@@ -29,7 +29,8 @@ use Rattle.kir.specs.Meaning.{GoesOn}
 use Rattle.kir_lower_parting.specs.Nodes.{AreInPlace}
 use Rattle.kir_lower_parting.proofs.Standing.{lead_keeps}
 use Rattle.kir_lower_parting.proofs.Parting.{step_leads}
-use Rattle.kir_lower_simulation.specs.Setting.{Setting, Store, updated, kernel_item, Activation, frame, inside, own_variable}
+use Rattle.kir_lower_simulation.specs.Setting.{Setting, Store, updated, kernel_item, Activation, frame, inside}
+use Rattle.kir_lower_simulation.specs.Setting.{own_variable}
 use Rattle.kir_lower_simulation.specs.Facts.{Facts, Rules}
 
 -- ---- lines that read and set no variable's cell

@@ -24,28 +24,29 @@ use Rattle.kir_lower_shape.specs.CodeMarks.{CallMarks, guarded_marks}
 use Rattle.kir_lower_shape.proofs.Joined.{join_none}
 use Rattle.kir_lower_shape.proofs.Making.{outward_makes}
 use Rattle.kir_lower_shape.proofs.Shapes.{optional_shaped}
-use Rattle.kir_lower_simulation.specs.Setting.{Setting, Store, updated, kernel_item, Activation, inside, behind_variables}
+use Rattle.kir_lower_simulation.specs.Setting.{Setting, Store, updated, kernel_item, Activation, inside}
+use Rattle.kir_lower_simulation.specs.Setting.{behind_variables}
 use Rattle.kir_lower_simulation.specs.Exits.{Exit, Continues, Breaks, Returns, pending, unwound, given_by, leaves, Can}
 use Rattle.kir_lower_simulation.specs.Held.{Within, Apart, Kept, IsWithin, At}
 use Rattle.kir_lower_simulation.specs.Facts.{Rules}
 use Rattle.kir_lower_simulation.specs.Ready.{IsUnderWay}
 use Rattle.kir_lower_simulation.specs.Bodies.{IsBody, IsExit}
-use Rattle.kir_lower_simulation.proofs.Lines.{NoVariable, PlainAtom, plain_facts, updated_same, Sim, end_line, value_line}
-use Rattle.kir_lower_simulation.proofs.Lines.{if_line}
+use Rattle.kir_lower_simulation.proofs.Lines.{NoVariable, PlainAtom, plain_facts, updated_same, Sim, end_line}
+use Rattle.kir_lower_simulation.proofs.Lines.{value_line, if_line}
 use Rattle.kir_lower_simulation.proofs.Keeping.{Grows, grows_same, grows_before, grows_with, grows_count, next_with}
 use Rattle.kir_lower_simulation.proofs.Keeping.{within_less, value_made, made_no_variable, cell_plain, fixed_plain}
 use Rattle.kir_lower_simulation.proofs.Keeping.{kept_trans, kept_set, kept_weaker}
 use Rattle.kir_lower_simulation.proofs.Fixing.{expression_fixed}
 use Rattle.kir_lower_simulation.proofs.Expressions.{AreCalls}
 use Rattle.kir_lower_simulation.proofs.Leaving.{leaves_way, none_left, continue_round, break_round, return_round}
-use Rattle.kir_lower_simulation.proofs.Guards.{ended, passed_on, marks_none, some_pending, settled_follows, outward_follows}
-use Rattle.kir_lower_simulation.proofs.Guards.{guard_on, guard_off}
+use Rattle.kir_lower_simulation.proofs.Guards.{ended, passed_on, marks_none, some_pending, settled_follows}
+use Rattle.kir_lower_simulation.proofs.Guards.{outward_follows, guard_on, guard_off}
 use Rattle.kir_lower_simulation.proofs.Containing.{exit_more, optional_grows, statement_grows, scope_more}
 use Rattle.kir_lower_simulation.proofs.Statements.{answer_kept, at_kept, at_set, StatementDone, StatementFollows}
 use Rattle.kir_lower_simulation.proofs.Lists.{no_marks, at_less, as_none}
-use Rattle.kir_lower_simulation.proofs.Loops.{IsAnswer, with_value, ReadyOptional, declares_none, kept_inner, rounds, enters}
-use Rattle.kir_lower_simulation.proofs.Loops.{test_follows, step_follows, made_test, made_step, made_body, test_marks}
-use Rattle.kir_lower_simulation.proofs.Loops.{step_marks, body_marks, LoopParts}
+use Rattle.kir_lower_simulation.proofs.Loops.{IsAnswer, with_value, ReadyOptional, declares_none, kept_inner, rounds}
+use Rattle.kir_lower_simulation.proofs.Loops.{enters, test_follows, step_follows, made_test, made_step, made_body}
+use Rattle.kir_lower_simulation.proofs.Loops.{test_marks, step_marks, body_marks, LoopParts}
 
 module _ (S : Setting) (G : ℕ → Item → ProgramItem → Type 0) (R : Rules S G) (C : Activation) (calls : Calls)
     (marks : CallMarks) (under : IsUnderWay S C) (is_body : IsBody S C) (all : AreCalls S G R C calls marks)

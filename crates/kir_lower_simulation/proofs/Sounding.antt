@@ -13,7 +13,8 @@ use Rattle.cl_model.specs.Valid.{NamesAmong, NamesInOptional, scope_after, IsSco
 use Rattle.cl_model.specs.Valid.{AreScopedArms, numbers_below, IsValid}
 use Rattle.kir_lower_shape.proofs.Below.{valid_any}
 use Rattle.kir_lower_simulation.specs.Ready.{HasOwn, IsSoundAction, IsSound, AreSound}
-use Rattle.kir_lower_simulation.specs.Bodies.{IsSoundOptional, IsSoundReturn, IsSoundStatement, IsSoundList, AreSoundArms}
+use Rattle.kir_lower_simulation.specs.Bodies.{IsSoundOptional, IsSoundReturn, IsSoundStatement, IsSoundList}
+use Rattle.kir_lower_simulation.specs.Bodies.{AreSoundArms}
 
 module _ (program : Program) (f : Function) where
   -- ---- expressions

@@ -36,16 +36,16 @@ use Rattle.kir_lower_shape.specs.CodeMarks.{statement_marks, list_marks}
 use Rattle.kir_lower_shape.proofs.Joined.{join_none}
 use Rattle.kir_lower_simulation.specs.Setting.{Setting, Store, updated, kernel_item, Activation, frame, inside}
 use Rattle.kir_lower_simulation.specs.Setting.{behind_variables, own_variable}
-use Rattle.kir_lower_simulation.specs.Exits.{Exit, Continues, Breaks, Returns, pending, unwound, given_by, some_leave, Can}
-use Rattle.kir_lower_simulation.specs.Exits.{ListCan}
+use Rattle.kir_lower_simulation.specs.Exits.{Exit, Continues, Breaks, Returns, pending, unwound, given_by, some_leave}
+use Rattle.kir_lower_simulation.specs.Exits.{Can, ListCan}
 use Rattle.kir_lower_simulation.specs.Held.{AreFixed, Holding, Kept, Same, IsWithin, At}
 use Rattle.kir_lower_simulation.specs.Facts.{Rules}
 use Rattle.kir_lower_simulation.specs.Ready.{IsUnderWay}
 use Rattle.kir_lower_simulation.specs.Bodies.{declares_it, IsBody, IsExit, ReadyStatement}
-use Rattle.kir_lower_simulation.proofs.Lines.{plain_facts, stands_alike, Comes, own_value, updated_same, updated_other, Sim}
-use Rattle.kir_lower_simulation.proofs.Lines.{end_line, value_line, set_line}
-use Rattle.kir_lower_simulation.proofs.Keeping.{grows_count, made_no_variable, fixed_plain, kept_refl, kept_trans, kept_set}
-use Rattle.kir_lower_simulation.proofs.Keeping.{kept_own, kept_exit, kept_weaker, same_set, same_declared}
+use Rattle.kir_lower_simulation.proofs.Lines.{plain_facts, stands_alike, Comes, own_value, updated_same, updated_other}
+use Rattle.kir_lower_simulation.proofs.Lines.{Sim, end_line, value_line, set_line}
+use Rattle.kir_lower_simulation.proofs.Keeping.{grows_count, made_no_variable, fixed_plain, kept_refl, kept_trans}
+use Rattle.kir_lower_simulation.proofs.Keeping.{kept_set, kept_own, kept_exit, kept_weaker, same_set, same_declared}
 use Rattle.kir_lower_simulation.proofs.Fixing.{expression_grows, expression_fixed, operands_fixed}
 use Rattle.kir_lower_simulation.proofs.Expressions.{marks_assoc, pushed, below_pushed, taken_pushed, at_lines, AreCalls}
 use Rattle.kir_lower_simulation.proofs.Expressions.{stays_at, expression_follows, operands_follow}

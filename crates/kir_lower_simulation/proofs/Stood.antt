@@ -18,12 +18,12 @@ use Rattle.kir_lower_simulation.specs.Setting.{Setting, kernel_item, program_ite
 use Rattle.kir_lower_simulation.specs.Facts.{Rules}
 use Rattle.kir_lower_simulation.specs.Ready.{IsUnderWay}
 use Rattle.kir_lower_simulation.specs.Bodies.{IsBody}
-use Rattle.kir_lower_simulation.proofs.Covered.{may_go, may_begin, may_wait, may_load, may_store, fewer_covers, task_covers}
-use Rattle.kir_lower_simulation.proofs.Covered.{line_covers, branch_leads, test_covers, round_covers, begins_covers}
-use Rattle.kir_lower_simulation.proofs.Covered.{begins_less_covers, loads_cover, stores_cover, waits_cover, ends_cover}
-use Rattle.kir_lower_simulation.proofs.Covered.{select_covers}
-use Rattle.kir_lower_simulation.proofs.Followed.{Standing, G_follow, followed, kernel_on, program_on, may_step, value_on}
-use Rattle.kir_lower_simulation.proofs.Followed.{standing_at, both_on}
+use Rattle.kir_lower_simulation.proofs.Covered.{may_go, may_begin, may_wait, may_load, may_store, fewer_covers}
+use Rattle.kir_lower_simulation.proofs.Covered.{task_covers, line_covers, branch_leads, test_covers, round_covers}
+use Rattle.kir_lower_simulation.proofs.Covered.{begins_covers, begins_less_covers, loads_cover, stores_cover}
+use Rattle.kir_lower_simulation.proofs.Covered.{waits_cover, ends_cover, select_covers}
+use Rattle.kir_lower_simulation.proofs.Followed.{Standing, G_follow, followed, kernel_on, program_on, may_step}
+use Rattle.kir_lower_simulation.proofs.Followed.{value_on, standing_at, both_on}
 use Rattle.kir_lower_simulation.proofs.Expressions.{AreCalls}
 use Rattle.kir_lower_simulation.proofs.Following.{Heads, heads_follow}
 

@@ -36,8 +36,8 @@ use Rattle.kir_lower_simulation.specs.Facts.{Rules}
 use Rattle.kir_lower_simulation.specs.Ready.{IsUnderWay}
 use Rattle.kir_lower_simulation.specs.Bodies.{IsBody, ReadyArms}
 use Rattle.kir_lower_simulation.proofs.Lines.{NoVariable, Sim, end_line, if_line}
-use Rattle.kir_lower_simulation.proofs.Keeping.{next_with, within_less, made_no_variable, atom_plain, atom_more, kept_refl}
-use Rattle.kir_lower_simulation.proofs.Keeping.{kept_trans}
+use Rattle.kir_lower_simulation.proofs.Keeping.{next_with, within_less, made_no_variable, atom_plain, atom_more}
+use Rattle.kir_lower_simulation.proofs.Keeping.{kept_refl, kept_trans}
 use Rattle.kir_lower_simulation.proofs.Actions.{not_equal}
 use Rattle.kir_lower_simulation.proofs.Expressions.{marks_assoc, at_lines, AreCalls}
 use Rattle.kir_lower_simulation.proofs.Leaving.{or_left, or_right, list_way, all_asked, return_same, break_order}

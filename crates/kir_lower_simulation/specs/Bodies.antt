@@ -27,7 +27,8 @@ use Rattle.kir_lower_shape.specs.Marks.{Way}
 use Rattle.kir_lower_parting.specs.Nodes.{AreInPlace}
 use Rattle.kir_lower_simulation.specs.Setting.{Setting, Store, Activation, frame, inside, behind_variables}
 use Rattle.kir_lower_simulation.specs.Held.{Within, IsMade, IsWithin}
-use Rattle.kir_lower_simulation.specs.Ready.{HasOwn, IsSound, AreSound, AreNext, LeadsToStatement, LeadsToList, LeadsToArms}
+use Rattle.kir_lower_simulation.specs.Ready.{HasOwn, IsSound, AreSound, AreNext, LeadsToStatement, LeadsToList}
+use Rattle.kir_lower_simulation.specs.Ready.{LeadsToArms}
 
 -- ---- sound statements
 

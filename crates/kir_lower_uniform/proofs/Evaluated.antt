@@ -44,8 +44,10 @@ use Rattle.kir_lower_uniform.proofs.UnsetSteps.{unset_none, unset_then, unset_se
 use Rattle.kir_lower_uniform.proofs.UnsetCode.{Off, operand_count, expression_unset, operands_unset}
 use Rattle.kir_lower_uniform.proofs.Ground.{Even, Grown, value_not_even, back_value, action_back, expression_back}
 use Rattle.kir_lower_uniform.proofs.Ground.{operands_back}
-use Rattle.kir_lower_uniform.proofs.Fresh.{AtomIn, atom_not_read, values_not_read, atom_kept, expression_in, operands_in}
-use Rattle.kir_lower_uniform.proofs.Setting.{ArgumentsEqual, Setting, Known, Bound, bound_before, ScopeWithin, known_below}
+use Rattle.kir_lower_uniform.proofs.Fresh.{AtomIn, atom_not_read, values_not_read, atom_kept, expression_in}
+use Rattle.kir_lower_uniform.proofs.Fresh.{operands_in}
+use Rattle.kir_lower_uniform.proofs.Setting.{ArgumentsEqual, Setting, Known, Bound, bound_before, ScopeWithin}
+use Rattle.kir_lower_uniform.proofs.Setting.{known_below}
 use Rattle.kir_lower_uniform.proofs.Acts.{V, Same, changed_together, action_together}
 
 -- a cell behind all variables is none of them

@@ -39,8 +39,8 @@ use Rattle.kir_lower_shape.proofs.Cutless.{Cutless, cutless_then, expression_cut
 use Rattle.kir_lower_uniform.proofs.UnsetCode.{operand_count}
 use Rattle.kir_lower_uniform.proofs.Ground.{Even, Grown, value_not_even, back_value, action_back, CallsBack}
 use Rattle.kir_lower_uniform.proofs.Ground.{expression_back, operands_back}
-use Rattle.kir_lower_uniform.proofs.Fresh.{AtomIn, AllIn, CallsFresh, atom_not_read, values_not_read, first_in, second_in}
-use Rattle.kir_lower_uniform.proofs.Fresh.{expression_in, operands_in}
+use Rattle.kir_lower_uniform.proofs.Fresh.{AtomIn, AllIn, CallsFresh, atom_not_read, values_not_read, first_in}
+use Rattle.kir_lower_uniform.proofs.Fresh.{second_in, expression_in, operands_in}
 use Rattle.kir_lower_uniform.proofs.Setting.{ScopeWithin, in_scope_or_apart}
 use Rattle.kir_lower_uniform.proofs.Fine.{Fine}
 use Rattle.kir_lower_uniform.proofs.FineRules.{In, Good, ReadsIn, in_before, fine_reads, fine_if, fine_joined, Ok}

@@ -31,21 +31,23 @@ use Rattle.kir_lower_shape.proofs.Steps.{round_quiet, IsApart, IsFree, ListQuiet
 use Rattle.kir_lower_shape.proofs.Scoped.{as_first, all_have, return_type}
 use Rattle.kir_lower_shape.proofs.Anew.{statement_quiet, list_quiet, arms_quiet}
 use Rattle.kir_lower_shape.proofs.Cutless.{optional_cutless, statement_cutless, list_cutless, list_joined_cutless}
-use Rattle.kir_lower_uniform.proofs.Ground.{Even, Grown, value_not_even, back_value, opened_back, outward_back, round_back}
-use Rattle.kir_lower_uniform.proofs.Ground.{selected_back, fallen_back, optional_back, statement_back, list_back, arms_back}
+use Rattle.kir_lower_uniform.proofs.Ground.{Even, Grown, value_not_even, back_value, opened_back, outward_back}
+use Rattle.kir_lower_uniform.proofs.Ground.{round_back, selected_back, fallen_back, optional_back, statement_back}
+use Rattle.kir_lower_uniform.proofs.Ground.{list_back, arms_back}
 use Rattle.kir_lower_uniform.proofs.Fresh.{expression_in, operands_in}
 use Rattle.kir_lower_uniform.proofs.Setting.{ScopeWithin}
 use Rattle.kir_lower_uniform.proofs.Parts.{inner_true, list_parts, declared_declares}
 use Rattle.kir_lower_uniform.proofs.Scopes.{declares_none, way_first, way_second, more_ways, more_ways_arms}
 use Rattle.kir_lower_uniform.proofs.FineRules.{In, ReadsIn, in_before, fine_reads, fine_if, fine_joined, Ok, ok_cut}
 use Rattle.kir_lower_uniform.proofs.FineRules.{ok_expression, ok_statement, ok_statements}
-use Rattle.kir_lower_uniform.proofs.FineCode.{nothing, FineLines, Around, around_good, around_less, Standing, in_joined, X}
-use Rattle.kir_lower_uniform.proofs.FineCode.{in_quiet, in_atom, in_values, in_cell, in_two, in_none, held_by}
+use Rattle.kir_lower_uniform.proofs.FineCode.{nothing, FineLines, Around, around_good, around_less, Standing, in_joined}
+use Rattle.kir_lower_uniform.proofs.FineCode.{X, in_quiet, in_atom, in_values, in_cell, in_two, in_none, held_by}
 use Rattle.kir_lower_uniform.proofs.FineCode.{expression_fine, operands_fine}
-use Rattle.kir_lower_uniform.proofs.FineSteps.{round_fine, opened_reads, outward_reads, all_labels_reads, all_labels_grown}
-use Rattle.kir_lower_uniform.proofs.FineSteps.{initial_reads, fallen_reads, fallen_not, in_declared, in_after, around_rest}
-use Rattle.kir_lower_uniform.proofs.FineSteps.{same_or, loop_parts, optional_fine, do_fine, rest_grown, not_cell, opened_not}
-use Rattle.kir_lower_uniform.proofs.FineSteps.{optional_quiet, optional_atom, scope_within, before_fine}
+use Rattle.kir_lower_uniform.proofs.FineSteps.{round_fine, opened_reads, outward_reads, all_labels_reads}
+use Rattle.kir_lower_uniform.proofs.FineSteps.{all_labels_grown, initial_reads, fallen_reads, fallen_not, in_declared}
+use Rattle.kir_lower_uniform.proofs.FineSteps.{in_after, around_rest, same_or, loop_parts, optional_fine, do_fine}
+use Rattle.kir_lower_uniform.proofs.FineSteps.{rest_grown, not_cell, opened_not, optional_quiet, optional_atom}
+use Rattle.kir_lower_uniform.proofs.FineSteps.{scope_within, before_fine}
 
 module _ (program : Program) (kernel : Kernel) (at : Inlining) (fn : ℕ) (calls : Calls) (here : Instance)
     (set : Standing program kernel at fn calls here) (X0 : Variable → Type 0) where

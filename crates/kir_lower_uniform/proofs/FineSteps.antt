@@ -40,10 +40,11 @@ use Rattle.kir_lower_uniform.proofs.UnsetCode.{operand_count}
 use Rattle.kir_lower_uniform.proofs.Ground.{Even, Grown, value_not_even, flag_not_even, back_value}
 use Rattle.kir_lower_uniform.proofs.Fresh.{values_not_read, optional_in, operands_in}
 use Rattle.kir_lower_uniform.proofs.Setting.{ScopeWithin}
-use Rattle.kir_lower_uniform.proofs.FineRules.{In, Good, ReadsIn, in_before, fine_reads, fine_if, fine_loop, fine_joined, Ok}
-use Rattle.kir_lower_uniform.proofs.FineRules.{ok_cut, ok_expressions, ok_optional, ok_statement, held_statements}
-use Rattle.kir_lower_uniform.proofs.FineCode.{nothing, FineLines, Around, around_good, around_less, Standing, in_joined, X}
-use Rattle.kir_lower_uniform.proofs.FineCode.{in_quiet, in_atom, in_cell, in_two, in_none, reads_joined, held_by}
+use Rattle.kir_lower_uniform.proofs.FineRules.{In, Good, ReadsIn, in_before, fine_reads, fine_if, fine_loop}
+use Rattle.kir_lower_uniform.proofs.FineRules.{fine_joined, Ok, ok_cut, ok_expressions, ok_optional, ok_statement}
+use Rattle.kir_lower_uniform.proofs.FineRules.{held_statements}
+use Rattle.kir_lower_uniform.proofs.FineCode.{nothing, FineLines, Around, around_good, around_less, Standing, in_joined}
+use Rattle.kir_lower_uniform.proofs.FineCode.{X, in_quiet, in_atom, in_cell, in_two, in_none, reads_joined, held_by}
 use Rattle.kir_lower_uniform.proofs.FineCode.{expression_fine, operands_fine}
 
 module _ (program : Program) (kernel : Kernel) (at : Inlining) (fn : ℕ) (calls : Calls) (here : Instance)

@@ -43,7 +43,8 @@ use Rattle.kir_lower_uniform.proofs.Fresh.{AtomIn, atom_within, CallsFresh, valu
 use Rattle.kir_lower_uniform.proofs.Setting.{ScopeWithin}
 use Rattle.kir_lower_uniform.proofs.Wholes.{there}
 use Rattle.kir_lower_uniform.proofs.Fine.{Fine, has_cuts_if_fine}
-use Rattle.kir_lower_uniform.proofs.FineRules.{In, ReadsIn, in_before, fine_reads, fine_joined, Ok, all_ok, held_statements}
+use Rattle.kir_lower_uniform.proofs.FineRules.{In, ReadsIn, in_before, fine_reads, fine_joined, Ok, all_ok}
+use Rattle.kir_lower_uniform.proofs.FineRules.{held_statements}
 use Rattle.kir_lower_uniform.proofs.FineCode.{nothing, cell_is_variable, FineLines, Around, around_good, CallsFine}
 use Rattle.kir_lower_uniform.proofs.FineCode.{Standing, in_quiet, in_joined}
 use Rattle.kir_lower_uniform.proofs.FineSteps.{opened_reads, opened_not, not_cell}

@@ -35,7 +35,8 @@ use Rattle.kir_lower_uniform.specs.Together.{Equal, Anything, Together}
 use Rattle.kir_lower_uniform.proofs.Places.{together_then}
 use Rattle.kir_lower_uniform.proofs.Rules.{together_seq, together_set}
 use Rattle.kir_lower_uniform.proofs.UnsetSteps.{unset_then}
-use Rattle.kir_lower_uniform.proofs.UnsetCode.{Clear, clear_left, clear_right, expression_unset, plain_unset, list_unset}
+use Rattle.kir_lower_uniform.proofs.UnsetCode.{Clear, clear_left, clear_right, expression_unset, plain_unset}
+use Rattle.kir_lower_uniform.proofs.UnsetCode.{list_unset}
 use Rattle.kir_lower_uniform.proofs.Ground.{Even, Grown, value_not_even}
 use Rattle.kir_lower_uniform.proofs.Fresh.{AtomIn}
 use Rattle.kir_lower_uniform.proofs.Setting.{Setting, Bound, ScopeWithin}

@@ -29,8 +29,9 @@ use Rattle.kir_uniform.specs.Uniform.{sets_in}
 use Rattle.kir_uniform.specs.Does.{Cells, Who}
 use Rattle.kir_uniform.proofs.Living.{true_or_false}
 use Rattle.kir_uniform.proofs.Alike.{same_self, put_here, put_other}
-use Rattle.diverge_sound.proofs.Parts.{good_declare, good_fill, good_block, good_if, good_loop, good_switch, good_return}
-use Rattle.diverge_sound.proofs.Parts.{good_also, good_arm, if_condition, switch_condition, in_left, in_right}
+use Rattle.diverge_sound.proofs.Parts.{good_declare, good_fill, good_block, good_if, good_loop, good_switch}
+use Rattle.diverge_sound.proofs.Parts.{good_return, good_also, good_arm, if_condition, switch_condition, in_left}
+use Rattle.diverge_sound.proofs.Parts.{in_right}
 use Rattle.diverge_sound.proofs.Values.{InBody, UnderBody, BackBody}
 use Rattle.kir_lower_shape.proofs.Quiet.{Quiet, quiet_none, quiet_set, quiet_if, quiet_clear}
 use Rattle.kir_lower_shape.proofs.Steps.{IsApart, IsFree, ListQuiet, initial_quiet, guarded_quiet, list_joined}
@@ -44,26 +45,28 @@ use Rattle.kir_lower_uniform.specs.Together.{Equal, Together}
 use Rattle.kir_lower_uniform.proofs.Places.{together_then}
 use Rattle.kir_lower_uniform.proofs.Rules.{branch_kept, together_seq, together_set, together_if}
 use Rattle.kir_lower_uniform.proofs.UnsetCode.{operands_unset, list_unset, arms_unset, selected_up, entry_up, fallen_up}
-use Rattle.kir_lower_uniform.proofs.Ground.{Even, Grown, value_not_even, statement_back, list_back, arms_back, outward_back}
-use Rattle.kir_lower_uniform.proofs.Ground.{round_back, selected_back, fallen_back, optional_back}
+use Rattle.kir_lower_uniform.proofs.Ground.{Even, Grown, value_not_even, statement_back, list_back, arms_back}
+use Rattle.kir_lower_uniform.proofs.Ground.{outward_back, round_back, selected_back, fallen_back, optional_back}
 use Rattle.kir_lower_uniform.proofs.Fresh.{AtomIn, atom_not_read, values_not_read, expression_in, operands_in}
 use Rattle.kir_lower_uniform.proofs.Setting.{Setting, Known, Bound, bound_before, ScopeWithin, known_below}
 use Rattle.kir_lower_uniform.proofs.Acts.{V, Same, apart_above}
 use Rattle.kir_lower_uniform.proofs.Evaluated.{off_above, ValueEqual, expression_together, operands_together}
-use Rattle.kir_lower_uniform.proofs.Scopes.{undeclared, undeclared_list, declares_none, way_exits, some_or_none, way_first}
-use Rattle.kir_lower_uniform.proofs.Scopes.{way_second}
-use Rattle.kir_lower_uniform.proofs.Guards.{AnswerEqual, Settled, AllSettled, ArmsSettled, Covers, covers_given, covers_both}
-use Rattle.kir_lower_uniform.proofs.Guards.{known_clear, above_clear, before_inside, before_behind}
-use Rattle.kir_lower_uniform.proofs.Exits.{IsSome, Pending, pending_more, pending_opened, free_even, apart_is, outside_kept}
+use Rattle.kir_lower_uniform.proofs.Scopes.{undeclared, undeclared_list, declares_none, way_exits, some_or_none}
+use Rattle.kir_lower_uniform.proofs.Scopes.{way_first, way_second}
+use Rattle.kir_lower_uniform.proofs.Guards.{AnswerEqual, Settled, AllSettled, ArmsSettled, Covers, covers_given}
+use Rattle.kir_lower_uniform.proofs.Guards.{covers_both, known_clear, above_clear, before_inside, before_behind}
+use Rattle.kir_lower_uniform.proofs.Exits.{IsSome, Pending, pending_more, pending_opened, free_even, apart_is}
+use Rattle.kir_lower_uniform.proofs.Exits.{outside_kept}
 use Rattle.kir_lower_uniform.proofs.Arms.{all_back}
 use Rattle.kir_lower_uniform.proofs.Entries.{ArmEqual, arm_together}
 use Rattle.kir_lower_uniform.proofs.Switches.{switch_together}
 use Rattle.kir_lower_uniform.proofs.Loops.{GR, IsPart, StatementGo, bound_after, loop_together}
 use Rattle.kir_lower_uniform.proofs.Parts.{inner_true, list_parts, declared_declares, GL, GM, within_after, part_left}
 use Rattle.kir_lower_uniform.proofs.Parts.{part_right, part_behind, all_settled, covers_first, covers_all}
-use Rattle.kir_lower_uniform.proofs.PlainStatements.{answer_above, stores_together, bound_set, rest_grown, branches_unset}
-use Rattle.kir_lower_uniform.proofs.PlainStatements.{list_all_unset, cover_after, return_result, list_from, fallen_in}
-use Rattle.kir_lower_uniform.proofs.PlainStatements.{expression_outside, do_together, exit_together}
+use Rattle.kir_lower_uniform.proofs.PlainStatements.{answer_above, stores_together, bound_set, rest_grown}
+use Rattle.kir_lower_uniform.proofs.PlainStatements.{branches_unset, list_all_unset, cover_after, return_result}
+use Rattle.kir_lower_uniform.proofs.PlainStatements.{list_from, fallen_in, expression_outside, do_together}
+use Rattle.kir_lower_uniform.proofs.PlainStatements.{exit_together}
 use Rattle.kir_lower_uniform.proofs.PlainStatements as plain
 
 module _ (program : Program) (kernel : Kernel) (one other : Who) (fn : ℕ) (calls : Calls) (here : Instance)

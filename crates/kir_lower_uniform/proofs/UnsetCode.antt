@@ -38,7 +38,8 @@ use Rattle.kir_lower_shape.proofs.AbsentCode.{CallsUp, Up, opened_up, outward_up
 use Rattle.kir_lower_shape.proofs.AbsentCode.{optional_up, statement_up, list_up, arms_up, before_rest_same}
 use Rattle.kir_lower_uniform.proofs.UnsetSteps.{Unset, unset_none, unset_then, unset_set, unset_load, unset_if}
 use Rattle.kir_lower_uniform.proofs.UnsetSteps.{changed_unset, action_unset, initial_unset, opened_unset, outward_unset}
-use Rattle.kir_lower_uniform.proofs.UnsetSteps.{round_unset, selected_unset, entry_unset, fallen_unset, before_rest_unset}
+use Rattle.kir_lower_uniform.proofs.UnsetSteps.{round_unset, selected_unset, entry_unset, fallen_unset}
+use Rattle.kir_lower_uniform.proofs.UnsetSteps.{before_rest_unset}
 
 -- of calls: they set no cell but those that they make
 abbrev pub CallsUnset : Program → ℕ → Calls → Type 0

@@ -15,8 +15,8 @@ use kir::Line;
 use lane_code::Step;
 use wg_num::{Memory, push};
 
-/// Where lines are lowered: the mask of the active lanes, the first mask that is not in use, and the
-/// registers that are free for constants.
+/// Where lines are lowered: the number of the mask of the active lanes, that of the first mask that is not in use,
+/// and the first registers that are free for constants.
 #[derive(Clone, Copy)]
 pub struct Scope {
     pub mask: u32,

@@ -22,8 +22,8 @@ use regions::Region;
 use std::alloc::Global;
 use wg_num::Memory;
 
-/// The lane code of a region of a kernel whose cells are kept as the plan says. It is the same at
-/// each width. `Memory` also answers a region that is none of the kernel's, and code in which a
+/// The lane code of a region of a kernel whose cells are kept as the plan says. It is the same at each width.
+/// `Memory` where memory was refused, and also for a region that is none of the kernel's, and for code in which a
 /// number would pass 32 bits.
 pub fn lower_region(
     alloc: Global,

@@ -6,7 +6,7 @@ ghost use Rattle.mask_lower.specs.Banks as banks;
 use lane_code::{Bank, Reg};
 use wg_num::{IntType, Memory};
 
-/// The first free register of each bank of lanes.
+/// The number of the first free register of each bank of lanes, from 0.
 #[derive(Clone, Copy)]
 pub struct Free {
     pub narrow: u32,

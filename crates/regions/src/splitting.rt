@@ -67,8 +67,8 @@ pub struct Ending {
     pub behind: Vec<RegionTree>,
 }
 
-/// The regions of a kernel: cut at each barrier, and before and behind the test and the body of a
-/// line that holds one. Memory where it was refused.
+/// The regions of a kernel: cut at each barrier (OpenCL 1.2, section 6.12.8), and before and behind the test and the
+/// body of a line that holds one. `Memory` where memory was refused.
 pub fn split(alloc: Global, kernel: &Kernel) -> Result<RegionTree, Memory>
     ensures cut { IfOk result (λ t. tree_before t NoRegion ≡ split_of (kernel_of kernel.now)) }
 

@@ -43,6 +43,10 @@ abbrev pub decreases-expressions::put_update : goal.decreases-expressions::put_u
 decreases-expressions::put_update l =
     room (program_of l.here.now.program.now) l.here.now.depth + (2 * weight_in (expression_of l.e.now))
 
+abbrev pub decreases-expressions::put_element_update : goal.decreases-expressions::put_element_update
+decreases-expressions::put_element_update l =
+    room (program_of l.here.now.program.now) l.here.now.depth + (2 * weight_in (expression_of l.e.now))
+
 abbrev pub decreases-expressions::put_call : goal.decreases-expressions::put_call
 decreases-expressions::put_call l =
     room (program_of l.here.now.program.now) l.here.now.depth + (2 * weight_in (expression_of l.e.now))
