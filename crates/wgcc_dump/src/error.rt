@@ -68,7 +68,7 @@ pub(crate) fn status_of(error: DumpError) -> u8 {
 }
 
 const USAGE: &str =
-    "usage: wgcc_dump tokens|program|kernel|varying|regions|plan|code SOURCE KERNEL [--lanes 1|4|8|16]\n";
+    "usage: wgcc_dump tokens|program|kernel|simplified|varying|regions|plan|code SOURCE KERNEL [--lanes 1|4|8|16]\n";
 
 fn refusal_line(alloc: Global, condition: Condition, place: Place) -> Result<String, AllocError> {
     let number = condition.number();

@@ -5,11 +5,12 @@ use crate::error::DumpError;
 use crate::kernel_text::put_kernel;
 use crate::plan_text::put_plan;
 use crate::program_text::put_program;
-use crate::region_text::put_regions;
+use crate::region_text::regions_text;
+use crate::text::Text;
 use crate::tokens_text::put_tokens;
 use crate::varying_text::put_varying;
 use crate::words::{Asked, Stage};
-use cl_front::{compile_kernel, read_source};
+use cl_front::{Source, compile_kernel, read_source};
 use cl_model::Program;
 use cl_prep::Defines;
 use ctx_plan::Plan;
@@ -17,6 +18,7 @@ use ctx_plan::planning::plan;
 use diverge::analyse;
 use kir::Kernel;
 use kir_lower::lower;
+use kir_simplify::simplify;
 use regions::split;
 use std::alloc::Global;
 use wg_num::{Memory, Word};
@@ -26,50 +28,100 @@ fn plan_of(alloc: Global, program: &Program, kernel: &Kernel) -> Result<Plan, Me
     plan(alloc, kernel, program, &varying)
 }
 
-fn kernel_text(alloc: Global, program: &Program) -> Result<String, DumpError> {
+// The kernel that the passes behind the simplifier get.
+fn simple_kernel(alloc: Global, program: &Program) -> Result<Kernel, Memory> {
+    let lowered = lower(alloc, program)?;
+    let kernel = simplify(alloc, lowered)?;
+    Ok(kernel)
+}
+
+fn kernel_text(alloc: Global, kernel: &Kernel) -> Result<String, DumpError> {
+    let mut text = Text::new(alloc);
+    put_kernel(&mut text, kernel);
+    text.finish()
+}
+
+fn lowered_text(alloc: Global, program: &Program) -> Result<String, DumpError> {
     let kernel = lower(alloc, program)?;
-    let mut text = String::new(alloc);
-    put_kernel(&mut text, &kernel)?;
-    Ok(text)
+    kernel_text(alloc, &kernel)
+}
+
+fn simplified_text(alloc: Global, program: &Program) -> Result<String, DumpError> {
+    let kernel = simple_kernel(alloc, program)?;
+    kernel_text(alloc, &kernel)
 }
 
 fn varying_text(alloc: Global, program: &Program) -> Result<String, DumpError> {
     let varying = analyse(alloc, program)?;
-    let mut text = String::new(alloc);
-    put_varying(&mut text, program, &varying)?;
-    Ok(text)
+    let mut text = Text::new(alloc);
+    put_varying(&mut text, program, &varying);
+    text.finish()
 }
 
-fn regions_text(alloc: Global, program: &Program) -> Result<String, DumpError> {
-    let kernel = lower(alloc, program)?;
+fn split_text(alloc: Global, program: &Program) -> Result<String, DumpError> {
+    let kernel = simple_kernel(alloc, program)?;
     let tree = split(alloc, &kernel)?;
-    let mut text = String::new(alloc);
-    let put = put_regions(&mut text, &kernel.cells, &tree);
-    drop(tree);
-    put?;
-    Ok(text)
+    regions_text(alloc, &kernel, &tree)
 }
 
 fn plan_text(alloc: Global, program: &Program) -> Result<String, DumpError> {
-    let kernel = lower(alloc, program)?;
+    let kernel = simple_kernel(alloc, program)?;
     let plan = plan_of(alloc, program, &kernel)?;
-    let mut text = String::new(alloc);
-    put_plan(&mut text, &kernel.cells, &plan)?;
+    let mut text = Text::new(alloc);
+    put_plan(&mut text, &kernel.cells, &plan);
+    text.finish()
+}
+
+fn listing_of(
+    alloc: Global,
+    kernel: &Kernel,
+    plan: &Plan,
+    asked: &Asked<'_>,
+) -> Result<Vec<u8>, DumpError> {
+    let name = Word::new(alloc, asked.kernel.as_bytes())?;
+    let text = code_text(alloc, kernel, plan, &name, asked.width)?;
     Ok(text)
 }
 
 fn listing_text(alloc: Global, program: &Program, asked: &Asked<'_>) -> Result<Vec<u8>, DumpError> {
-    let kernel = lower(alloc, program)?;
+    let kernel = simple_kernel(alloc, program)?;
     let plan = plan_of(alloc, program, &kernel)?;
-    let name = Word::new(alloc, asked.kernel.as_bytes())?;
-    let text = code_text(alloc, &kernel, &plan, &name, asked.width)?;
-    Ok(text)
+    listing_of(alloc, &kernel, &plan, asked)
 }
 
 fn program_text(alloc: Global, program: &Program) -> Result<String, DumpError> {
-    let mut text = String::new(alloc);
-    put_program(&mut text, program)?;
-    Ok(text)
+    let mut text = Text::new(alloc);
+    put_program(&mut text, program);
+    text.finish()
+}
+
+// The text of a stage behind the typed program.
+fn text_of(alloc: Global, asked: &Asked<'_>, program: &Program) -> Result<Vec<u8>, DumpError> {
+    let text = match asked.stage {
+        Stage::Tokens | Stage::Program => program_text(alloc, program)?,
+        Stage::Kernel => lowered_text(alloc, program)?,
+        Stage::Simplified => simplified_text(alloc, program)?,
+        Stage::Varying => varying_text(alloc, program)?,
+        Stage::Regions => split_text(alloc, program)?,
+        Stage::Plan => plan_text(alloc, program)?,
+        Stage::Code => return listing_text(alloc, program, asked),
+    };
+    Ok(text.into_bytes())
+}
+
+fn tokens_text(alloc: Global, source: &Source) -> Result<Vec<u8>, DumpError> {
+    let mut text = Text::new(alloc);
+    put_tokens(&mut text, source);
+    Ok(text.finish()?.into_bytes())
+}
+
+// The text of a stage behind the source.
+fn text_behind(alloc: Global, asked: &Asked<'_>, source: &Source) -> Result<Vec<u8>, DumpError> {
+    if let Stage::Tokens = asked.stage {
+        return tokens_text(alloc, source);
+    }
+    let program = compile_kernel(alloc, source, asked.kernel.as_bytes())?;
+    text_of(alloc, asked, &program)
 }
 
 /// The text of the stage that is asked for, of a source with these bytes.
@@ -82,19 +134,5 @@ pub(crate) fn stage_text(
         list: Vec::new(alloc),
     };
     let source = read_source(alloc, bytes, &defines)?;
-    if let Stage::Tokens = asked.stage {
-        let mut text = String::new(alloc);
-        put_tokens(&mut text, &source)?;
-        return Ok(text.into_bytes());
-    }
-    let program = compile_kernel(alloc, &source, asked.kernel.as_bytes())?;
-    let text = match asked.stage {
-        Stage::Tokens | Stage::Program => program_text(alloc, &program)?,
-        Stage::Kernel => kernel_text(alloc, &program)?,
-        Stage::Varying => varying_text(alloc, &program)?,
-        Stage::Regions => regions_text(alloc, &program)?,
-        Stage::Plan => plan_text(alloc, &program)?,
-        Stage::Code => return listing_text(alloc, &program, asked),
-    };
-    Ok(text.into_bytes())
+    text_behind(alloc, asked, &source)
 }

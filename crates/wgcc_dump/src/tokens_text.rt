@@ -1,26 +1,24 @@
 //! Tokens as text: a line each, with its place, its kind and how it is spelled.
 
-use crate::text::{put, put_name, put_place};
+use crate::text::{Text, put, put_name, put_place};
 use cl_front::Source;
 use cl_token::Token;
-use std::alloc::AllocError;
 use wg_num::Place;
 
-fn put_token(text: &mut String, token: &Token, place: Place) -> Result<(), AllocError> {
-    put_place(text, place)?;
-    text.push_str(" ")?;
-    put(text, token.kind)?;
-    text.push_str(" ")?;
-    put_name(text, &token.word)?;
-    text.push_str("\n")
+fn put_token(text: &mut Text, token: &Token, place: Place) {
+    put_place(text, place);
+    text.push_str(" ");
+    put(text, token.kind);
+    text.push_str(" ");
+    put_name(text, &token.word);
+    text.push_str("\n");
 }
 
 /// Puts the tokens of a source behind its macros. One that comes from a macro has the place of the macro's name.
-pub(crate) fn put_tokens(text: &mut String, source: &Source) -> Result<(), AllocError> {
+pub(crate) fn put_tokens(text: &mut Text, source: &Source) {
     for (number, token) in source.tokens.iter().enumerate() {
         if let Some(place) = source.places.get(number) {
-            put_token(text, token, *place)?;
+            put_token(text, token, *place);
         }
     }
-    Ok(())
 }

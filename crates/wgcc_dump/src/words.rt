@@ -15,6 +15,8 @@ pub(crate) enum Stage {
     Program,
     /// The kernel without calls.
     Kernel,
+    /// The same, made simple.
+    Simplified,
     /// Which variables vary.
     Varying,
     /// The tree of regions.
@@ -30,6 +32,7 @@ fn stage_named(name: &str) -> Option<Stage> {
         "tokens" => Some(Stage::Tokens),
         "program" => Some(Stage::Program),
         "kernel" => Some(Stage::Kernel),
+        "simplified" => Some(Stage::Simplified),
         "varying" => Some(Stage::Varying),
         "regions" => Some(Stage::Regions),
         "plan" => Some(Stage::Plan),
