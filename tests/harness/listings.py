@@ -44,17 +44,19 @@ def step_of(line):
     return int(words[0]), words[1]
 
 
-def counts_fault(counts, seen):
-    """What is wrong with how often steps stand in a listing, or nothing."""
-    for line in counts.split('\n'):
-        if line and seen.get(line.split()[1], 0) != int(line.split()[0]):
-            return 'not %s, but %d' % (line, seen.get(line.split()[1], 0))
+def counts_fault(counts, steps):
+    """What is wrong with how often steps, with their first fields, stand in a listing, or nothing."""
+    for line in filter(None, counts.split('\n')):
+        count, step = line.split(' ', 1)
+        there = sum(1 for text in steps if (text + ' ').startswith(step + ' '))
+        if there != int(count):
+            return 'not %s, but %d' % (line, there)
     return None
 
 
 def listing_fault(text, counts):
     """What is wrong with the form of a listing, behind its first line, or with how often steps stand in it."""
-    seen = {}
+    steps = []
     number = 0
     for line in text.rstrip('\n').split('\n')[1:]:
         step = step_of(line.lstrip(' '))
@@ -64,5 +66,5 @@ def listing_fault(text, counts):
             return 'no node and no step %d: %s' % (number, line)
         else:
             number += 1
-            seen[step[1]] = seen.get(step[1], 0) + 1
-    return counts_fault(counts, seen)
+            steps.append(line.lstrip(' ').split(' ', 1)[1])
+    return counts_fault(counts, steps)

@@ -1,0 +1,1 @@
+__kernel void k(__global int *a) { a[get_global_id(0)] = 2 + 3 * 4; }

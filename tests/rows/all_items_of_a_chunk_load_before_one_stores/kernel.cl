@@ -1,0 +1,1 @@
+__kernel void add(__global int *a) { a[0] = a[0] + 1; }
