@@ -1,4 +1,4 @@
-//! Compiled kernels with launches that fit them, run by a launcher.
+//! Compiled kernels with launches that fit them, run by the machine and by a launcher.
 #![tactic(auto)]
 
 pub mod buffers;

@@ -1,4 +1,4 @@
-//! The scan twice over one launcher.
+//! The division of the worked examples on the machine, and the scan twice over one launcher.
 ghost use Rattle.std.specs.Prelude.{sum};
 ghost use Rattle.cl_model.specs.View.{launch_of};
 ghost use Rattle.lane_code.specs.View.{plain_of};
@@ -7,7 +7,8 @@ ghost use Rattle.lane_code.specs.Fits.{LaunchFits};
 use crate::{Ready, buffers_for, made_ready};
 use cl_model::Buffers;
 use group_run::Launcher;
-use lane_code::RunEnd;
+use lane_code::{Node, RegionEnd, RunEnd};
+use lane_machine::{Group, Machine};
 use std::alloc::Global;
 use std::test::Fail;
 use wg_num::{Memory, Width};
@@ -39,6 +40,39 @@ name = "a"
 bytes = 64
 [[arg]]
 buffer = "a"
+"#;
+
+const DIVISION: &str =
+    "__kernel void dv(__global int *x, __global int *y, __global int *q, __global int *r) {
+  int i = get_global_id(0);
+  q[i] = x[i] / y[i];
+  r[i] = x[i] % y[i];
+}";
+
+const DIVISION_LAUNCH: &str = r#"format = 1
+kernel = "dv"
+global = 4
+local = 4
+[[buffer]]
+name = "x"
+bytes = 16
+[[buffer]]
+name = "y"
+bytes = 16
+[[buffer]]
+name = "q"
+bytes = 16
+[[buffer]]
+name = "r"
+bytes = 16
+[[arg]]
+buffer = "x"
+[[arg]]
+buffer = "y"
+[[arg]]
+buffer = "q"
+[[arg]]
+buffer = "r"
 "#;
 
 // The numbers 0 to 7 and 8 to 15, each summed up to its place: what two groups of 8 leave.
@@ -104,5 +138,48 @@ fn a_launcher_runs_the_scan_twice(rt: HostRuntime) -> Result<(), Fail> {
     );
     assert_eq!(rt; has_words(&twice.first.1, &SUMS), true);
     assert_eq!(rt; has_words(&twice.second.1, &SUMS), true);
+    Ok(())
+}
+
+// The vector operations that the one code of the program takes on its one chunk.
+fn operations(alloc: Global, ready: Ready) -> Result<Option<u64>, Memory>
+    requires { LaunchFits (plain_of ready.group).params (sum (plain_of ready.group).locals) (launch_of ready.launch) }
+{
+    let mut buffers = buffers_for(alloc, &ready.launch)?;
+    let mut machine = Machine::new(alloc, &ready.group)?;
+    let mut group = Group::new(alloc, &ready.group, &ready.launch)?;
+    let mut turns = 1000;
+    match &ready.group.top {
+        Node::Items(code) => {
+            let end = machine.region(
+                code,
+                &ready.group,
+                &ready.launch,
+                &mut buffers,
+                &mut group,
+                0,
+                &mut turns,
+            );
+            if end == RegionEnd::Done {
+                return Ok(Some(machine.tally.count()));
+            }
+            Ok(None)
+        }
+        Node::Seq(_) | Node::Vote { .. } | Node::Loop { .. } => Ok(None),
+    }
+}
+
+// Four loads, two stores, a division and a remainder are eight.
+#[test]
+fn the_division_is_done_by_vector_operations(rt: HostRuntime) -> Result<(), Fail> {
+    let ready = made_ready(
+        rt.alloc(),
+        DIVISION.as_bytes(),
+        DIVISION_LAUNCH.as_bytes(),
+        b"dv",
+        Width::W8,
+    )?;
+    let found = operations(rt.alloc(), ready)?;
+    assert_eq!(rt; found.unwrap_or(0) >= 8, true);
     Ok(())
 }
