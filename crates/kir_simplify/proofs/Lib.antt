@@ -18,5 +18,7 @@ pub mod Spliced
 pub mod SplicedParting
 pub mod Tables
 pub mod Walks
+pub mod Validity
+pub mod Computed
 pub mod Folds
 pub mod Sizes

@@ -1,5 +1,6 @@
 -- The walk that adds up how large lines are.
-use Rattle.std.proofs.Common.{◌≡◌, ℕ, suc, ◌+◌, ◌<◌, ◌≤◌, List, length, get_or, drop, sym, ap, ◌∙◌, arith, Global}
+use Rattle.std.proofs.Common.{◌≡◌, ℕ, zero, suc, ◌+◌, ◌<◌, ◌≤◌, List, [], ◌∷◌, length, get_or, drop, sym, ap, ◌∙◌}
+use Rattle.std.proofs.Common.{arith, Global}
 use Rattle.std.specs.Prelude.{Bool as Test}
 use Rattle.std.specs.declared.vec.Vec.{Vec}
 use Rattle.std.proofs.lemmas.List.{drop_all}
@@ -48,6 +49,34 @@ size_first (line.Loop' site first _ test answer _ body) rest =
     thrice : (t a b r : ℕ) → suc (t + (a + (b + r))) ≡ suc (t + (a + (b + 0))) + r
     thrice t a b r = omega arith
 size_first (line.Barrier site) rest = omega arith
+
+-- a line is no larger than the lines among which it is
+pub one_within : (ls : List Line) (i : ℕ) (l : Line) → i < length ls → l ≡ get_or ls i l →
+    size_of (line_before l NoLine) ≤ size_of (lines_of ls)
+one_within ls i l lt is =
+    let rest = size_of (lines_of (drop (i + 1) ls)) in
+    let first = size_first l (lines_of (drop (i + 1) ls)) in
+    let here = ap (λ xs. size_of (lines_of xs)) (first_left ls i l lt is) in
+    let less = left_within i ls in omega (arith, first, here, less)
+  where
+    left_within : (i : ℕ) (ls : List Line) → size_of (lines_of (drop i ls)) ≤ size_of (lines_of ls)
+    left_within zero ls = omega arith
+    left_within (suc i) [] = omega arith
+    left_within (suc i) (l ∷ ls) =
+        let less = left_within i ls in let first = size_first l (lines_of ls) in omega (arith, first, less)
+
+-- the lines of an if, and of a loop, are smaller than it
+pub if_larger : (l : Line) (site : ℕ) (test : Atom) (chosen other : Vec Line Global) →
+    l ≡ line.If site test chosen other → size_of (line_before l NoLine) ≡
+    suc (atom_size test + (size_of (lines_of chosen.items) + (size_of (lines_of other.items) + 0)))
+if_larger l site test chosen other e =
+    ap (λ x. size_of (line_before x NoLine)) e ∙ ap size_of (if_listed site test chosen other NoLine)
+
+pub loop_larger : (l : Line) (site : ℕ) (first : Test) (test : Vec Line Global) (answer : Atom)
+    (body : Vec Line Global) → l ≡ line.Loop site first test answer body → size_of (line_before l NoLine) ≡
+    suc (size_of (lines_of test.items) + (atom_size answer + (size_of (lines_of body.items) + 0)))
+loop_larger l site first test answer body e =
+    ap (λ x. size_of (line_before x NoLine)) e ∙ ap size_of (loop_listed site first test answer body NoLine)
 
 pub lines_step : (size one longer : ℕ) (ls : List Line) (i : ℕ) (l : Line) → i < length ls → l ≡ get_or ls i l →
     one ≡ size_of (line_before l NoLine) → longer ≡ size + one →

@@ -3,3 +3,4 @@ pub mod Simple
 pub mod Faithful
 pub mod Passes
 pub mod Tables
+pub mod Computable

@@ -39,6 +39,16 @@ has_no_lines (line.If' site test m chosen n other) = false
 has_no_lines (line.Loop' site test_first m test answer n body) = false
 has_no_lines (line.Barrier site) = true
 
+-- nor is anything computed in it
+abbrev pub is_bare : Line → Test
+is_bare (line.Set to w) = false
+is_bare (line.Load site to element root index) = true
+is_bare (line.Store site element root index from) = true
+is_bare (line.Clear array) = true
+is_bare (line.If' site test m chosen n other) = false
+is_bare (line.Loop' site test_first m test answer n body) = false
+is_bare (line.Barrier site) = true
+
 -- whether a constant chooses the other branch, where one chooses and neither holds a barrier
 abbrev pub decision : Atom → Lines → Lines → Option Test
 decision test chosen other =

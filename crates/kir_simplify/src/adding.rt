@@ -45,8 +45,8 @@ pub(crate) fn copy_work(alloc: Global, work: &Work) -> Result<Work, Memory>
 
 /// The same line, of a line without lines.
 pub(crate) fn copy_plain(alloc: Global, line: &Line) -> Result<Line, Memory>
-    ensures same { IfOk result (λ copied. (rest : Lines) → line_before copied rest ≡ line_before line.now rest) }
-    ensures plain { IfOk result (λ copied. has_no_lines line.now ≡ true) }
+    requires { has_no_lines line.now ≡ true }
+    ensures { IfOk result (λ copied. (rest : Lines) → line_before copied rest ≡ line_before line.now rest) }
 {
     match line {
         Line::Set { to, work } => {
@@ -81,7 +81,7 @@ pub(crate) fn copy_plain(alloc: Global, line: &Line) -> Result<Line, Memory>
         }),
         Line::Clear { array } => Ok(Line::Clear { array: *array }),
         Line::Barrier { site } => Ok(Line::Barrier { site: *site }),
-        Line::If { .. } | Line::Loop { .. } => Err(Memory),
+        Line::If { .. } | Line::Loop { .. } => unreachable!(),
     }
 }
 

@@ -1,6 +1,6 @@
 //! How many lines set each cell.
 
-ghost use Rattle.std.specs.Prelude.{◌≡◌, ℕ, ◌+◌, IfOk, OnOk, slice_index_or};
+ghost use Rattle.std.specs.Prelude.{◌≡◌, ℕ, ◌+◌, ◌<◌, IfOk, OnOk, slice_index_or, vec_len};
 ghost use Rattle.kir.specs.Listed.{line_before, lines_of};
 ghost use Rattle.kir.specs.Tree.{NoLine};
 ghost use Rattle.kir_simplify.specs.Reading.{one_if, sets_in};
@@ -10,37 +10,38 @@ use kir::Line;
 use std::alloc::Global;
 use wg_num::{Memory, push};
 
-/// So many cells that no line sets.
-fn none_set(alloc: Global, cells: usize) -> Result<Vec<u64>, Memory>
-    ensures { IfOk result (λ sets. (c : ℕ) → slice_index_or sets.items c 0 ≡ 0) }
+/// A table that has an entry for the cell.
+fn make_room(sets: &mut Vec<u64>, at: usize) -> Result<(), Memory>
+    ensures same { OnOk result ((c : ℕ) → slice_index_or sets.new.items c 0 ≡ slice_index_or sets.old.items c 0) }
+    ensures room { OnOk result (at < vec_len sets.new) }
 {
-    let mut sets = Vec::new(alloc);
-    for _cell in 0..cells {
-        push(&mut sets, 0)?;
+    while sets.len() <= at {
+        push(sets, 0)?;
     }
-    Ok(sets)
+    Ok(())
 }
 
-/// A line that sets the cell. Memory where there is no such cell, or too many lines.
-fn count_cell(sets: &mut [u64], to: u32) -> Result<(), Memory>
-    ensures { OnOk result ((c : ℕ) → slice_index_or sets.new c 0 ≡ one_if c to + slice_index_or sets.old c 0) }
+/// A line that sets the cell. Memory where it was refused, and where 64 bits do not number the lines.
+fn count_cell(sets: &mut Vec<u64>, to: u32) -> Result<(), Memory>
+    ensures { OnOk result ((c : ℕ) → slice_index_or sets.new.items c 0 ≡
+        one_if c to + slice_index_or sets.old.items c 0) }
 {
     let at = to as usize;
-    if at < sets.len() {
-        let so_far = sets[at];
-        if so_far < u64::MAX {
-            sets[at] = so_far + 1;
-            return Ok(());
+    make_room(sets, at)?;
+    match sets[at].checked_add(1) {
+        Some(more) => {
+            sets[at] = more;
+            Ok(())
         }
+        None => Err(Memory),
     }
-    Err(Memory)
 }
 
 /// The lines that set cells, and those inside them.
 #[cycle(count)]
-pub(crate) fn count_lines(sets: &mut [u64], lines: &[Line]) -> Result<(), Memory>
-    ensures { OnOk result ((c : ℕ) → slice_index_or sets.new c 0 ≡
-        sets_in c (lines_of lines.now) + slice_index_or sets.old c 0) }
+pub(crate) fn count_lines(sets: &mut Vec<u64>, lines: &[Line]) -> Result<(), Memory>
+    ensures { OnOk result ((c : ℕ) → slice_index_or sets.new.items c 0 ≡
+        sets_in c (lines_of lines.now) + slice_index_or sets.old.items c 0) }
 {
     for line in lines {
         count_line(sets, line)?;
@@ -50,9 +51,9 @@ pub(crate) fn count_lines(sets: &mut [u64], lines: &[Line]) -> Result<(), Memory
 
 /// A line, and those inside it.
 #[cycle(count)]
-fn count_line(sets: &mut [u64], line: &Line) -> Result<(), Memory>
-    ensures { OnOk result ((c : ℕ) → slice_index_or sets.new c 0 ≡
-        sets_in c (line_before line.now NoLine) + slice_index_or sets.old c 0) }
+fn count_line(sets: &mut Vec<u64>, line: &Line) -> Result<(), Memory>
+    ensures { OnOk result ((c : ℕ) → slice_index_or sets.new.items c 0 ≡
+        sets_in c (line_before line.now NoLine) + slice_index_or sets.old.items c 0) }
 {
     match line {
         Line::Set { to, .. } | Line::Load { to, .. } => count_cell(sets, *to),
@@ -68,11 +69,11 @@ fn count_line(sets: &mut [u64], line: &Line) -> Result<(), Memory>
     }
 }
 
-/// How many of the lines, and of those inside them, set each of so many cells.
-pub(crate) fn counted(alloc: Global, cells: usize, lines: &[Line]) -> Result<Vec<u64>, Memory>
+/// How many of the lines, and of those inside them, set each cell.
+pub(crate) fn counted(alloc: Global, lines: &[Line]) -> Result<Vec<u64>, Memory>
     ensures { IfOk result (λ sets. (c : ℕ) → slice_index_or sets.items c 0 ≡ sets_in c (lines_of lines.now)) }
 {
-    let mut sets = none_set(alloc, cells)?;
+    let mut sets = Vec::new(alloc);
     count_lines(&mut sets, lines)?;
     Ok(sets)
 }

@@ -1,31 +1,21 @@
 //! Kernels whose constants are computed beforehand.
 
-ghost use Rattle.std.specs.Prelude.{◌≡◌, ℕ, None, IfOk, OnOk};
+ghost use Rattle.std.specs.Prelude.{◌≡◌, ℕ, true, IfOk, OnOk};
 ghost use Rattle.std.specs.Prelude.{Bool as Test};
-ghost use Rattle.kir.specs.Tree.{Lines, SetThen, joined_to};
+ghost use Rattle.kir.specs.Tree.{Lines, NoLine, SetThen, joined_to};
 ghost use Rattle.kir.specs.Listed.{line_before, lines_of, work_of};
 ghost use Rattle.kir.specs.View.{kernel_of};
+ghost use Rattle.kir_simplify.specs.Computable.{IsComputable, AreComputable};
 ghost use Rattle.kir_simplify.specs.Faithful.{IsFaithful};
-ghost use Rattle.kir_simplify.specs.Passes.{folded, folded_of};
-ghost use Rattle.kir_simplify.specs.Tables.{is_one_at, known_by, unlearned};
+ghost use Rattle.kir_simplify.specs.Passes.{folded, folded_of, known_work};
+ghost use Rattle.kir_simplify.specs.Tables.{is_bare, is_one_at, known_by, unlearned};
 
 use crate::adding::{add_if, add_line, add_loop};
 use crate::counting::counted;
 use crate::settling::{Learned, fold_work, forget, known_atom, learn};
-use kir::{Atom, Kernel, KernelParts, Line, Work};
+use kir::{Atom, Kernel, Line, Work};
 use std::alloc::Global;
-use wg_num::{Memory, push};
-
-/// Nothing is known of so many cells.
-fn none_known(alloc: Global, cells: usize) -> Result<Vec<Option<Atom>>, Memory>
-    ensures { IfOk result (λ known. (c : ℕ) → known_by known.items c ≡ None) }
-{
-    let mut known = Vec::new(alloc);
-    for _cell in 0..cells {
-        push(&mut known, None)?;
-    }
-    Ok(known)
-}
+use wg_num::Memory;
 
 /// The list with a line more that sets a cell, and what is known behind it.
 #[inline(never)]
@@ -38,12 +28,16 @@ fn fold_set(
     work: &Work,
     made: &mut Vec<Line>,
 ) -> Result<(), Memory>
+    requires { IsComputable (known_work (known_by known.old.items) (work_of work.now)) }
     ensures before { OnOk result ((c : ℕ) → unlearned trail.new.items (known_by known.new.items) c ≡
         unlearned trail.old.items (known_by known.old.items) c) }
     ensures made { OnOk result ((rest : Lines) →
         joined_to (lines_of made.new.items) (folded (is_one_at sets.now) (known_by known.new.items) rest) ≡
         joined_to (lines_of made.old.items)
         (folded (is_one_at sets.now) (known_by known.old.items) (SetThen to (work_of work.now) rest))) }
+    ensures computable { OnOk result ((rest : Lines) →
+        AreComputable (is_one_at sets.now) (known_by known.old.items) (SetThen to (work_of work.now) rest) →
+        AreComputable (is_one_at sets.now) (known_by known.new.items) rest) }
 {
     let work = fold_work(alloc, known, work)?;
     learn(sets, known, trail, to, &work)?;
@@ -52,10 +46,10 @@ fn fold_set(
 }
 
 /// Another line without lines, where these constants are known.
-fn folded_plain(known: &[Option<Atom>], line: &Line) -> Result<Line, Memory>
-    ensures { IfOk result (λ l. (once : ℕ → Test) (rest : Lines) →
-        line_before l (folded once (known_by known.now) rest) ≡
-        folded once (known_by known.now) (line_before line.now rest)) }
+fn folded_plain(known: &[Option<Atom>], line: &Line) -> Line
+    requires { is_bare line.now ≡ true }
+    ensures { (once : ℕ → Test) (rest : Lines) → line_before result (folded once (known_by known.now) rest) ≡
+        folded once (known_by known.now) (line_before line.now rest) }
 {
     match line {
         Line::Load {
@@ -64,40 +58,41 @@ fn folded_plain(known: &[Option<Atom>], line: &Line) -> Result<Line, Memory>
             element,
             root,
             index,
-        } => Ok(Line::Load {
+        } => Line::Load {
             site: *site,
             to: *to,
             element: *element,
             root: *root,
             index: known_atom(known, *index),
-        }),
+        },
         Line::Store {
             site,
             element,
             root,
             index,
             from,
-        } => Ok(Line::Store {
+        } => Line::Store {
             site: *site,
             element: *element,
             root: *root,
             index: known_atom(known, *index),
             from: known_atom(known, *from),
-        }),
-        Line::Clear { array } => Ok(Line::Clear { array: *array }),
-        Line::Barrier { site } => Ok(Line::Barrier { site: *site }),
-        Line::Set { .. } | Line::If { .. } | Line::Loop { .. } => Err(Memory),
+        },
+        Line::Clear { array } => Line::Clear { array: *array },
+        Line::Barrier { site } => Line::Barrier { site: *site },
+        Line::Set { .. } | Line::If { .. } | Line::Loop { .. } => unreachable!(),
     }
 }
 
 /// The list with that line more.
 #[inline(never)]
 fn fold_plain(known: &[Option<Atom>], line: &Line, made: &mut Vec<Line>) -> Result<(), Memory>
+    requires { is_bare line.now ≡ true }
     ensures { OnOk result ((once : ℕ → Test) (rest : Lines) →
         joined_to (lines_of made.new.items) (folded once (known_by known.now) rest) ≡
         joined_to (lines_of made.old.items) (folded once (known_by known.now) (line_before line.now rest))) }
 {
-    let line = folded_plain(known, line)?;
+    let line = folded_plain(known, line);
     add_line(made, line)?;
     Ok(())
 }
@@ -112,6 +107,7 @@ fn fold_lines(
     known: &mut Vec<Option<Atom>>,
     lines: &[Line],
 ) -> Result<Vec<Line>, Memory>
+    requires { AreComputable (is_one_at sets.now) (known_by known.old.items) (lines_of lines.now) }
     ensures forgotten { IfOk result (λ made. (c : ℕ) →
         known_by known.new.items c ≡ known_by known.old.items c) }
     ensures made { IfOk result (λ made. lines_of made.items ≡
@@ -137,12 +133,16 @@ fn fold_onto(
     line: &Line,
     made: &mut Vec<Line>,
 ) -> Result<(), Memory>
+    requires { AreComputable (is_one_at sets.now) (known_by known.old.items) (line_before line.now NoLine) }
     ensures before { OnOk result ((c : ℕ) → unlearned trail.new.items (known_by known.new.items) c ≡
         unlearned trail.old.items (known_by known.old.items) c) }
     ensures made { OnOk result ((rest : Lines) →
         joined_to (lines_of made.new.items) (folded (is_one_at sets.now) (known_by known.new.items) rest) ≡
         joined_to (lines_of made.old.items)
         (folded (is_one_at sets.now) (known_by known.old.items) (line_before line.now rest))) }
+    ensures computable { OnOk result ((rest : Lines) →
+        AreComputable (is_one_at sets.now) (known_by known.old.items) (line_before line.now rest) →
+        AreComputable (is_one_at sets.now) (known_by known.new.items) rest) }
 {
     match line {
         Line::Set { to, work } => {
@@ -174,32 +174,21 @@ fn fold_onto(
             add_loop(made, *site, *test_first, test, answer, body)?;
             Ok(())
         }
-        _ => {
+        Line::Load { .. } | Line::Store { .. } | Line::Clear { .. } | Line::Barrier { .. } => {
             fold_plain(known, line, made)?;
             Ok(())
         }
     }
 }
 
-/// The kernel with those lines.
-fn folded_kernel(alloc: Global, kernel: Kernel) -> Result<Kernel, Memory>
-    ensures { IfOk result (λ k. kernel_of k ≡ folded_of (kernel_of kernel)) }
+/// The kernel's lines, folded.
+fn folded_body(alloc: Global, kernel: &Kernel) -> Result<Vec<Line>, Memory>
+    ensures { IfOk result (λ body. lines_of body.items ≡ (folded_of (kernel_of kernel.now)).body) }
 {
-    let sets = counted(alloc, kernel.cells.len(), &kernel.body)?;
-    let mut known = none_known(alloc, kernel.cells.len())?;
+    let sets = counted(alloc, &kernel.body)?;
+    let mut known = Vec::new(alloc);
     let body = fold_lines(alloc, &sets, &mut known, &kernel.body)?;
-    let parts = KernelParts {
-        params: kernel.params,
-        cells: kernel.cells,
-        arrays: kernel.arrays,
-        tables: kernel.tables,
-        body,
-        sites: kernel.sites,
-    };
-    match parts.checked() {
-        Some(kernel) => Ok(kernel),
-        None => Err(Memory),
-    }
+    Ok(body)
 }
 
 /// The kernel with what is computed of constants alone computed beforehand, and with constants in
@@ -208,6 +197,13 @@ pub fn fold(alloc: Global, kernel: Kernel) -> Result<Kernel, Memory>
     ensures exact { IfOk result (λ k. kernel_of k ≡ folded_of (kernel_of kernel)) }
     ensures faithful { IfOk result (λ k. IsFaithful (kernel_of kernel) (kernel_of k)) }
 {
-    let folded = folded_kernel(alloc, kernel)?;
-    Ok(folded)
+    let body = folded_body(alloc, &kernel)?;
+    Ok(Kernel {
+        params: kernel.params,
+        cells: kernel.cells,
+        arrays: kernel.arrays,
+        tables: kernel.tables,
+        body,
+        sites: kernel.sites,
+    })
 }

@@ -1,12 +1,12 @@
 //! What lines compute of constants, computed beforehand.
 
-ghost use Rattle.std.specs.Prelude.{◌≡◌, ℕ, IfOk, OnOk, map, slice_get};
+ghost use Rattle.std.specs.Prelude.{◌≡◌, ℕ, ◌<◌, IfOk, OnOk, map, slice_get, vec_len};
 ghost use Rattle.cl_model.specs.Steps.{nth};
-ghost use Rattle.wg_num.specs.Operators.{IsOperand};
 ghost use Rattle.wg_num.specs.Wrap.{IsValue};
 ghost use Rattle.kir.specs.Tree as tree;
 ghost use Rattle.kir.specs.Listed.{work_of};
 ghost use Rattle.kir_simplify.specs.Passes.{constant_value, known_atom, known_work, settled_work, learned, learnt};
+ghost use Rattle.kir_simplify.specs.Computable.{IsComputable, AreValuesOf, IsRightOf, IsValueOf};
 ghost use Rattle.kir_simplify.specs.Simple as simple;
 ghost use Rattle.kir_simplify.specs.Tables.{is_one_at, known_by, plain_of, put_known, unlearned};
 
@@ -14,9 +14,7 @@ use crate::counting::is_one;
 use cl_model::types::{binary_type, unary_type};
 use kir::{Atom, Work};
 use std::alloc::Global;
-use wg_num::{
-    Bin, Fun, IntType, Memory, Un, binary, builtin, convert, is_shift, push, result_type, unary,
-};
+use wg_num::{Bin, Fun, IntType, Memory, Un, binary, builtin, convert, push, result_type, unary};
 
 /// What stands for an atom.
 pub(crate) fn known_atom(known: &[Option<Atom>], atom: Atom) -> Atom
@@ -42,69 +40,34 @@ fn known_atoms(alloc: Global, known: &[Option<Atom>], atoms: &[Atom]) -> Result<
     Ok(found)
 }
 
-/// The value, which is one of the type. Memory where it is none.
-fn value_in(of: IntType, value: i128) -> Result<i128, Memory>
-    ensures same { IfOk result (λ v. v ≡ value) }
-    ensures value { IfOk result (λ v. IsValue of v) }
-{
-    let wrapped = convert(of, value);
-    if wrapped == value {
-        Ok(wrapped)
-    } else {
-        Err(Memory)
-    }
-}
-
-/// The value, which may be the right operand. Memory where it may not.
-fn operand_in(op: Bin, of: IntType, value: i128) -> Result<i128, Memory>
-    ensures same { IfOk result (λ v. v ≡ value) }
-    ensures operand { IfOk result (λ v. IsOperand op of v) }
-{
-    if value < -9_223_372_036_854_775_808 || value > 18_446_744_073_709_551_615 {
-        return Err(Memory);
-    }
-    if is_shift(op) {
-        Ok(value)
-    } else {
-        value_in(of, value)
-    }
-}
-
 /// An operator of one operand, computed now where it can be.
-fn fold_unary(op: Un, of: IntType, a: Atom) -> Result<Work, Memory>
-    ensures { IfOk result (λ w. work_of w ≡ settled_work (tree.Unary op of a)) }
+fn fold_unary(op: Un, of: IntType, a: Atom) -> Work
+    requires { IsValueOf of a }
+    ensures { work_of result ≡ settled_work (tree.Unary op of a) }
 {
     match a {
-        Atom::Cell(_) => Ok(Work::Unary { op, of, a }),
-        Atom::Const { value, .. } => {
-            let value = value_in(of, value)?;
-            Ok(Work::Copy(Atom::Const {
-                value: unary(op, of, value),
-                of: unary_type(op, of),
-            }))
-        }
+        Atom::Cell(_) => Work::Unary { op, of, a },
+        Atom::Const { value, .. } => Work::Copy(Atom::Const {
+            value: unary(op, of, value),
+            of: unary_type(op, of),
+        }),
     }
 }
 
 /// An operator of two, computed now where it can be.
-fn fold_binary(op: Bin, of: IntType, a: Atom, b: Atom) -> Result<Work, Memory>
-    ensures { IfOk result (λ w. work_of w ≡ settled_work (tree.Binary op of a b)) }
+fn fold_binary(op: Bin, of: IntType, a: Atom, b: Atom) -> Work
+    requires left { IsValueOf of a }
+    requires right { IsRightOf op of b }
+    ensures { work_of result ≡ settled_work (tree.Binary op of a b) }
 {
     match (a, b) {
         (Atom::Const { value: left, .. }, Atom::Const { value: right, .. }) => {
-            let left = value_in(of, left)?;
-            let right = operand_in(op, of, right)?;
-            Ok(Work::Copy(Atom::Const {
+            Work::Copy(Atom::Const {
                 value: binary(op, of, left, right),
                 of: binary_type(op, of),
-            }))
+            })
         }
-        (Atom::Cell(_), _) | (Atom::Const { .. }, Atom::Cell(_)) => Ok(Work::Binary {
-            op,
-            of,
-            a,
-            b,
-        }),
+        (Atom::Cell(_), _) | (Atom::Const { .. }, Atom::Cell(_)) => Work::Binary { op, of, a, b },
     }
 }
 
@@ -151,46 +114,51 @@ fn constant_value(atom: Atom) -> i128
     }
 }
 
-/// The value of a constant by its number, 0 where there is none. Memory where it is none of the
-/// type.
-fn argument(of: IntType, args: &[Atom], n: usize) -> Result<i128, Memory>
-    ensures same { IfOk result (λ v. v ≡ nth (map constant_value args.now) n) }
-    ensures value { IfOk result (λ v. IsValue of v) }
+/// The value of a constant by its number, 0 where there is none.
+fn argument(of: IntType, args: &[Atom], n: usize) -> i128
+    requires { AreValuesOf of args.now }
+    ensures same { result ≡ nth (map constant_value args.now) n }
+    ensures value { IsValue of result }
 {
     match args.get(n) {
-        Some(atom) => value_in(of, constant_value(*atom)),
-        None => value_in(of, 0),
+        Some(atom) => constant_value(*atom),
+        None => 0,
     }
 }
 
 /// A built-in function, computed now where it can be.
-fn fold_builtin(f: Fun, of: IntType, args: Vec<Atom>) -> Result<Work, Memory>
-    ensures { IfOk result (λ w. work_of w ≡ settled_work (tree.Builtin f of args.items)) }
+fn fold_builtin(f: Fun, of: IntType, args: Vec<Atom>) -> Work
+    requires { AreValuesOf of args.items }
+    ensures { work_of result ≡ settled_work (tree.Builtin f of args.items) }
 {
     if !are_constants(&args) {
-        return Ok(Work::Builtin { f, of, args });
+        return Work::Builtin { f, of, args };
     }
-    let first = argument(of, &args, 0)?;
-    let second = argument(of, &args, 1)?;
-    let third = argument(of, &args, 2)?;
-    Ok(Work::Copy(Atom::Const {
+    let first = argument(of, &args, 0);
+    let second = argument(of, &args, 1);
+    let third = argument(of, &args, 2);
+    Work::Copy(Atom::Const {
         value: builtin(f, of, [first, second, third]),
         of: result_type(f, of),
-    }))
+    })
 }
 
 /// What a line computes where these constants are known, computed now where it can be.
 pub(crate) fn fold_work(alloc: Global, known: &[Option<Atom>], work: &Work) -> Result<Work, Memory>
+    requires { IsComputable (known_work (known_by known.now) (work_of work.now)) }
     ensures { IfOk result (λ w. work_of w ≡ settled_work (known_work (known_by known.now) (work_of work.now))) }
 {
     match work {
-        Work::Unary { op, of, a } => fold_unary(*op, *of, known_atom(known, *a)),
-        Work::Binary { op, of, a, b } => {
-            fold_binary(*op, *of, known_atom(known, *a), known_atom(known, *b))
-        }
+        Work::Unary { op, of, a } => Ok(fold_unary(*op, *of, known_atom(known, *a))),
+        Work::Binary { op, of, a, b } => Ok(fold_binary(
+            *op,
+            *of,
+            known_atom(known, *a),
+            known_atom(known, *b),
+        )),
         Work::Builtin { f, of, args } => {
             let args = known_atoms(alloc, known, args)?;
-            fold_builtin(*f, *of, args)
+            Ok(fold_builtin(*f, *of, args))
         }
         Work::Convert { to, a } => Ok(fold_convert(*to, known_atom(known, *a))),
         Work::Ask { what, dim } => Ok(Work::Ask {
@@ -238,17 +206,25 @@ fn found_for(known: &[Option<Atom>], cell: u32) -> Option<Atom>
     }
 }
 
-/// This is known of the cell, or nothing. Memory where there is no such cell.
+/// A table that has an entry for the cell.
+fn make_room(known: &mut Vec<Option<Atom>>, at: usize) -> Result<(), Memory>
+    ensures same { OnOk result ((c : ℕ) → known_by known.new.items c ≡ known_by known.old.items c) }
+    ensures room { OnOk result (at < vec_len known.new) }
+{
+    while known.len() <= at {
+        push(known, None)?;
+    }
+    Ok(())
+}
+
+/// This is known of the cell, or nothing.
 fn put_known(known: &mut Vec<Option<Atom>>, cell: u32, found: Option<Atom>) -> Result<(), Memory>
     ensures { OnOk result ((c : ℕ) → known_by known.new.items c ≡ put_known (known_by known.old.items) cell found c) }
 {
     let at = cell as usize;
-    if at < known.len() {
-        known[at] = found;
-        Ok(())
-    } else {
-        Err(Memory)
-    }
+    make_room(known, at)?;
+    known[at] = found;
+    Ok(())
 }
 
 /// The atom is learned for the cell.

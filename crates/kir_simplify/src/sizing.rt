@@ -8,7 +8,7 @@ ghost use Rattle.kir_simplify.specs.Passes.{atom_size, atoms_size, size_of, work
 use kir::{Atom, Line, Work};
 use wg_num::Memory;
 
-/// The sum. Memory where it has no room in 64 bits.
+/// The sum. Memory where it has no room in 64 bits, which the size of no kernel in memory needs.
 fn add(a: u64, b: u64) -> Result<u64, Memory>
     ensures { IfOk result (λ sum. sum ≡ a + b) }
 {

@@ -1,17 +1,17 @@
 //! Kernels in which no constant chooses a branch.
 
-ghost use Rattle.std.specs.Prelude.{◌≡◌, IfOk, OnOk};
+ghost use Rattle.std.specs.Prelude.{◌≡◌, true, IfOk, OnOk};
 ghost use Rattle.cl_model.specs.Values.{is_zero};
 ghost use Rattle.kir.specs.Tree.{Lines, joined_to};
 ghost use Rattle.kir.specs.Listed.{line_before, lines_of};
 ghost use Rattle.kir.specs.View.{kernel_of};
 ghost use Rattle.kir_simplify.specs.Faithful.{IsFaithful};
 ghost use Rattle.kir_simplify.specs.Passes.{spliced, spliced_of};
-ghost use Rattle.kir_simplify.specs.Tables.{decision};
+ghost use Rattle.kir_simplify.specs.Tables.{decision, has_no_lines};
 
 use crate::adding::{add_if, add_line, add_loop, copy_plain};
 use kir::holding::lines_hold;
-use kir::{Atom, Kernel, KernelParts, Line};
+use kir::{Atom, Kernel, Line};
 use std::alloc::Global;
 use wg_num::Memory;
 
@@ -42,6 +42,7 @@ fn decision(test: Atom, yes: &[Line], no: &[Line]) -> Option<bool>
 /// The list with a line without lines more.
 #[inline(never)]
 fn splice_plain(alloc: Global, line: &Line, kept: &mut Vec<Line>) -> Result<(), Memory>
+    requires { has_no_lines line.now ≡ true }
     ensures { OnOk result ((rest : Lines) →
         joined_to (lines_of kept.new.items) (spliced rest) ≡
         joined_to (lines_of kept.old.items) (spliced (line_before line.now rest))) }
@@ -117,30 +118,23 @@ fn splice_onto(alloc: Global, line: &Line, kept: &mut Vec<Line>) -> Result<(), M
             add_loop(kept, *site, *test_first, test, *answer, body)?;
             Ok(())
         }
-        _ => {
+        Line::Set { .. }
+        | Line::Load { .. }
+        | Line::Store { .. }
+        | Line::Clear { .. }
+        | Line::Barrier { .. } => {
             splice_plain(alloc, line, kept)?;
             Ok(())
         }
     }
 }
 
-/// The kernel with those lines.
-fn spliced_kernel(alloc: Global, kernel: Kernel) -> Result<Kernel, Memory>
-    ensures { IfOk result (λ k. kernel_of k ≡ spliced_of (kernel_of kernel)) }
+/// The kernel's lines, in which no constant chooses a branch.
+fn spliced_body(alloc: Global, kernel: &Kernel) -> Result<Vec<Line>, Memory>
+    ensures { IfOk result (λ body. lines_of body.items ≡ (spliced_of (kernel_of kernel.now)).body) }
 {
     let body = splice_lines(alloc, &kernel.body)?;
-    let parts = KernelParts {
-        params: kernel.params,
-        cells: kernel.cells,
-        arrays: kernel.arrays,
-        tables: kernel.tables,
-        body,
-        sites: kernel.sites,
-    };
-    match parts.checked() {
-        Some(kernel) => Ok(kernel),
-        None => Err(Memory),
-    }
+    Ok(body)
 }
 
 /// The kernel with the lines of the branch that a constant chooses in place of each such `if` that
@@ -149,6 +143,13 @@ pub fn splice(alloc: Global, kernel: Kernel) -> Result<Kernel, Memory>
     ensures exact { IfOk result (λ k. kernel_of k ≡ spliced_of (kernel_of kernel)) }
     ensures faithful { IfOk result (λ k. IsFaithful (kernel_of kernel) (kernel_of k)) }
 {
-    let spliced = spliced_kernel(alloc, kernel)?;
-    Ok(spliced)
+    let body = spliced_body(alloc, &kernel)?;
+    Ok(Kernel {
+        params: kernel.params,
+        cells: kernel.cells,
+        arrays: kernel.arrays,
+        tables: kernel.tables,
+        body,
+        sites: kernel.sites,
+    })
 }

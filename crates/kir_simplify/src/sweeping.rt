@@ -1,21 +1,22 @@
 //! Kernels without the values that no line reads.
 
-ghost use Rattle.std.specs.Prelude.{◌≡◌, IfOk, OnOk};
+ghost use Rattle.std.specs.Prelude.{◌≡◌, true, IfOk, OnOk};
 ghost use Rattle.kir.specs.Tree.{Lines, joined_to};
 ghost use Rattle.kir.specs.Listed.{line_before, lines_of};
 ghost use Rattle.kir.specs.View.{kernel_of};
 ghost use Rattle.kir_simplify.specs.Faithful.{IsFaithful};
 ghost use Rattle.kir_simplify.specs.Passes.{swept, swept_of};
-ghost use Rattle.kir_simplify.specs.Tables.{listed, maybe_before};
+ghost use Rattle.kir_simplify.specs.Tables.{has_no_lines, listed, maybe_before};
 
 use crate::adding::{add_if, add_line, add_loop, copy_work};
 use crate::reading::{is_listed, unread_cells};
-use kir::{Kernel, KernelParts, Line};
+use kir::{Kernel, Line};
 use std::alloc::Global;
 use wg_num::Memory;
 
 /// What is left of a line without lines.
 fn left_of(alloc: Global, unread: &[bool], line: &Line) -> Result<Option<Line>, Memory>
+    requires { has_no_lines line.now ≡ true }
     ensures { IfOk result (λ left. (rest : Lines) →
         maybe_before left (swept (listed unread.now) rest) ≡ swept (listed unread.now) (line_before line.now rest)) }
 {
@@ -55,7 +56,7 @@ fn left_of(alloc: Global, unread: &[bool], line: &Line) -> Result<Option<Line>, 
         })),
         Line::Clear { array } => Ok(Some(Line::Clear { array: *array })),
         Line::Barrier { site } => Ok(Some(Line::Barrier { site: *site })),
-        Line::If { .. } | Line::Loop { .. } => Err(Memory),
+        Line::If { .. } | Line::Loop { .. } => unreachable!(),
     }
 }
 
@@ -67,6 +68,7 @@ fn sweep_plain(
     line: &Line,
     kept: &mut Vec<Line>,
 ) -> Result<(), Memory>
+    requires { has_no_lines line.now ≡ true }
     ensures { OnOk result ((rest : Lines) →
         joined_to (lines_of kept.new.items) (swept (listed unread.now) rest) ≡
         joined_to (lines_of kept.old.items) (swept (listed unread.now) (line_before line.now rest))) }
@@ -127,31 +129,24 @@ fn sweep_onto(
             add_loop(kept, *site, *test_first, test, *answer, body)?;
             Ok(())
         }
-        _ => {
+        Line::Set { .. }
+        | Line::Load { .. }
+        | Line::Store { .. }
+        | Line::Clear { .. }
+        | Line::Barrier { .. } => {
             sweep_plain(alloc, unread, line, kept)?;
             Ok(())
         }
     }
 }
 
-/// The kernel without the lines that set an unread value.
-fn swept_kernel(alloc: Global, kernel: Kernel) -> Result<Kernel, Memory>
-    ensures { IfOk result (λ k. kernel_of k ≡ swept_of (kernel_of kernel)) }
+/// The kernel's lines without those that set an unread value.
+fn swept_body(alloc: Global, kernel: &Kernel) -> Result<Vec<Line>, Memory>
+    ensures { IfOk result (λ body. lines_of body.items ≡ (swept_of (kernel_of kernel.now)).body) }
 {
-    let unread = unread_cells(alloc, &kernel)?;
+    let unread = unread_cells(alloc, kernel)?;
     let body = sweep_lines(alloc, &unread, &kernel.body)?;
-    let parts = KernelParts {
-        params: kernel.params,
-        cells: kernel.cells,
-        arrays: kernel.arrays,
-        tables: kernel.tables,
-        body,
-        sites: kernel.sites,
-    };
-    match parts.checked() {
-        Some(kernel) => Ok(kernel),
-        None => Err(Memory),
-    }
+    Ok(body)
 }
 
 /// The kernel without the lines that set a value on the way which no line reads. Memory where it was
@@ -160,6 +155,13 @@ pub fn sweep(alloc: Global, kernel: Kernel) -> Result<Kernel, Memory>
     ensures exact { IfOk result (λ k. kernel_of k ≡ swept_of (kernel_of kernel)) }
     ensures faithful { IfOk result (λ k. IsFaithful (kernel_of kernel) (kernel_of k)) }
 {
-    let swept = swept_kernel(alloc, kernel)?;
-    Ok(swept)
+    let body = swept_body(alloc, &kernel)?;
+    Ok(Kernel {
+        params: kernel.params,
+        cells: kernel.cells,
+        arrays: kernel.arrays,
+        tables: kernel.tables,
+        body,
+        sites: kernel.sites,
+    })
 }

@@ -5,5 +5,5 @@ use Rattle.kir_simplify.proofs.counting.+count.Given as goal
 
 abbrev pub invariant-count_lines-loop-line : goal.invariant-count_lines-loop-line
 invariant-count_lines-loop-line l =
-    (c : ℕ) → sets_in c (lines_of (drop l.line-index l.lines)) + get_or l.sets c 0 ≡
-    sets_in c (lines_of l.lines) + get_or l.fn.sets c 0
+    (c : ℕ) → sets_in c (lines_of (drop l.line-index l.lines)) + get_or l.sets.items c 0 ≡
+    sets_in c (lines_of l.lines) + get_or l.fn.sets.items c 0

@@ -1,7 +1,8 @@
-use Rattle.std.proofs.Common.{◌≡◌, ℕ, drop}
-use Rattle.kir.specs.Tree.{joined_to}
-use Rattle.kir.specs.Listed.{lines_of}
-use Rattle.kir_simplify.specs.Passes.{folded}
+use Rattle.std.proofs.Common.{◌≡◌, ℕ, ◌+◌, ◌*◌, drop}
+use Rattle.kir.specs.Tree.{NoLine, joined_to}
+use Rattle.kir.specs.Listed.{line_before, lines_of}
+use Rattle.kir_simplify.specs.Computable.{AreComputable}
+use Rattle.kir_simplify.specs.Passes.{folded, size_of}
 use Rattle.kir_simplify.specs.Tables.{is_one_at, known_by, unlearned}
 use Rattle.kir_simplify.proofs.folding.+fold.Given as goal
 
@@ -11,4 +12,12 @@ invariant-fold_lines-loop-line l = record {
   made : joined_to (lines_of l.made.items)
       (folded (is_one_at l.sets) (known_by l.known.items) (lines_of (drop l.line-index l.lines))) ≡
       folded (is_one_at l.sets) (known_by l.fn.known.items) (lines_of l.lines);
+  computable : AreComputable (is_one_at l.sets) (known_by l.known.items) (lines_of (drop l.line-index l.lines));
 }
+
+-- the size, and which function walks
+abbrev pub decreases-fold_lines : goal.decreases-fold_lines
+decreases-fold_lines l = 2 * size_of (lines_of l.lines.now) + 1
+
+abbrev pub decreases-fold_onto : goal.decreases-fold_onto
+decreases-fold_onto l = 2 * size_of (line_before l.line.now NoLine)

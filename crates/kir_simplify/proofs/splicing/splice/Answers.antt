@@ -1,14 +1,23 @@
-use Rattle.std.proofs.Common.{subst, sym, ◌≡◌, true}
+use Rattle.std.proofs.Common.{◌≡◌, ◌∙◌, true, subst, sym, ap}
 use Rattle.kir.specs.Tree.{Kernel}
 use Rattle.kir.specs.View.{kernel_of}
 use Rattle.kir.specs.Fits.{is_kernel}
-use Rattle.kir_simplify.specs.Faithful.{IsFaithful}
+use Rattle.kir_simplify.specs.Faithful.{IsFaithful, with_body}
 use Rattle.kir_simplify.proofs.Spliced.{spliced_faithful}
 use Rattle.kir_simplify.proofs.SplicedParting.{comes_too}
+use Rattle.kir_simplify.proofs.Validity.{spliced_valid}
 use Rattle.kir_simplify.proofs.splicing.splice.Goals as goal
 
 pub returns-clause-faithful : goal.returns-clause-faithful
 returns-clause-faithful c =
-    subst (λ (k : Kernel). IsFaithful (kernel_of c.args.kernel) k) (sym c.in_ok-spliced.ensures)
+    subst (λ (k : Kernel). IsFaithful (kernel_of c.args.kernel) k)
+    (sym (ap (with_body (kernel_of c.args.kernel)) c.in_ok-body.ensures))
     (spliced_faithful (kernel_of c.args.kernel) (comes_too (kernel_of c.args.kernel)) c.args.kernel.valid
-    (subst (λ (k : Kernel). is_kernel k ≡ true) c.in_ok-spliced.ensures c.in_ok-spliced.spliced.valid))
+    (spliced_valid (kernel_of c.args.kernel) c.args.kernel.valid))
+
+pub invariant_of-result : goal.invariant_of-result
+invariant_of-result c = record {
+  valid = subst (λ (k : Kernel). is_kernel k ≡ true)
+      (sym (ap (with_body (kernel_of c.args.kernel)) c.in_ok-body.ensures))
+      (spliced_valid (kernel_of c.args.kernel) c.args.kernel.valid);
+}

@@ -8,5 +8,5 @@ use Rattle.kir_simplify.proofs.splicing.splice_plain.Goals as goal
 pub returns : goal.returns
 returns c = λ rest.
     c.in_ok-add_line.ensures (spliced rest) ∙
-    ap (joined_to (lines_of c.args.kept.now.items)) (c.in_ok-line.ensures.same (spliced rest) ∙
-    sym (spliced_plain c.args.line.now c.in_ok-line.ensures.plain rest))
+    ap (joined_to (lines_of c.args.kept.now.items)) (c.in_ok-line.ensures (spliced rest) ∙
+    sym (spliced_plain c.args.line.now c.requires rest))
