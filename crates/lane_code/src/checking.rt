@@ -248,6 +248,16 @@ impl Code {
         ensures counts { IfSome result (λ c. c.counts ≡ counted steps.items) }
     {
         let counts = count(&steps)?;
+        Code::with_counts(steps, counts)
+    }
+
+    /// The code of these steps with so many registers, which may be more than they name; `None`
+    /// exactly where they are none.
+    pub fn with_counts(steps: Vec<Step>, counts: Counts) -> Option<Code>
+        ensures some { is_some result ≡ is_code counts steps.items }
+        ensures steps { IfSome result (λ c. c.steps.items ≡ steps.items) }
+        ensures counts { IfSome result (λ c. c.counts ≡ counts) }
+    {
         if are_well(counts, &steps) {
             Some(Code { steps, counts })
         } else {

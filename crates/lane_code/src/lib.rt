@@ -8,7 +8,7 @@ pub mod listings;
 pub mod operand;
 pub mod parts;
 pub mod program;
-mod row;
+pub mod row;
 pub mod step;
 pub mod text;
 

@@ -362,6 +362,7 @@ impl GroupParts {
         ensures kernel { IfSome result (λ g. g.kernel ≡ self.kernel) }
         ensures width { IfSome result (λ g. g.width ≡ self.width) }
         ensures same { IfSome result (λ g. plain_of g ≡ parts_of self) }
+        ensures tables { IfSome result (λ g. g.tables ≡ self.tables) }
     {
         if !self.fit() {
             return None;

@@ -6,9 +6,9 @@ ghost use Rattle.lane_code.specs.Rows.{row_of, active};
 use crate::operand::{Label, Operand, Role};
 use crate::step::{Bank, Reg, Step};
 
-/// The name of a step, and its operands in the order of the listing.
+/// The name of a step, and its operands in the order of the listing: the first `count` of seven.
 #[derive(Clone, Copy)]
-pub(crate) struct Row {
+pub struct Row {
     pub name: &'static [u8],
     pub operands: [Operand; 7],
     pub count: usize,
@@ -16,7 +16,7 @@ pub(crate) struct Row {
 
 impl Row {
     /// The operands.
-    pub(crate) fn list(&self) -> &[Operand]
+    pub fn list(&self) -> &[Operand]
         requires { self.now.count ≤ 7 }
         ensures { result.now ≡ take self.now.count self.now.operands }
     {
@@ -50,7 +50,7 @@ fn active(mask: Reg) -> Operand
 }
 
 /// The row of a step.
-pub(crate) fn row_of(step: Step) -> Row
+pub fn row_of(step: Step) -> Row
     ensures name { result.name.now ≡ (row_of step).name }
     ensures operands { take result.count result.operands ≡ (row_of step).operands }
     ensures few { result.count ≤ 7 }
