@@ -1,0 +1,11 @@
+pub mod Again
+pub mod Lists
+pub mod NodesAgain
+pub mod ObjectAgain
+pub mod Loops
+pub mod NodeRows
+pub mod NodeLoops
+pub mod NodeSteps
+pub mod Decoding
+pub mod Together
+pub mod DeepEnough

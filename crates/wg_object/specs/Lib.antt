@@ -1,0 +1,11 @@
+pub mod Numbers
+pub mod Plain
+pub mod Text
+pub mod Valid
+pub mod Nodes
+pub mod Reading
+pub mod Views
+pub mod View
+pub mod Limits
+pub mod Shell
+pub mod Depth
