@@ -2,6 +2,7 @@ mod Arguments
 pub mod Ends
 mod Joining
 mod Lowering
+mod Marks
 mod Past
 mod Patch
 pub mod Roots

@@ -21,7 +21,7 @@ use Rattle.mask_lower.specs.declared.registers.Operand.{Operand}
 use Rattle.mask_lower.specs.Banks.{crosses, mask_reg, advanced}
 use Rattle.mask_lower.specs.Atoms.{right_atom, atoms_of, atoms_in, region_atoms}
 use Rattle.mask_lower.specs.Registers.{Frame, frame_for, first_constants, cell_at, operand, past_atom, past, constants}
-use Rattle.mask_lower.specs.Homes.{get_code, cell_code, entry_code, put_code, exit_code}
+use Rattle.mask_lower.specs.Homes.{sets_first, get_code, cell_code, entry_code, put_cells, put_code, exit_code}
 use Rattle.mask_lower.specs.Lowered.{moves, amount_moved, result_at, right_at, brought, work_code, skipped, otherwise}
 use Rattle.mask_lower.specs.Lowered.{turn_code, lines_code, vote_code, begun_code, region_steps}
 use Rattle.mask_lower.specs.Counts.{load_steps, store_steps, SameAccesses}
@@ -158,16 +158,18 @@ module _ (l s : ℕ → ℕ) where
   get_quiet to (Some (Column k)) = refl
   get_quiet to (Some (Once k)) = refl
 
-  cell_quiet : (cell : Option Operand) (h : Option Home) → tally (cell_code cell h) ≡ 0
-  cell_quiet None h = refl
-  cell_quiet (Some cell) h = get_quiet cell.at h
+  cell_quiet : (cell : Option Operand) (first : Test) (h : Option Home) → tally (cell_code cell first h) ≡ 0
+  cell_quiet None first h = refl
+  cell_quiet (Some cell) true h = refl
+  cell_quiet (Some cell) false h = get_quiet cell.at h
 
-  entry_quiet : (homes : List Home) (number : ℕ) (cells : List (Option Operand)) →
-      tally (entry_code homes number cells) ≡ 0
-  entry_quiet homes number [] = refl
-  entry_quiet homes number (cell ∷ cells) =
-      quiet_before (cell_code cell (slice_get homes number)) (entry_code homes (number + 1) cells)
-      (cell_quiet cell (slice_get homes number)) ∙ entry_quiet homes (number + 1) cells
+  entry_quiet : (homes : List Home) (lines : Lines) (number : ℕ) (cells : List (Option Operand)) →
+      tally (entry_code homes lines number cells) ≡ 0
+  entry_quiet homes lines number [] = refl
+  entry_quiet homes lines number (cell ∷ cells) =
+      quiet_before (cell_code cell (sets_first number lines) (slice_get homes number))
+      (entry_code homes lines (number + 1) cells)
+      (cell_quiet cell (sets_first number lines) (slice_get homes number)) ∙ entry_quiet homes lines (number + 1) cells
 
   put_quiet : (cell : Operand) (h : Option Home) → tally (put_code cell h) ≡ 0
   put_quiet cell None = refl
@@ -238,17 +240,19 @@ module _ (l s : ℕ → ℕ) where
       let atoms = region_atoms region in
       let f = frame_for kernel atoms in
       let next = first_constants f in
-      let entry = entry_code homes 0 f.cells in
+      let entry = entry_code homes region.lines 0 f.cells in
       let front = constants next atoms ++ entry in
       let lines = begun_code f (length front) next region.from_vote region.lines in
       let after = past next (atoms_in region.lines) in
       let vote = vote_code f after region.answer in
-      let exit = exit_code homes f.cells region.live in
+      let put = put_cells region.lines region.live in
+      let exit = exit_code homes f.cells put in
       quiet_before front (lines ++ (vote ++ exit))
-      (quiet_before (constants next atoms) entry (constants_quiet next atoms) ∙ entry_quiet homes 0 f.cells)
+      (quiet_before (constants next atoms) entry (constants_quiet next atoms)
+      ∙ entry_quiet homes region.lines 0 f.cells)
       ∙ tally-append lines (vote ++ exit)
       ∙ ap₂ (λ m n. m + n) (begun_tally f (length front) next region.from_vote region.lines)
-      (quiet_before vote exit (vote_quiet f after region.answer) ∙ exit_quiet homes f.cells region.live)
+      (quiet_before vote exit (vote_quiet f after region.answer) ∙ exit_quiet homes f.cells put)
       ∙ add-zero (tally_lines region.lines)
 
 abbrev one_at : ℕ → ℕ → ℕ

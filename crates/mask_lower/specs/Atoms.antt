@@ -1,5 +1,5 @@
 -- The atoms that lines name, in the order in which their code reads them.
-use Rattle.std.specs.Prelude.{ℕ, List, [], ◌∷◌, ◌++◌, map, Option, Some, None, if◌then◌else◌}
+use Rattle.std.specs.Prelude.{List, [], ◌∷◌, ◌++◌, Option, Some, None, if◌then◌else◌}
 use Rattle.wg_num.specs.declared.types.IntType.{IntType}
 use Rattle.wg_num.specs.declared.types.Bin.{Bin}
 use Rattle.wg_num.specs.Operators.{is_shift}
@@ -47,10 +47,6 @@ abbrev pub atoms_voted : Option Atom → List Atom
 atoms_voted None = []
 atoms_voted (Some answer) = answer ∷ []
 
--- a cell as an atom
-abbrev pub cell_atom : ℕ → Atom
-cell_atom c = Cell c
-
--- what a region names: its lines, its answer and the cells that are live at its end
+-- what a region names: its lines and its answer
 abbrev pub region_atoms : RegionOf → List Atom
-region_atoms region = atoms_in region.lines ++ (atoms_voted region.answer ++ map cell_atom region.live)
+region_atoms region = atoms_in region.lines ++ atoms_voted region.answer

@@ -5,5 +5,6 @@ pub mod Counts
 pub mod Banks
 pub mod Atoms
 pub mod Registers
+pub mod Uses
 pub mod Homes
 pub mod Lowered

@@ -24,7 +24,7 @@ use Rattle.mask_lower.specs.Banks.{crosses, amount_type, mask_reg, register_at}
 use Rattle.mask_lower.specs.Atoms.{right_atom, atoms_of, atoms_in, region_atoms}
 use Rattle.mask_lower.specs.Registers.{Frame, frame_for, first_constants, root_at, cell_at, operand, past_atom, past}
 use Rattle.mask_lower.specs.Registers.{constants}
-use Rattle.mask_lower.specs.Homes.{entry_code, exit_code}
+use Rattle.mask_lower.specs.Homes.{entry_code, put_cells, exit_code}
 
 -- ---- lines that compute
 
@@ -195,14 +195,16 @@ abbrev pub vote_code : Frame → Free → Option Atom → List Step
 vote_code f next None = []
 vote_code f next (Some answer) = test_step f next answer 1 0 ∷ step.VotePut (mask_reg 1) (mask_reg 0) ∷ []
 
--- the steps of a region: constants, cells from their homes, lines, the vote, and live cells to their homes
+-- the steps of a region: constants, cells from their homes, lines, the vote, and the live cells that it sets to their
+-- homes
 abbrev pub steps_with : Frame → List Atom → List Home → RegionOf → List Step
 steps_with f atoms homes region =
     let next = first_constants f in
-    let front = constants next atoms ++ entry_code homes 0 f.cells in
+    let front = constants next atoms ++ entry_code homes region.lines 0 f.cells in
     front
     ++ (begun_code f (length front) next region.from_vote region.lines
-    ++ (vote_code f (past next (atoms_in region.lines)) region.answer ++ exit_code homes f.cells region.live))
+    ++ (vote_code f (past next (atoms_in region.lines)) region.answer ++ exit_code homes f.cells
+    (put_cells region.lines region.live)))
 
 -- the steps of a region of a kernel whose cells have these homes
 abbrev pub region_steps : Kernel → List Home → RegionOf → List Step

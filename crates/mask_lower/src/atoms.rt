@@ -1,6 +1,6 @@
 //! The atoms that a region names.
 
-ghost use Rattle.std.specs.Prelude.{◌≡◌, ◌++◌, [], map, IfOk, OnOk};
+ghost use Rattle.std.specs.Prelude.{◌≡◌, ◌++◌, [], IfOk, OnOk};
 ghost use Rattle.kir.specs.Tree.{Lines};
 ghost use Rattle.kir.specs.Listed.{line_before, lines_of, work_of};
 ghost use Rattle.regions.specs.View.{region_of};
@@ -142,23 +142,12 @@ fn list_answer(atoms: &mut Vec<Atom>, answer: Option<Atom>) -> Result<(), Memory
     }
 }
 
-/// Cells.
-fn list_cells(atoms: &mut Vec<Atom>, cells: &Vec<u32>) -> Result<(), Memory>
-    ensures { OnOk result (atoms.new.items ≡ atoms.old.items ++ map spec.cell_atom cells.now.items) }
-{
-    for cell in cells {
-        push(atoms, Atom::Cell(*cell))?;
-    }
-    Ok(())
-}
-
-/// What a region names: its lines, its answer and the cells that are live at its end.
+/// What a region names: its lines and its answer.
 pub(crate) fn region_atoms(alloc: Global, region: &Region) -> Result<Vec<Atom>, Memory>
     ensures { IfOk result (λ atoms. atoms.items ≡ spec.region_atoms (region_of region.now)) }
 {
     let mut atoms = Vec::new(alloc);
     list_lines(&mut atoms, &region.lines)?;
     list_answer(&mut atoms, region.answer)?;
-    list_cells(&mut atoms, &region.live)?;
     Ok(atoms)
 }

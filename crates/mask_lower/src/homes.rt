@@ -1,6 +1,7 @@
 //! The code at the ends of a region.
 
 ghost use Rattle.std.specs.Prelude.{◌≡◌, ◌++◌, slice_get, OnOk};
+ghost use Rattle.kir.specs.Listed.{lines_of};
 ghost use Rattle.mask_lower.specs.Registers.{frame_of};
 ghost use Rattle.mask_lower.specs.Homes as spec;
 ghost use Rattle.mask_lower.specs.Lowered.{vote_code};
@@ -8,9 +9,11 @@ ghost use Rattle.mask_lower.specs.Lowered.{vote_code};
 use crate::masks::lower_test;
 use crate::placing::cell_at;
 use crate::registers::{Free, Layout, Operand, mask_reg, slot_reg};
+use crate::setting::{first_uses, is_set_first};
 use ctx_plan::Home;
-use kir::Atom;
+use kir::{Atom, Line};
 use lane_code::{Reg, Step};
+use std::alloc::Global;
 use wg_num::{Memory, push};
 
 /// The home of a cell.
@@ -50,30 +53,44 @@ fn lower_get(code: &mut Vec<Step>, to: Reg, home: Option<Home>) -> Result<(), Me
     }
 }
 
-/// A cell gets what its home has, if it is named.
-fn lower_cell(code: &mut Vec<Step>, cell: Option<Operand>, home: Option<Home>) -> Result<(), Memory>
-    ensures { OnOk result (code.new.items ≡ code.old.items ++ spec.cell_code cell home) }
+/// A cell gets what its home has, if it is named and not set first.
+fn lower_cell(
+    code: &mut Vec<Step>,
+    cell: Option<Operand>,
+    first: bool,
+    home: Option<Home>,
+) -> Result<(), Memory>
+    ensures { OnOk result (code.new.items ≡ code.old.items ++ spec.cell_code cell first home) }
 {
     match cell {
         None => Ok(()),
         Some(cell) => {
-            lower_get(code, cell.at, home)?;
-            Ok(())
+            if first {
+                Ok(())
+            } else {
+                lower_get(code, cell.at, home)?;
+                Ok(())
+            }
         }
     }
 }
 
-/// The named cells come from their homes.
+/// The named cells that the lines do not set before they read them come from their homes.
 pub(crate) fn lower_entry(
+    alloc: Global,
     code: &mut Vec<Step>,
     cells: &Vec<Option<Operand>>,
     homes: &Vec<Home>,
+    lines: &Vec<Line>,
 ) -> Result<(), Memory>
-    ensures { OnOk result (code.new.items ≡ code.old.items ++ spec.entry_code homes.now.items 0 cells.now.items) }
+    ensures { OnOk result (code.new.items ≡ code.old.items ++ spec.entry_code homes.now.items
+        (lines_of lines.now.items) 0 cells.now.items) }
 {
+    let uses = first_uses(alloc, cells.len(), lines)?;
     let mut number: usize = 0;
     for cell in cells {
-        lower_cell(code, *cell, home_of(homes, number))?;
+        let first = is_set_first(&uses, number);
+        lower_cell(code, *cell, first, home_of(homes, number))?;
         number += 1;
     }
     Ok(())
@@ -122,13 +139,13 @@ fn lower_put(code: &mut Vec<Step>, cell: Operand, home: Option<Home>) -> Result<
 pub(crate) fn lower_exit(
     code: &mut Vec<Step>,
     cells: &Vec<Option<Operand>>,
-    live: &Vec<u32>,
+    put: &Vec<u32>,
     homes: &Vec<Home>,
 ) -> Result<(), Memory>
     ensures { OnOk result (code.new.items ≡ code.old.items ++ spec.exit_code homes.now.items cells.now.items
-        live.now.items) }
+        put.now.items) }
 {
-    for cell in live {
+    for cell in put {
         let operand = cell_at(cells, *cell)?;
         lower_put(code, operand, home_of(homes, *cell as usize))?;
     }

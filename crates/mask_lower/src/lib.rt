@@ -8,6 +8,7 @@ mod masks;
 mod placing;
 mod region;
 mod registers;
+mod setting;
 mod work;
 
 pub use region::lower_region;

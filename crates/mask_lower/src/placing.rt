@@ -55,7 +55,7 @@ fn mark_all(marks: &mut Vec<bool>, atoms: &Vec<Atom>) -> Result<(), Memory>
 }
 
 /// Whether the cell is marked.
-fn is_marked(marks: &Vec<bool>, number: usize) -> bool
+pub(crate) fn is_marked(marks: &Vec<bool>, number: usize) -> bool
     ensures { result ≡ slice_index_or marks.now.items number false }
 {
     marks.get(number).copied().unwrap_or(false)

@@ -15,6 +15,7 @@ use crate::homes::{lower_entry, lower_exit, lower_vote};
 use crate::lines::{Scope, lower_lines, lower_rest};
 use crate::placing::{first_constants, layout, lower_constants};
 use crate::registers::{Free, Layout};
+use crate::setting::put_cells;
 use ctx_plan::{Home, Plan};
 use kir::{Atom, Kernel};
 use lane_code::{Code, Step};
@@ -72,10 +73,11 @@ fn steps_with(
     let first = first_constants(layout)?;
     let mut code = Vec::new(alloc);
     lower_constants(&mut code, first, atoms)?;
-    lower_entry(&mut code, &layout.cells, homes)?;
+    lower_entry(alloc, &mut code, &layout.cells, homes, &region.lines)?;
     let next = lower_begun(&mut code, region, layout, first)?;
     lower_vote(&mut code, region.answer, layout, next)?;
-    lower_exit(&mut code, &layout.cells, &region.live, homes)?;
+    let put = put_cells(alloc, layout.cells.len(), &region.lines, &region.live)?;
+    lower_exit(&mut code, &layout.cells, &put, homes)?;
     Ok(code)
 }
 

@@ -3,7 +3,7 @@ use Rattle.std.proofs.Common.{◌≡◌, ℕ, suc, ◌+◌, ◌-◌, ◌%◌, �
 use Rattle.std.proofs.Common.{Option, Some, None, slice_get, refl, sym, ap, ◌∙◌, subst, ⊎_elim, arith, length-append}
 use Rattle.std.proofs.Common.{mod-eq_of_lt, mod-lt}
 use Rattle.std.specs.Prelude.{slice_index_or, slice_set}
-use Rattle.std.specs.Prelude.{Bool as Test, true}
+use Rattle.std.specs.Prelude.{Bool as Test, true, false}
 use Rattle.std.proofs.lemmas.Bool.{true≢false, and_parts, ltb-true, cases_eq}
 use Rattle.std.proofs.lemmas.List.{get_or-map, length-map, length-replicate, get_or-replicate, get_or-set_same}
 use Rattle.std.proofs.lemmas.List.{length-set}
@@ -14,7 +14,7 @@ use Rattle.wg_num.proofs.WrapLaws.{bits-lt}
 use Rattle.wg_num.specs.Types.{is_value}
 use Rattle.kir.specs.declared.line.Atom.{Atom}
 use Rattle.kir.specs.declared.line.Atom.TheVariants.{Const, Cell as CellAtom}
-use Rattle.kir.specs.Tree.{Kernel}
+use Rattle.kir.specs.Tree.{Lines, Kernel}
 use Rattle.ctx_plan.specs.declared.plan.Home.{Home}
 use Rattle.ctx_plan.specs.declared.plan.Home.TheVariants as home
 use Rattle.lane_values.specs.Lanes.{lane}
@@ -36,7 +36,7 @@ use Rattle.mask_lower.specs.declared.registers.Free.{Free}
 use Rattle.mask_lower.specs.declared.registers.Operand.{Operand}
 use Rattle.mask_lower.specs.Banks.{register_at, advanced, slot_reg}
 use Rattle.mask_lower.specs.Registers.{Frame, constants}
-use Rattle.mask_lower.specs.Homes.{get_code, entry_code}
+use Rattle.mask_lower.specs.Homes.{sets_first, get_code, cell_code, entry_code}
 use Rattle.mask_lower.specs.Standing.{Holds}
 use Rattle.mask_lower_correct.specs.View.{value_at, is_lane, Shaped, Wrote}
 use Rattle.mask_lower_correct.specs.Framed.{number_in, IsFramed, Held}
@@ -169,24 +169,25 @@ module _ (kernel : Kernel) (mine : Chunk) (f : Frame) (atoms : List Atom) (count
 
   -- ---- cells
 
-  pub record Entered (homes : List Home) (number : ℕ) (st st2 : State) : Type 0 where
+  pub record Entered (homes : List Home) (lines : Lines) (number : ℕ) (st st2 : State) : Type 0 where
     pub outer : SameOuter st st2
     pub masks : st2.registers.masks ≡ st.registers.masks
     pub shape : Shaped counts mine.width st2.registers
     pub above : Above f mine.width st.registers st2.registers
-    pub loaded : (c : ℕ) (op : Operand) → number ≤ c → slice_index_or f.cells c None ≡ Some op → (l : ℕ) →
-        l < mine.width → Loaded (slice_get homes c) st.group mine.first mine.width l op.at.bank
-        (value_at st.registers op.at l) (value_at st2.registers op.at l)
+    pub loaded : (c : ℕ) (op : Operand) → number ≤ c → slice_index_or f.cells c None ≡ Some op →
+        sets_first c lines ≡ false → (l : ℕ) → l < mine.width →
+        Loaded (slice_get homes c) st.group mine.first mine.width l op.at.bank (value_at st.registers op.at l)
+        (value_at st2.registers op.at l)
     pub earlier : (c : ℕ) (op : Operand) → c < number → slice_index_or f.cells c None ≡ Some op → (l : ℕ) →
         l < mine.width → value_at st2.registers op.at l ≡ value_at st.registers op.at l
 
   -- one cell
-  record Got (homes : List Home) (c : ℕ) (op : Operand) (st st1 : State) : Type 0 where
+  record Got (homes : List Home) (first : Test) (c : ℕ) (op : Operand) (st st1 : State) : Type 0 where
     outer : SameOuter st st1
     masks : st1.registers.masks ≡ st.registers.masks
     shape : Shaped counts mine.width st1.registers
     above : Above f mine.width st.registers st1.registers
-    loaded : (l : ℕ) → l < mine.width →
+    loaded : first ≡ false → (l : ℕ) → l < mine.width →
         Loaded (slice_get homes c) st.group mine.first mine.width l op.at.bank (value_at st.registers op.at l)
         (value_at st1.registers op.at l)
     others : (d : ℕ) (o : Operand) → (d ≡ c → ⊥) → slice_index_or f.cells d None ≡ Some o → (l : ℕ) → l < mine.width →
@@ -212,13 +213,24 @@ module _ (kernel : Kernel) (mine : Chunk) (f : Frame) (atoms : List Atom) (count
   scalar_other r v bank.Mask n l e = absurd (true≢false (sym e))
   scalar_other r v bank.Scalar n l e = absurd (true≢false (sym e))
 
-  got_runs : (homes : List Home) (c : ℕ) (op : Operand) (p t : ℕ) (st : State) →
-      slice_index_or f.cells c None ≡ Some op → HasAt code p (get_code op.at (slice_get homes c)) →
+  got_runs : (homes : List Home) (first : Test) (c : ℕ) (op : Operand) (p t : ℕ) (st : State) →
+      slice_index_or f.cells c None ≡ Some op → HasAt code p (cell_code (Some op) first (slice_get homes c)) →
       Shaped counts mine.width st.registers
-      → ((st1 : State) → Got homes c op st st1 →
-      G (code_end mine code t (p + length (get_code op.at (slice_get homes c))) st1)) →
+      → ((st1 : State) → Got homes first c op st st1 →
+      G (code_end mine code t (p + length (cell_code (Some op) first (slice_get homes c))) st1)) →
       G (code_end mine code t p st)
-  got_runs homes c op p t st e has shape go = by (slice_get homes c) refl has go
+  got_runs homes true c op p t st e has shape go =
+      let n : p + 0 ≡ p = omega arith in
+      subst (λ k. G (code_end mine code t k st)) n
+      (go st (record {
+        outer = record { group = refl; buffers = refl };
+        masks = refl;
+        shape = shape;
+        above = λ x l lt b more. refl;
+        loaded = λ first l lt. absurd (true≢false first);
+        others = λ d o ne h l lt. refl;
+      }))
+  got_runs homes false c op p t st e has shape go = by (slice_get homes c) refl has go
     where
       oplane : is_lane op.at.bank ≡ true
       oplane = entry_lane kernel mine.width f atoms counts r0 framed c op e
@@ -232,19 +244,19 @@ module _ (kernel : Kernel) (mine : Chunk) (f : Frame) (atoms : List Atom) (count
 
       nothing : (h : Option Home) → slice_get homes c ≡ h →
           ((l : ℕ) → Loaded h st.group mine.first mine.width l op.at.bank (value_at st.registers op.at l)
-          (value_at st.registers op.at l)) → Got homes c op st st
+          (value_at st.registers op.at l)) → Got homes false c op st st
       nothing h is same = record {
         outer = record { group = refl; buffers = refl };
         masks = refl;
         shape = shape;
         above = λ x l lt b more. refl;
-        loaded = λ l lt. subst (λ o. Loaded o st.group mine.first mine.width l op.at.bank
+        loaded = λ first l lt. subst (λ o. Loaded o st.group mine.first mine.width l op.at.bank
             (value_at st.registers op.at l) (value_at st.registers op.at l)) (sym is) (same l);
         others = λ d o ne h l lt. refl;
       }
 
       by : (h : Option Home) → slice_get homes c ≡ h → HasAt code p (get_code op.at h) →
-          ((st1 : State) → Got homes c op st st1 → G (code_end mine code t (p + length (get_code op.at h)) st1)) →
+          ((st1 : State) → Got homes false c op st st1 → G (code_end mine code t (p + length (get_code op.at h)) st1)) →
           G (code_end mine code t p st)
       by None is has go = let n : p + 0 ≡ p =
           omega arith in subst (λ k. G (code_end mine code t k st)) n (go st (nothing None is (λ l. refl)))
@@ -264,7 +276,7 @@ module _ (kernel : Kernel) (mine : Chunk) (f : Frame) (atoms : List Atom) (count
             masks = w.masks;
             shape = w.shape;
             above = cell_above kernel mine.width f atoms counts r0 framed st.registers c op _ _ _ e w;
-            loaded = λ l lt. subst (λ o. Loaded o st.group mine.first mine.width l op.at.bank
+            loaded = λ first l lt. subst (λ o. Loaded o st.group mine.first mine.width l op.at.bank
                 (value_at st.registers op.at l)
                 (value_at (Rattle.lane_code.specs.Registers.with_lanes st.registers op.at
                 (column_lanes op.at.bank values)) op.at l)) (sym is) (w.here l lt refl);
@@ -298,7 +310,7 @@ module _ (kernel : Kernel) (mine : Chunk) (f : Frame) (atoms : List Atom) (count
             shape = w.shape;
             above = λ x l lt b more. cell_above kernel mine.width f atoms counts r0 framed r1 c op _ _ _ e w x l lt b
                 more ∙ scalar_other st.registers v x.bank x.number l b;
-            loaded = λ l lt. subst (λ o. Loaded o st.group mine.first mine.width l op.at.bank
+            loaded = λ first l lt. subst (λ o. Loaded o st.group mine.first mine.width l op.at.bank
                 (value_at st.registers op.at l)
                 (value_at (Rattle.lane_code.specs.Registers.with_lanes r1 op.at lanes) op.at l)) (sym is)
                 (w.here l lt refl ∙ get_or-replicate mine.width l (Rattle.lane_code.specs.Registers.scalar_of r1
@@ -308,12 +320,13 @@ module _ (kernel : Kernel) (mine : Chunk) (f : Frame) (atoms : List Atom) (count
                 framed d o h);
           }))))
 
-  pub entry_runs : (homes : List Home) (number : ℕ) (cells : List (Option Operand)) (p t : ℕ) (st : State) →
+  pub entry_runs : (homes : List Home) (lines : Lines) (number : ℕ) (cells : List (Option Operand)) (p t : ℕ)
+      (st : State) →
       ((i : ℕ) → slice_index_or f.cells (number + i) None ≡ slice_index_or cells i None) →
-      HasAt code p (entry_code homes number cells) → Shaped counts mine.width st.registers
-      → ((st2 : State) → Entered homes number st st2 →
-      G (code_end mine code t (p + length (entry_code homes number cells)) st2)) → G (code_end mine code t p st)
-  entry_runs homes number [] p t st is has shape go =
+      HasAt code p (entry_code homes lines number cells) → Shaped counts mine.width st.registers
+      → ((st2 : State) → Entered homes lines number st st2 →
+      G (code_end mine code t (p + length (entry_code homes lines number cells)) st2)) → G (code_end mine code t p st)
+  entry_runs homes lines number [] p t st is has shape go =
       let n : p + 0 ≡ p = omega arith in
       subst (λ k. G (code_end mine code t k st)) n
       (go st (record {
@@ -321,7 +334,7 @@ module _ (kernel : Kernel) (mine : Chunk) (f : Frame) (atoms : List Atom) (count
         masks = refl;
         shape = shape;
         above = λ x l lt b more. refl;
-        loaded = λ c op le e l lt. absurd (none_behind c op le e);
+        loaded = λ c op le e first l lt. absurd (none_behind c op le e);
         earlier = λ c op le e l lt. refl;
       }))
     where
@@ -330,29 +343,29 @@ module _ (kernel : Kernel) (mine : Chunk) (f : Frame) (atoms : List Atom) (count
           let i = c - number in
           let at : number + i ≡ c = omega arith in
           none-some op (sym (is i) ∙ ap (λ k. slice_index_or f.cells k None) at ∙ e)
-  entry_runs homes number (None ∷ cells) p t st is has shape go =
-      entry_runs homes (number + 1) cells p t st (λ i. let n : number + 1 + i ≡ number + suc i = omega arith in
+  entry_runs homes lines number (None ∷ cells) p t st is has shape go =
+      entry_runs homes lines (number + 1) cells p t st (λ i. let n : number + 1 + i ≡ number + suc i = omega arith in
       ap (λ k. slice_index_or f.cells k None) n ∙ is (suc i)) has shape (λ st2 entered.
       go st2 (record {
         outer = entered.outer;
         masks = entered.masks;
         shape = entered.shape;
         above = entered.above;
-        loaded = λ c op le e l lt. ⊎_elim
+        loaded = λ c op le e first l lt. ⊎_elim
             (λ same. absurd (none-some op (sym (let n : number + 0 ≡ number = omega arith in
             ap (λ k. slice_index_or f.cells k None) (sym same ∙ sym n) ∙ is 0) ∙ e)))
-            (λ ne. entered.loaded c op (omega arith) e l lt) (cases_eq number c);
+            (λ ne. entered.loaded c op (omega arith) e first l lt) (cases_eq number c);
         earlier = λ c op lt e l ltl. entered.earlier c op (omega arith) e l ltl;
       }))
-  entry_runs homes number (Some op0 ∷ cells) p t st is has shape go =
-      let gc = get_code op0.at (slice_get homes number) in
-      let ec = entry_code homes (number + 1) cells in
+  entry_runs homes lines number (Some op0 ∷ cells) p t st is has shape go =
+      let gc = cell_code (Some op0) (sets_first number lines) (slice_get homes number) in
+      let ec = entry_code homes lines (number + 1) cells in
       let zero_at : number + 0 ≡ number = omega arith in
       let e0 : slice_index_or f.cells number None ≡ Some op0 =
       ap (λ k. slice_index_or f.cells k None) (sym zero_at) ∙ is 0 in
       let len : p + length (gc ++ ec) ≡ p + length gc + length ec = omega (arith, length-append gc ec) in
-      got_runs homes number op0 p t st e0 (has_front code p gc ec has) shape (λ st1 got.
-      entry_runs homes (number + 1) cells (p + length gc) t st1 (λ i. let n : number + 1 + i ≡ number +
+      got_runs homes (sets_first number lines) number op0 p t st e0 (has_front code p gc ec has) shape (λ st1 got.
+      entry_runs homes lines (number + 1) cells (p + length gc) t st1 (λ i. let n : number + 1 + i ≡ number +
       suc i = omega arith in ap (λ k. slice_index_or f.cells k None) n ∙ is (suc i)) (has_back code p gc ec has)
       got.shape (λ st2 entered.
       subst (λ k. G (code_end mine code t k st2)) len
@@ -361,29 +374,31 @@ module _ (kernel : Kernel) (mine : Chunk) (f : Frame) (atoms : List Atom) (count
         masks = entered.masks ∙ got.masks;
         shape = entered.shape;
         above = λ x l lt b more. entered.above x l lt b more ∙ got.above x l lt b more;
-        loaded = λ c op le e l lt. ⊎_elim
-            (λ same. here c op same (same_Some _ _ (sym e0 ∙ ap (λ k. slice_index_or f.cells k None) same ∙ e)) l lt
-            st1 st2 got (entered.earlier number op0 (omega arith) e0 l lt))
+        loaded = λ c op le e first l lt. ⊎_elim
+            (λ same. here c op same (same_Some _ _ (sym e0 ∙ ap (λ k. slice_index_or f.cells k None) same ∙ e))
+            (ap (λ k. sets_first k lines) same ∙ first) l lt st1 st2 got
+            (entered.earlier number op0 (omega arith) e0 l lt))
             (λ ne. later c op l st1 got (got.others c op (λ h. ne (sym h)) e l lt) (value_at st2.registers op.at l)
-            (entered.loaded c op (omega arith) e l lt))
+            (entered.loaded c op (omega arith) e first l lt))
             (cases_eq number c);
         earlier = λ c op lt e l ltl. entered.earlier c op (omega arith) e l ltl ∙
             got.others c op (λ h. omega (arith, h)) e l ltl;
       }))))
     where
-      here : (c : ℕ) (op : Operand) → number ≡ c → op0 ≡ op → (l : ℕ) → l < mine.width → (st1 st2 : State) →
-          Got homes number op0 st st1 → value_at st2.registers op0.at l ≡ value_at st1.registers op0.at l
+      here : (c : ℕ) (op : Operand) → number ≡ c → op0 ≡ op → sets_first number lines ≡ false → (l : ℕ) →
+          l < mine.width → (st1 st2 : State) → Got homes (sets_first number lines) number op0 st st1 →
+          value_at st2.registers op0.at l ≡ value_at st1.registers op0.at l
           → Loaded (slice_get homes c) st.group mine.first mine.width l op.at.bank (value_at st.registers op.at l)
           (value_at st2.registers op.at l)
-      here c op same is_op l lt st1 st2 got kept =
+      here c op same is_op first l lt st1 st2 got kept =
           subst (λ k. Loaded (slice_get homes k) st.group mine.first mine.width l op.at.bank
           (value_at st.registers op.at l) (value_at st2.registers op.at l)) same
           (subst (λ (o : Operand). Loaded (slice_get homes number) st.group mine.first mine.width l o.at.bank
           (value_at st.registers o.at l) (value_at st2.registers o.at l)) is_op
           (subst (λ v. Loaded (slice_get homes number) st.group mine.first mine.width l op0.at.bank
-          (value_at st.registers op0.at l) v) (sym kept) (got.loaded l lt)))
+          (value_at st.registers op0.at l) v) (sym kept) (got.loaded first l lt)))
 
-      later : (c : ℕ) (op : Operand) (l : ℕ) (st1 : State) → Got homes number op0 st st1 →
+      later : (c : ℕ) (op : Operand) (l : ℕ) (st1 : State) → Got homes (sets_first number lines) number op0 st st1 →
           value_at st1.registers op.at l ≡ value_at st.registers op.at l → (v : ℕ)
           → Loaded (slice_get homes c) st1.group mine.first mine.width l op.at.bank (value_at st1.registers op.at l)
           v → Loaded (slice_get homes c) st.group mine.first mine.width l op.at.bank

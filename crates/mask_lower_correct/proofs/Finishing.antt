@@ -1,9 +1,9 @@
 -- How a region's code goes on behind its lines: the items' votes are put, live cells go home, and the code is done.
-use Rattle.std.proofs.Common.{◌≡◌, ℕ, ◌+◌, ◌-◌, ◌*◌, ◌<◌, ◌≤◌, List, [], ◌++◌, length, Option, Some, None, slice_get}
+use Rattle.std.proofs.Common.{◌≡◌, ℕ, ◌+◌, ◌-◌, ◌*◌, ◌<◌, ◌≤◌, ℤ, List, [], ◌++◌, length, Option, Some, None, slice_get}
 use Rattle.std.proofs.Common.{refl, sym, ap, ◌∙◌, subst, ⊎_elim, arith, length-append}
 use Rattle.std.specs.Prelude.{slice_index_or, nat_lt, ◌&&◌, option_map}
 use Rattle.std.specs.Prelude.{Bool as Test, true, false}
-use Rattle.std.proofs.lemmas.Bool.{and_parts, cases_lt, ltb-true, or_left}
+use Rattle.std.proofs.lemmas.Bool.{true≢false, and_parts, cases_lt, ltb-true, or_left}
 use Rattle.std.proofs.lemmas.Option.{none-some, same_Some, slice_get_within}
 use Rattle.wg_num.specs.declared.types.IntType.{IntType}
 use Rattle.lane_values.specs.Lanes.{zip3}
@@ -12,9 +12,10 @@ use Rattle.cl_model.specs.Sizes.{Launch, group_size, group_of, item_count}
 use Rattle.kir.specs.declared.line.Atom.{Atom}
 use Rattle.kir.specs.Tree.{Cell, Kernel}
 use Rattle.kir.specs.Places.{Tasks}
-use Rattle.kir.specs.Live.{reads, some_reads}
+use Rattle.kir.specs.Live.{reads, some_reads, live_behind}
 use Rattle.kir.specs.Steps.{Item}
 use Rattle.kir.specs.Meaning.{machine_of}
+use Rattle.ctx_plan.specs.declared.plan.Home.{Home}
 use Rattle.ctx_plan.specs.declared.plan.Home.TheVariants as home
 use Rattle.ctx_plan.specs.Planned.{Planned}
 use Rattle.ctx_plan.specs.Asks.{Suits}
@@ -38,15 +39,15 @@ use Rattle.group_moves.proofs.Runs.{leads_then}
 use Rattle.kir_moves.specs.Stand.{start_stage}
 use Rattle.kir_moves.proofs.Live.{behind_live}
 use Rattle.regions.specs.Tree.{RegionOf}
-use Rattle.regions.specs.Spans.{IsEnd}
+use Rattle.regions.specs.Spans.{Spans, IsEnd}
 use Rattle.mask_lower.specs.declared.registers.Free.{Free}
 use Rattle.mask_lower.specs.Banks.{mask_reg}
 use Rattle.mask_lower.specs.Atoms.{atoms_voted}
 use Rattle.mask_lower.specs.Layout.{kernel_chunk, HasShape, Mirrors}
-use Rattle.mask_lower.specs.Standing.{HasLive, HasVoted}
-use Rattle.mask_lower.specs.Following.{ChunkOf, ChunkDone, ReadsVote}
+use Rattle.mask_lower.specs.Standing.{Holds, HasLive, HasVoted, LanesStand}
+use Rattle.mask_lower.specs.Following.{ChunkOf, SlotsBegun, ChunkDone, ReadsVote}
 use Rattle.mask_lower.specs.Registers.{Frame, cell_at, operand}
-use Rattle.mask_lower.specs.Homes.{exit_code}
+use Rattle.mask_lower.specs.Homes.{put_cells, exit_code}
 use Rattle.mask_lower.specs.Lowered.{vote_code}
 use Rattle.mask_lower_correct.specs.View.{value_at, Shaped}
 use Rattle.mask_lower_correct.specs.Framed.{IsFramed, Held}
@@ -57,7 +58,12 @@ use Rattle.mask_lower_correct.proofs.Standing.{good_there}
 use Rattle.mask_lower_correct.proofs.Atoms.{operand_is, entry_at}
 use Rattle.mask_lower.proofs.Ends.{ends_even}
 use Rattle.mask_lower_correct.proofs.Ends.{ends_kept, ends_apart}
-use Rattle.mask_lower_correct.proofs.Exiting.{Left, exit_runs}
+use Rattle.mask_lower_correct.proofs.Exiting.{HomeSame, Left, exit_runs}
+use Rattle.mask_lower_correct.proofs.Setting.{put_of, put_there}
+use Rattle.regions_unset.proofs.Unset.{unset_kept}
+use Rattle.regions_unset.proofs.Living.{unset_before}
+use Rattle.kir_uniform.specs.Uniform.{sets_in}
+use Rattle.kir_uniform.proofs.Living.{true_or_false}
 use Rattle.mask_lower_correct.proofs.Soundness.{yes_at, test_runs, yes_is}
 
 module _ (kernel : Kernel) (launch : Launch) (width : ℕ) (chunk : ChunkOf kernel launch width) (turns : ℕ)
@@ -67,9 +73,12 @@ module _ (kernel : Kernel) (launch : Launch) (width : ℕ) (chunk : ChunkOf kern
     Type 0) (Goal : Tasks) (closed : Closed kernel launch width chunk turns w0 Sites Goal Good)
     (plan : Planned) (suits : Suits kernel plan) (shaped : HasShape plan.columns plan.slots (group_size launch) g0)
     (region : RegionOf) (e : Tasks) (is_end : IsEnd kernel e) (live : HasLive kernel region.live e)
-    (reads_vote : ReadsVote region.answer e) (fits : RegionFits kernel region)
+    (reads_vote : ReadsVote region.answer e) (fits : RegionFits kernel region) (front : Tasks)
+    (spans : Spans region front e)
+    (stands : LanesStand kernel plan.homes chunk.lanes chunk.first w0 g0.columns g0.entries front)
+    (slots : SlotsBegun plan.homes region.lines e g0)
     (done : (t : ℕ) (st : State) (after : Stage Item) →
-    ChunkDone kernel plan.homes launch width chunk region.answer e w0 turns g0 t st after →
+    ChunkDone kernel plan.homes launch width chunk region e w0 turns g0 t st after →
     Good (record { end = end.Done; turns = t; state = st })) where
   abbrev EndFrom : ℕ → ℕ → State → Ended
   EndFrom t p st =
@@ -201,20 +210,23 @@ module _ (kernel : Kernel) (launch : Launch) (width : ℕ) (chunk : ChunkOf kern
 
   -- the code is done behind the exit
   pub finish : (next : Free) (p t : ℕ) (st : State) (w : Stage Item) →
-      HasAt code p (vote_code f next region.answer ++ exit_code plan.homes f.cells region.live) →
-      length code ≡ p + length (vote_code f next region.answer ++ exit_code plan.homes f.cells region.live)
+      HasAt code p (vote_code f next region.answer ++
+      exit_code plan.homes f.cells (put_cells region.lines region.live)) →
+      length code ≡ p + length (vote_code f next region.answer ++
+      exit_code plan.homes f.cells (put_cells region.lines region.live))
       → AtStage t (λ l. e) st w → ((l : ℕ) → l < width →
       mask_at st.registers 0 l ≡ nat_lt (chunk.first + l) (group_size launch)) →
       Held f width r0 next (atoms_voted region.answer)
       → ((c : ℕ) → some_reads c (atoms_voted region.answer) ≡ true → some_reads c atoms ≡ true) →
-      ((c : ℕ) → IsOneOf region.live c → some_reads c atoms ≡ true) → Good (EndFrom t p st)
-  finish next p t st w has whole sim mask held names lives =
+      ((c : ℕ) → sets_in c region.lines ≡ true → some_reads c atoms ≡ true) → Good (EndFrom t p st)
+  finish next p t st w has whole sim mask held names sets =
+      let put = put_cells region.lines region.live in
       let vc = vote_code f next region.answer in
-      let ec = exit_code plan.homes f.cells region.live in
+      let ec = exit_code plan.homes f.cells put in
       let mine = kernel_chunk kernel launch width chunk.group chunk.first in
       vote_runs next p t st w (has_front code p vc ec has) sim mask held names (λ st4 voted.
       exit_runs kernel mine f atoms counts r0 framed code valid Good plan.homes (group_size launch)
-      (λ c l. (item_at w l).cells c) region.live (p + length vc) t st4 (has_back code p vc ec has)
+      (λ c l. (item_at w l).cells c) put (p + length vc) t st4 (has_back code p vc ec has)
       (λ c m. entry c m)
       (record {
         shape = voted.shape;
@@ -223,7 +235,7 @@ module _ (kernel : Kernel) (launch : Launch) (width : ℕ) (chunk : ChunkOf kern
             let lane = lane_of l item in
             let good = good_there kernel launch width chunk turns w0 g0 f counts r0 ground w sim.reached
             (chunk.lanes.first + l) in (
-              voted.numbers op.at l ∙ (sim.stand l lane).1 c op q (behind_live c e (live.kept c m).1),
+              voted.numbers op.at l ∙ (sim.stand l lane).1 c op q (behind_live c e (live.kept c (lives c m)).1),
               good.typed c op.of (framed.entries c op q).typed,
             );
         columns = λ c k q.
@@ -235,9 +247,9 @@ module _ (kernel : Kernel) (launch : Launch) (width : ℕ) (chunk : ChunkOf kern
         slots = λ c s q. let below = suits.slots_below c s q in let n =
             ap (λ (x : List ℕ). length x) (voted.exits ∙ sim.group.exits) in let m = shaped.exit_count in omega arith;
       })
-      (λ c d h mc md ne qc qd not_register. ends_apart kernel plan suits e is_end c d h (live.kept c mc).1
-      (live.kept d md).1 ne qc qd)
-      (λ c s m q l j item item'. even w sim c s m q l j (lane_of l item) (lane_of j item'))
+      (λ c d h mc md ne qc qd not_register. ends_apart kernel plan suits e is_end c d h
+      (live.kept c (lives c mc)).1 (live.kept d (lives d md)).1 ne qc qd)
+      (λ c s m q l j item item'. even w sim c s (lives c m) q l j (lane_of l item) (lane_of j item'))
       (λ st5 left.
       let total : length code ≤ p + length vc + length ec = omega (arith, length-append vc ec, whole) in
       subst Good (sym (at_end mine code t (p + length vc + length ec) st5 total))
@@ -250,13 +262,26 @@ module _ (kernel : Kernel) (launch : Launch) (width : ℕ) (chunk : ChunkOf kern
           λ c h of q typed is_live.
               let within : c < length kernel.cells = cell_within (slice_get kernel.cells c) refl typed in
               let m = live.listed c within is_live in
-              let en = entry c m in
+              ⊎_elim
+              (λ set.
+              let mp = put_there region.lines region.live c m set in
+              let en = entry c mp in
               let op_type : (cell_at f.cells c).of ≡ of =
               same_Some _ _ (sym (framed.entries c (cell_at f.cells c) en).typed ∙ typed) in
-              subst (λ ty. Rattle.mask_lower.specs.Standing.Holds h ty st5.group.columns st5.group.exits
-              (chunk.first + l) ((item_at w l).cells c)) op_type
-              (left.holds c (cell_at f.cells c) h m en q (λ is_register. ends_kept kernel plan suits e is_end c
-              is_live (q ∙ ap Some is_register)) l (item_of l lane)),
+              subst (λ ty. Holds h ty st5.group.columns st5.group.exits (chunk.first + l) ((item_at w l).cells c))
+              op_type
+              (left.holds c (cell_at f.cells c) h mp en q (λ is_register. ends_kept kernel plan suits e is_end c
+              is_live (q ∙ ap Some is_register)) l (item_of l lane)))
+              (λ unset.
+              subst (λ v. Holds h of st5.group.columns st5.group.exits (chunk.first + l) v)
+              (sym (unset_kept kernel launch c region front e spans unset w0 w sim.reached.by (chunk.lanes.first + l)
+              (stands l lane).0 (sim.stand l lane).0))
+              (carried h of (chunk.first + l) ((item_at w0 l).cells c) st4.group st5.group
+              (left.same h (no_other c h q is_live unset))
+              (voted.columns ∙ sim.group.columns) (voted.exits ∙ sim.group.exits)
+              (λ s once. slots c s (q ∙ ap Some once) is_live unset)
+              ((stands l lane).1 c h of q typed (unset_before c region front e spans unset is_live))))
+              (true_or_false (sets_in c region.lines)),
         );
         voted = λ l lane. subst (λ (votes : List Test).
             HasVoted region.answer (slice_index_or votes (chunk.first + l) false) (item_at w l).cells)
@@ -287,21 +312,51 @@ module _ (kernel : Kernel) (launch : Launch) (width : ℕ) (chunk : ChunkOf kern
               voted.elsewhere i outside ∙ ap (λ (x : List Test). slice_index_or x i false) sim.group.votes;
         };
         budget = sim.budget;
+        slots = λ c s q is_live unset. left.same (home.Once s) (no_other c (home.Once s) q is_live unset)
+            ∙ ap (λ (x : List ℕ). slice_index_or x s 0) (voted.exits ∙ sim.group.exits) ∙
+            slots c s q is_live unset ∙
+            sym (ap (λ (x : List ℕ). slice_index_or x s 0) (left.kept.entries ∙ voted.entries ∙ sim.group.entries));
       }))))
     where
+      lives : (c : ℕ) → IsOneOf (put_cells region.lines region.live) c → IsOneOf region.live c
+      lives c m = (put_of region.lines region.live c m).0
+
+      -- no cell that is put has the home of a live cell that the region does not set
+      no_other : (c : ℕ) (h : Home) → slice_get plan.homes c ≡ Some h → live_behind c e ≡ true →
+          sets_in c region.lines ≡ false → (d : ℕ) → IsOneOf (put_cells region.lines region.live) d →
+          slice_get plan.homes d ≡ Some h → ⊥
+      no_other c h q is_live unset d m qd =
+          ends_apart kernel plan suits e is_end c d h is_live (live.kept d (lives d m)).1
+          (λ same. true≢false (sym (put_of region.lines region.live d m).1 ∙
+          ap (λ k. sets_in k region.lines) (sym same) ∙ unset)) q qd
+
+      -- a home that nothing is put into holds behind the region what it held before it
+      carried : (h : Home) (of : IntType) (i : ℕ) (v : ℤ) (g4 g5 : Group) → HomeSame h g4 g5 →
+          g4.columns ≡ g0.columns → g4.exits ≡ g0.exits
+          → ((s : ℕ) → h ≡ home.Once s → slice_index_or g0.exits s 0 ≡ slice_index_or g0.entries s 0) →
+          Holds h of g0.columns g0.entries i v → Holds h of g5.columns g5.exits i v
+      carried home.Register of i v g4 g5 same columns exits once x = x
+      carried (home.Column k) of i v g4 g5 same columns exits once x =
+          ap (λ (xs : List ℕ). slice_index_or xs i 0) (same ∙
+          ap (λ (xs : List (List ℕ)). slice_index_or xs k []) columns) ∙ x
+      carried (home.Once s) of i v g4 g5 same columns exits once x =
+          same ∙ ap (λ (xs : List ℕ). slice_index_or xs s 0) exits ∙ once s refl ∙ x
+
       cell_within : {c : ℕ} {of : IntType} (o : Option Cell) → slice_get kernel.cells c ≡ o →
           option_map (λ (cell : Cell). cell.of) (slice_get kernel.cells c) ≡ Some of → c < length kernel.cells
       cell_within {c} {of} None at h = absurd (none-some of (sym (ap (option_map (λ (cell : Cell). cell.of)) at) ∙ h))
       cell_within {c} {of} (Some cell) at h = slice_get_within kernel.cells c cell at
 
-      entry : (c : ℕ) → IsOneOf region.live c → slice_index_or f.cells c None ≡ Some (cell_at f.cells c)
-      entry c m = let x = framed.named c (lives c m) (live.kept c m).0 in
+      entry : (c : ℕ) → IsOneOf (put_cells region.lines region.live) c →
+          slice_index_or f.cells c None ≡ Some (cell_at f.cells c)
+      entry c m = let x = framed.named c (sets c (put_of region.lines region.live c m).1)
+          (live.kept c (lives c m)).0 in
           x.1 ∙ ap Some (sym (entry_at kernel width f atoms counts r0 framed c x.0 x.1))
 
       mirrored : (st st4 st5 : State) → Voted w st st4 →
           Left kernel (kernel_chunk kernel launch width chunk.group chunk.first) f atoms counts r0 framed code valid
-          Good plan.homes (group_size launch) (λ c l. (item_at w l).cells c) region.live st4 st5 →
-          AtStage t (λ l. e) st w → Mirrors kernel launch chunk.group w.memory st5.group st5.buffers
+          Good plan.homes (group_size launch) (λ c l. (item_at w l).cells c) (put_cells region.lines region.live) st4
+          st5 → AtStage t (λ l. e) st w → Mirrors kernel launch chunk.group w.memory st5.group st5.buffers
       mirrored st st4 st5 voted left sim =
           let locals = left.kept.locals ∙ voted.locals in
           let privates = left.kept.privates ∙ voted.privates in

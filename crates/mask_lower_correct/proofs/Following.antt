@@ -17,7 +17,7 @@ use Rattle.regions.specs.Fragments.{IsAmong}
 use Rattle.regions.specs.Spans.{Spans, piece, whole, from_answer, IsEnd}
 use Rattle.mask_lower.specs.Layout.{kernel_chunk}
 use Rattle.mask_lower.specs.Standing.{HasLive, LanesStand, LanesVoted}
-use Rattle.mask_lower.specs.Following.{vote_before, ChunkSays, ReadsVote, Follows}
+use Rattle.mask_lower.specs.Following.{vote_before, SlotsBegun, ChunkSays, ReadsVote, Follows}
 use Rattle.mask_lower.specs.Lowered.{region_steps, region_code}
 use Rattle.mask_lower_correct.specs.Sim.{Ground}
 use Rattle.mask_lower_correct.specs.Fits.{RegionFits}
@@ -31,8 +31,8 @@ pub fitting_follows : (kernel : Kernel) (plan : Planned) (width : Width) (region
     RegionFits kernel region
     → Follows kernel plan width region (region_code kernel plan.homes region)
 fitting_follows kernel plan width region body suits valid region_fits launch fits sizes buffers0 fit f e spans is_end
-    live reads_vote chunk w leads turns g buffers mirrors shaped stand voted =
-    by f e spans is_end live reads_vote stand voted
+    live reads_vote chunk w leads turns g buffers mirrors shaped slots stand voted =
+    by f e spans is_end live reads_vote slots stand voted
   where
     ground : Ground kernel launch w
     ground = record { fits = fits; sizes = sizes; valid = body; buffers = buffers0; fit = fit; leads = leads }
@@ -42,19 +42,21 @@ fitting_follows kernel plan width region body suits valid region_fits launch fit
         (region_steps kernel plan.homes region) (counted (region_steps kernel plan.homes region)) turns g buffers
 
     by : (f e : Tasks) → Spans region f e → IsEnd kernel e → HasLive kernel region.live e →
-        ReadsVote region.answer e → LanesStand kernel plan.homes chunk.lanes chunk.first w g.columns g.entries f →
+        ReadsVote region.answer e → SlotsBegun plan.homes region.lines e g →
+        LanesStand kernel plan.homes chunk.lanes chunk.first w g.columns g.entries f →
         LanesVoted (vote_before f) chunk.lanes chunk.first w g.votes
         → ChunkSays kernel plan.homes launch (lanes_of width) chunk region e w turns g ends.end ends.turns ends.state
-    by _ e (piece {at = at} {tail = tail} {k = k} plain) is_end live reads_vote stand voted =
+    by _ e (piece {at = at} {tail = tail} {k = k} plain) is_end live reads_vote slots stand voted =
         piece_runs kernel plan suits launch (lanes_of width) chunk turns w g buffers ground region valid region_fits
-        mirrors shaped e is_end live reads_vote plain at tail k refl stand
-    by _ e (whole {at = at} plain) is_end live reads_vote stand voted =
+        mirrors shaped e is_end live reads_vote _ (piece plain) stand slots plain at tail k refl refl
+    by _ e (whole {at = at} plain) is_end live reads_vote slots stand voted =
         whole_runs kernel plan suits launch (lanes_of width) chunk turns w g buffers ground region valid region_fits
-        mirrors shaped e is_end live reads_vote plain at e refl stand
+        mirrors shaped e is_end live reads_vote _ (whole plain) stand slots plain at e refl refl
     by _ e (from_answer {at = at} {site = site} {first = first} {test = test} {answer = answer} {body = body} {n = n}
-        votes is_loop) is_end live reads_vote stand voted =
+        votes is_loop) is_end live reads_vote slots stand voted =
         answer_runs kernel plan suits launch (lanes_of width) chunk turns w g buffers ground region valid region_fits
-        mirrors shaped e is_end live reads_vote votes at site first test answer body n is_loop stand voted
+        mirrors shaped e is_end live reads_vote _ (from_answer votes is_loop) stand slots votes at site first test
+        answer body n is_loop refl voted
 
 -- the law: of a region of a valid kernel
 pub region_follows : (kernel : Kernel) (plan : Planned) (width : Width) (region : RegionOf) →

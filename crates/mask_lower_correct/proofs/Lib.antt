@@ -2,6 +2,7 @@ pub mod CellValues
 pub mod View
 pub mod LaneValues
 pub mod Frames
+pub mod Setting
 pub mod Standing
 pub mod Atoms
 pub mod Work

@@ -1,10 +1,10 @@
 -- The code of a region does on a chunk what the chunk's items do in some order of their moves.
-use Rattle.std.proofs.Common.{◌≡◌, ℕ, zero, suc, ◌+◌, ◌<◌, ◌≤◌, ℤ, List, [], ◌∷◌, ◌++◌, length, map, replicate}
+use Rattle.std.proofs.Common.{◌≡◌, ℕ, zero, suc, ◌+◌, ◌<◌, ◌≤◌, ℤ, List, [], ◌∷◌, ◌++◌, length, replicate}
 use Rattle.std.proofs.Common.{Option, Some, None, slice_get, refl, sym, ap, ◌∙◌, subst, ⊎_elim, arith, cond}
 use Rattle.std.proofs.Common.{length-append}
-use Rattle.std.specs.Prelude.{slice_index_or, slice_set, nat_lt, nat_eq, not, ◌&&◌, option_map}
+use Rattle.std.specs.Prelude.{slice_index_or, slice_set, nat_lt, not, ◌&&◌, option_map}
 use Rattle.std.specs.Prelude.{Bool as Test, true, false}
-use Rattle.std.proofs.lemmas.Bool.{true≢false, eq-eqb, or_left, or_right, and_parts, cases_eq}
+use Rattle.std.proofs.lemmas.Bool.{true≢false, or_left, or_right, and_parts, cases_eq}
 use Rattle.std.proofs.lemmas.List.{length-replicate, get_or-replicate, length-set, get_or-set_same, get_or-set_other}
 use Rattle.std.specs.Simd.Lanes.{zip2}
 use Rattle.std.proofs.lemmas.Simd.{get_or-zip2, length-zip2}
@@ -13,7 +13,6 @@ use Rattle.wg_num.specs.declared.types.IntType.{IntType}
 use Rattle.work_items.specs.Memory.{Memory}
 use Rattle.work_items.specs.Items.{Goes, Begins}
 use Rattle.cl_model.specs.Values.{is_zero}
-use Rattle.cl_model.specs.Lists.{IsOneOf}
 use Rattle.cl_model.specs.Sizes.{Launch, group_size}
 use Rattle.kir.specs.declared.line.Atom.{Atom}
 use Rattle.kir.specs.Tree.{Cell, Lines, NoLine, LoopThen, Kernel, joined_to}
@@ -46,15 +45,16 @@ use Rattle.group_moves.specs.Lanes.{IsLane, Reached, Does, goes, begins, some_be
 use Rattle.group_moves.proofs.Moves.{reached_none, lanes_move}
 use Rattle.kir_moves.specs.Leads.{ComesTo, there}
 use Rattle.regions.specs.Tree.{RegionOf}
-use Rattle.regions.specs.Spans.{IsEnd, past_lines}
+use Rattle.regions.specs.Spans.{Spans, IsEnd, past_lines}
+use Rattle.kir_uniform.specs.Uniform.{sets_in}
 use Rattle.mask_lower.specs.declared.registers.Free.{Free}
 use Rattle.mask_lower.specs.declared.registers.Operand.{Operand}
 use Rattle.mask_lower.specs.Banks.{register_at, advanced, mask_reg}
-use Rattle.mask_lower.specs.Atoms.{atoms_in, atoms_voted, cell_atom, region_atoms}
+use Rattle.mask_lower.specs.Atoms.{atoms_in, atoms_voted, region_atoms}
 use Rattle.mask_lower.specs.Layout.{kernel_chunk, HasShape, Mirrors, OtherGroupsStay}
 use Rattle.mask_lower.specs.Standing.{HasLive, AtHome, LanesStand, LanesVoted}
-use Rattle.mask_lower.specs.Following.{ChunkOf, ChunkSays, ReadsVote}
-use Rattle.mask_lower.specs.Homes.{entry_code, exit_code}
+use Rattle.mask_lower.specs.Following.{ChunkOf, SlotsBegun, ChunkSays, ReadsVote}
+use Rattle.mask_lower.specs.Homes.{sets_first, entry_code, put_cells, exit_code}
 use Rattle.mask_lower.specs.Registers.{Frame, frame_for, first_constants, constants, past}
 use Rattle.mask_lower.specs.Lowered.{lines_code, begun_code, turn_code, vote_code, region_steps}
 use Rattle.mask_lower_correct.specs.View.{value_at, is_lane, Shaped}
@@ -74,6 +74,7 @@ use Rattle.mask_lower_correct.proofs.Sounds.{sound_of}
 use Rattle.mask_lower_correct.proofs.Loads.{load_runs}
 use Rattle.mask_lower_correct.proofs.Stores.{store_runs}
 use Rattle.mask_lower_correct.proofs.Clears.{clear_runs}
+use Rattle.mask_lower_correct.proofs.Setting.{set_named, first_unread}
 use Rattle.mask_lower_correct.proofs.Finishing.{finish}
 
 -- ---- the registers at the start
@@ -127,12 +128,6 @@ module _ (c : Counts) (some : 0 < c.masks) (width size first : ℕ) where
 
 -- ---- what a region names
 
-live_named : (c : ℕ) (live : List ℕ) → IsOneOf live c → some_reads c (map cell_atom live) ≡ true
-live_named c [] m = absurd m
-live_named c (d ∷ live) m = ⊎_elim (λ e. or_left (nat_eq c d) (some_reads c (map cell_atom live))
-    (eq-eqb c d (sym e))) (λ more. or_right (nat_eq c d) (some_reads c (map cell_atom live))
-    (live_named c live more)) m
-
 -- constants stay where the registers above do
 held_above : (f : Frame) (width : ℕ) (r r' : Registers) (next : Free) (list : List Atom) → Above f width r r' →
     Held f width r next list → Held f width r' next list
@@ -177,11 +172,12 @@ module _ (kernel : Kernel) (plan : Planned) (suits : Suits kernel plan) (launch 
   next = first_constants frame
 
   abbrev front : List Step
-  front = constants next atoms ++ entry_code plan.homes 0 frame.cells
+  front = constants next atoms ++ entry_code plan.homes region.lines 0 frame.cells
 
   abbrev behind : List Step
   behind =
-      vote_code frame (past next (atoms_in region.lines)) region.answer ++ exit_code plan.homes frame.cells region.live
+      vote_code frame (past next (atoms_in region.lines)) region.answer ++
+      exit_code plan.homes frame.cells (put_cells region.lines region.live)
 
   abbrev begun : List Step
   begun = begun_code frame (length front) next region.from_vote region.lines
@@ -201,7 +197,7 @@ module _ (kernel : Kernel) (plan : Planned) (suits : Suits kernel plan) (launch 
     pub held : Held frame width st.registers next atoms
     pub cells : (l : ℕ) → l < width → (k : Tasks) (cells : ℕ → ℤ) →
         AtHome kernel plan.homes g0.columns g0.entries (chunk.first + l) k cells → (c : ℕ) (op : Operand) →
-        slice_index_or frame.cells c None ≡ Some op → live_behind c k ≡ true →
+        slice_index_or frame.cells c None ≡ Some op → live_behind c k ≡ true → sets_first c region.lines ≡ false →
         value_at st.registers op.at l ≡ lane_in op.of (cells c)
 
   pub begin : (G : Ended → Type 0) → ((st : State) → Begun st → G (code_end Mine code turns (length front) st)) →
@@ -209,7 +205,7 @@ module _ (kernel : Kernel) (plan : Planned) (suits : Suits kernel plan) (launch 
   begin G go =
       let start = start_state Mine counts g0 buffers in
       let cs = constants next atoms in
-      let es = entry_code plan.homes 0 frame.cells in
+      let es = entry_code plan.homes region.lines 0 frame.cells in
       let whole = has_all code [] in
       let has_f = has_front code 0 front (begun ++ behind) whole in
       let more : (of : IntType) → number_in frame.scratch (bank_of of) < number_in next (bank_of of) =
@@ -218,7 +214,8 @@ module _ (kernel : Kernel) (plan : Planned) (suits : Suits kernel plan) (launch 
       constants_run kernel Mine frame atoms counts start.registers (framed kernel atoms) code valid G atoms next 0
       turns start (has_front code 0 cs es has_f) more (start_shape counts some_mask width (group_size launch)
       chunk.first) (λ st1 filled held.
-      entry_runs kernel Mine frame atoms counts start.registers (framed kernel atoms) code valid G plan.homes 0
+      entry_runs kernel Mine frame atoms counts start.registers (framed kernel atoms) code valid G plan.homes
+      region.lines 0
       frame.cells (0 + length cs) turns st1 (λ i. let z : 0 + i ≡ i = omega arith in
       ap (λ k. slice_index_or frame.cells k None) z) (has_back code 0 cs es has_f) filled.shape (λ st2 entered.
       subst (λ n. G (code_end Mine code turns n st2)) (sym len)
@@ -229,7 +226,7 @@ module _ (kernel : Kernel) (plan : Planned) (suits : Suits kernel plan) (launch 
         mask = λ l lt. ap (λ rows. slice_index_or (slice_index_or rows 0 []) l false) (entered.masks ∙ filled.masks) ∙
             start_mask counts some_mask width (group_size launch) chunk.first l lt;
         held = held_above frame width st1.registers st2.registers next atoms entered.above held;
-        cells = λ l lt k cells home c op e live. cell st1 st2 filled entered l lt k cells home c op e live;
+        cells = λ l lt k cells home c op e live first. cell st1 st2 filled entered l lt k cells home c op e live first;
       }))))
     where
       above_scratch : (b : Bank) → is_lane b ≡ true → number_in frame.scratch b < number_in next b
@@ -246,11 +243,11 @@ module _ (kernel : Kernel) (plan : Planned) (suits : Suits kernel plan) (launch 
       cell : (st1 st2 : State) → Filled kernel Mine frame atoms counts (start_state Mine counts g0 buffers).registers
           (framed kernel atoms) code valid G next (start_state Mine counts g0 buffers) st1
           → Entered kernel Mine frame atoms counts (start_state Mine counts g0 buffers).registers
-          (framed kernel atoms) code valid G plan.homes 0 st1 st2 → (l : ℕ) → l < width →
+          (framed kernel atoms) code valid G plan.homes region.lines 0 st1 st2 → (l : ℕ) → l < width →
           (k : Tasks) (cells : ℕ → ℤ) → AtHome kernel plan.homes g0.columns g0.entries (chunk.first + l) k cells
           → (c : ℕ) (op : Operand) → slice_index_or frame.cells c None ≡ Some op → live_behind c k ≡ true →
-          value_at st2.registers op.at l ≡ lane_in op.of (cells c)
-      cell st1 st2 filled entered l lt k cells home c op e live =
+          sets_first c region.lines ≡ false → value_at st2.registers op.at l ≡ lane_in op.of (cells c)
+      cell st1 st2 filled entered l lt k cells home c op e live first =
           let entry = (framed kernel atoms).entries c op e in
           let h = home_there plan.homes c (let n = suits.one_each in
           let m = within c op.of (slice_get kernel.cells c) refl entry.typed in omega arith) in
@@ -264,20 +261,18 @@ module _ (kernel : Kernel) (plan : Planned) (suits : Suits kernel plan) (launch 
           l) (cells c)) (sym filled.outer.group) (home c h.0 op.of h.1 entry.typed live))
           (subst (λ o. Rattle.mask_lower_correct.proofs.Entering.Loaded o st1.group chunk.first width l op.at.bank
           (value_at st1.registers op.at l) (value_at st2.registers op.at l)) h.1
-          (entered.loaded c op (omega arith) e l lt))
+          (entered.loaded c op (omega arith) e first l lt))
 
   -- ---- from the lines to the end
 
   lines_names : (c : ℕ) → some_reads c (atoms_in region.lines) ≡ true → some_reads c atoms ≡ true
-  lines_names c h = some_left c (atoms_in region.lines) (atoms_voted region.answer ++ map cell_atom region.live) h
+  lines_names c h = some_left c (atoms_in region.lines) (atoms_voted region.answer) h
 
   answer_names : (c : ℕ) → some_reads c (atoms_voted region.answer) ≡ true → some_reads c atoms ≡ true
-  answer_names c h = some_right c (atoms_in region.lines) (atoms_voted region.answer ++ map cell_atom region.live)
-      (some_left c (atoms_voted region.answer) (map cell_atom region.live) h)
+  answer_names c h = some_right c (atoms_in region.lines) (atoms_voted region.answer) h
 
-  live_names : (c : ℕ) → IsOneOf region.live c → some_reads c atoms ≡ true
-  live_names c m = some_right c (atoms_in region.lines) (atoms_voted region.answer ++ map cell_atom region.live)
-      (some_right c (atoms_voted region.answer) (map cell_atom region.live) (live_named c region.live m))
+  set_names : (c : ℕ) → sets_in c region.lines ≡ true → some_reads c atoms ≡ true
+  set_names c h = lines_names c (set_named c region.lines h)
 
   has_rest : HasAt code (length front) (begun ++ behind)
   has_rest = let e : 0 + length front ≡ length front = omega arith in
@@ -301,15 +296,13 @@ module _ (kernel : Kernel) (plan : Planned) (suits : Suits kernel plan) (launch 
 
   has_lines : (st : State) → Begun st → HasLines st
   has_lines st b = (
-    held_left frame width st.registers next (atoms_in region.lines) (atoms_voted region.answer ++
-        map cell_atom region.live) b.held,
-    held_left frame width st.registers (past next (atoms_in region.lines)) (atoms_voted region.answer)
-        (map cell_atom region.live) (held_right frame width st.registers next (atoms_in region.lines)
-        (atoms_voted region.answer ++ map cell_atom region.live) b.held),
+    held_left frame width st.registers next (atoms_in region.lines) (atoms_voted region.answer) b.held,
+    held_right frame width st.registers next (atoms_in region.lines) (atoms_voted region.answer) b.held,
   )
 
   module _ (e : Tasks) (is_end : IsEnd kernel e) (live : HasLive kernel region.live e)
-      (reads_vote : ReadsVote region.answer e) where
+      (reads_vote : ReadsVote region.answer e) (before : Tasks) (spans : Spans region before e)
+      (stands : Stands before) (slots : SlotsBegun plan.homes region.lines e g0) where
     abbrev Good : Ended → Type 0
     Good x = ChunkSays kernel plan.homes launch width chunk region e w0 turns g0 x.end x.turns x.state
 
@@ -374,13 +367,15 @@ module _ (kernel : Kernel) (plan : Planned) (suits : Suits kernel plan) (launch 
     in_width l lane = let wi = chunk.is_chunk.width_is in let lt = lane.0 in omega arith
 
     sim_start : (st : State) → Begun st → (T : Tasks) → ((c : ℕ) → live_now c T ≡ true → live_behind c T ≡ true) →
-        Stands T → Sim kernel launch width chunk turns w0 g0 frame counts st.registers turns (λ l. T) st w0
-    sim_start st b T same stands =
+        T ≡ before → Sim kernel launch width chunk turns w0 g0 frame counts st.registers turns (λ l. T) st w0
+    sim_start st b T same is =
         sim_from st b (λ l. T) w0 (reached_none (machine_of kernel launch) chunk.lanes w0) refl (omega arith)
         (λ l lane. (
-          (stands l lane).0,
-          λ c op q alive. b.cells l (in_width l lane) T (w0.items (chunk.lanes.first + l)).cells
-              (stands l lane).1 c op q (same c alive),
+          (stands l lane).0 ∙ sym is,
+          λ c op q alive.
+              let there = subst (λ k. live_behind c k ≡ true) is (same c alive) in
+              b.cells l (in_width l lane) before (w0.items (chunk.lanes.first + l)).cells
+              (stands l lane).1 c op q there (first_unread c region before e spans there),
         ))
 
     close : (st : State) → Begun st → (t' : ℕ) (st' : State) (w' : Stage Item) →
@@ -389,9 +384,10 @@ module _ (kernel : Kernel) (plan : Planned) (suits : Suits kernel plan) (launch 
         → Good (code_end Mine code t' (length front + length begun) st')
     close st b t' st' w' sim masks =
         finish kernel launch width chunk turns w0 g0 frame counts st.registers ground atoms (framed kernel atoms) code
-        valid Good Site e closed plan suits shaped region e is_end live reads_vote fits (λ t s after d. (after, d))
+        valid Good Site e closed plan suits shaped region e is_end live reads_vote fits before spans stands slots
+        (λ t s after d. (after, d))
         (past next (atoms_in region.lines)) (length front + length begun) t' st' w' has_behind whole_length sim
-        (λ l lt. masks l lt ∙ b.mask l lt) (has_lines st b).1 answer_names live_names
+        (λ l lt. masks l lt ∙ b.mask l lt) (has_lines st b).1 answer_names set_names
 
     fit : (st : State) → Begun st →
         Fit kernel launch width chunk turns w0 g0 frame counts st.registers ground atoms (framed kernel atoms) code
@@ -407,13 +403,13 @@ module _ (kernel : Kernel) (plan : Planned) (suits : Suits kernel plan) (launch 
       has_code = subst (λ c. HasAt code (length front) c) begun_is (has_front code (length front) begun behind has_rest)
 
       ready : (st : State) → Begun st → (T : Tasks) → ((c : ℕ) → live_now c T ≡ true → live_behind c T ≡ true) →
-          Stands T
+          T ≡ before
           → Lanes kernel launch width chunk turns w0 g0 frame counts st.registers ground atoms (framed kernel atoms)
           code valid Good Site e closed 0 turns chunk.lanes.alive (λ l. T) T st w0
-      ready st b T same stands = record {
+      ready st b T same is = record {
         mask = λ l lt. b.mask l lt ∙ sym (chunk.is_chunk.alive_is l);
         alive = λ l h. h;
-        sim = sim_start st b T same stands;
+        sim = sim_start st b T same is;
         stand = λ l lane set. refl;
       }
 
@@ -430,19 +426,19 @@ module _ (kernel : Kernel) (plan : Planned) (suits : Suits kernel plan) (launch 
           (λ l lane. cond_set (chunk.lanes.alive l) K T lane.1 ∙ same) sim) masks)
 
       pub piece_runs : (at : Place) (tail : Lines) (k : Tasks) → LinesAt (past_lines region.lines at) tail k ≡ e →
-          Stands (LinesAt at (joined_to region.lines tail) k) → Good StartEnd
-      piece_runs at tail k same stands =
+          LinesAt at (joined_to region.lines tail) k ≡ before → Good StartEnd
+      piece_runs at tail k same is =
           let T = LinesAt at (joined_to region.lines tail) k in
           begin Good (λ st b.
           (sound_of kernel launch width chunk turns w0 g0 frame counts st.registers ground atoms (framed kernel atoms)
           code valid Good Site e closed (access st.registers) region.lines).by 0 1 (length front) turns next
           chunk.lanes.alive (λ l. T) at tail k st w0 has_code (fit st b) (omega arith)
-          (ready st b T (λ c h. h) stands) (subst (λ x. ComesTo e x) (sym same) there)
+          (ready st b T (λ c h. h) is) (subst (λ x. ComesTo e x) (sym same) there)
           (λ t' st' w' le sim masks. close_lines st b T (LinesAt (past_lines region.lines at) tail k) same t' st' w'
           sim (λ l lt. masks 0 l (omega arith) lt)))
 
-      pub whole_runs : (at : Place) (k : Tasks) → k ≡ e → Stands (LinesAt at region.lines k) → Good StartEnd
-      whole_runs at k same stands =
+      pub whole_runs : (at : Place) (k : Tasks) → k ≡ e → LinesAt at region.lines k ≡ before → Good StartEnd
+      whole_runs at k same is =
           let T = LinesAt at region.lines k in
           begin Good (λ st b.
           let sound = sound_of kernel launch width chunk turns w0 g0 frame counts st.registers ground atoms
@@ -450,7 +446,7 @@ module _ (kernel : Kernel) (plan : Planned) (suits : Suits kernel plan) (launch 
           (whole_of kernel launch width chunk turns w0 g0 frame counts st.registers ground atoms (framed kernel atoms)
           code valid Good Site e closed region.lines sound).by 0 1 (length front) turns next chunk.lanes.alive
           (λ l. T) at k st w0 has_code (fit st b) (omega arith)
-          (ready st b T (λ c h. h) stands) (subst (λ x. ComesTo e x) (sym same) there)
+          (ready st b T (λ c h. h) is) (subst (λ x. ComesTo e x) (sym same) there)
           (λ t' st' w' le sim masks. close_lines st b T k same t' st' w' sim (λ l lt. masks 0 l (omega arith) lt)))
 
     -- where the region is the rest of a loop, from its answer on
@@ -578,8 +574,8 @@ module _ (kernel : Kernel) (plan : Planned) (suits : Suits kernel plan) (launch 
             held = held2.0;
           }
 
-      pub answer_runs : Stands (Asks n) → LanesVoted (Some answer) chunk.lanes chunk.first w0 g0.votes → Good StartEnd
-      answer_runs stands votes = begin Good (λ st b. enter st b)
+      pub answer_runs : Asks n ≡ before → LanesVoted (Some answer) chunk.lanes chunk.first w0 g0.votes → Good StartEnd
+      answer_runs is votes = begin Good (λ st b. enter st b)
         where
           all_same : (y : Test) → cond y e (cond y (Starts (suc n)) e) ≡ e
           all_same true = refl
@@ -600,11 +596,13 @@ module _ (kernel : Kernel) (plan : Planned) (suits : Suits kernel plan) (launch 
               (and_parts (nat_lt (chunk.first + l) (group_size launch))
               (slice_index_or g0.votes (chunk.first + l) false) set).0)
               (λ l lane. (
-                (stands l lane).0,
+                (stands l lane).0 ∙ sym is,
                 ap (λ x. x && slice_index_or g0.votes (chunk.first + l) false)
                     (sym (chunk.is_chunk.alive_is l) ∙ lane.1) ∙ votes l lane,
-                λ c op q alive. b.cells l (in_width l lane) (Asks n) (w0.items (chunk.lanes.first + l)).cells
-                    (stands l lane).1 c op q alive,
+                λ c op q alive.
+                    let here = subst (λ k. live_behind c k ≡ true) is alive in
+                    b.cells l (in_width l lane) before (w0.items (chunk.lanes.first + l)).cells
+                    (stands l lane).1 c op q here (first_unread c region before e spans here),
               ))
               chunk.lanes.width (omega arith) in
               let w1 = m.after in

@@ -2,7 +2,7 @@
 -- lines, and that lines that compute, accesses, masks, tests of lanes and barriers are sound.
 use Rattle.std.proofs.Common.{◌≡◌, ℕ, ◌+◌, ◌<◌, ◌≤◌, List, [], ◌∷◌, ◌++◌, length, Option, Some, None, refl, sym, ap}
 use Rattle.std.proofs.Common.{◌∙◌, subst, arith, cond, IsTrue, length-append}
-use Rattle.std.specs.Prelude.{slice_get, slice_index_or, nat_eq, nat_lt, ◌&&◌, not}
+use Rattle.std.specs.Prelude.{slice_get, slice_index_or, nat_eq, ◌&&◌, not}
 use Rattle.std.specs.Prelude.{Bool as Test, true, false}
 use Rattle.std.specs.Simd.Lanes.{zip2}
 use Rattle.std.proofs.lemmas.Bool.{true≢false, and_parts, or_left, or_right, eqb-true, eqb-false}
