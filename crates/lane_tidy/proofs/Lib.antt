@@ -1,0 +1,15 @@
+pub mod Accessing
+pub mod Agreeing
+pub mod Copying
+pub mod Ending
+pub mod Frames
+pub mod Joining
+pub mod Keeping
+pub mod Knowing
+pub mod Leaving
+pub mod Plainly
+pub mod Planned
+pub mod Sound
+pub mod Tests
+pub mod Tidying
+pub mod Wider

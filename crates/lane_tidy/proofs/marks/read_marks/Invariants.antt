@@ -1,0 +1,13 @@
+use Rattle.std.proofs.Common.{◌≡◌, ◌<◌, length, get_or, drop, ◌||◌, false}
+use Rattle.lane_code.specs.declared.step.Reg.{Reg}
+use Rattle.lane_tidy.specs.Reads.{is_read}
+use Rattle.lane_tidy.specs.Marks.{place_of, room_for}
+use Rattle.lane_tidy.proofs.marks.read_marks.Given as goal
+
+-- a register is marked, or read by a step still to be looked at, where a step reads it
+abbrev pub invariant-loop-step : goal.invariant-loop-step
+invariant-loop-step l = record {
+  room : length l.marks.items ≡ room_for l.fn.counts;
+  read : (x : Reg) → place_of x < room_for l.fn.counts →
+      (get_or l.marks.items (place_of x) false || is_read (drop l.step-index l.steps) x) ≡ is_read l.steps x;
+}

@@ -1,0 +1,12 @@
+pub mod Accesses
+pub mod Joined
+pub mod Known
+pub mod Listed
+pub mod Marks
+pub mod Plain
+pub mod Plans
+pub mod Reads
+pub mod Ready
+pub mod Same
+pub mod Tidied
+pub mod Unread
