@@ -20,25 +20,31 @@ use Rattle.mask_lower.specs.Lowered.{region_code}
 use Rattle.lane_code.specs.Program.{Plain}
 use Rattle.lane_laws.specs.Chain.{NoWork, work_before}
 use Rattle.item_loops.specs.Program.{IsBuilt}
+use Rattle.lane_tidy.specs.Tidied.{tidied_work}
 use Rattle.item_loops.specs.Built.{built_of}
-use Rattle.wg_compile.specs.Passes.{names_in, kernel_in, plan_in, group_with, group_in, IsLike}
+use Rattle.wg_compile.specs.Passes.{names_in, kernel_in, plan_in, code_in, group_with, group_in, IsLike}
 use Rattle.wg_compile.proofs.Alike.{one_chain}
+use Rattle.wg_compile.proofs.Tidied.{tidied_chain}
 use Rattle.cl_check_sound.specs.Erased as erased
 use Rattle.cl_check_sound.proofs.ErasedPrograms.{program_same}
 use Rattle.wg_compile.proofs.Names.{names_same}
 use Rattle.cl_meaning.specs.View.{unit_of}
 
--- a built program is like that of its kernel and plan
-pub like_built : (kernel : Kernel) (plan : Planned) (width : Width) (tree : RegionTree) (p : Plain) →
-    p ≡ built_of kernel plan width tree → tree_before tree NoRegion ≡ split_of kernel
+-- a built program, with its codes tidied, is like that of its kernel and plan
+pub like_built : (kernel : Kernel) (plan : Planned) (width : Width) (tree : RegionTree) (built p : Plain) →
+    built ≡ built_of kernel plan width tree → p ≡ record built { top = tidied_work built.top } →
+    tree_before tree NoRegion ≡ split_of kernel
     → IsBuilt (λ region code. code ≡ region_code kernel plan.homes region) (tree_before tree NoRegion)
-    (work_before p.top NoWork) → IsLike (group_with (lanes_of width) kernel plan) p
-like_built kernel plan width tree p is cut built = record {
-  parts = is ∙ ap (λ (x : Plain). record (group_with (lanes_of width) kernel plan) { top = x.top }) (sym is);
-  chain = one_chain (region_code kernel plan.homes) (split_of kernel) (work_before p.top NoWork)
-      (subst (λ (t : Tree). IsBuilt (λ region code. code ≡ region_code kernel plan.homes region) t
-      (work_before p.top NoWork)) cut built);
-}
+    (work_before built.top NoWork) → IsLike (group_with (lanes_of width) kernel plan) p
+like_built kernel plan width tree built p is tidy cut codes =
+    subst (λ (x : Plain). IsLike (group_with (lanes_of width) kernel plan) x) (sym tidy) (record {
+      parts = ap (λ (x : Plain). record x { top = tidied_work built.top }) is;
+      chain = one_chain (code_in kernel plan.homes) (split_of kernel)
+          (work_before (tidied_work built.top) NoWork)
+          (tidied_chain kernel plan.homes built.top (subst (λ (t : Tree).
+          IsBuilt (λ region code. code ≡ region_code kernel plan.homes region) t (work_before built.top NoWork)) cut
+          codes));
+    })
 
 -- the kernel and the plan of a unit
 pub lowered_is : (p : Program) (k : Kernel) → k ≡ lowered_of (program_of p) (names_of p) →

@@ -12,3 +12,6 @@ pub mod Follow
 pub mod Plans
 pub mod Lowered
 pub mod Correct
+pub mod TidiedChains
+pub mod Tidied
+pub mod TidiedCounts

@@ -30,8 +30,8 @@ use Rattle.regions.specs.Tree.{RegionOf, Tree, NoRegion, RegionThen, VoteThen, L
 use Rattle.regions.specs.Fragments.{EachRegion}
 use Rattle.regions.specs.Split.{split_of}
 use Rattle.mask_lower.specs.Following.{Follows}
-use Rattle.mask_lower.specs.Lowered.{region_code}
 use Rattle.item_loops.specs.Program.{HasPartsOf, IsBuilt}
+use Rattle.wg_compile.specs.Passes.{code_in}
 use Rattle.wg_compile.specs.Ends.{EndsInOutcomes, EndHasPlace}
 use Rattle.wg_compile.proofs.Chain.{built_in_outcomes}
 
@@ -142,16 +142,16 @@ pub passes_in_outcomes : (program : Program) (names : List (List Named)) (kernel
     (width : Width) (p : Plain) → IsLoweringOf program names kernel → lines_fit kernel kernel.body ≡ true →
     IsPlan program kernel plan
     → HasPartsOf kernel plan width p →
-    IsBuilt (λ region code. code ≡ region_code kernel plan.homes region) (split_of kernel)
+    IsBuilt (λ region code. code ≡ code_in kernel plan.homes region) (split_of kernel)
     (work_before p.top NoWork)
     → ((launch : Launch) (buffers : List (List ℕ)) → FitsProgram program launch →
     EndHasPlace program (program_end p launch buffers).end)
-    → EachRegion (λ region. Follows kernel plan width region (region_code kernel plan.homes region)) (split_of kernel)
+    → EachRegion (λ region. Follows kernel plan width region (code_in kernel plan.homes region)) (split_of kernel)
     → EndsInOutcomes program p
 passes_in_outcomes program names kernel plan width p lowered valid planned parts built places follows =
     built_in_outcomes program kernel plan width p
     (shares_outcomes program kernel lowered.matching.point_in_program lowered.matching.runs)
     (shares_launches program kernel lowered.arrays lowered.parts)
     places valid (even_once program names kernel plan lowered planned) parts
-    (built_by (Follows kernel plan width) (region_code kernel plan.homes) (split_of kernel) (work_before p.top NoWork)
+    (built_by (Follows kernel plan width) (code_in kernel plan.homes) (split_of kernel) (work_before p.top NoWork)
     follows built)

@@ -21,11 +21,10 @@ use Rattle.lane_code.specs.Program.{PlainCode, Plain}
 use Rattle.lane_laws.specs.Chain.{Chain, NoWork, work_before, works_before}
 use Rattle.regions.specs.Tree.{RegionOf, Tree, NoRegion, RegionThen, VoteThen, LoopThen}
 use Rattle.regions.specs.Split.{split_of}
-use Rattle.mask_lower.specs.Lowered.{region_code}
 use Rattle.item_loops.specs.Program.{HasPartsOf, IsBuilt}
 use Rattle.wg_compile.specs.Correct.{KeepsOnceWhatIsEqual}
 use Rattle.wg_compile.proofs.Outcomes.{once_is_steady}
-use Rattle.wg_compile.specs.Passes.{names_in, kernel_in, plan_in, works_of, group_in, IsLike}
+use Rattle.wg_compile.specs.Passes.{names_in, kernel_in, plan_in, code_in, works_of, group_in, IsLike}
 
 -- each function has as many names as variables
 abbrev names_given : List Variable → List Named
@@ -54,11 +53,11 @@ works_built code (LoopThen first test body others rest) =
 
 -- the codes of a program that is like that of the unit are those of the unit's regions
 pub built_in : (u : Unit') (width : Width) (p : Plain) → IsLike (group_in (lanes_of width) u) p →
-    IsBuilt (λ region code. code ≡ region_code (kernel_in u) (plan_in u).homes region) (split_of (kernel_in u))
+    IsBuilt (λ region code. code ≡ code_in (kernel_in u) (plan_in u).homes region) (split_of (kernel_in u))
     (work_before p.top NoWork)
 unfolding group_in
 built_in u width p like =
-    let code = region_code (kernel_in u) (plan_in u).homes in
+    let code = code_in (kernel_in u) (plan_in u).homes in
     subst (λ (c : Chain). IsBuilt (λ region c'. c' ≡ code region) (split_of (kernel_in u)) c) (sym like.chain)
     (works_built code (split_of (kernel_in u)))
 

@@ -26,7 +26,9 @@ use Rattle.mask_lower.specs.Counts.{load_steps, store_steps}
 use Rattle.mask_lower.specs.Lowered.{region_code, region_steps}
 use Rattle.mask_lower.proofs.Tallies.{same_accesses}
 use Rattle.item_loops.specs.Program.{IsBuilt, EachCode, EachCodeOf}
+use Rattle.wg_compile.specs.Passes.{code_in}
 use Rattle.wg_compile.specs.Shape.{HasFewSteps}
+use Rattle.wg_compile.proofs.Tidied.{few_tidied}
 use Rattle.wg_compile.proofs.Outcomes.{built_by}
 use Rattle.wg_compile.proofs.Quiet.{inlined_none}
 
@@ -193,13 +195,14 @@ mutual
 
 -- each code of a program that is built of the kernel's regions accesses no more than the inlined kernel has written
 pub codes_have_few : (program : Program) (kernel : Kernel) (homes : List Home) (top : Work) →
-    HasFewLines program kernel → IsBuilt (λ region code. code ≡ region_code kernel homes region) (split_of kernel)
+    HasFewLines program kernel → IsBuilt (λ region code. code ≡ code_in kernel homes region) (split_of kernel)
     (work_before top NoWork) → EachCode (HasFewSteps program) top
 codes_have_few program kernel homes top few built =
-    let all = each_region (IsPiece kernel) (λ r. HasFewSteps program (region_code kernel homes r))
-    (few_steps program kernel homes few) (split_of kernel) (split_pieces kernel) in
+    let all = each_region (IsPiece kernel) (λ r. HasFewSteps program (code_in kernel homes r))
+    (λ r piece. few_tidied program (region_code kernel homes r) (few_steps program kernel homes few r piece)) (split_of
+    kernel) (split_pieces kernel) in
     (each_before (HasFewSteps program) top NoWork (links (HasFewSteps program) (split_of kernel)
-    (work_before top NoWork) (built_by (λ r c. HasFewSteps program c) (region_code kernel homes)
+    (work_before top NoWork) (built_by (λ r c. HasFewSteps program c) (code_in kernel homes)
     (split_of kernel) (work_before top NoWork) all built))).0
 
 -- ---- barriers

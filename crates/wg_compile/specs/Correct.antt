@@ -34,11 +34,12 @@ use Rattle.lane_code.specs.Fits.{LaunchFits}
 use Rattle.lane_code.specs.Program.{Plain}
 use Rattle.lane_code.specs.Run.{program_end}
 use Rattle.lane_code.specs.View.{plain_of}
+use Rattle.lane_tidy.specs.Same.{DoesTheSame}
 use Rattle.item_loops.specs.Program.{HasPartsOf}
 use Rattle.item_loops.specs.Regions.{RegionFollows}
 use Rattle.item_loops.specs.Grouped.{GroupsFollow}
 use Rattle.wg_compile.specs.declared.Compiled.{Compiled}
-use Rattle.wg_compile.specs.Passes.{names_in, kernel_in, plan_in, group_in, IsLike}
+use Rattle.wg_compile.specs.Passes.{names_in, kernel_in, plan_in, code_in, group_in, IsLike}
 use Rattle.wg_compile.specs.Ends.{EndsInOutcomes}
 use Rattle.wg_compile.specs.Shape.{IsShaped}
 
@@ -58,13 +59,15 @@ KeepsOnceWhatIsEqual program kernel plan =
 
 -- what each pass means, one field a pass in the order of the calls:
 -- `lower`: the kernel without calls begins with one `Set` from its argument for each parameter;
--- `simplify`: the kernel that is made of it is simple, and whatever an item of it does an item of the given one does; so
+-- `simplify`: the kernel that is made of it is simple, and whatever an item of it does an item of the given one does;
+-- so
 -- it comes from the program, and its histories and runs are matched by the program's;
 -- `analyse`: exactly the variables are marked that vary;
 -- `plan`: each cell has its home, and what is kept once for a group has equal values in all its work-items;
 -- `split` and `lower_region`: the code of each region does on a chunk what the chunk's items do in some order of their
--- moves, and on all chunks of a group what the group's items do; behind it the column or slot of each cell that is live
--- there has its value for each item of the group;
+-- moves;
+-- `tidy`: the tidied code does on each chunk the same; so it does on all chunks of a group what the group's items do,
+-- and behind it the column or slot of each cell that is live there has its value for each item of the group;
 -- `build`: the group program has the plan's columns and slots and the bytes of the kernel's arrays; on a group it does
 -- what the group's items do in some order, each barrier a release; it accesses no more than is written;
 -- together: a launch that fits the group program fits the program, and the end of the group program is an outcome of
@@ -79,7 +82,9 @@ pub record IsCorrect (program : Program) (names : List (List Named)) (varying : 
   pub once : KeepsOnceWhatIsEqual program kernel plan
   pub codes : EachRegion (λ region. Follows kernel plan width region (region_code kernel plan.homes region))
       (split_of kernel)
-  pub regions : EachRegion (λ region. RegionFollows kernel plan p region (region_code kernel plan.homes region))
+  pub tidied : EachRegion (λ region. DoesTheSame (region_code kernel plan.homes region)
+      (code_in kernel plan.homes region)) (split_of kernel)
+  pub regions : EachRegion (λ region. RegionFollows kernel plan p region (code_in kernel plan.homes region))
       (split_of kernel)
   pub parts : HasPartsOf kernel plan width p
   pub groups : GroupsFollow kernel p

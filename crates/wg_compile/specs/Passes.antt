@@ -1,4 +1,5 @@
--- A typed unit through the passes: the kernel without calls, made simple, which variables vary, where its cells are kept, its
+-- A typed unit through the passes: the kernel without calls, made simple, which variables vary, where its cells are
+-- kept, its
 -- regions, and the program of a group.
 use Rattle.std.specs.Prelude.{◌≡◌, ℕ, true, false, List, map}
 use Rattle.cl_model.specs.Tree.{Table}
@@ -8,6 +9,8 @@ use Rattle.kir.specs.Tree.{Kernel}
 use Rattle.kir.specs.Lowering.{Named}
 use Rattle.lane_code.specs.Program.{PlainCode, Items, Seq, Vote, Loop, Works, idle, then_work, Plain}
 use Rattle.lane_laws.specs.Chain.{NoWork, work_before}
+use Rattle.lane_tidy.specs.Tidied.{tidied_of}
+use Rattle.ctx_plan.specs.declared.plan.Home.{Home}
 use Rattle.ctx_plan.specs.Planned.{Planned}
 use Rattle.regions.specs.Tree.{RegionOf, Tree, NoRegion, RegionThen, VoteThen, LoopThen}
 use Rattle.regions.specs.Split.{split_of}
@@ -40,6 +43,10 @@ works_of code (VoteThen test agreed refused mixed rest) =
 works_of code (LoopThen test_first test body others rest) =
     then_work (Loop test_first (Seq (works_of code test)) (Seq (works_of code body)) (code others)) (works_of code rest)
 
+-- the code of a region, tidied
+abbrev pub code_in : Kernel → List Home → RegionOf → PlainCode
+code_in kernel homes region = tidied_of (region_code kernel homes region)
+
 -- the program of a group with a kernel and its plan, at a lane width
 abbrev pub group_with : ℕ → Kernel → Planned → Plain
 group_with width kernel plan = record {
@@ -51,7 +58,7 @@ group_with width kernel plan = record {
   columns = plan.columns;
   slots = plan.slots;
   sites = kernel.sites;
-  top = Seq (works_of (region_code kernel plan.homes) (split_of kernel));
+  top = Seq (works_of (code_in kernel plan.homes) (split_of kernel));
 }
 
 -- the program of a group, at a lane width

@@ -15,6 +15,7 @@ use kir::Kernel;
 use kir_lower::lower;
 use kir_simplify::simplify;
 use lane_code::GroupProgram;
+use lane_tidy::tidied::tidy_program;
 use regions::{RegionTree, split};
 use std::alloc::Global;
 use wg_num::{Memory, Width, Word};
@@ -32,7 +33,7 @@ pub struct Compiled {
     pub plan: Plan,
     /// The kernel cut at its barriers, of `split`.
     pub regions: RegionTree,
-    /// The program of a work-group, of `build`.
+    /// The program of a work-group, of `build`, with its codes made shorter by `tidy_program`.
     pub group: GroupProgram,
 }
 
@@ -62,7 +63,9 @@ pub fn compile_program(
     // its runs are interleavings: clauses of `split`
     let regions = split(alloc, &kernel)?;
     // `codes`: mask_lower_correct, of the code of each region; `regions`, `groups`: item_loops
-    let group = build(alloc, &regions, &plan, &kernel, name, width)?;
+    let built = build(alloc, &regions, &plan, &kernel, name, width)?;
+    // `tidied`: lane_tidy, of each code
+    let group = tidy_program(alloc, built)?;
     Ok(Compiled {
         program,
         kernel,

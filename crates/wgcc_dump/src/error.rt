@@ -67,8 +67,8 @@ pub(crate) fn status_of(error: DumpError) -> u8 {
     }
 }
 
-const USAGE: &str =
-    "usage: wgcc_dump tokens|program|kernel|simplified|varying|regions|plan|code SOURCE KERNEL [--lanes 1|4|8|16]\n";
+const USAGE: &str = "usage: wgcc_dump STAGE SOURCE KERNEL [--lanes 1|4|8|16]\n\
+    STAGE: tokens|program|kernel|simplified|varying|regions|plan|code|tidied\n";
 
 fn refusal_line(alloc: Global, condition: Condition, place: Place) -> Result<String, AllocError> {
     let number = condition.number();

@@ -1,6 +1,6 @@
 //! The calls of the passes, as far as a stage needs them.
 
-use crate::code_text::code_text;
+use crate::code_text::{code_text, tidied_text};
 use crate::error::DumpError;
 use crate::kernel_text::put_kernel;
 use crate::plan_text::put_plan;
@@ -79,7 +79,10 @@ fn listing_of(
     asked: &Asked<'_>,
 ) -> Result<Vec<u8>, DumpError> {
     let name = Word::new(alloc, asked.kernel.as_bytes())?;
-    let text = code_text(alloc, kernel, plan, &name, asked.width)?;
+    let text = match asked.stage {
+        Stage::Tidied => tidied_text(alloc, kernel, plan, &name, asked.width)?,
+        _ => code_text(alloc, kernel, plan, &name, asked.width)?,
+    };
     Ok(text)
 }
 
@@ -104,7 +107,7 @@ fn text_of(alloc: Global, asked: &Asked<'_>, program: &Program) -> Result<Vec<u8
         Stage::Varying => varying_text(alloc, program)?,
         Stage::Regions => split_text(alloc, program)?,
         Stage::Plan => plan_text(alloc, program)?,
-        Stage::Code => return listing_text(alloc, program, asked),
+        Stage::Code | Stage::Tidied => return listing_text(alloc, program, asked),
     };
     Ok(text.into_bytes())
 }

@@ -23,8 +23,10 @@ pub(crate) enum Stage {
     Regions,
     /// Where each cell is kept.
     Plan,
-    /// The listing of the program of a work-group.
+    /// The listing of the program of a work-group, as its regions are lowered.
     Code,
+    /// The listing of the same with its codes tidied, which is what runs.
+    Tidied,
 }
 
 fn stage_named(name: &str) -> Option<Stage> {
@@ -37,6 +39,7 @@ fn stage_named(name: &str) -> Option<Stage> {
         "regions" => Some(Stage::Regions),
         "plan" => Some(Stage::Plan),
         "code" => Some(Stage::Code),
+        "tidied" => Some(Stage::Tidied),
         _ => None,
     }
 }
