@@ -8,9 +8,8 @@ use Rattle.std.proofs.lemmas.List.Elements.{All-push}
 use Rattle.cl_model.specs.declared.launch.Launch.{Launch as Bindings}
 use Rattle.cl_model.specs.Sizes.{Launch}
 use Rattle.cl_model.specs.View.{launch_of}
-use Rattle.cl_meaning.specs.Typed.{Unit'}
 use Rattle.lane_code.specs.Fits.{LaunchFits}
-use Rattle.lane_code.specs.View.{plain_of}
+use Rattle.lane_code.specs.Program.{Plain}
 use Rattle.launch_file.specs.declared.text.BufferText.{BufferText}
 use Rattle.launch_file.specs.declared.refusal.Refusal.{Refusal}
 use Rattle.launch_file.specs.Binding as spec
@@ -18,8 +17,8 @@ use Rattle.launch_file.specs.declared.text.LaunchPart.{LaunchPart}
 use Rattle.launch_file.specs.Texts.{Text, Part, part_of}
 use Rattle.launch_file.specs.Values.{HasOneLength}
 use Rattle.launch_file.proofs.Accepted.{accepts}
-use Rattle.wg_compile.specs.declared.Compiled.{Compiled}
-use Rattle.wg_top.specs.Units.{needs_in, first_refusal, or_later}
+use Rattle.wg_top.specs.Units.{or_later}
+use Rattle.wg_top.specs.Programs.{Runs, needs_refusal}
 use Rattle.wg_top.specs.Launches.{IsReady, AllFit}
 use Rattle.wg_top.proofs.FitLemmas.{AreSmall, fits_kernel}
 
@@ -52,51 +51,51 @@ is_ready needs text part launch one binds offsets =
     }
 
 -- one more launch that fits
-fit-snoc : (cs : List Compiled) (ls : List Bindings) (c : Compiled) (l : Bindings) → AllFit cs ls →
-    LaunchFits (plain_of c.group).params 0 (launch_of l) → AllFit (cs ++ c ∷ []) (ls ++ l ∷ [])
-fit-snoc [] [] c l all one = (one, tt)
-fit-snoc (d ∷ cs) (m ∷ ls) c l all one = (all.0, fit-snoc cs ls c l all.1 one)
-fit-snoc [] (m ∷ ls) c l all one = absurd all
-fit-snoc (d ∷ cs) [] c l all one = absurd all
+fit-snoc : (ps : List Plain) (ls : List Bindings) (p : Plain) (l : Bindings) → AllFit ps ls →
+    LaunchFits p.params 0 (launch_of l) → AllFit (ps ++ p ∷ []) (ls ++ l ∷ [])
+fit-snoc [] [] p l all one = (one, tt)
+fit-snoc (q ∷ ps) (m ∷ ls) p l all one = (all.0, fit-snoc ps ls p l all.1 one)
+fit-snoc [] (m ∷ ls) p l all one = absurd all
+fit-snoc (q ∷ ps) [] p l all one = absurd all
 
-pub more_fit : (kernels : List Compiled) (k : ℕ) (c : Compiled) (list new : List Bindings) (l : Bindings) →
-    k < length kernels → c ≡ get_or kernels k c → new ≡ list ++ l ∷ [] → AllFit (take k kernels) list →
-    LaunchFits (plain_of c.group).params 0 (launch_of l) → AllFit (take (k + 1) kernels) new
-more_fit kernels k c list new l lt is pushed all one =
+pub more_fit : (programs : List Plain) (k : ℕ) (p : Plain) (list new : List Bindings) (l : Bindings) →
+    k < length programs → p ≡ get_or programs k p → new ≡ list ++ l ∷ [] → AllFit (take k programs) list →
+    LaunchFits p.params 0 (launch_of l) → AllFit (take (k + 1) programs) new
+more_fit programs k p list new l lt is pushed all one =
     let next : k + 1 ≡ suc k = omega arith in
-    let taken : take (k + 1) kernels ≡ take k kernels ++ c ∷ [] =
-    ap (λ n. take n kernels) next ∙ (take-suc kernels k c lt ∙ ap (λ d. take k kernels ++ d ∷ []) (sym is)) in
-    subst (λ (ls : List Bindings). AllFit (take (k + 1) kernels) ls) (sym pushed)
-    (subst (λ (cs : List Compiled). AllFit cs (list ++ l ∷ [])) (sym taken)
-    (fit-snoc (take k kernels) list c l all one))
+    let taken : take (k + 1) programs ≡ take k programs ++ p ∷ [] =
+    ap (λ n. take n programs) next ∙ (take-suc programs k p lt ∙ ap (λ d. take k programs ++ d ∷ []) (sym is)) in
+    subst (λ (ls : List Bindings). AllFit (take (k + 1) programs) ls) (sym pushed)
+    (subst (λ (ps : List Plain). AllFit ps (list ++ l ∷ [])) (sym taken)
+    (fit-snoc (take k programs) list p l all one))
 
 -- the launches from a place on
-from_place : (buffers : List BufferText) (parts : List Part) (units : List Unit') (k : ℕ) (part : Part) (u : Unit') →
-    k < length parts → k < length units → part ≡ get_or parts k part → u ≡ get_or units k u
-    → first_refusal buffers (drop k parts) (drop k units) ≡ or_later (spec.launch_refusal (needs_in u) buffers part)
-    (first_refusal buffers (drop (k + 1) parts) (drop (k + 1) units))
-from_place buffers parts units k part u in_parts in_units part_is u_is =
+from_place : (buffers : List BufferText) (parts : List Part) (rs : List Runs) (k : ℕ) (part : Part) (r : Runs) →
+    k < length parts → k < length rs → part ≡ get_or parts k part → r ≡ get_or rs k r
+    → needs_refusal buffers (drop k parts) (drop k rs) ≡ or_later (spec.launch_refusal r.needs buffers part)
+    (needs_refusal buffers (drop (k + 1) parts) (drop (k + 1) rs))
+from_place buffers parts rs k part r in_parts in_rs part_is r_is =
     let next : suc k ≡ k + 1 = omega arith in
-    ap₂ (first_refusal buffers) (drop-cons parts k part in_parts ∙ ap₂ (λ p n. p ∷ drop n parts) (sym part_is) next)
-    (drop-cons units k u in_units ∙ ap₂ (λ v n. v ∷ drop n units) (sym u_is) next)
+    ap₂ (needs_refusal buffers) (drop-cons parts k part in_parts ∙ ap₂ (λ p n. p ∷ drop n parts) (sym part_is) next)
+    (drop-cons rs k r in_rs ∙ ap₂ (λ v n. v ∷ drop n rs) (sym r_is) next)
 
 -- the launch at a place is accepted, so a later one decides
-pub refused_later : (buffers : List BufferText) (parts : List Part) (units : List Unit') (k : ℕ) (part : Part)
-    (u : Unit') → k < length parts → k < length units → part ≡ get_or parts k part → u ≡ get_or units k u
-    → spec.launch_refusal (needs_in u) buffers part ≡ None → first_refusal buffers (drop k parts) (drop k units) ≡
-    first_refusal buffers (drop (k + 1) parts) (drop (k + 1) units)
-refused_later buffers parts units k part u in_parts in_units part_is u_is accepted =
-    from_place buffers parts units k part u in_parts in_units part_is u_is ∙
-    ap (λ o. or_later o (first_refusal buffers (drop (k + 1) parts) (drop (k + 1) units))) accepted
+pub refused_later : (buffers : List BufferText) (parts : List Part) (rs : List Runs) (k : ℕ) (part : Part)
+    (r : Runs) → k < length parts → k < length rs → part ≡ get_or parts k part → r ≡ get_or rs k r
+    → spec.launch_refusal r.needs buffers part ≡ None → needs_refusal buffers (drop k parts) (drop k rs) ≡
+    needs_refusal buffers (drop (k + 1) parts) (drop (k + 1) rs)
+refused_later buffers parts rs k part r in_parts in_rs part_is r_is accepted =
+    from_place buffers parts rs k part r in_parts in_rs part_is r_is ∙
+    ap (λ o. or_later o (needs_refusal buffers (drop (k + 1) parts) (drop (k + 1) rs))) accepted
 
 -- the launch at a place is refused
-pub refused_here : (buffers : List BufferText) (parts : List Part) (units : List Unit') (k : ℕ) (part : Part)
-    (u : Unit') (first : Refusal) → k < length parts → k < length units → part ≡ get_or parts k part →
-    u ≡ get_or units k u → spec.launch_refusal (needs_in u) buffers part ≡ Some first →
-    first_refusal buffers (drop k parts) (drop k units) ≡ Some first
-refused_here buffers parts units k part u first in_parts in_units part_is u_is refused =
-    from_place buffers parts units k part u in_parts in_units part_is u_is ∙
-    ap (λ o. or_later o (first_refusal buffers (drop (k + 1) parts) (drop (k + 1) units))) refused
+pub refused_here : (buffers : List BufferText) (parts : List Part) (rs : List Runs) (k : ℕ) (part : Part)
+    (r : Runs) (first : Refusal) → k < length parts → k < length rs → part ≡ get_or parts k part →
+    r ≡ get_or rs k r → spec.launch_refusal r.needs buffers part ≡ Some first →
+    needs_refusal buffers (drop k parts) (drop k rs) ≡ Some first
+refused_here buffers parts rs k part r first in_parts in_rs part_is r_is refused =
+    from_place buffers parts rs k part r in_parts in_rs part_is r_is ∙
+    ap (λ o. or_later o (needs_refusal buffers (drop (k + 1) parts) (drop (k + 1) rs))) refused
 
 -- one more launch was bound
 pub one_bound : (turns : ℕ) (buffers : List BufferText) (parts : List Part) (k : ℕ) (d : Part)

@@ -1,5 +1,6 @@
 pub mod LineLemmas
 pub mod SampleLemmas
+pub mod ProgramsLemmas
 pub mod ProgramLemmas
 pub mod CauseLemmas
 pub mod EndLemmas

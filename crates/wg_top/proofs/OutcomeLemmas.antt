@@ -19,11 +19,9 @@ use Rattle.cl_model.specs.Valid.{IsValid, parameter_kinds}
 use Rattle.cl_model.specs.Objects.{local_arguments, local_sizes}
 use Rattle.cl_model.specs.Fitting.{ArgumentsFit, DimensionFits, FitsProgram, FitBuffers}
 use Rattle.cl_model.specs.Meaning.{EndsDone, EndsRange, EndsParted, EndsTurns}
-use Rattle.cl_model.specs.View.{launch_of}
 use Rattle.cl_meaning.specs.Typed.{Unit'}
 use Rattle.cl_meaning.specs.View.{unit_of}
 use Rattle.cl_check_sound.specs.Erased.{program_of}
-use Rattle.group_run.specs.declared.launcher.Launcher.{Launcher}
 use Rattle.group_run.proofs.LengthLaws.{program_keeps}
 use Rattle.item_loops.specs.Program.{HasPartsOf}
 use Rattle.kir.specs.Tree.{Kernel}
@@ -50,6 +48,7 @@ use Rattle.wg_compile.specs.Correct.{IsCompilation}
 use Rattle.wg_compile.specs.Ends.{IsOutcome, EndsInOutcomes}
 use Rattle.wg_top.specs.Outcomes.{AreMade, HasGroupProgram, HaveGroupPrograms, models_in, RanInOutcomes, EndsInOutcome}
 use Rattle.wg_top.specs.Outcomes.{StopsAsOutcome}
+use Rattle.wg_top.specs.Programs.{HaveRoom}
 use Rattle.wg_top.specs.Shown.{code_shown}
 use Rattle.wg_top.specs.Launches.{launch_end, launches_in, LaunchRan, LaunchesRan, EndsBehind, EndsSo, site_place}
 use Rattle.wg_top.specs.Launches.{start_place}
@@ -87,12 +86,6 @@ abbrev AllPromise : List Program → List Plain → List Launch → Type 0
 AllPromise [] [] [] = Unit {0}
 AllPromise (g ∷ gs) (p ∷ ps) (launch ∷ launches) = Promise g p launch × AllPromise gs ps launches
 AllPromise _ _ _ = ⊥
-
--- each launch fits its group program
-abbrev pub AllPrepared : List Plain → List Launch → Type 0
-AllPrepared [] [] = Unit {0}
-AllPrepared (p ∷ ps) (launch ∷ launches) = LaunchFits p.params (sum p.locals) launch × AllPrepared ps launches
-AllPrepared _ _ = ⊥
 
 ends_like : (program : Program) (q p : Plain) (launch : Launch) → IsLike q p → EndsInOutcomes program p →
     FitsProgram program launch → HasSizes launch → (buffers : List (List ℕ)) → FitBuffers launch buffers →
@@ -177,13 +170,6 @@ all_compiled width cs parts passes valid named =
     compiled_each width cs parts (all_at (IsCompilation width) cs passes)
     (all_at (λ c. IsValid (program_of (unit_of c.program))) cs valid) named
 
--- what was made ready fits
-pub prepared : (all : List Launcher) →
-    All (λ q. LaunchFits (plain_of q.program).params (sum (plain_of q.program).locals) (launch_of q.launch)) all →
-    AllPrepared (map (λ q. plain_of q.program) all) (map (λ q. launch_of q.launch) all)
-prepared [] fit = tt
-prepared (q ∷ all) fit = (fit 0 q (omega arith), prepared all (λ k d lt. fit (suc k) d (omega arith)))
-
 promise : (width turns : ℕ) (buffers : List BufferText) (c : Compiled) (part : Part) → IsCompilation width c →
     IsValid (program_of (unit_of c.program))
     → LaunchFits (plain_of c.group).params (sum (plain_of c.group).locals) (launch_in turns buffers part) →
@@ -198,7 +184,7 @@ promise width turns buffers c part passes valid fits = record {
 
 promises : (width turns : ℕ) (buffers : List BufferText) (cs : List Compiled) (parts : List Part) →
     AllAt (IsCompilation width) cs → AllAt (λ c. IsValid (program_of (unit_of c.program))) cs
-    → AllPrepared (map (λ c. plain_of c.group) cs) (map (launch_in turns buffers) parts)
+    → HaveRoom (map (λ c. plain_of c.group) cs) (map (launch_in turns buffers) parts)
     → AllPromise (map program_of (map (λ c. unit_of c.program) cs))
     (map (group_in width) (map (λ c. unit_of c.program) cs)) (map (launch_in turns buffers) parts)
 promises width turns buffers [] [] passes valid fit = tt
@@ -345,7 +331,7 @@ so_outcome several sizes gs ps launches before _ known over fit ends = absurd en
 
 module _ (text : Text) (cs : List Compiled) (passes : All (IsCompilation text.lanes) cs)
     (valid : All (λ c. IsValid (program_of (unit_of c.program))) cs)
-    (fit : AllPrepared (map (λ c. plain_of c.group) cs) (launches_in text)) (before : List (List ℕ))
+    (fit : HaveRoom (map (λ c. plain_of c.group) cs) (launches_in text)) (before : List (List ℕ))
     (sizes : map (λ (b : List ℕ). length b) before ≡ lengths_of text.buffers) where
   known : AllPromise (models_in (map (λ c. unit_of c.program) cs))
       (programs_in text (map (λ c. unit_of c.program) cs)) (launches_in text)

@@ -31,7 +31,6 @@ use Rattle.lane_code.specs.Program.{Plain}
 use Rattle.lane_code.specs.View.{plain_of}
 use Rattle.wg_top.specs.declared.RunError.{RunError}
 use Rattle.wg_top.specs.declared.RunError.TheVariants.{Range, Parted, Turns}
-use Rattle.wg_top.specs.declared.Summary.{Summary}
 use Rattle.wg_compile.specs.declared.Compiled.{Compiled}
 use Rattle.cl_meaning.specs.Typed.{Unit'}
 use Rattle.cl_meaning.specs.View.{unit_of}
@@ -41,10 +40,10 @@ use Rattle.wg_compile.specs.Correct.{IsCompilation}
 use Rattle.wg_top.specs.Units.{HaveTypedUnits, bind_refusal}
 use Rattle.wg_top.specs.Causes.{Standing, BuffersLoaded, StopsIn, HasRun}
 use Rattle.wg_top.specs.Outcomes.{AreMade, HaveGroupPrograms, models_in, RanInOutcomes, StopsAsOutcome}
-use Rattle.wg_top.specs.Causes.{SaveStopped, IsRun}
-use Rattle.wg_top.specs.Stages.{BackCause, LeavesOthers}
+use Rattle.wg_top.specs.Causes.{SaveStopped}
+use Rattle.wg_top.specs.Stages.{BackCause}
 use Rattle.wg_top.proofs.MeaningLemmas.{AreLike, ran_like, so_like}
-use Rattle.wg_top.specs.Launches.{IsReady, HasLimits, launches_in, LaunchesRan, EndsSo, all_groups, all_items}
+use Rattle.wg_top.specs.Launches.{IsReady, HasLimits, launches_in, LaunchesRan, EndsSo}
 
 -- the first launch is ready
 pub ready_first : (buffers : List BufferText) (launches : List Bindings) (first : Bindings) →
@@ -195,15 +194,6 @@ is_stopped old new text units before programs launches (Turns number several) ac
 is_stopped old new text units before programs launches _ accepted loaded same are ends made compiled outcome =
     absurd ends
 
--- it leaves all files
-pub stopped_leaves : (old new : Standing) (text : Text) (units : List Unit') (several : Bool) (before : List (List ℕ))
-    (programs : List Plain) (launches : List Launch) (e : RunError) → new.files ≡ old.files →
-    EndsSo several programs launches before e → LeavesOthers old new text units e
-stopped_leaves old new text units several before programs launches (Range number s group item place) same ends = same
-stopped_leaves old new text units several before programs launches (Parted number s group item place) same ends = same
-stopped_leaves old new text units several before programs launches (Turns number s) same ends = same
-stopped_leaves old new text units several before programs launches _ same ends = absurd ends
-
 -- the launches ran
 pub has_run : (files : Option FileMap) (text : Text) (units : List Unit') (before after : List (List ℕ))
     (programs : List Plain) (launches : List Launch) → BuffersLoaded files text before →
@@ -230,24 +220,6 @@ save_stopped old mid new text s saves after accepted stays same run stops others
       (subst (λ (ls : List (Option (List ℕ))). StopsAt mid new ls after) same stops);
   others = subst (λ (f : Option FileMap). KeepsAllBut f new (saves_of text.buffers)) stays
       (subst (λ (ls : List (Option (List ℕ))). KeepsAllBut mid new ls) same others);
-}
-
--- all was saved
-pub is_run : (old mid new : Option FileMap) (text : Text) (s : List Unit') (saves : List (Option (List ℕ)))
-    (after : List (List ℕ)) (summary : Summary) (launches : List Launch) → bind_refusal text s ≡ None → mid ≡ old →
-    saves ≡ saves_of text.buffers → HasRun old text s after → AllSavedAs mid new saves after →
-    KeepsAllBut mid new saves → launches ≡ launches_in text → summary.groups ≡ all_groups launches →
-    summary.items ≡ all_items launches → IsRun old new text s summary
-is_run old mid new text s saves after summary launches accepted stays same run saved others are groups items = record {
-  accepted = accepted;
-  after = after;
-  run = run;
-  saved = subst (λ (f : Option FileMap). AllSavedAs f new (saves_of text.buffers) after) stays
-      (subst (λ (ls : List (Option (List ℕ))). AllSavedAs mid new ls after) same saved);
-  others = subst (λ (f : Option FileMap). KeepsAllBut f new (saves_of text.buffers)) stays
-      (subst (λ (ls : List (Option (List ℕ))). KeepsAllBut mid new ls) same others);
-  groups = groups ∙ ap all_groups are;
-  items = items ∙ ap all_items are;
 }
 
 -- ---- the launches that were made ready

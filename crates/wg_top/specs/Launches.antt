@@ -14,8 +14,6 @@ use Rattle.lane_code.specs.declared.end.RunEnd.TheVariants as run
 use Rattle.lane_code.specs.Program.{Plain}
 use Rattle.lane_code.specs.Run.{RunEnded, program_end}
 use Rattle.lane_code.specs.Fits.{LaunchFits}
-use Rattle.lane_code.specs.View.{plain_of}
-use Rattle.wg_compile.specs.declared.Compiled.{Compiled}
 use Rattle.wg_top.specs.declared.RunError.{RunError}
 use Rattle.wg_top.specs.declared.RunError.TheVariants as error
 
@@ -36,10 +34,10 @@ pub record IsReady (buffers : List BufferText) (launch : Bindings) : Type 0 wher
   pub loads : launch.loads.items ≡ loads_of buffers
   pub saves : launch.saves.items ≡ saves_of buffers
 
--- each launch fits its kernel, local memory that the kernel declares aside
-abbrev pub AllFit : List Compiled → List Bindings → Type 0
+-- each launch fits its program, local memory that the kernel declares aside
+abbrev pub AllFit : List Plain → List Bindings → Type 0
 AllFit [] [] = ⊤
-AllFit (c ∷ cs) (launch ∷ launches) = LaunchFits (plain_of c.group).params 0 (launch_of launch) × AllFit cs launches
+AllFit (p ∷ ps) (launch ∷ launches) = LaunchFits p.params 0 (launch_of launch) × AllFit ps launches
 AllFit _ _ = ⊥
 
 -- how the program of a group ends on a launch and these buffers, and what it leaves

@@ -3,6 +3,7 @@ pub mod Outcomes
 pub mod Units
 pub mod Given
 pub mod Launches
+pub mod Programs
 pub mod Lines
 pub mod Causes
 pub mod Stages

@@ -54,12 +54,6 @@ KernelsCause bytes defines parts (Source condition place) = IsFirstRefused bytes
 KernelsCause bytes defines parts Memory = ⊤
 KernelsCause bytes defines parts _ = ⊥
 
--- the cause of a refusal of the launches
-abbrev pub BindCause : Text → List Unit' → RunError → Type 0
-BindCause text units (Launch refusal) = bind_refusal text units ≡ Some refusal
-BindCause text units Memory = ⊤
-BindCause text units _ = ⊥
-
 -- the cause of a refusal once all is read
 abbrev pub BackCause : Standing → Standing → Text → List Unit' → RunError → Type 0
 BackCause old new text units Failed = Rose old.faults new.faults

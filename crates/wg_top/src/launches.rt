@@ -8,23 +8,19 @@ ghost use Rattle.cl_model.specs.Objects.{local_arguments};
 ghost use Rattle.lane_code.specs.View.{plain_of};
 ghost use Rattle.lane_code.specs.Fits.{LaunchFits};
 ghost use Rattle.launch_file.specs.Texts.{text_of};
-ghost use Rattle.wg_compile.specs.Correct.{IsCompilation};
-ghost use Rattle.wg_top.specs.Units.{bind_refusal};
 ghost use Rattle.wg_top.specs.Given.{IsText};
-ghost use Rattle.wg_top.specs.Stages.{BindCause};
+ghost use Rattle.wg_top.specs.Programs.{HasKinds, RunsBindCause, programs_of, runs_of, runs_refusal};
 ghost use Rattle.wg_top.specs.Launches.{launches_in, HasLimits, IsReady, AllFit, LaunchesRan, EndsSo, refusal_of};
 ghost use Rattle.wg_top.specs.Launches.{start_place, all_groups, all_items};
-ghost use Rattle.cl_meaning.specs.View.{unit_of};
 
-use crate::shared::SharedKernel;
+use crate::runnable::Runnable;
 use crate::{RunError, Summary};
 use cl_model::{Bound, Buffers, Launch};
 use group_run::Launcher;
-use lane_code::RunEnd;
+use lane_code::{GroupProgram, RunEnd};
 use launch_file::{LaunchError, LaunchText};
 use launch_file_bind::bind;
 use std::alloc::Global;
-use wg_compile::Compiled;
 use wg_num::{Memory, Place};
 
 // The most bytes of local memory that a group has.
@@ -36,22 +32,21 @@ const START: Place = Place { line: 1, column: 1 };
 /// The launches, each bound to its own kernel.
 pub(crate) fn bind_each(
     alloc: Global,
-    kernels: &[SharedKernel],
+    runnables: &[Runnable<'_>],
     text: &LaunchText,
 ) -> Result<Vec<Launch>, RunError>
     requires text { IsText text.now }
-    requires as_many { length kernels.now ≡ length text.now.list.items }
-    requires passes { All (IsCompilation (text_of text.now).lanes) kernels.now }
+    requires as_many { length runnables.now ≡ length text.now.list.items }
+    requires kinds { All HasKinds runnables.now }
     ensures launches { IfOk result (λ v. map launch_of v.items ≡ launches_in (text_of text.now)) }
     ensures ready { IfOk result (λ v. All (IsReady text.now.buffers.items) v.items) }
-    ensures fit { IfOk result (λ v. AllFit kernels.now v.items) }
-    ensures accepted { IfOk result
-        (λ v. bind_refusal (text_of text.now) (map (λ c. unit_of c.program) kernels.now) ≡ None) }
-    ensures err { IfErr result (BindCause (text_of text.now) (map (λ c. unit_of c.program) kernels.now)) }
+    ensures fit { IfOk result (λ v. AllFit (programs_of (map runs_of runnables.now)) v.items) }
+    ensures accepted { IfOk result (λ v. runs_refusal (text_of text.now) (map runs_of runnables.now) ≡ None) }
+    ensures err { IfErr result (RunsBindCause (text_of text.now) (map runs_of runnables.now)) }
 {
     let mut list = Vec::new(alloc);
     for which in 0..text.list.len() {
-        match bind(alloc, &kernels[which].compiled().program, text, which) {
+        match bind(alloc, runnables[which].program, text, which) {
             Ok(launch) => {
                 if list.push(launch).is_err() {
                     return Err(RunError::Memory);
@@ -137,31 +132,31 @@ pub fn has_room(locals: &[u64], args: &[Bound]) -> bool
     bytes <= LOCAL_MOST
 }
 
-// The kernel's program made ready for the launch; `Memory` also where the local memory of its groups
+// The program made ready for the launch; `Memory` also where the local memory of its groups
 // has no room.
-fn prepare_one(alloc: Global, kernel: &Compiled, launch: Launch) -> Result<Launcher<'_>, Memory>
-    requires { LaunchFits (plain_of kernel.now.group).params 0 (launch_of launch) }
-    ensures program { IfOk result (λ l. l.program ≡ kernel.now.group) }
+fn prepare_one(alloc: Global, group: &GroupProgram, launch: Launch) -> Result<Launcher<'_>, Memory>
+    requires { LaunchFits (plain_of group.now).params 0 (launch_of launch) }
+    ensures program { IfOk result (λ l. l.program ≡ group.now) }
     ensures launch { IfOk result (λ l. l.launch ≡ launch) }
     ensures fit { IfOk result (λ l. LaunchFits (plain_of l.program).params (sum (plain_of l.program).locals)
         (launch_of l.launch)) }
 {
-    if has_room(&kernel.group.locals, &launch.args) {
-        Launcher::prepare(alloc, &kernel.group, launch)
+    if has_room(&group.locals, &launch.args) {
+        Launcher::prepare(alloc, group, launch)
     } else {
         Err(Memory)
     }
 }
 
-/// The programs of the kernels, each made ready for its launch.
+/// The programs, each made ready for its launch.
 pub(crate) fn prepare_each<'k>(
     alloc: Global,
-    kernels: &'k [SharedKernel],
+    runnables: &[Runnable<'k>],
     launches: Vec<Launch>,
 ) -> Result<Vec<Launcher<'k>>, Memory>
-    requires { AllFit kernels.now launches.items }
+    requires { AllFit (map (λ r. plain_of r.group.now) runnables.now) launches.items }
     ensures programs { IfOk result (λ v. map (λ l. plain_of l.program) v.items ≡
-        map (λ c. plain_of c.group) kernels.now) }
+        map (λ r. plain_of r.group.now) runnables.now) }
     ensures launches { IfOk result (λ v. map (λ l. l.launch) v.items ≡ launches.items) }
     ensures fit { IfOk result (λ v.
         All (λ l. LaunchFits (plain_of l.program).params (sum (plain_of l.program).locals) (launch_of l.launch))
@@ -169,11 +164,11 @@ pub(crate) fn prepare_each<'k>(
 {
     let mut launchers = Vec::new(alloc);
     let mut rest = launches.into_iter();
-    for kernel in kernels {
+    for runnable in runnables {
         let Some(launch) = rest.next() else {
             return Ok(launchers);
         };
-        let launcher = prepare_one(alloc, kernel.compiled(), launch)?;
+        let launcher = prepare_one(alloc, runnable.group, launch)?;
         if launchers.push(launcher).is_err() {
             return Err(Memory);
         }

@@ -28,6 +28,7 @@ mod lines;
 mod programs;
 mod reading;
 mod run;
+mod runnable;
 mod sample;
 mod shared;
 mod texts;

@@ -1,8 +1,6 @@
 // Running the launches of a launch file from its files.
 ghost use Rattle.std.specs.Prelude.{◌≡◌, All, List, None, IfOk, IfErr, length, map};
 ghost use Rattle.cl_model.specs.View.{launch_of};
-ghost use Rattle.cl_model.specs.Valid.{IsValid};
-ghost use Rattle.cl_check_sound.specs.Erased.{program_of};
 ghost use Rattle.cl_meaning.specs.Typed.{Unit'};
 ghost use Rattle.cl_meaning.specs.View.{unit_of};
 ghost use Rattle.launch_file.specs.Texts.{Text, text_of};
@@ -11,15 +9,14 @@ ghost use Rattle.wg_top.specs.declared.RunError.TheVariants as refusals;
 ghost use Rattle.wg_top.specs.Causes.{standing, HasNoFewer, Cause, LeavesFiles, IsRun, IsDone, AcceptedClean};
 ghost use Rattle.wg_top.specs.Causes.{LeavesClean};
 ghost use Rattle.wg_top.specs.Stages.{BackCause, LeavesOthers};
-ghost use Rattle.wg_compile.specs.Correct.{IsCompilation};
-ghost use Rattle.wg_top.specs.Units.{bind_refusal};
+ghost use Rattle.wg_top.specs.Programs.{AreRun, HasKinds, RunsCause, RunsLeave, programs_of, runs_of, runs_refusal};
 ghost use Rattle.wg_top.specs.Given.{IsText, IsGiven};
 ghost use Rattle.wg_top.specs.Launches.{launches_in, IsReady, AllFit};
 ghost use Rattle.wg_top.specs.Ends.{asked};
 
 use crate::launches::{bind_each, count_all, prepare_each, run_each};
 use crate::reading::{Given, Options, read_all};
-use crate::shared::SharedKernel;
+use crate::runnable::{Runnable, runnables};
 use crate::{RunError, Summary};
 use buffer_io::{load_all, save_all};
 use cl_model::Launch;
@@ -28,31 +25,26 @@ use std::alloc::Global;
 use wg_num::Memory;
 use wg_outside::{Failed, LoadError, Store};
 
-// Loads the buffers, runs the launches and saves the buffers.
-fn run_bound<S: Store>(
+/// Loads the buffers, runs the launches and saves the buffers.
+pub(crate) fn run_programs<S: Store>(
     alloc: Global,
     store: &mut S,
-    kernels: &[SharedKernel],
+    runnables: &[Runnable<'_>],
     text: &LaunchText,
     launches: Vec<Launch>,
 ) -> Result<Summary, RunError>
     requires text { IsText text.now }
     requires as_many { length launches.items ≡ length text.now.list.items }
-    requires passes { All (IsCompilation (text_of text.now).lanes) kernels.now }
-    requires valid { All (λ c. IsValid (program_of (unit_of c.program))) kernels.now }
-    requires names { map (λ c. c.group.kernel) kernels.now ≡ map (λ p. p.kernel) (text_of text.now).list }
     requires launches { map launch_of launches.items ≡ launches_in (text_of text.now) }
     requires ready { All (IsReady text.now.buffers.items) launches.items }
-    requires fit { AllFit kernels.now launches.items }
-    requires accepted { bind_refusal (text_of text.now) (map (λ c. unit_of c.program) kernels.now) ≡ None }
-    ensures ok { IfOk result (IsRun (S.files store.old) (S.files store.new) (text_of text.now)
-        (map (λ c. unit_of c.program) kernels.now)) }
-    ensures err { IfErr result (BackCause (standing S.files S.faults S.misses store.old)
-        (standing S.files S.faults S.misses store.new) (text_of text.now)
-        (map (λ c. unit_of c.program) kernels.now)) }
-    ensures left { IfErr result (LeavesOthers (standing S.files S.faults S.misses store.old)
-        (standing S.files S.faults S.misses store.new) (text_of text.now)
-        (map (λ c. unit_of c.program) kernels.now)) }
+    requires fit { AllFit (programs_of (map runs_of runnables.now)) launches.items }
+    requires accepted { runs_refusal (text_of text.now) (map runs_of runnables.now) ≡ None }
+    ensures ok { IfOk result
+        (AreRun (S.files store.old) (S.files store.new) (text_of text.now) (map runs_of runnables.now)) }
+    ensures err { IfErr result (RunsCause (standing S.files S.faults S.misses store.old)
+        (standing S.files S.faults S.misses store.new) (text_of text.now) (map runs_of runnables.now)) }
+    ensures left { IfErr result (RunsLeave (standing S.files S.faults S.misses store.old)
+        (standing S.files S.faults S.misses store.new) (text_of text.now) (map runs_of runnables.now)) }
     ensures stands { HasNoFewer (standing S.files S.faults S.misses store.old)
         (standing S.files S.faults S.misses store.new) }
 {
@@ -63,7 +55,7 @@ fn run_bound<S: Store>(
         Err(LoadError::Failed) => return Err(RunError::Failed),
         Err(LoadError::Memory) => return Err(RunError::Memory),
     };
-    let mut launchers = match prepare_each(alloc, kernels, launches) {
+    let mut launchers = match prepare_each(alloc, runnables, launches) {
         Ok(launchers) => launchers,
         Err(Memory) => return Err(RunError::Memory),
     };
@@ -74,6 +66,31 @@ fn run_bound<S: Store>(
     match save_all(store, launchers[0].launch(), &buffers) {
         Ok(()) => Ok(summary),
         Err(Failed) => Err(RunError::Failed),
+    }
+}
+
+/// Binds the launches, each to its own kernel, and runs them from their files to their files.
+pub(crate) fn run_runnables<S: Store>(
+    alloc: Global,
+    store: &mut S,
+    runnables: &[Runnable<'_>],
+    text: &LaunchText,
+) -> Result<Summary, RunError>
+    requires text { IsText text.now }
+    requires as_many { length runnables.now ≡ length text.now.list.items }
+    requires kinds { All HasKinds runnables.now }
+    ensures ok { IfOk result
+        (AreRun (S.files store.old) (S.files store.new) (text_of text.now) (map runs_of runnables.now)) }
+    ensures err { IfErr result (RunsCause (standing S.files S.faults S.misses store.old)
+        (standing S.files S.faults S.misses store.new) (text_of text.now) (map runs_of runnables.now)) }
+    ensures left { IfErr result (RunsLeave (standing S.files S.faults S.misses store.old)
+        (standing S.files S.faults S.misses store.new) (text_of text.now) (map runs_of runnables.now)) }
+    ensures stands { HasNoFewer (standing S.files S.faults S.misses store.old)
+        (standing S.files S.faults S.misses store.new) }
+{
+    match bind_each(alloc, runnables, text) {
+        Ok(launches) => run_programs(alloc, store, runnables, text, launches),
+        Err(error) => Err(error),
     }
 }
 
@@ -92,9 +109,9 @@ fn run_given<S: Store>(alloc: Global, store: &mut S, given: Given) -> Result<Sum
         (standing S.files S.faults S.misses store.new) }
 {
     let Given { text, kernels } = given;
-    match bind_each(alloc, &kernels, &text) {
-        Ok(launches) => run_bound(alloc, store, &kernels, &text, launches),
-        Err(error) => Err(error),
+    match runnables(alloc, &kernels) {
+        Ok(runnables) => run_runnables(alloc, store, &runnables, &text),
+        Err(Memory) => Err(RunError::Memory),
     }
 }
 

@@ -1,4 +1,4 @@
-use Rattle.std.proofs.Common.{◌≡◌, ◌+◌, ◌<◌, suc, ◌++◌, [], ◌∷◌, ◌∙◌, ℕ, List, length, drop, sym, ap, subst, arith}
+use Rattle.std.proofs.Common.{◌≡◌, ◌+◌, ◌<◌, suc, ◌++◌, [], ◌∷◌, ◌∙◌, ℕ, List, length, map, drop, sym, ap, subst, arith}
 use Rattle.std.proofs.Common.{rules}
 use Rattle.std.specs.Prelude.{All, sum}
 use Rattle.std.specs.Vec.Iter.{into_iter_items}
@@ -11,44 +11,42 @@ use Rattle.lane_code.specs.Fits.{LaunchFits}
 use Rattle.lane_code.specs.Program.{Plain}
 use Rattle.lane_code.specs.View.{plain_of}
 use Rattle.wg_top.specs.Launches.{AllFit}
-use Rattle.wg_compile.specs.declared.Compiled.{Compiled}
+use Rattle.wg_top.specs.declared.runnable.Runnable.{Runnable}
 use Rattle.wg_top.proofs.LaunchLemmas.{made_next, taken_next}
 use Rattle.wg_top.proofs.launches.prepare_each.Goals as goal
 
-pub loop-kernel-preserved : goal.loop-kernel-preserved
-loop-kernel-preserved c =
-    let all : List Compiled = c.args.kernels.now in
-    let k : ℕ = c.loop-kernel.kernel-index in
-    let kernel : Compiled = c.kernel-item.result in
-    let there : k < length all = omega (arith, c.loop-kernel-test.true) in
+pub loop-runnable-preserved : goal.loop-runnable-preserved
+loop-runnable-preserved c =
+    let all : List Runnable = c.args.runnables.now in
+    let k : ℕ = c.loop-runnable.runnable-index in
+    let x : Runnable = c.runnable-item.result in
+    let there : k < length all = omega (arith, c.loop-runnable-test.true) in
     let next : k + 1 ≡ suc k = omega arith in
-    let kernels : drop k all ≡ kernel ∷ drop (k + 1) all = drop-cons all k kernel there ∙
-    (ap (λ (x : Compiled). x ∷ drop (suc k) all) (sym c.kernel-item.is) ∙
-    ap (λ (n : ℕ). kernel ∷ drop n all) (sym next)) in
-    let pushed : c.push.new.self.items ≡ c.loop-kernel.launchers.items ++ c.in_ok-launcher.launcher ∷ [] =
+    let rest : drop k all ≡ x ∷ drop (k + 1) all = drop-cons all k x there ∙
+    (ap (λ (y : Runnable). y ∷ drop (suc k) all) (sym c.runnable-item.is) ∙
+    ap (λ (n : ℕ). x ∷ drop n all) (sym next)) in
+    let pushed : c.push.new.self.items ≡ c.loop-runnable.launchers.items ++ c.in_ok-launcher.launcher ∷ [] =
     search rules in
-    let launches : into_iter_items c.loop-kernel.rest ≡ c.in-Some.launch ∷ into_iter_items c.next.new.self =
+    let launches : into_iter_items c.loop-runnable.rest ≡ c.in-Some.launch ∷ into_iter_items c.next.new.self =
     search rules in
     let fits : Launcher → Type 0 =
     λ q. LaunchFits (plain_of q.program).params (sum (plain_of q.program).locals) (launch_of q.launch) in
     let program : Launcher → Plain = λ q. plain_of q.program in
-    let group : Compiled → Plain = λ k. plain_of k.group in
+    let group : Runnable → Plain = λ r. plain_of r.group.now in
     let launch : Launcher → Bindings = λ q. q.launch in
-    let same : c.in_ok-launcher.launcher.program ≡ kernel.group =
-    c.in_ok-launcher.ensures.program ∙ ap (λ (x : Compiled). x.group) c.compiled.ensures in
-    let fit : AllFit (kernel ∷ drop (k + 1) all) (c.in-Some.launch ∷ into_iter_items c.next.new.self) =
-    subst (λ (ls : List Bindings). AllFit (kernel ∷ drop (k + 1) all) ls) launches
-    (subst (λ (cs : List Compiled). AllFit cs (into_iter_items c.loop-kernel.rest)) kernels
-    c.loop-kernel.invariant.fit) in
+    let fit : AllFit (map group (x ∷ drop (k + 1) all)) (c.in-Some.launch ∷ into_iter_items c.next.new.self) =
+    subst (λ (ls : List Bindings). AllFit (map group (x ∷ drop (k + 1) all)) ls) launches
+    (subst (λ (rs : List Runnable). AllFit (map group rs) (into_iter_items c.loop-runnable.rest)) rest
+    c.loop-runnable.invariant.fit) in
     record {
       fit = fit.1;
-      programs = made_next program group c.loop-kernel.launchers.items c.push.new.self.items (drop k all)
-          (drop (k + 1) all) c.in_ok-launcher.launcher kernel _ pushed kernels (ap plain_of same)
-          c.loop-kernel.invariant.programs;
+      programs = made_next program group c.loop-runnable.launchers.items c.push.new.self.items (drop k all)
+          (drop (k + 1) all) c.in_ok-launcher.launcher x _ pushed rest (ap plain_of c.in_ok-launcher.ensures.program)
+          c.loop-runnable.invariant.programs;
       prepared = subst (λ (qs : List Launcher). All fits qs) (sym pushed)
-          (All-push fits c.loop-kernel.launchers.items c.in_ok-launcher.launcher c.loop-kernel.invariant.prepared
+          (All-push fits c.loop-runnable.launchers.items c.in_ok-launcher.launcher c.loop-runnable.invariant.prepared
           c.in_ok-launcher.ensures.fit);
-      launches = taken_next launch c.loop-kernel.launchers.items c.push.new.self.items
-          (into_iter_items c.loop-kernel.rest) (into_iter_items c.next.new.self) c.in_ok-launcher.launcher
-          c.in-Some.launch _ pushed launches c.in_ok-launcher.ensures.launch c.loop-kernel.invariant.launches;
+      launches = taken_next launch c.loop-runnable.launchers.items c.push.new.self.items
+          (into_iter_items c.loop-runnable.rest) (into_iter_items c.next.new.self) c.in_ok-launcher.launcher
+          c.in-Some.launch _ pushed launches c.in_ok-launcher.ensures.launch c.loop-runnable.invariant.launches;
     }
