@@ -16,7 +16,7 @@ use launch_file::{LaunchText, read};
 use launch_file_bind::bind;
 use std::alloc::Global;
 use wg_compile::{Compiled, compile_program};
-use wg_num::{Memory, Width, Word};
+use wg_num::{Memory, Width, Word, boxed};
 use wg_top::has_room;
 
 /// The program of a work-group, and a launch of it.
@@ -41,6 +41,26 @@ fn compiled(alloc: Global, source: &[u8], kernel: &[u8], width: Width) -> Result
     };
     let name = Word::new(alloc, kernel)?;
     compile_program(alloc, program, &name, width)
+}
+
+/// The program of the work-group alone.
+fn group_of(compiled: Compiled) -> GroupProgram
+    ensures { result ≡ compiled.group }
+{
+    let Compiled {
+        program,
+        kernel,
+        varying,
+        plan,
+        regions,
+        group,
+    } = compiled;
+    drop(program);
+    drop(kernel);
+    drop(varying);
+    drop(plan);
+    drop(regions);
+    group
 }
 
 /// What a launch file says. Memory where it is refused, too.
@@ -99,8 +119,7 @@ pub fn made_ready(
         LaunchFits (plain_of r.group).params (sum (plain_of r.group).locals) (launch_of r.launch)) }
 {
     let text = launch_text(alloc, launch)?;
-    let compiled = compiled(alloc, source, kernel, width)?;
+    let compiled = boxed(alloc, compiled(alloc, source, kernel, width)?)?;
     let launch = first_launch(alloc, &compiled, &text, width)?;
-    let Compiled { group, .. } = compiled;
-    with_room(group, launch)
+    with_room(group_of(Box::into_inner(compiled)), launch)
 }

@@ -124,6 +124,27 @@ const DOUBLING: [Step; 5] = [
     },
 ];
 
+/// How an example's code ends on the first chunk, and the calls on vectors counted before and behind it.
+#[derive(Clone, Copy)]
+struct Seen {
+    before: u64,
+    end: RegionEnd,
+    after: u64,
+}
+
+/// The code on the first chunk.
+fn on_first_chunk(example: Example, buffers: &mut Buffers) -> Seen
+    requires { IsReady example.program example.launch example.machine example.group }
+{
+    let mut example = example;
+    let mut turns = 0;
+    let before = example.machine.tally.count();
+    let end = example.first_chunk(buffers, &mut turns);
+    let after = example.machine.tally.count();
+    drop(example);
+    Seen { before, end, after }
+}
+
 fn doubling(alloc: Global) -> Result<Example, Fail>
     ensures { IfOk result (λ e. IsReady e.program e.launch e.machine e.group) }
 {
@@ -132,24 +153,21 @@ fn doubling(alloc: Global) -> Result<Example, Fail>
 
 #[test]
 fn the_tally_counts_the_calls_on_vectors(rt: HostRuntime) -> Result<(), Fail> {
-    let mut example = doubling(rt.alloc())?;
-    let mut turns = 0;
     let mut buffers = ints(rt.alloc(), 20, 7)?;
-    let before = example.machine.tally.count();
-    let end = example.first_chunk(&mut buffers, &mut turns);
-    let after = example.machine.tally.count();
-    assert_eq!(rt; (before, end, after), (0, RegionEnd::Done, 3));
+    let seen = on_first_chunk(doubling(rt.alloc())?, &mut buffers);
+    assert_eq!(rt;
+        (seen.before, seen.end, seen.after),
+        (0, RegionEnd::Done, 3)
+    );
     assert_eq!(rt; (int_at(&buffers, 7), int_at(&buffers, 8)), (14, 7));
     Ok(())
 }
 
 #[test]
 fn the_lowest_lane_out_of_range_is_the_end(rt: HostRuntime) -> Result<(), Fail> {
-    let mut example = doubling(rt.alloc())?;
-    let mut turns = 0;
     let mut few = ints(rt.alloc(), 3, 7)?;
-    let end = example.first_chunk(&mut few, &mut turns);
-    assert_eq!(rt; end, RegionEnd::Range { lane: 3, site: 0 });
+    let seen = on_first_chunk(doubling(rt.alloc())?, &mut few);
+    assert_eq!(rt; seen.end, RegionEnd::Range { lane: 3, site: 0 });
     assert_eq!(rt; int_at(&few, 2), 7);
     Ok(())
 }
@@ -213,18 +231,19 @@ fn marking(alloc: Global) -> Result<Example, Fail>
 }
 
 #[test]
-fn stores_below_the_first_fault_are_done_and_a_mark_names_its_lowest_lane(
-    rt: HostRuntime,
-) -> Result<(), Fail> {
-    let mut example = marking(rt.alloc())?;
-    let mut turns = 0;
+fn stores_below_the_first_fault_are_done(rt: HostRuntime) -> Result<(), Fail> {
     let mut few = ints(rt.alloc(), 3, 7)?;
-    let end = example.first_chunk(&mut few, &mut turns);
-    assert_eq!(rt; end, RegionEnd::Range { lane: 3, site: 1 });
+    let seen = on_first_chunk(marking(rt.alloc())?, &mut few);
+    assert_eq!(rt; seen.end, RegionEnd::Range { lane: 3, site: 1 });
     assert_eq!(rt; int_at(&few, 2), 9);
+    Ok(())
+}
+
+#[test]
+fn a_mark_names_its_lowest_lane(rt: HostRuntime) -> Result<(), Fail> {
     let mut buffers = ints(rt.alloc(), 20, 7)?;
-    let end = example.first_chunk(&mut buffers, &mut turns);
-    assert_eq!(rt; end, RegionEnd::AtBarrier { lane: 2, site: 0 });
+    let seen = on_first_chunk(marking(rt.alloc())?, &mut buffers);
+    assert_eq!(rt; seen.end, RegionEnd::AtBarrier { lane: 2, site: 0 });
     Ok(())
 }
 
@@ -282,11 +301,9 @@ fn storing_bools(alloc: Global) -> Result<Example, Fail>
 
 #[test]
 fn a_stored_bool_is_0_or_1(rt: HostRuntime) -> Result<(), Fail> {
-    let mut example = storing_bools(rt.alloc())?;
-    let mut turns = 0;
     let mut buffers = ints(rt.alloc(), 20, 7)?;
-    let end = example.first_chunk(&mut buffers, &mut turns);
-    assert_eq!(rt; (end, int_at(&buffers, 0)), (RegionEnd::Done, 1));
+    let seen = on_first_chunk(storing_bools(rt.alloc())?, &mut buffers);
+    assert_eq!(rt; (seen.end, int_at(&buffers, 0)), (RegionEnd::Done, 1));
     Ok(())
 }
 
@@ -325,12 +342,22 @@ fn voting(alloc: Global) -> Result<Example, Fail>
     Ok(Example::new(alloc, Width::W16, VOTING.to_vec(alloc)?)?)
 }
 
-/// The answers of a group whose items have these ints.
-fn answers_to(alloc: Global, buffers: &mut Buffers) -> Result<Answers, Fail> {
-    let mut example = voting(alloc)?;
+/// The answers of the group once the code has run on all chunks.
+fn answered(example: Example, buffers: &mut Buffers) -> Answers
+    requires { IsReady example.program example.launch example.machine example.group }
+{
+    let mut example = example;
     let mut turns = 0;
     let _ = example.chunks(buffers, &mut turns);
-    Ok(example.group.answers())
+    let answers = example.group.answers();
+    drop(example);
+    answers
+}
+
+/// The answers of a group whose items have these ints.
+fn answers_to(alloc: Global, buffers: &mut Buffers) -> Result<Answers, Fail> {
+    let example = voting(alloc)?;
+    Ok(answered(example, buffers))
 }
 
 #[test]
@@ -346,8 +373,9 @@ fn votes_of_all_items_come_together(rt: HostRuntime) -> Result<(), Fail> {
     Ok(())
 }
 
-/// A constant of a narrow type into a register, and a copy of the register into itself.
-fn set_and_copied(alloc: Global, to: Reg) -> Result<Vec<Step>, Fail> {
+/// Whether the steps of a constant of a narrow type into a register, and of a copy of the register into
+/// itself, are a code.
+fn may_be_set(alloc: Global, to: Reg) -> Result<bool, Fail> {
     let set = Step::Const {
         to,
         of: IntType::Int,
@@ -358,22 +386,17 @@ fn set_and_copied(alloc: Global, to: Reg) -> Result<Vec<Step>, Fail> {
         from: to,
         mask: M0,
     };
-    Ok(vec![in alloc; set, copied]?)
-}
-
-/// Whether these steps are a code.
-fn is_code(steps: Vec<Step>) -> bool {
-    let code = Code::new(steps);
+    let code = Code::new(vec![in alloc; set, copied]?);
     let is = code.is_some();
     drop(code);
-    is
+    Ok(is)
 }
 
 #[test]
 fn no_step_of_a_code_writes_mask_0(rt: HostRuntime) -> Result<(), Fail> {
-    let narrow = is_code(set_and_copied(rt.alloc(), V0)?);
-    let other = is_code(set_and_copied(rt.alloc(), M1)?);
-    let existing = is_code(set_and_copied(rt.alloc(), M0)?);
+    let narrow = may_be_set(rt.alloc(), V0)?;
+    let other = may_be_set(rt.alloc(), M1)?;
+    let existing = may_be_set(rt.alloc(), M0)?;
     assert_eq!(rt; (narrow, other, existing), (true, true, false));
     Ok(())
 }
