@@ -1,4 +1,5 @@
-"""The form of a listing of lane code: its nodes and its steps."""
+"""The form of a listing of lane code: its nodes and its steps, and how many an iteration takes."""
+import re
 
 # Of each step of lane code its fields, in order; a code's listing has nothing else below its nodes.
 STEPS = {name: fields.split() for name, fields in (row.split(':') for row in '''Const:to of value
@@ -50,6 +51,40 @@ def counts_fault(counts, steps):
         count, step = line.split(' ', 1)
         there = sum(1 for text in steps if (text + ' ').startswith(step + ' '))
         if there != int(count):
+            return 'not %s, but %d' % (line, there)
+    return None
+
+
+def innermost(text):
+    """The steps from a code's innermost loop's first to its turn: of all codes the loop with the fewest."""
+    turns = [(int(at), int(target)) for at, target in re.findall(r'^ *(\d+) Turn .*target=(\d+)', text, re.M)]
+    return min((at - target + 1 for at, target in turns), default=0)
+
+
+def group_loop(text):
+    """The steps of the codes of the test and the body of the last loop of the group, those of a code's own loops once."""
+    inside, depth, count = False, 0, 0
+    for line in text.split('\n'):
+        word = line.lstrip(' ')
+        indent = len(line) - len(word)
+        if word in ('loop', 'loop after'):
+            inside, depth, count = True, indent, 0
+        elif inside and (indent <= depth or (word == 'rest' and indent == depth + 2)):
+            inside = False
+        elif inside and step_of(word):
+            count += 1
+    return count
+
+
+MEASURES = {'innermost': innermost, 'loop': group_loop}
+
+
+def iterations_fault(wanted, text):
+    """What is wrong with the steps of an iteration, or nothing: lines of a measure and a number."""
+    for line in filter(None, wanted.split('\n')):
+        name, number = line.split(' ')
+        there = MEASURES[name](text)
+        if there != int(number):
             return 'not %s, but %d' % (line, there)
     return None
 

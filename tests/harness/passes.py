@@ -4,7 +4,7 @@ import os
 from .calls import Check, call, status_fault
 from .files import Room, difference, read, write
 
-STAGES = ('tokens', 'program', 'kernel', 'simplified', 'varying', 'regions', 'plan', 'code')
+STAGES = ('tokens', 'program', 'kernel', 'simplified', 'varying', 'regions', 'plan', 'code', 'tidied')
 KERNEL = 'k'
 
 

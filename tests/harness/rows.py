@@ -4,12 +4,12 @@ import os
 
 from .calls import Check, call, status_fault
 from .files import Room, difference, files_of, from_hex, read, to_hex, write
-from .listings import listing_fault
+from .listings import iterations_fault, listing_fault
 
 WORDS = 'run kernel.cl launch.toml'
 LANES = ('1', '4', '8', '16')
 # What stands in `expected` beside files that the run leaves.
-SAID = ('status', 'line', 'line_like', 'first_line', 'steps')
+SAID = ('status', 'line', 'line_like', 'first_line', 'steps', 'iterations')
 NO_FILES = ('README.md', 'words', 'expected')
 
 
@@ -37,7 +37,8 @@ def said_fault(want, said):
         first = said.split(b'\n')[0] + b'\n'
         if first != want['first_line']:
             return difference('first line', want['first_line'], first)
-        return listing_fault(text, want.get('steps', b'').decode())
+        fault = listing_fault(text, want.get('steps', b'').decode())
+        return fault or iterations_fault(want.get('iterations', b'').decode(), text)
     line = want.get('line', b'')
     return None if said == line else difference('text', line, said)
 
