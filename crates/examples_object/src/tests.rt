@@ -93,7 +93,7 @@ fn parts(alloc: Global) -> Option<GroupParts> {
 }
 
 /// An object with that program, whose kernel requires groups of four work-items.
-fn small(alloc: Global) -> Option<Object> {
+pub(crate) fn small(alloc: Global) -> Option<Object> {
     let group = parts(alloc)?.checked()?;
     Object::new(group, Some([4, 1, 1]))
 }
