@@ -3,12 +3,15 @@ pub mod Agreeing
 pub mod Copying
 pub mod Ending
 pub mod Frames
+pub mod Hoisting
 pub mod Joining
 pub mod Keeping
 pub mod Knowing
 pub mod Leaving
 pub mod Plainly
+pub mod Moving
 pub mod Planned
+pub mod Sharing
 pub mod Sound
 pub mod Tests
 pub mod Tidying

@@ -1,4 +1,6 @@
 pub mod Accesses
+pub mod Constants
+pub mod Hoisted
 pub mod Joined
 pub mod Known
 pub mod Listed
