@@ -7,6 +7,7 @@ use Rattle.clap.specs.Matches.{raw_values}
 use Rattle.clap.specs.declared.parser.matches.Found.{Found}
 use Rattle.clap.specs.Walk.{row_text}
 use Rattle.command_words.specs.Command.{IsNumberFound, IsNumberAt, Files, NamesFiles}
+use Rattle.command_words.specs.Command.{BuildFiles, NamesBuild, ObjectFiles, NamesObject}
 use Rattle.clap.proofs.WalkLemmas.{one_text-rows, raw_values-rows}
 
 -- what has no match has no row
@@ -60,3 +61,35 @@ one_files rows a b x y =
     let lanes : a.lanes ≡ b.lanes = one_number (codes "lanes") rows a.lanes b.lanes x.lanes y.lanes in
     let turns : a.turns ≡ b.turns = one_number (codes "turns") rows a.turns b.turns x.turns y.turns in
     same_files a.source b.source a.launch b.launch a.lanes b.lanes a.turns b.turns source launch lanes turns
+
+same_build : (s s' l l' o o' : Text) (n n' : Option ℕ) → s ≡ s' → l ≡ l' → o ≡ o' → n ≡ n' →
+    ◌≡◌ {A = BuildFiles} (record { source = s; launch = l; object = o; lanes = n }) (record {
+      source = s';
+      launch = l';
+      object = o';
+      lanes = n';
+    })
+same_build s s' l l' o o' n n' a b c d = cc
+
+pub one_build : (rows : List Row) (a b : BuildFiles) → NamesBuild rows a → NamesBuild rows b → a ≡ b
+one_build rows a b x y =
+    let source : a.source ≡ b.source = cc (x.source, y.source) in
+    let launch : a.launch ≡ b.launch = cc (x.launch, y.launch) in
+    let object : a.object ≡ b.object = cc (x.object, y.object) in
+    let lanes : a.lanes ≡ b.lanes = one_number (codes "lanes") rows a.lanes b.lanes x.lanes y.lanes in
+    same_build a.source b.source a.launch b.launch a.object b.object a.lanes b.lanes source launch object lanes
+
+same_object : (o o' l l' : Text) (n n' : Option ℕ) → o ≡ o' → l ≡ l' → n ≡ n' →
+    ◌≡◌ {A = ObjectFiles} (record { object = o; launch = l; turns = n }) (record {
+      object = o';
+      launch = l';
+      turns = n';
+    })
+same_object o o' l l' n n' a b c = cc
+
+pub one_object : (rows : List Row) (a b : ObjectFiles) → NamesObject rows a → NamesObject rows b → a ≡ b
+one_object rows a b x y =
+    let object : a.object ≡ b.object = cc (x.object, y.object) in
+    let launch : a.launch ≡ b.launch = cc (x.launch, y.launch) in
+    let turns : a.turns ≡ b.turns = one_number (codes "turns") rows a.turns b.turns x.turns y.turns in
+    same_object a.object b.object a.launch b.launch a.turns b.turns object launch turns

@@ -5,8 +5,10 @@ use Rattle.clap.specs.Words.{one_of, one_text, subcommand_of, with_rule, with_su
 use Rattle.std.specs.Str.Parse.{IsNumeral, without_leading_plus, digits_value}
 use Rattle.clap.specs.declared.parser.matches.Found.{Found}
 use Rattle.command_words.specs.declared.FileWords.{FileWords}
+use Rattle.command_words.specs.declared.BuildWords.{BuildWords}
+use Rattle.command_words.specs.declared.ObjectWords.{ObjectWords}
 use Rattle.command_words.specs.declared.Words.{Words}
-use Rattle.command_words.specs.declared.Words.TheVariants.{Run, Plan, Code, Sample}
+use Rattle.command_words.specs.declared.Words.TheVariants.{Run, Plan, Code, Sample, Build, Exec}
 use Rattle.clap.specs.declared.builder.action.ArgAction.TheVariants.{Set}
 use Rattle.clap.specs.declared.builder.command.Command.{Command}
 use Rattle.clap.specs.declared.builder.command.Command.TheViews.{out-Command}
@@ -44,6 +46,16 @@ code_app = with_rule (with_rule (with_rule (new_app (codes "code")) (argument (c
 abbrev pub sample_app : App
 sample_app = with_rule (new_app (codes "sample")) (number (codes "NUMBER"))
 
+-- build SOURCE LAUNCH OBJECT [--lanes N]
+abbrev pub build_app : App
+build_app = with_rule (with_rule (with_rule (with_rule (new_app (codes "build")) (argument (codes "SOURCE")))
+    (argument (codes "LAUNCH"))) (argument (codes "OBJECT"))) (option (codes "lanes"))
+
+-- exec OBJECT LAUNCH [--turns N]
+abbrev pub exec_app : App
+exec_app = with_rule (with_rule (with_rule (new_app (codes "exec")) (argument (codes "OBJECT")))
+    (argument (codes "LAUNCH"))) (option (codes "turns"))
+
 -- help and version are off, the program's name is no word, and a subcommand is required
 abbrev pub bare_app : App
 bare_app = record (new_app (codes "wgcc")) {
@@ -58,8 +70,8 @@ bare_app = record (new_app (codes "wgcc")) {
 
 -- the whole command
 abbrev pub wgcc_app : App
-wgcc_app = with_subcommand (with_subcommand (with_subcommand (with_subcommand bare_app run_app.top) plan_app.top)
-    code_app.top) sample_app.top
+wgcc_app = with_subcommand (with_subcommand (with_subcommand (with_subcommand (with_subcommand
+    (with_subcommand bare_app run_app.top) plan_app.top) code_app.top) sample_app.top) build_app.top) exec_app.top
 
 -- a command is of that definition
 pub record IsCommandOf (app : App) (command : Command) : Type 0 where
@@ -90,16 +102,38 @@ pub record Files : Type 0 where
   pub lanes : Option ℕ
   pub turns : Option ℕ
 
+-- the names of the source, of the launch file and of the object file that is saved, and the number of the option if it
+-- is given
+pub record BuildFiles : Type 0 where
+  pub source : Text
+  pub launch : Text
+  pub object : Text
+  pub lanes : Option ℕ
+
+-- the names of the object file and of the launch file, and the number of the option if it is given
+pub record ObjectFiles : Type 0 where
+  pub object : Text
+  pub launch : Text
+  pub turns : Option ℕ
+
 -- what is asked for
 pub data Request : Type 0 where
   run : (files : Files) → Request
   plan : (files : Files) → Request
   code : (files : Files) → Request
   sample : (number : ℕ) → Request
+  build : (files : BuildFiles) → Request
+  exec : (files : ObjectFiles) → Request
 
 -- the plain view of the files
 abbrev pub files_of : FileWords → Files
 files_of w = record { source = w.source.now; launch = w.launch.now; lanes = w.lanes; turns = w.turns }
+
+abbrev pub build_of : BuildWords → BuildFiles
+build_of w = record { source = w.source.now; launch = w.launch.now; object = w.object.now; lanes = w.lanes }
+
+abbrev pub object_of : ObjectWords → ObjectFiles
+object_of w = record { object = w.object.now; launch = w.launch.now; turns = w.turns }
 
 -- the plain view of what is asked for
 abbrev pub request_of : Words → Request
@@ -107,6 +141,8 @@ request_of (Run files) = run (files_of files)
 request_of (Plan files) = plan (files_of files)
 request_of (Code files) = code (files_of files)
 request_of (Sample n) = sample n
+request_of (Build files) = build (build_of files)
+request_of (Exec files) = exec (object_of files)
 
 -- the rows name these files and give these numbers
 pub record NamesFiles (rows : List Row) (files : Files) : Type 0 where
@@ -115,12 +151,25 @@ pub record NamesFiles (rows : List Row) (files : Files) : Type 0 where
   pub lanes : IsNumberAt (codes "lanes") rows files.lanes
   pub turns : IsNumberAt (codes "turns") rows files.turns
 
+pub record NamesBuild (rows : List Row) (files : BuildFiles) : Type 0 where
+  pub source : first_of (codes "SOURCE") rows ≡ Some files.source
+  pub launch : first_of (codes "LAUNCH") rows ≡ Some files.launch
+  pub object : first_of (codes "OBJECT") rows ≡ Some files.object
+  pub lanes : IsNumberAt (codes "lanes") rows files.lanes
+
+pub record NamesObject (rows : List Row) (files : ObjectFiles) : Type 0 where
+  pub object : first_of (codes "OBJECT") rows ≡ Some files.object
+  pub launch : first_of (codes "LAUNCH") rows ≡ Some files.launch
+  pub turns : IsNumberAt (codes "turns") rows files.turns
+
 -- a command by its name and its rows
 abbrev pub IsAsked : Text → List Row → Request → Type 0
 IsAsked name rows (run files) = (name ≡ codes "run") × NamesFiles rows files
 IsAsked name rows (plan files) = (name ≡ codes "plan") × NamesFiles rows files
 IsAsked name rows (code files) = (name ≡ codes "code") × NamesFiles rows files
 IsAsked name rows (sample n) = (name ≡ codes "sample") × IsNumberAt (codes "NUMBER") rows (Some n)
+IsAsked name rows (build files) = (name ≡ codes "build") × NamesBuild rows files
+IsAsked name rows (exec files) = (name ≡ codes "exec") × NamesObject rows files
 
 -- a command was named, and it is this one
 abbrev pub Asks : Option (Text × List Row) → Request → Type 0

@@ -5,6 +5,7 @@ ghost use Rattle.std.specs.Prelude.{◌≡◌, [], map, false, string_bytes, Err
 ghost use Rattle.std.specs.Prelude.{IfOk, IfSome, option_map};
 ghost use Rattle.clap.specs.Words.{rule_of, subcommand_of, subcommand_rows_of, first_of, rows_of, found_of};
 ghost use Rattle.command_words.specs.Command.{argument, option, number, run_app, plan_app, code_app, sample_app};
+ghost use Rattle.command_words.specs.Command.{build_app, exec_app, NamesBuild, NamesObject, build_of, object_of};
 ghost use Rattle.command_words.specs.Command.{bare_app, wgcc_app, IsCommandOf, TakesWords, IsNumberFound, IsNumberAt};
 ghost use Rattle.command_words.specs.Command.{NamesFiles, IsAsked, Asks, AskFor, files_of, request_of};
 
@@ -76,6 +77,25 @@ fn sample_command<'a>(alloc: Global) -> Result<Command<'a>, AllocError>
     Command::new(alloc, "sample").arg(number(alloc, "NUMBER"))
 }
 
+fn build_command<'a>(alloc: Global) -> Result<Command<'a>, AllocError>
+    ensures { IfOk result (IsCommandOf build_app) }
+{
+    Command::new(alloc, "build")
+        .arg(argument(alloc, "SOURCE"))?
+        .arg(argument(alloc, "LAUNCH"))?
+        .arg(argument(alloc, "OBJECT"))?
+        .arg(option(alloc, "lanes"))
+}
+
+fn exec_command<'a>(alloc: Global) -> Result<Command<'a>, AllocError>
+    ensures { IfOk result (IsCommandOf exec_app) }
+{
+    Command::new(alloc, "exec")
+        .arg(argument(alloc, "OBJECT"))?
+        .arg(argument(alloc, "LAUNCH"))?
+        .arg(option(alloc, "turns"))
+}
+
 fn bare_command<'a>(alloc: Global) -> Command<'a>
     ensures { IsCommandOf bare_app result }
 {
@@ -94,11 +114,15 @@ fn wgcc_command<'a>(alloc: Global) -> Result<Command<'a>, AllocError>
     let plan = plan_command(alloc)?;
     let code = code_command(alloc)?;
     let sample = sample_command(alloc)?;
+    let build = build_command(alloc)?;
+    let exec = exec_command(alloc)?;
     bare_command(alloc)
         .subcommand(run)?
         .subcommand(plan)?
         .subcommand(code)?
-        .subcommand(sample)
+        .subcommand(sample)?
+        .subcommand(build)?
+        .subcommand(exec)
 }
 
 /// Why words are not read.
@@ -120,6 +144,24 @@ pub struct FileWords<'a> {
     pub turns: Option<u64>,
 }
 
+/// The names of the source, of the launch file and of the object file that is saved, and the number of
+/// the option if it is given.
+#[derive(Clone, Copy)]
+pub struct BuildWords<'a> {
+    pub source: &'a str,
+    pub launch: &'a str,
+    pub object: &'a str,
+    pub lanes: Option<u64>,
+}
+
+/// The names of the object file and of the launch file, and the number of the option if it is given.
+#[derive(Clone, Copy)]
+pub struct ObjectWords<'a> {
+    pub object: &'a str,
+    pub launch: &'a str,
+    pub turns: Option<u64>,
+}
+
 /// What the words ask for.
 #[derive(Clone, Copy)]
 pub enum Words<'a> {
@@ -131,6 +173,10 @@ pub enum Words<'a> {
     Code(FileWords<'a>),
     /// `sample NUMBER`
     Sample(u32),
+    /// `build SOURCE LAUNCH OBJECT [--lanes N]`
+    Build(BuildWords<'a>),
+    /// `exec OBJECT LAUNCH [--turns N]`
+    Exec(ObjectWords<'a>),
 }
 
 fn matches_of<'a>(alloc: Global, words: &'a [String]) -> Result<ArgMatches<'a>, WordsError>
@@ -210,6 +256,53 @@ fn file_words<'a>(matches: &ArgMatches<'a>) -> Option<FileWords<'a>>
     })
 }
 
+fn build_words<'a>(matches: &ArgMatches<'a>) -> Option<BuildWords<'a>>
+    ensures { IfSome result (λ w. NamesBuild (rows_of (found_of matches.now)) (build_of w)) }
+{
+    let source = text_at(matches, "SOURCE")?;
+    let launch = text_at(matches, "LAUNCH")?;
+    let object = text_at(matches, "OBJECT")?;
+    let lanes = number_at(matches, "lanes")?;
+    Some(BuildWords {
+        source,
+        launch,
+        object,
+        lanes,
+    })
+}
+
+fn object_words<'a>(matches: &ArgMatches<'a>) -> Option<ObjectWords<'a>>
+    ensures { IfSome result (λ w. NamesObject (rows_of (found_of matches.now)) (object_of w)) }
+{
+    let object = text_at(matches, "OBJECT")?;
+    let launch = text_at(matches, "LAUNCH")?;
+    let turns = number_at(matches, "turns")?;
+    Some(ObjectWords {
+        object,
+        launch,
+        turns,
+    })
+}
+
+// What `build` and `exec` ask for.
+fn object_command_of<'a>(name: &str, matches: &ArgMatches<'a>) -> Option<Words<'a>>
+    ensures { IfSome result (λ w. IsAsked name.now (rows_of (found_of matches.now)) (request_of w)) }
+{
+    if name == "build" {
+        return match build_words(matches) {
+            Some(files) => Some(Words::Build(files)),
+            None => None,
+        };
+    }
+    if name == "exec" {
+        return match object_words(matches) {
+            Some(files) => Some(Words::Exec(files)),
+            None => None,
+        };
+    }
+    None
+}
+
 fn command_of<'a>(name: &str, matches: &ArgMatches<'a>) -> Option<Words<'a>>
     ensures { IfSome result (λ w. IsAsked name.now (rows_of (found_of matches.now)) (request_of w)) }
 {
@@ -237,7 +330,7 @@ fn command_of<'a>(name: &str, matches: &ArgMatches<'a>) -> Option<Words<'a>>
             None => None,
         };
     }
-    None
+    object_command_of(name, matches)
 }
 
 fn words_of<'a>(matches: &ArgMatches<'a>) -> Option<Words<'a>>

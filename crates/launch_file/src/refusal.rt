@@ -40,10 +40,12 @@ pub enum Refusal {
     Turns,
     /// L17: a file lists no launch, or more than 16.
     Launches,
+    /// L18: a launch names another kernel than the object file holds.
+    OtherKernel,
 }
 
 impl Refusal {
-    /// The number that is printed behind `L`, 1 to 17.
+    /// The number that is printed behind `L`, 1 to 18.
     pub fn number(self) -> u16
         ensures { result ≡ number_of self }
     {
@@ -65,6 +67,7 @@ impl Refusal {
             Refusal::Lanes => 15,
             Refusal::Turns => 16,
             Refusal::Launches => 17,
+            Refusal::OtherKernel => 18,
         }
     }
 
@@ -90,6 +93,7 @@ impl Refusal {
             Refusal::Lanes => b"lanes",
             Refusal::Turns => b"turns",
             Refusal::Launches => b"launches",
+            Refusal::OtherKernel => b"other kernel",
         }
     }
 }
