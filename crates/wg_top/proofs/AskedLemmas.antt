@@ -3,7 +3,7 @@ use Rattle.std.proofs.Common.{◌≡◌, ℕ, List, Option, Some, None, inl, inr
 use Rattle.std.specs.Prelude.{◌⊎◌, is_some, true}
 use Rattle.wg_outside.specs.Counts.{Rose}
 use Rattle.wg_outside.specs.Files.{FileMap}
-use Rattle.command_words.specs.Command.{Files, Request, run, plan, code, sample}
+use Rattle.command_words.specs.Command.{Files, Request, run, plan, code, sample, build, exec}
 use Rattle.launch_file.specs.Texts.{Text}
 use Rattle.cl_meaning.specs.Typed.{Unit'}
 use Rattle.wg_top.specs.declared.RunError.{RunError}
@@ -15,6 +15,8 @@ use Rattle.wg_top.specs.Sample.{sample_files, sample_ask, SampleCause}
 use Rattle.wg_top.specs.Ends.{SinkStanding, Outside, ShownRead, EndsShowing, EndsSample, EndsAsked, AcceptedFor}
 use Rattle.wg_top.specs.Ends.{FindsFor, NoStoreFault}
 use Rattle.wg_top.proofs.CauseLemmas.{reading_cause}
+use Rattle.wg_top.proofs.BuildLemmas.{build_complete, build_exact}
+use Rattle.wg_top.proofs.ExecLemmas.{exec_complete, exec_exact}
 use Rattle.wg_top.proofs.CompleteLemmas.{none_found, not_failed, run_complete, ends_complete}
 use Rattle.wg_top.proofs.ExactLemmas.{lacks_loaded, launch_differs, source_differs, no_status, refusal, ends_exact}
 
@@ -149,6 +151,10 @@ asked_complete old new (code ask) n ends all quiet out_quiet =
     shown_complete old new ask code_shown all.0 all.1 n ends all.2 quiet out_quiet
 asked_complete old new (sample k) n ends all quiet out_quiet =
     sample_complete old.out new.out old.err new.err k n ends.1 all out_quiet
+asked_complete old new (build ask) n ends all quiet out_quiet =
+    build_complete old new ask all.0 all.1 n ends all.2 quiet out_quiet
+asked_complete old new (exec ask) n ends all quiet out_quiet =
+    exec_complete old new ask all.0 all.1 n ends all.2 quiet out_quiet
 
 pub asked_exact : (old new : Outside) (request : Request) (e : RunError) (n : ℕ) → EndsAsked old new request n →
     FindsFor old.store.files request e → NoStoreFault request old.store.faults new.store.faults → (n ≡ status_of e) ⊎
@@ -160,3 +166,7 @@ asked_exact old new (plan ask) e n ends finds quiet =
 asked_exact old new (code ask) e n ends finds quiet =
     shown_exact old new old.store.files ask code_shown e n refl finds.0 ends finds.1 quiet
 asked_exact old new (sample k) e n ends finds quiet = sample_exact old.out new.out old.err new.err k e n ends.1 finds
+asked_exact old new (build ask) e n ends finds quiet =
+    build_exact old new old.store.files ask e n refl finds.0 ends finds.1 quiet
+asked_exact old new (exec ask) e n ends finds quiet =
+    exec_exact old new old.store.files ask e n refl finds.0 ends finds.1 quiet

@@ -9,6 +9,7 @@ use Rattle.launch_file.specs.Binding.{loads_of}
 use Rattle.launch_file.specs.Texts.{Text}
 use Rattle.wg_top.specs.declared.RunError.{RunError}
 use Rattle.wg_top.specs.declared.RunError.TheVariants.{Failed, Absent, Source, Launch, Range, Parted, Turns, Memory}
+use Rattle.wg_top.specs.declared.RunError.TheVariants.{NotObject}
 use Rattle.wg_top.specs.declared.Summary.{Summary}
 use Rattle.cl_meaning.specs.Typed.{Unit'}
 use Rattle.cl_front.specs.Front.{HasUnit}
@@ -43,7 +44,7 @@ run_read files ask bytes held text s loaded same read unit are = record {
 }
 
 -- a count that rose later rose over all
-rose_over : (a b c : ℕ) → a ≤ b → b ≤ c → Rose b c → Rose a c
+pub rose_over : (a b c : ℕ) → a ≤ b → b ≤ c → Rose b c → Rose a c
 rose_over a b c ab bc rose small =
     elim (cases_lt b last_count) [ inl lt ↦ let up : b < c = rose lt in omega arith | inr ge ↦ omega arith ]
 
@@ -145,6 +146,7 @@ leaves_files old mid new ask text s (Range number several group item place) read
 leaves_files old mid new ask text s (Parted number several group item place) read same left = left ∙ same
 leaves_files old mid new ask text s (Turns number several) read same left = left ∙ same
 leaves_files old mid new ask text s Memory read same left = left ∙ same
+leaves_files old mid new ask text s NotObject read same left = left ∙ same
 
 -- a run that is done
 pub is_done : (old mid new : Option FileMap) (ask : Files) (text : Text) (s : List Unit') (summary : Summary) →

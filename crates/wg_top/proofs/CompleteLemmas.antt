@@ -13,6 +13,7 @@ use Rattle.launch_file.specs.Texts.{Text}
 use Rattle.launch_file.proofs.Unique.{one_text, read_or_refused}
 use Rattle.wg_top.specs.declared.RunError.{RunError}
 use Rattle.wg_top.specs.declared.RunError.TheVariants.{Failed, Absent, Source, Launch, Range, Parted, Turns, Memory}
+use Rattle.wg_top.specs.declared.RunError.TheVariants.{NotObject}
 use Rattle.cl_meaning.specs.Typed.{Unit'}
 use Rattle.cl_front.specs.declared.condition.Condition.{Condition}
 use Rattle.cl_front.specs.Front.{HasUnit}
@@ -39,12 +40,12 @@ use Rattle.wg_top.proofs.LoopLemmas.{no_turns_of}
 use Rattle.wg_top.proofs.ProgramLemmas.{one_units, no_refused}
 
 -- what is loaded of a file that is told
-start_is : (files : Option FileMap) (name : List ℕ) (most : ℕ) (bytes held : List ℕ) →
+pub start_is : (files : Option FileMap) (name : List ℕ) (most : ℕ) (bytes held : List ℕ) →
     told_file files name ≡ Some (Some held) → HasFileStart files name most bytes → bytes ≡ take most held
 start_is files name most bytes held told h = let e : Some (take most held) ≡ Some bytes = rw told at h in cc
 
 -- a file that is told is there
-not_lacked : (files : Option FileMap) (name held : List ℕ) → told_file files name ≡ Some (Some held) →
+pub not_lacked : (files : Option FileMap) (name held : List ℕ) → told_file files name ≡ Some (Some held) →
     LacksFile files name → ⊥
 not_lacked files name held told h = let e : Some held ≡ None = rw told at h in cc
 
@@ -208,6 +209,7 @@ complete old new ask text s (Parted launch several group item place) n all never
 complete old new ask text s (Turns launch several) n all never other is cause =
     absurd (never (Turns launch several) cause)
 complete old new ask text s Memory n all never other is cause = is
+complete old new ask text s NotObject n all never other is cause = absurd cause
 
 -- of a run that is accepted
 pub run_complete : (old new : Standing) (ask : Files) (e : RunError) (n : ℕ) → AcceptedRun old.files ask →
@@ -273,6 +275,7 @@ is_memory (Range launch several group item place) is = absurd (omega (arith, is)
 is_memory (Parted launch several group item place) is = absurd (omega (arith, is))
 is_memory (Turns launch several) is = absurd (omega (arith, is))
 is_memory Memory is = refl
+is_memory NotObject is = absurd (omega (arith, is))
 
 pub memory_clean : (old new : Standing) (ask : Files) (text : Text) (s : List Unit') (e : RunError) →
     AcceptedClean old.files ask text s → (Rose old.faults new.faults → ⊥) → Cause old new ask e → e ≡ Memory
@@ -340,6 +343,7 @@ refused_loops old new ask (Range launch several group item place) n is cause sev
 refused_loops old new ask (Parted launch several group item place) n is cause seven = absurd (omega arith)
 refused_loops old new ask (Turns launch several) n is cause seven = has_loops old.files ask launch several cause
 refused_loops old new ask Memory n is cause seven = absurd (omega arith)
+refused_loops old new ask NotObject n is cause seven = absurd (omega arith)
 
 pub ends_loops : (old new : Outside) (ask : Files) (n : ℕ) → Ends old new ask n → n ≡ 7 → HasLoops old.store.files ask
 ends_loops old new ask n ends seven = elim ends [

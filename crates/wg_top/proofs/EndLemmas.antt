@@ -4,13 +4,17 @@ use Rattle.std.specs.Prelude.{◌⊎◌}
 use Rattle.wg_top.specs.declared.RunError.{RunError}
 use Rattle.wg_outside.specs.Counts.{Rose}
 use Rattle.wg_top.specs.declared.RunError.TheVariants.{Failed, Absent, Source, Launch, Range, Parted, Turns, Memory}
+use Rattle.wg_top.specs.declared.RunError.TheVariants.{NotObject}
 use Rattle.wg_top.specs.Causes.{Standing, Cause, LeavesFiles}
 use Rattle.wg_top.specs.Lines.{error_line, done_line, sample_line, status_of}
-use Rattle.command_words.specs.Command.{Files, Request, run, plan, code, sample}
+use Rattle.command_words.specs.Command.{Files, Request, run, plan, code, sample, build, exec}
 use Rattle.wg_top.specs.Shown.{Showing, plan_shown, code_shown}
 use Rattle.wg_top.specs.Ends.{SinkStanding, Outside, Ends, EndsShowing, EndsSample, EndsAsked, EndsSaying, SaysLine}
 use Rattle.wg_top.specs.Ends.{KeepsOut}
 use Rattle.wg_top.proofs.CauseLemmas.{reading_cause}
+use Rattle.wg_top.proofs.ObjectEndLemmas.{build_failed, build_absent, build_no_save, build_quiet, build_line, build_out}
+use Rattle.wg_top.proofs.ObjectEndLemmas.{build_no_usage, build_memory, exec_failed, exec_absent, exec_no_save}
+use Rattle.wg_top.proofs.ObjectEndLemmas.{exec_quiet, exec_line, exec_out, exec_no_usage, exec_memory}
 
 -- what a refusal's status says of its cause
 pub status_failed : (old new : Standing) (ask : Files) (e : RunError) (n : ℕ) → n ≡ status_of e →
@@ -23,6 +27,7 @@ status_failed old new ask (Range number several group item place) n is cause one
 status_failed old new ask (Parted number several group item place) n is cause one = absurd (omega arith)
 status_failed old new ask (Turns number several) n is cause one = absurd (omega arith)
 status_failed old new ask Memory n is cause one = absurd (omega arith)
+status_failed old new ask NotObject n is cause one = absurd (omega arith)
 
 pub status_absent : (old new : Standing) (ask : Files) (e : RunError) (n : ℕ) → n ≡ status_of e →
     Cause old new ask e → n ≡ 9 → Rose old.misses new.misses
@@ -34,6 +39,7 @@ status_absent old new ask (Range number several group item place) n is cause nin
 status_absent old new ask (Parted number several group item place) n is cause nine = absurd (omega arith)
 status_absent old new ask (Turns number several) n is cause nine = absurd (omega arith)
 status_absent old new ask Memory n is cause nine = absurd (omega arith)
+status_absent old new ask NotObject n is cause nine = absurd (omega arith)
 
 -- a refusal that is no failure leaves the files
 pub leaves_all : (old new : Standing) (ask : Files) (e : RunError) (n : ℕ) → n ≡ status_of e →
@@ -46,6 +52,7 @@ leaves_all old new ask (Range number several group item place) n is leaves other
 leaves_all old new ask (Parted number several group item place) n is leaves other = leaves
 leaves_all old new ask (Turns number several) n is leaves other = leaves
 leaves_all old new ask Memory n is leaves other = leaves
+leaves_all old new ask NotObject n is leaves other = leaves
 
 -- a refusal is no success, and no fault of the words
 pub status_above : (e : RunError) (n : ℕ) → n ≡ status_of e → (n ≡ 0 → ⊥) × (n ≡ 2 → ⊥)
@@ -57,6 +64,7 @@ status_above (Range number several group item place) n is = (λ h. omega arith, 
 status_above (Parted number several group item place) n is = (λ h. omega arith, λ h. omega arith)
 status_above (Turns number several) n is = (λ h. omega arith, λ h. omega arith)
 status_above Memory n is = (λ h. omega arith, λ h. omega arith)
+status_above NotObject n is = (λ h. omega arith, λ h. omega arith)
 
 pub ends_failed : (old new : Outside) (ask : Files) (n : ℕ) → Ends old new ask n → n ≡ 1 →
     Rose old.store.faults new.store.faults ⊎ Rose old.out.faults new.out.faults
@@ -208,6 +216,7 @@ no_fault_status (Range number several group item place) n is none = (λ h. omega
 no_fault_status (Parted number several group item place) n is none = (λ h. omega arith, λ h. omega arith)
 no_fault_status (Turns number several) n is none = (λ h. omega arith, λ h. omega arith)
 no_fault_status Memory n is none = (λ h. omega arith, λ h. omega arith)
+no_fault_status NotObject n is none = (λ h. omega arith, λ h. omega arith)
 
 sample_failed : (old_out new_out old_err new_err : SinkStanding) (k n : ℕ) →
     EndsSample old_out new_out old_err new_err k n → n ≡ 1 → Rose old_out.faults new_out.faults
@@ -277,6 +286,8 @@ asked_failed old new (run ask) n ends one = ends_failed old new ask n ends one
 asked_failed old new (plan ask) n ends one = showing_failed old new ask plan_shown n ends one
 asked_failed old new (code ask) n ends one = showing_failed old new ask code_shown n ends one
 asked_failed old new (sample k) n ends one = inr (sample_failed old.out new.out old.err new.err k n ends.1 one)
+asked_failed old new (build ask) n ends one = build_failed old new ask n ends one
+asked_failed old new (exec ask) n ends one = exec_failed old new ask n ends one
 
 pub asked_absent : (old new : Outside) (request : Request) (n : ℕ) → EndsAsked old new request n → n ≡ 9 →
     Rose old.store.misses new.store.misses
@@ -284,6 +295,8 @@ asked_absent old new (run ask) n ends nine = ends_absent old new ask n ends nine
 asked_absent old new (plan ask) n ends nine = showing_absent old new ask plan_shown n ends nine
 asked_absent old new (code ask) n ends nine = showing_absent old new ask code_shown n ends nine
 asked_absent old new (sample k) n ends nine = absurd (sample_absent old.out new.out old.err new.err k n ends.1 nine)
+asked_absent old new (build ask) n ends nine = build_absent old new ask n ends nine
+asked_absent old new (exec ask) n ends nine = exec_absent old new ask n ends nine
 
 pub asked_no_save : (old new : Outside) (request : Request) (n : ℕ) → EndsAsked old new request n → (n ≡ 0 → ⊥) →
     (n ≡ 1 → ⊥) → new.store.files ≡ old.store.files
@@ -291,6 +304,8 @@ asked_no_save old new (run ask) n ends a b = ends_no_save old new ask n ends a b
 asked_no_save old new (plan ask) n ends a b = showing_stays old new ask plan_shown n ends
 asked_no_save old new (code ask) n ends a b = showing_stays old new ask code_shown n ends
 asked_no_save old new (sample k) n ends a b = ap (λ s. s.files) ends.0
+asked_no_save old new (build ask) n ends a b = build_no_save old new ask n ends a b
+asked_no_save old new (exec ask) n ends a b = exec_no_save old new ask n ends a b
 
 pub asked_quiet : (old new : Outside) (request : Request) (n : ℕ) → EndsAsked old new request n → n ≡ 0 →
     new.err ≡ old.err
@@ -298,6 +313,8 @@ asked_quiet old new (run ask) n ends zero = ends_quiet old new ask n ends zero
 asked_quiet old new (plan ask) n ends zero = showing_quiet old new ask plan_shown n ends zero
 asked_quiet old new (code ask) n ends zero = showing_quiet old new ask code_shown n ends zero
 asked_quiet old new (sample k) n ends zero = sample_quiet old.out new.out old.err new.err k n ends.1 zero
+asked_quiet old new (build ask) n ends zero = build_quiet old new ask n ends zero
+asked_quiet old new (exec ask) n ends zero = exec_quiet old new ask n ends zero
 
 pub asked_line : (old new : Outside) (request : Request) (n : ℕ) → EndsAsked old new request n → (n ≡ 0 → ⊥) →
     SaysLine old.err new.err
@@ -305,6 +322,8 @@ asked_line old new (run ask) n ends not_done = ends_line old new ask n ends not_
 asked_line old new (plan ask) n ends not_done = showing_line old new ask plan_shown n ends not_done
 asked_line old new (code ask) n ends not_done = showing_line old new ask code_shown n ends not_done
 asked_line old new (sample k) n ends not_done = sample_line_said old.out new.out old.err new.err k n ends.1 not_done
+asked_line old new (build ask) n ends not_done = build_line old new ask n ends not_done
+asked_line old new (exec ask) n ends not_done = exec_line old new ask n ends not_done
 
 pub asked_out : (old new : Outside) (request : Request) (n : ℕ) → EndsAsked old new request n → (n ≡ 0 → ⊥) →
     KeepsOut old.out new.out
@@ -312,12 +331,16 @@ asked_out old new (run ask) n ends not_done = ends_out old new ask n ends not_do
 asked_out old new (plan ask) n ends not_done = showing_out old new ask plan_shown n ends not_done
 asked_out old new (code ask) n ends not_done = showing_out old new ask code_shown n ends not_done
 asked_out old new (sample k) n ends not_done = sample_out old.out new.out old.err new.err k n ends.1 not_done
+asked_out old new (build ask) n ends not_done = build_out old new ask n ends not_done
+asked_out old new (exec ask) n ends not_done = exec_out old new ask n ends not_done
 
 pub asked_no_usage : (old new : Outside) (request : Request) (n : ℕ) → EndsAsked old new request n → n ≡ 2 → ⊥
 asked_no_usage old new (run ask) n ends two = ends_no_usage old new ask n ends two
 asked_no_usage old new (plan ask) n ends two = showing_no_usage old new ask plan_shown n ends two
 asked_no_usage old new (code ask) n ends two = showing_no_usage old new ask code_shown n ends two
 asked_no_usage old new (sample k) n ends two = sample_no_usage old.out new.out old.err new.err k n ends.1 two
+asked_no_usage old new (build ask) n ends two = build_no_usage old new ask n ends two
+asked_no_usage old new (exec ask) n ends two = exec_no_usage old new ask n ends two
 
 -- where memory ran out before the words were read, that is how any command ends
 memory_failed : Memory ≡ Failed → ⊥
@@ -366,3 +389,5 @@ asked_memory old new (sample k) saying = (
     out_stays = saying.out_stays;
   })),
 )
+asked_memory old new (build ask) saying = build_memory old new ask saying
+asked_memory old new (exec ask) saying = exec_memory old new ask saying

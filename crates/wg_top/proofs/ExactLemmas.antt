@@ -15,6 +15,7 @@ use Rattle.launch_file.proofs.Unique.{read_or_refused}
 use Rattle.cl_front.specs.declared.condition.Condition.{Condition}
 use Rattle.wg_top.specs.declared.RunError.{RunError}
 use Rattle.wg_top.specs.declared.RunError.TheVariants.{Failed, Absent, Source, Launch, Range, Parted, Turns, Memory}
+use Rattle.wg_top.specs.declared.RunError.TheVariants.{NotObject}
 use Rattle.wg_top.specs.declared.Summary.{Summary}
 use Rattle.cl_meaning.specs.Typed.{Unit'}
 use Rattle.cl_model.specs.Sizes.{Launch as ModelLaunch}
@@ -66,7 +67,7 @@ lacks_loaded fs name most bytes lacks loaded = let e : option_map (take most) No
     subst (λ (o : Option (List ℕ)). option_map (take most) o ≡ Some bytes) lacks loaded in cc
 
 -- what is loaded of one file is the same
-same_start : (fs : FileMap) (name : List ℕ) (most : ℕ) (bytes others : List ℕ) →
+pub same_start : (fs : FileMap) (name : List ℕ) (most : ℕ) (bytes others : List ℕ) →
     HasFileStart (Some fs) name most bytes → HasFileStart (Some fs) name most others → bytes ≡ others
 same_start fs name most bytes others a b = let e : Some bytes ≡ Some others = sym a ∙ b in cc
 
@@ -128,7 +129,7 @@ lacks_at fs (size ∷ sizes) (load ∷ loads) (bytes ∷ before) name (suc i) st
     lacks_at fs sizes loads before name i started.1 (omega arith) is lacks
 lacks_at fs _ _ _ name i started lt is lacks = absurd started
 
-lacks_started : (fs : FileMap) (sizes : List ℕ) (loads : List (Option (List ℕ))) (before : List (List ℕ))
+pub lacks_started : (fs : FileMap) (sizes : List ℕ) (loads : List (Option (List ℕ))) (before : List (List ℕ))
     (name : List ℕ) → AllStartAs (Some fs) sizes loads before → Contains loads (Some name) →
     LacksFile (Some fs) name → ⊥
 lacks_started fs sizes loads before name started among lacks =
@@ -149,7 +150,7 @@ same_started : (fs : FileMap) (size : ℕ) (load : Option (List ℕ)) (x y : Lis
 same_started fs size None x y a b = a ∙ sym b
 same_started fs size (Some name) x y a b = a.2 ∙ (ap (fitted size) (same_start fs name size a.0 b.0 a.1 b.1) ∙ sym b.2)
 
-same_before : (fs : FileMap) (sizes : List ℕ) (loads : List (Option (List ℕ))) (x y : List (List ℕ)) →
+pub same_before : (fs : FileMap) (sizes : List ℕ) (loads : List (Option (List ℕ))) (x y : List (List ℕ)) →
     AllStartAs (Some fs) sizes loads x → AllStartAs (Some fs) sizes loads y → x ≡ y
 same_before fs [] [] [] [] a b = refl
 same_before fs (size ∷ sizes) (load ∷ loads) (x ∷ xs) (y ∷ ys) a b =
@@ -203,7 +204,7 @@ says_end several ps launches before (Turns number s) ends = record {
 }
 says_end several ps launches before _ ends = absurd ends
 
-one_refusal : (several : Bool) (ps : List Plain) (launches : List ModelLaunch) (before : List (List ℕ))
+pub one_refusal : (several : Bool) (ps : List Plain) (launches : List ModelLaunch) (before : List (List ℕ))
     (e d : RunError) → EndsSo several ps launches before e → EndsSo several ps launches before d →
     status_of e ≡ status_of d
 one_refusal several ps launches before e d a b =
@@ -356,6 +357,7 @@ found files ask (Parted launch several group item place) finds =
     (stopped (Parted launch several group item place) finds, refl)
 found files ask (Turns launch several) finds = (stopped (Turns launch several) finds, refl)
 found files ask Memory finds = absurd finds
+found files ask NotObject finds = absurd finds
 
 -- a run that is done comes to its end
 found_done : (files new : Option FileMap) (ask : Files) (summary : Summary) → IsDone files new ask summary →
@@ -410,6 +412,7 @@ refusal fs old new ask e (Turns launch several) n told finds other is cause =
     (subst (λ (f : Option FileMap). Finds f ask (Turns launch several)) told
     (stopped_of old.files ask (Turns launch several) cause)) finds)
 refusal fs old new ask e Memory n told finds other is cause = inr is
+refusal fs old new ask e NotObject n told finds other is cause = absurd cause
 
 told_exact : (fs : FileMap) (old new : Outside) (ask : Files) (e : RunError) (n : ℕ) → old.store.files ≡ Some fs →
     Ends old new ask n → Finds (Some fs) ask e → (Rose old.store.faults new.store.faults → ⊥) → (n ≡ status_of e) ⊎

@@ -3,6 +3,7 @@ pub mod SampleLemmas
 pub mod ProgramsLemmas
 pub mod ProgramLemmas
 pub mod CauseLemmas
+pub mod ObjectEndLemmas
 pub mod EndLemmas
 pub mod CompleteLemmas
 pub mod ShapeLemmas
@@ -18,6 +19,10 @@ pub mod ShownLemmas
 pub mod WordLemmas
 pub mod RunLemmas
 pub mod ExactLemmas
+pub mod ObjectLemmas
+pub mod ObjectCauseLemmas
+pub mod BuildLemmas
+pub mod ExecLemmas
 pub mod AskedLemmas
 pub mod MiddleLemmas
 pub mod PlanLemmas

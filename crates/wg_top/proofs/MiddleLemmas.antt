@@ -3,8 +3,8 @@ use Rattle.std.proofs.Common.{◌≡◌, ℕ, zero, suc, List, [], ◌∷◌, ma
 use Rattle.std.specs.Prelude.{slice_get, unwrap_or}
 use Rattle.cl_meaning.specs.Typed.{Unit', Function}
 use Rattle.cl_meaning.specs.View.{unit_of}
-use Rattle.cl_check_sound.specs.Erased.{program_of, function_of}
-use Rattle.cl_model.specs.Calls.{kernel_of, no_function}
+use Rattle.cl_check_sound.specs.Erased.{function_of}
+use Rattle.cl_model.specs.Calls.{no_function}
 use Rattle.cl_model.specs.Valid.{parameter_kinds}
 use Rattle.lane_code.specs.View.{plain_of}
 use Rattle.wg_compile.specs.declared.Compiled.{Compiled}

@@ -1,33 +1,20 @@
 -- The ends of a launch file's group programs are outcomes of its launches.
-use Rattle.std.proofs.Common.{◌≡◌, ℕ, zero, suc, ◌+◌, ◌<◌, ◌≤◌, Bool, List, [], ◌∷◌, ◌++◌, length, map, Option, Some}
+use Rattle.std.proofs.Common.{◌≡◌, ℕ, zero, suc, ◌<◌, ◌≤◌, Bool, List, [], ◌∷◌, length, map, Option, Some}
 use Rattle.std.proofs.Common.{refl, sym, ◌∙◌, ap, subst, arith}
 use Rattle.std.specs.Prelude.{All, sum, slice_get, slice_index_or}
 use Rattle.std.proofs.Math.Nat.{mul-pos}
 use Rattle.std.proofs.lemmas.Option.{get_or_from_slice_get}
 use Rattle.wg_num.specs.declared.types.Place.{Place}
-use Rattle.wg_num.specs.declared.types.IntType.{IntType}
-use Rattle.wg_num.specs.declared.types.Width.{Width}
-use Rattle.cl_model.specs.declared.launch.Bound.TheVariants as bound
-use Rattle.cl_model.specs.declared.program.Root.{Root}
-use Rattle.cl_model.specs.declared.program.Space.TheVariants as space
-use Rattle.cl_model.specs.declared.program.VarKind.{VarKind}
-use Rattle.cl_model.specs.declared.program.VarKind.TheVariants.{Pointer}
 use Rattle.cl_model.specs.Tree.{Program}
 use Rattle.cl_model.specs.Sizes.{Launch, product}
-use Rattle.cl_model.specs.Calls.{kernel_of}
-use Rattle.cl_model.specs.Valid.{IsValid, parameter_kinds}
-use Rattle.cl_model.specs.Objects.{local_arguments, local_sizes}
-use Rattle.cl_model.specs.Fitting.{ArgumentsFit, DimensionFits, FitsProgram, FitBuffers}
+use Rattle.cl_model.specs.Valid.{IsValid}
+use Rattle.cl_model.specs.Fitting.{DimensionFits, FitsProgram, FitBuffers}
 use Rattle.cl_model.specs.Meaning.{EndsDone, EndsRange, EndsParted, EndsTurns}
 use Rattle.cl_meaning.specs.Typed.{Unit'}
 use Rattle.cl_meaning.specs.View.{unit_of}
 use Rattle.cl_check_sound.specs.Erased.{program_of}
 use Rattle.group_run.proofs.LengthLaws.{program_keeps}
-use Rattle.item_loops.specs.Program.{HasPartsOf}
-use Rattle.kir.specs.Tree.{Kernel}
-use Rattle.kir.specs.Lowering.{Named, IsLoweringOf}
-use Rattle.kir.proofs.Shells.{same_locals}
-use Rattle.ctx_plan.specs.Planned.{Planned}
+use Rattle.kir.specs.Lowering.{IsLoweringOf}
 use Rattle.lane_code.specs.declared.end.RunEnd.{RunEnd}
 use Rattle.lane_code.specs.declared.end.RunEnd.TheVariants as run
 use Rattle.lane_code.specs.Fits.{LaunchFits}
@@ -42,10 +29,11 @@ use Rattle.mask_lower.specs.Layout.{HasSizes}
 use Rattle.wg_compile.specs.declared.Compiled.{Compiled}
 use Rattle.wg_top.specs.declared.RunError.{RunError}
 use Rattle.wg_top.specs.declared.RunError.TheVariants as error
-use Rattle.wg_compile.specs.Passes.{names_in, kernel_in, plan_in, group_in, IsLike}
+use Rattle.wg_compile.specs.Passes.{names_in, kernel_in, group_in, IsLike}
 use Rattle.wg_top.specs.Units.{programs_in}
 use Rattle.wg_compile.specs.Correct.{IsCompilation}
 use Rattle.wg_compile.specs.Ends.{IsOutcome, EndsInOutcomes}
+use Rattle.wg_top.specs.Outcomes.{IsMade}
 use Rattle.wg_top.specs.Outcomes.{AreMade, HasGroupProgram, HaveGroupPrograms, models_in, RanInOutcomes, EndsInOutcome}
 use Rattle.wg_top.specs.Outcomes.{StopsAsOutcome}
 use Rattle.wg_top.specs.Programs.{HaveRoom}
@@ -126,6 +114,11 @@ made_each width (c ∷ cs) passes valid = (
   made_each width cs passes.1 valid.1,
 )
 
+pub made_of : (width : ℕ) (c : Compiled) → IsCompilation width c → IsValid (program_of (unit_of c.program)) →
+    IsMade (unit_of c.program)
+made_of width c passes valid =
+    record { valid = valid; lowered = (passes.correct valid).lowered; once = (passes.correct valid).once }
+
 pub all_made : (width : ℕ) (cs : List Compiled) → All (IsCompilation width) cs →
     All (λ c. IsValid (program_of (unit_of c.program))) cs → AreMade (map (λ c. unit_of c.program) cs)
 all_made width cs passes valid =
@@ -133,7 +126,7 @@ all_made width cs passes valid =
     cs valid)
 
 -- the group program of each
-compiled_to : (width : ℕ) (c : Compiled) → IsCompilation width c → IsValid (program_of (unit_of c.program)) →
+pub compiled_to : (width : ℕ) (c : Compiled) → IsCompilation width c → IsValid (program_of (unit_of c.program)) →
     HasGroupProgram width (unit_of c.program)
 compiled_to width c passes valid = record {
   group = plain_of c.group;
@@ -143,6 +136,12 @@ compiled_to width c passes valid = record {
   lanes_are = passes.lanes_are;
   correct = passes.correct valid;
 }
+
+-- which is the program that was made
+pub compiled_group : (width : ℕ) (c : Compiled) (passes : IsCompilation width c)
+    (valid : IsValid (program_of (unit_of c.program))) → (compiled_to width c passes valid).group ≡ plain_of c.group
+unfolding compiled_to
+compiled_group width c passes valid = refl
 
 -- and its listing
 pub code_text_of : (width : ℕ) (c : Compiled) (text : List ℕ) → IsCompilation width c →

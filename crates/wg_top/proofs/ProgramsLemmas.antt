@@ -1,8 +1,8 @@
 -- Launches over plain programs, and over the programs of compiled kernels.
-use Rattle.std.proofs.Common.{◌≡◌, ℕ, zero, suc, List, [], ◌∷◌, length, map, Option, Some, None, refl, sym, ◌∙◌, ap}
+use Rattle.std.proofs.Common.{◌≡◌, ℕ, zero, suc, List, [], ◌∷◌, length, map, Option, None, refl, sym, ◌∙◌, ap}
 use Rattle.std.proofs.Common.{ap₂}
 use Rattle.std.proofs.Common.{subst, arith, inl, inr}
-use Rattle.std.specs.Prelude.{All, sum, ◌⊎◌}
+use Rattle.std.specs.Prelude.{All, sum}
 use Rattle.wg_outside.specs.Files.{FileMap}
 use Rattle.buffer_io.specs.Loads.{AllStartAs}
 use Rattle.buffer_io.specs.Saves.{AllSavedAs, KeepsAllBut, StopsAt}
@@ -23,6 +23,7 @@ use Rattle.wg_compile.specs.declared.Compiled.{Compiled}
 use Rattle.wg_compile.specs.Correct.{IsCompilation}
 use Rattle.wg_top.specs.declared.RunError.{RunError}
 use Rattle.wg_top.specs.declared.RunError.TheVariants.{Failed, Absent, Source, Launch as Refused, Range, Parted, Turns}
+use Rattle.wg_top.specs.declared.RunError.TheVariants.{NotObject}
 use Rattle.wg_top.specs.declared.RunError.TheVariants.{Memory}
 use Rattle.wg_top.specs.declared.Summary.{Summary}
 use Rattle.wg_top.specs.declared.runnable.Runnable.{Runnable}
@@ -239,6 +240,7 @@ module _ (old new : Standing) (text : Text) (cs : List Compiled) (passes : All (
   back_for (Parted number several group item place) h = stopped_for (Parted number several group item place) h
   back_for (Turns number several) h = stopped_for (Turns number several) h
   back_for Memory h = tt
+  back_for NotObject h = absurd h
   back_for (Source condition place) h = absurd h
 
   pub left_for : (e : RunError) → RunsLeave old new text rs e → LeavesOthers old new text units e
@@ -252,6 +254,7 @@ module _ (old new : Standing) (text : Text) (cs : List Compiled) (passes : All (
   left_for (Parted number several group item place) h = h
   left_for (Turns number several) h = h
   left_for Memory h = h
+  left_for NotObject h = h
   left_for (Source condition place) h = h
 
   pub run_for : (summary : Summary) → AreRun old.files new.files text rs summary →

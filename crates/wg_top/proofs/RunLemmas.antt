@@ -1,5 +1,5 @@
 -- The launches of a launch file over its buffers.
-use Rattle.std.proofs.Common.{◌≡◌, ℕ, zero, suc, ◌-◌, ◌^◌, ◌<◌, ◌≤◌, Bool, true, false, List, [], ◌∷◌, length, map}
+use Rattle.std.proofs.Common.{◌≡◌, ℕ, zero, suc, ◌-◌, ◌^◌, ◌<◌, ◌≤◌, true, false, List, [], ◌∷◌, length, map}
 use Rattle.std.proofs.Common.{take, replicate, get_or, Option, Some, None, refl, sym, ◌∙◌, ap, ap₂, subst, arith}
 use Rattle.std.specs.Prelude.{All, IfSome, IsUtf8}
 use Rattle.std.specs.List.{list_any}
@@ -8,7 +8,7 @@ use Rattle.std.proofs.lemmas.List.{length-append, length-take, length-replicate,
 use Rattle.std.proofs.lemmas.List.Elements.{All-map, All-weaker}
 use Rattle.wg_outside.specs.Files.{FileMap}
 use Rattle.buffer_io.specs.Loads.{StartsAs, AllStartAs, fitted}
-use Rattle.buffer_io.specs.Saves.{AreApart, AllSavedAs, KeepsAllBut, StopsAt}
+use Rattle.buffer_io.specs.Saves.{AreApart, KeepsAllBut, StopsAt}
 use Rattle.cl_prep.proofs.Tables.{bytes_same}
 use Rattle.cl_model.specs.declared.launch.Launch.{Launch as Bindings}
 use Rattle.launch_file.specs.declared.text.BufferText.{BufferText}
@@ -259,7 +259,7 @@ buffers_fit buffers launchers launches bytes same all sizes k d lt =
 
 -- ---- the typed units of a call are valid
 
-numbers_fit : (defines : List Define) → All HasNumber defines → DefinesFit defines
+pub numbers_fit : (defines : List Define) → All HasNumber defines → DefinesFit defines
 numbers_fit [] all = tt
 numbers_fit (d ∷ defines) all =
     (below_power d.value (all 0 d (omega arith)), numbers_fit defines (λ k e lt. all (suc k) e (omega arith)))
@@ -267,7 +267,7 @@ numbers_fit (d ∷ defines) all =
     below_power : (n : ℕ) → n ≤ 9223372036854775807 → n < 2 ^ 63
     below_power n h = omega (arith, h)
 
-unit_valid : (bytes : List ℕ) (defines : List Define) (kernel : List ℕ) (c : Compiled) → DefinesFit defines →
+pub unit_valid : (bytes : List ℕ) (defines : List Define) (kernel : List ℕ) (c : Compiled) → DefinesFit defines →
     HasTypedUnit bytes defines kernel (unit_of c.program) → IsValid (program_of (unit_of c.program))
 unit_valid bytes defines kernel c fit is =
     subst IsValid (sym (program_same c.program)) (compiled_valid bytes defines kernel c.program fit is)

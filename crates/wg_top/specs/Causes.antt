@@ -12,6 +12,7 @@ use Rattle.launch_file.specs.Binding.{loads_of, saves_of, lengths_of}
 use Rattle.launch_file.specs.Texts.{Text}
 use Rattle.wg_top.specs.declared.RunError.{RunError}
 use Rattle.wg_top.specs.declared.RunError.TheVariants.{Failed, Absent, Source, Launch, Range, Parted, Turns, Memory}
+use Rattle.wg_top.specs.declared.RunError.TheVariants.{NotObject}
 use Rattle.wg_top.specs.declared.Summary.{Summary}
 use Rattle.cl_meaning.specs.Typed.{Unit'}
 use Rattle.cl_front.specs.declared.condition.Condition.{Condition}
@@ -149,6 +150,7 @@ Finds files ask (Range launch several group item place) = RunStopped files ask (
 Finds files ask (Parted launch several group item place) = RunStopped files ask (Parted launch several group item place)
 Finds files ask (Turns launch several) = RunStopped files ask (Turns launch several)
 Finds files ask Memory = ⊥
+Finds files ask NotObject = ⊥
 
 -- the same of a command that runs nothing
 abbrev pub ReadingFinds : Option FileMap → Files → RunError → Type 0
@@ -169,6 +171,7 @@ Cause old new ask (Parted launch several group item place) =
     RunStops old.files ask (Parted launch several group item place)
 Cause old new ask (Turns launch several) = RunStops old.files ask (Turns launch several)
 Cause old new ask Memory = ⊤
+Cause old new ask NotObject = ⊥
 
 -- the cause of a refusal of a command that runs nothing
 abbrev pub ReadingCause : Standing → Standing → Files → RunError → Type 0

@@ -7,6 +7,9 @@ use Rattle.wg_outside.specs.Bytes.{AppendsPrefix}
 use Rattle.wg_top.specs.declared.RunError.{RunError}
 use Rattle.wg_top.specs.declared.RunError.TheVariants.{Failed, Absent, Memory}
 use Rattle.command_words.specs.Command.{Files, Request, run, plan, code, sample, TakesWords, AskFor}
+use Rattle.command_words.specs.Command.{BuildFiles, ObjectFiles, build, exec}
+use Rattle.wg_outside.specs.Files.{KeepsOthers}
+use Rattle.wg_object.specs.Plain.{PlainObject}
 use Rattle.wg_top.specs.declared.Summary.{Summary}
 use Rattle.launch_file.specs.Texts.{Text}
 use Rattle.cl_meaning.specs.Typed.{Unit'}
@@ -15,7 +18,9 @@ use Rattle.wg_top.specs.Causes.{IsDone, IsReadable, AcceptedRun, LeavesClean}
 use Rattle.wg_top.specs.Outcomes.{AreMade, HaveGroupPrograms}
 use Rattle.wg_top.specs.Shown.{Showing, plan_shown, code_shown, Shows}
 use Rattle.wg_top.specs.Sample.{sample_files, sample_ask, IsSample, SampleCause}
-use Rattle.wg_top.specs.Lines.{IsSaid, done_line, sample_line, error_line, status_of}
+use Rattle.wg_top.specs.Objects.{IsBuilt, BuildCause, BuildFinds, BuildAccepted, ExecDone, ExecCause, ExecLeaves}
+use Rattle.wg_top.specs.Objects.{ExecFinds, ExecAccepted}
+use Rattle.wg_top.specs.Lines.{IsSaid, built_line, done_line, sample_line, error_line, status_of}
 
 -- a sink at one moment
 pub record SinkStanding : Type 0 where
@@ -179,6 +184,67 @@ EndsSample old_out new_out old_err new_err number status =
     EndsUnsampled old_out new_out old_err new_err number status ⊎
     EndsNoSample old_out new_out old_err new_err number status
 
+-- the object file is saved, and its line is on `out`
+pub record EndsBuilt (old new : Outside) (ask : BuildFiles) (status : ℕ) : Type 0 where
+  pub status_is : status ≡ 0
+  pub built : IsBuilt old.store.files new.store.files ask
+  pub said : Appends old.out.written new.out.written built_line
+  pub err_stays : new.err ≡ old.err
+
+-- the object file is saved, and its line could not be put on `out`
+pub record EndsBuiltUnsaid (old new : Outside) (ask : BuildFiles) (status : ℕ) : Type 0 where
+  pub status_is : status ≡ 1
+  pub built : IsBuilt old.store.files new.store.files ask
+  pub failed : Rose old.out.faults new.out.faults
+  pub part : AppendsPrefix old.out.written new.out.written built_line
+  pub said : Says old.err new.err (error_line ask.source Failed)
+
+-- refused: all names but that of the object file are as before, and that too but where saving failed
+pub record EndsUnbuilt (old new : Outside) (ask : BuildFiles) (status : ℕ) : Type 0 where
+  pub error : RunError
+  pub status_is : status ≡ status_of error
+  pub cause : BuildCause old.store new.store ask error
+  pub others : KeepsOthers old.store.files new.store.files ask.object
+  pub stays : (error ≡ Failed → ⊥) → new.store.files ≡ old.store.files
+  pub said : Says old.err new.err (error_line ask.source error)
+  pub out_stays : new.out ≡ old.out
+
+-- how `build` ends
+abbrev pub EndsBuilding : Outside → Outside → BuildFiles → ℕ → Type 0
+EndsBuilding old new ask status =
+    EndsBuilt old new ask status ⊎ EndsBuiltUnsaid old new ask status ⊎ EndsUnbuilt old new ask status
+
+-- the launches of an object are done, and their line is on `out`
+pub record EndsExecDone (old new : Outside) (ask : ObjectFiles) (status : ℕ) : Type 0 where
+  pub summary : Summary
+  pub status_is : status ≡ 0
+  pub done : ExecDone old.store.files new.store.files ask summary
+  pub said : Appends old.out.written new.out.written (done_line summary.groups summary.items)
+  pub err_stays : new.err ≡ old.err
+
+-- they are done, and their line could not be put on `out`
+pub record EndsExecUnsaid (old new : Outside) (ask : ObjectFiles) (status : ℕ) : Type 0 where
+  pub summary : Summary
+  pub status_is : status ≡ 1
+  pub done : ExecDone old.store.files new.store.files ask summary
+  pub failed : Rose old.out.faults new.out.faults
+  pub part : AppendsPrefix old.out.written new.out.written (done_line summary.groups summary.items)
+  pub said : Says old.err new.err (error_line ask.object Failed)
+
+-- refused, with its cause, its status and its line
+pub record EndsExecRefused (old new : Outside) (ask : ObjectFiles) (status : ℕ) : Type 0 where
+  pub error : RunError
+  pub status_is : status ≡ status_of error
+  pub cause : ExecCause old.store new.store ask error
+  pub leaves : ExecLeaves old.store new.store ask error
+  pub said : Says old.err new.err (error_line ask.object error)
+  pub out_stays : new.out ≡ old.out
+
+-- how `exec` ends
+abbrev pub EndsExec : Outside → Outside → ObjectFiles → ℕ → Type 0
+EndsExec old new ask status =
+    EndsExecDone old new ask status ⊎ EndsExecUnsaid old new ask status ⊎ EndsExecRefused old new ask status
+
 -- how a command ends
 abbrev pub EndsAsked : Outside → Outside → Request → ℕ → Type 0
 EndsAsked old new (run ask) status = Ends old new ask status
@@ -186,6 +252,8 @@ EndsAsked old new (plan ask) status = EndsShowing old new ask plan_shown status
 EndsAsked old new (code ask) status = EndsShowing old new ask code_shown status
 EndsAsked old new (sample number) status =
     (new.store ≡ old.store) × EndsSample old.out new.out old.err new.err number status
+EndsAsked old new (build ask) status = EndsBuilding old new ask status
+EndsAsked old new (exec ask) status = EndsExec old new ask status
 
 -- what a command loads is there and accepted, and the launches of a run are done; the sample has files of its own
 abbrev pub AcceptedFor : Option FileMap → Request → Type 0
@@ -193,6 +261,8 @@ AcceptedFor files (run ask) = AcceptedRun files ask
 AcceptedFor files (plan ask) = (text : Text) × (units : List Unit') × IsReadable files ask text units
 AcceptedFor files (code ask) = (text : Text) × (units : List Unit') × IsReadable files ask text units
 AcceptedFor files (sample number) = AcceptedRun (Some (sample_files number)) sample_ask
+AcceptedFor files (build ask) = (text : Text) × (u : Unit') × BuildAccepted files ask text u
+AcceptedFor files (exec ask) = (text : Text) × (object : PlainObject) × ExecAccepted files ask text object
 
 -- files that are told decide that a command is refused so, faults and want of memory aside; those of the sample are
 -- its own
@@ -201,6 +271,8 @@ FindsFor files (run ask) error = (is_some files ≡ true) × Finds files ask err
 FindsFor files (plan ask) error = (is_some files ≡ true) × ReadingFinds files ask error
 FindsFor files (code ask) error = (is_some files ≡ true) × ReadingFinds files ask error
 FindsFor files (sample number) error = Finds (Some (sample_files number)) sample_ask error
+FindsFor files (build ask) error = (is_some files ≡ true) × BuildFinds files ask error
+FindsFor files (exec ask) error = (is_some files ≡ true) × ExecFinds files ask error
 
 -- no fault of the store rose, which the sample leaves alone
 abbrev pub NoStoreFault : Request → (old new : ℕ) → Type 0
@@ -208,6 +280,8 @@ NoStoreFault (run ask) old new = Rose old new → ⊥
 NoStoreFault (plan ask) old new = Rose old new → ⊥
 NoStoreFault (code ask) old new = Rose old new → ⊥
 NoStoreFault (sample number) old new = ⊤
+NoStoreFault (build ask) old new = Rose old new → ⊥
+NoStoreFault (exec ask) old new = Rose old new → ⊥
 
 -- nothing went to `out` but a first part of a line, where its faults rose
 abbrev pub KeepsOut : SinkStanding → SinkStanding → Type 0

@@ -7,6 +7,7 @@ pub mod Programs
 pub mod Lines
 pub mod Causes
 pub mod Stages
+pub mod Objects
 pub mod Shown
 pub mod Sample
 pub mod Ends

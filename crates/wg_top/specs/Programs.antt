@@ -15,7 +15,7 @@ use Rattle.lane_code.specs.Fits.{LaunchFits}
 use Rattle.lane_code.specs.Program.{Plain}
 use Rattle.lane_code.specs.View.{plain_of}
 use Rattle.wg_top.specs.declared.RunError.{RunError}
-use Rattle.wg_top.specs.declared.RunError.TheVariants.{Failed, Absent, Source, Launch, Range, Parted, Turns, Memory}
+use Rattle.wg_top.specs.declared.RunError.TheVariants.{Failed, Absent, Launch, Range, Parted, Turns, Memory}
 use Rattle.wg_top.specs.declared.Summary.{Summary}
 use Rattle.wg_top.specs.declared.runnable.Runnable.{Runnable}
 use Rattle.wg_top.specs.Units.{needs_in, or_later}

@@ -13,6 +13,7 @@ ghost use Rattle.wg_top.specs.Programs.{HasKinds, RunsBindCause, programs_of, ru
 ghost use Rattle.wg_top.specs.Launches.{launches_in, HasLimits, IsReady, AllFit, LaunchesRan, EndsSo, refusal_of};
 ghost use Rattle.wg_top.specs.Launches.{start_place, all_groups, all_items};
 
+use crate::guard::is_within;
 use crate::runnable::Runnable;
 use crate::{RunError, Summary};
 use cl_model::{Bound, Buffers, Launch};
@@ -133,7 +134,7 @@ pub fn has_room(locals: &[u64], args: &[Bound]) -> bool
 }
 
 // The program made ready for the launch; `Memory` also where the local memory of its groups
-// has no room.
+// has no room, or the program asks for more registers, columns or slots than it may.
 fn prepare_one(alloc: Global, group: &GroupProgram, launch: Launch) -> Result<Launcher<'_>, Memory>
     requires { LaunchFits (plain_of group.now).params 0 (launch_of launch) }
     ensures program { IfOk result (λ l. l.program ≡ group.now) }
@@ -141,7 +142,7 @@ fn prepare_one(alloc: Global, group: &GroupProgram, launch: Launch) -> Result<La
     ensures fit { IfOk result (λ l. LaunchFits (plain_of l.program).params (sum (plain_of l.program).locals)
         (launch_of l.launch)) }
 {
-    if has_room(&group.locals, &launch.args) {
+    if has_room(&group.locals, &launch.args) && is_within(group) {
         Launcher::prepare(alloc, group, launch)
     } else {
         Err(Memory)

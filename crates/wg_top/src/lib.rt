@@ -3,6 +3,7 @@
 
 ghost use Rattle.std.specs.Prelude.{◌≡◌, ◌⊎◌, List, map, string_bytes};
 ghost use Rattle.command_words.specs.Command.{Files, Request, run, TakesWords, files_of, request_of};
+ghost use Rattle.command_words.specs.Command.{build_of, object_of};
 ghost use Rattle.launch_file.specs.Texts.{Text};
 ghost use Rattle.wg_outside.specs.Counts.{Rose};
 ghost use Rattle.wg_top.specs.Causes.{AcceptedClean, HasLoops};
@@ -10,21 +11,24 @@ ghost use Rattle.wg_top.specs.declared.RunError.{RunError};
 ghost use Rattle.cl_meaning.specs.Typed.{Unit'};
 ghost use Rattle.wg_top.specs.Ends.{sink_standing, outside, AreWords, Ends, EndsShowing, EndsSample, EndsClean};
 ghost use Rattle.wg_top.specs.Ends.{EndsAsked, AcceptedFor, FindsFor, NoStoreFault, EndsSaying, KeepsOut, SaysLine};
-ghost use Rattle.wg_top.specs.Ends.{usage_line, EndsUnasked};
+ghost use Rattle.wg_top.specs.Ends.{usage_line, EndsUnasked, EndsBuilding, EndsExec};
 ghost use Rattle.wg_top.specs.Shown.{showing};
 ghost use Rattle.wg_top.specs.Lines.{status_of};
 
+use crate::objects::{build_source, exec_object};
 use crate::sample::{SAMPLE, sample_sum};
 use crate::texts::{Shown, show_source};
 use cl_front::Condition;
-use command_words::{FileWords, Words, WordsError, read_words};
+use command_words::{BuildWords, FileWords, ObjectWords, Words, WordsError, read_words};
 use launch_file::Refusal;
 use std::alloc::Global;
 use wg_num::Place;
 use wg_outside::{Failed, Sink, Store};
 
+mod guard;
 mod launches;
 mod lines;
+mod objects;
 mod programs;
 mod reading;
 mod run;
@@ -48,6 +52,8 @@ pub enum RunError {
         condition: Condition,
         place: Place,
     },
+    /// The bytes of the object file are the text of no object.
+    NotObject,
     /// The launch file is refused for that condition.
     Launch {
         refusal: Refusal,
@@ -93,6 +99,7 @@ fn status(error: &RunError) -> u8
         RunError::Failed => 1,
         RunError::Absent => 9,
         RunError::Source { .. } => 3,
+        RunError::NotObject => 3,
         RunError::Launch { .. } => 4,
         RunError::Range { .. } => 5,
         RunError::Parted { .. } => 6,
@@ -165,6 +172,62 @@ fn show_and_say<S: Store, O: Sink, E: Sink>(
     }
 }
 
+// Saves the object file, and prints its line.
+fn build_and_say<S: Store, O: Sink, E: Sink>(
+    alloc: Global,
+    files: BuildWords,
+    store: &mut S,
+    out: &mut O,
+    err: &mut E,
+) -> u8
+    ensures { EndsBuilding
+        (outside S.files S.faults S.misses O.written O.faults E.written E.faults store.old out.old err.old)
+        (outside S.files S.faults S.misses O.written O.faults E.written E.faults store.new out.new err.new)
+        (build_of files.entry) result }
+{
+    match build_source(alloc, store, files) {
+        Ok(()) => match lines::say_built(out) {
+            Ok(()) => 0,
+            Err(Failed) => {
+                lines::say_error(err, files.source, &RunError::Failed);
+                1
+            }
+        },
+        Err(error) => {
+            lines::say_error(err, files.source, &error);
+            status(&error)
+        }
+    }
+}
+
+// Runs the launches of an object file, and prints their line.
+fn exec_and_say<S: Store, O: Sink, E: Sink>(
+    alloc: Global,
+    files: ObjectWords,
+    store: &mut S,
+    out: &mut O,
+    err: &mut E,
+) -> u8
+    ensures { EndsExec
+        (outside S.files S.faults S.misses O.written O.faults E.written E.faults store.old out.old err.old)
+        (outside S.files S.faults S.misses O.written O.faults E.written E.faults store.new out.new err.new)
+        (object_of files.entry) result }
+{
+    match exec_object(alloc, store, files) {
+        Ok(summary) => match lines::say_done(out, summary.groups, summary.items) {
+            Ok(()) => 0,
+            Err(Failed) => {
+                lines::say_error(err, files.object, &RunError::Failed);
+                1
+            }
+        },
+        Err(error) => {
+            lines::say_error(err, files.object, &error);
+            status(&error)
+        }
+    }
+}
+
 // Runs the sample, and prints its line.
 fn sample_and_say<O: Sink, E: Sink>(alloc: Global, number: u32, out: &mut O, err: &mut E) -> u8
     ensures { EndsSample
@@ -205,6 +268,8 @@ fn do_words<S: Store, O: Sink, E: Sink>(
         Words::Plan(files) => show_and_say(alloc, Shown::Plan, files, store, out, err),
         Words::Code(files) => show_and_say(alloc, Shown::Code, files, store, out, err),
         Words::Sample(number) => sample_and_say(alloc, number, out, err),
+        Words::Build(files) => build_and_say(alloc, files, store, out, err),
+        Words::Exec(files) => exec_and_say(alloc, files, store, out, err),
     }
 }
 
@@ -217,6 +282,9 @@ fn do_words<S: Store, O: Sink, E: Sink>(
 /// loop iterations than the launch's turns, 8 for want of memory, which may come at each step before
 /// the launches run, and 9 for a file that is not there. `plan` and `code` read and compile as `run`
 /// does and put a text on `out`; `sample` runs a stored launch and puts the sum of its words there.
+/// `build SOURCE LAUNCH OBJECT [--lanes N]` saves the kernel of the first launch, compiled, as an
+/// object file; `exec OBJECT LAUNCH [--turns N]` runs the launches, all of which name that kernel, as
+/// `run` does, where status 3 is for an object file that holds no object.
 pub fn wgcc<S: Store, O: Sink, E: Sink>(
     alloc: Global,
     words: &[String],

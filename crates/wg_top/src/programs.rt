@@ -17,11 +17,11 @@ use crate::shared::SharedKernel;
 use cl_front::{Source, SourceError, compile_kernel, read_source};
 use launch_file::{LaunchPart, LaunchText};
 use std::alloc::Global;
-use wg_compile::compile_program;
+use wg_compile::{Compiled, compile_program};
 use wg_num::{Memory, Width, Word};
 
-// The refusal of a run by that of its source.
-fn refused(error: SourceError) -> RunError
+/// The refusal of a run by that of its source.
+pub(crate) fn refused(error: SourceError) -> RunError
     ensures source { (bytes : List ℕ) (text : Text) → IsRefusal bytes text.defines error →
         ProgramCause bytes text result }
     ensures kernel { (bytes : List ℕ) (defines : List Define) (kernel : List ℕ) →
@@ -33,7 +33,34 @@ fn refused(error: SourceError) -> RunError
     }
 }
 
-// The kernel of that name, compiled.
+/// The kernel of that name, compiled.
+pub(crate) fn compile_alone(
+    alloc: Global,
+    source: &Source,
+    kernel: &Word,
+    width: Width,
+) -> Result<Compiled, RunError>
+    ensures compiled { IfOk result (λ c. (bytes : List ℕ) (defines : List Define) →
+        IsSource bytes defines source.now.tokens.items (view source.now.unit) →
+        source.now.places.items ≡ places_of bytes source.now.tokens.items →
+        HasTypedUnit bytes defines kernel.now (unit_of c.program)) }
+    ensures passes { IfOk result (λ c. IsCompilation (lanes_of width) c) }
+    ensures name { IfOk result (λ c. c.group.kernel ≡ kernel.now) }
+    ensures err { IfErr result (λ e. (bytes : List ℕ) (defines : List Define) →
+        IsSource bytes defines source.now.tokens.items (view source.now.unit) →
+        source.now.places.items ≡ places_of bytes source.now.tokens.items →
+        source.now.end ≡ place_at bytes (length bytes) → KernelCause bytes defines kernel.now e) }
+{
+    match compile_kernel(alloc, source, kernel.bytes()) {
+        Ok(program) => match compile_program(alloc, program, kernel, width) {
+            Ok(compiled) => Ok(compiled),
+            Err(Memory) => Err(RunError::Memory),
+        },
+        Err(error) => Err(refused(error)),
+    }
+}
+
+// The same, for several launches.
 fn compile_one(
     alloc: Global,
     source: &Source,
@@ -51,15 +78,12 @@ fn compile_one(
         source.now.places.items ≡ places_of bytes source.now.tokens.items →
         source.now.end ≡ place_at bytes (length bytes) → KernelCause bytes defines kernel.now e) }
 {
-    match compile_kernel(alloc, source, kernel.bytes()) {
-        Ok(program) => match compile_program(alloc, program, kernel, width) {
-            Ok(compiled) => match SharedKernel::new(alloc, compiled) {
-                Ok(compiled) => Ok(compiled),
-                Err(Memory) => Err(RunError::Memory),
-            },
+    match compile_alone(alloc, source, kernel, width) {
+        Ok(compiled) => match SharedKernel::new(alloc, compiled) {
+            Ok(compiled) => Ok(compiled),
             Err(Memory) => Err(RunError::Memory),
         },
-        Err(error) => Err(refused(error)),
+        Err(error) => Err(error),
     }
 }
 

@@ -14,8 +14,8 @@ use launch_file::{LaunchError, LaunchText, read};
 use std::alloc::Global;
 use wg_outside::{LoadError, Store};
 
-// How many bytes of a source are loaded: one more than a source may have.
-const SOURCE_MOST: u64 = 262_145;
+/// How many bytes of a source are loaded: one more than a source may have.
+pub(crate) const SOURCE_MOST: u64 = 262_145;
 
 // The same of a launch file.
 const LAUNCH_MOST: u64 = 1_048_577;
@@ -34,8 +34,8 @@ pub(crate) struct Options {
     pub(crate) turns: Option<u64>,
 }
 
-// Loads and reads the launch file.
-fn load_launch<S: Store>(
+/// Loads and reads the launch file.
+pub(crate) fn load_launch<S: Store>(
     alloc: Global,
     store: &mut S,
     launch: &str,

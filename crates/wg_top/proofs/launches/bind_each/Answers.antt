@@ -4,7 +4,6 @@ use Rattle.std.proofs.lemmas.List.{length-map, get_or_default}
 use Rattle.cl_model.specs.View.{launch_of}
 use Rattle.cl_model.specs.declared.program.VarKind.{VarKind}
 use Rattle.lane_code.specs.Fits.{LaunchFits}
-use Rattle.lane_code.specs.Program.{Plain}
 use Rattle.launch_file.specs.Binding.{part_at}
 use Rattle.launch_file.specs.Texts.{Part, part_of, text_of}
 use Rattle.launch_file.specs.Values.{HasOneLength}

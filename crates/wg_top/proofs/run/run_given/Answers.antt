@@ -1,17 +1,12 @@
-use Rattle.std.proofs.Common.{◌≡◌, ◌<◌, ◌∙◌, ℕ, zero, suc, List, [], ◌∷◌, length, map, get_or, refl, sym, ap, ap₂}
+use Rattle.std.proofs.Common.{◌≡◌, ◌∙◌, List, length, map, ap}
 use Rattle.std.proofs.Common.{subst, arith}
-use Rattle.std.specs.Prelude.{All}
 use Rattle.std.proofs.lemmas.List.{length-map}
 use Rattle.std.proofs.lemmas.Result.{IfOk-weaker, IfErr-weaker}
 use Rattle.wg_compile.specs.declared.Compiled.{Compiled}
-use Rattle.wg_compile.specs.Correct.{IsCompilation}
 use Rattle.launch_file.specs.Texts.{Part, part_of, text_of}
-use Rattle.wg_top.specs.Causes.{Standing, standing, IsRun}
-use Rattle.wg_top.specs.declared.RunError.{RunError}
-use Rattle.wg_top.specs.declared.Summary.{Summary}
+use Rattle.wg_top.specs.Causes.{Standing, standing}
 use Rattle.wg_top.specs.declared.runnable.Runnable.{Runnable}
-use Rattle.wg_top.specs.Programs.{HasKinds, Runs, runs_of, AreRun, RunsCause, RunsLeave}
-use Rattle.wg_top.specs.Stages.{BackCause, LeavesOthers}
+use Rattle.wg_top.specs.Programs.{Runs, runs_of, AreRun, RunsCause, RunsLeave}
 use Rattle.wg_top.proofs.ProgramsLemmas.{kernel_runs, back_for, left_for, run_for, runs_are, kinds_are}
 use Rattle.wg_top.proofs.run.run_given.Goals as goal
 

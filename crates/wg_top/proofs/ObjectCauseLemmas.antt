@@ -1,0 +1,254 @@
+-- Why `build` and `exec` end as they do, from the steps that they take.
+use Rattle.std.proofs.Common.{◌≡◌, ℕ, List, [], Option, Some, None, inl, inr, refl, sym, ◌∙◌, ap, subst}
+use Rattle.wg_outside.specs.Files.{FileMap, HasFileStart, LacksFile, HasSaved, KeepsOthers, told_file}
+use Rattle.buffer_io.specs.Loads.{LacksOneFile}
+use Rattle.command_words.specs.Command.{BuildFiles, ObjectFiles}
+use Rattle.launch_file.specs.Binding.{loads_of}
+use Rattle.launch_file.specs.Texts.{Text}
+use Rattle.launch_file.specs.declared.refusal.Refusal.TheVariants.{OtherKernel}
+use Rattle.wg_object.specs.Plain.{PlainObject}
+use Rattle.wg_object.specs.Valid.{IsObjectOf}
+use Rattle.wg_top.specs.declared.RunError.{RunError}
+use Rattle.wg_top.specs.declared.RunError.TheVariants.{Failed, Absent, Source, Launch, Range, Parted, Turns, Memory}
+use Rattle.wg_top.specs.declared.RunError.TheVariants.{NotObject}
+use Rattle.wg_top.specs.declared.Summary.{Summary}
+use Rattle.wg_top.specs.Causes.{Standing, HasNoFewer, SourceLoaded}
+use Rattle.wg_top.specs.Stages.{TextRead, LaunchCause, KernelCause, ProgramCause}
+use Rattle.wg_top.specs.Programs.{AreRun, AreStopped, AreSaveStopped, RunsCause, RunsLeave}
+use Rattle.wg_top.specs.Objects.{first_kernel, IsFirstText, FirstCause, IsMadeText, IsBuilt, BuildCause, ObjectLoaded}
+use Rattle.wg_top.specs.Objects.{ExecRead, ExecTaken, ExecStopped, ExecDone, ExecCause, ExecLeaves}
+use Rattle.wg_top.specs.Objects.{TakingCause, NameKernel, runs_each, IsTextFrom}
+use Rattle.wg_top.proofs.CauseLemmas.{rose_over}
+
+-- ---- build
+
+-- a refusal while the launch file is read
+pub build_launch : (old mid new : Standing) (ask : BuildFiles) (bytes : List ℕ) (e : RunError) →
+    SourceLoaded old.files ask.source bytes → mid.files ≡ old.files → HasNoFewer old mid → HasNoFewer mid new →
+    LaunchCause mid new ask.launch ask.lanes None e → BuildCause old new ask e
+build_launch old mid new ask bytes Failed loaded same before after c =
+    rose_over old.faults mid.faults new.faults before.faults after.faults c
+build_launch old mid new ask bytes Absent loaded same before after c = (
+  rose_over old.misses mid.misses new.misses before.misses after.misses c.0,
+  inr (bytes, loaded, subst (λ (f : Option FileMap). LacksFile f ask.launch) same c.1),
+)
+build_launch old mid new ask bytes (Launch first) loaded same before after c =
+    record {
+      source = bytes;
+      source_loaded = loaded;
+      launch_bytes = c.bytes;
+      launch_loaded = subst (λ (f : Option FileMap). HasFileStart f ask.launch 1048577 c.bytes) same c.loaded;
+      refused = c.refused;
+    }
+build_launch old mid new ask bytes Memory loaded same before after c = tt
+build_launch old mid new ask bytes _ loaded same before after c = absurd c
+
+-- a refusal of the source
+pub build_first : (old new : Standing) (ask : BuildFiles) (bytes held : List ℕ) (text : Text) (e : RunError) →
+    TextRead old.files ask.launch ask.lanes None text → SourceLoaded old.files ask.source bytes → held ≡ bytes →
+    FirstCause held text e → BuildCause old new ask e
+build_first old new ask bytes held text (Source condition place) read loaded same c =
+    record {
+      source = held;
+      text = text;
+      read = record {
+        source_loaded = subst (λ (b : List ℕ). SourceLoaded old.files ask.source b) (sym same) loaded;
+        launch_bytes = read.bytes;
+        launch_loaded = read.loaded;
+        reads = read.reads;
+      };
+      fault = c;
+    }
+build_first old new ask bytes held text Memory read loaded same c = tt
+build_first old new ask bytes held text _ read loaded same c = absurd c
+
+-- the text was made
+pub made_text : (files : Option FileMap) (ask : BuildFiles) (bytes held : List ℕ) (text : Text) (object : List ℕ) →
+    TextRead files ask.launch ask.lanes None text → SourceLoaded files ask.source bytes → held ≡ bytes →
+    IsFirstText held text object → IsMadeText files ask object
+made_text files ask bytes held text object read loaded same is = record {
+  source = held;
+  text = text;
+  read = record {
+    source_loaded = subst (λ (b : List ℕ). SourceLoaded files ask.source b) (sym same) loaded;
+    launch_bytes = read.bytes;
+    launch_loaded = read.loaded;
+    reads = read.reads;
+  };
+  is = is;
+}
+
+-- the refusal of the first launch's kernel
+pub first_cause : (bytes : List ℕ) (text : Text) (kernel : List ℕ) (e : RunError) →
+    first_kernel text.list ≡ Some kernel → KernelCause bytes text.defines kernel e → FirstCause bytes text e
+first_cause bytes text kernel (Source condition place) first c =
+    record { kernel = kernel; first = first; fault = inr c }
+first_cause bytes text kernel Memory first c = tt
+first_cause bytes text kernel _ first c = absurd c
+
+-- its text was saved
+pub is_built : (old mid new : Option FileMap) (ask : BuildFiles) (bytes held : List ℕ) → IsMadeText old ask bytes →
+    mid ≡ old → held ≡ bytes → HasSaved mid new ask.object held → KeepsOthers mid new ask.object → IsBuilt old new ask
+is_built old mid new ask bytes held made same is saved others = record {
+  bytes = bytes;
+  made = made;
+  saved = subst (λ (f : Option FileMap). HasSaved f new ask.object bytes) same
+      (subst (λ (b : List ℕ). HasSaved mid new ask.object b) is saved);
+  others = subst (λ (f : Option FileMap). KeepsOthers f new ask.object) same others;
+}
+
+-- ---- exec
+
+pub exec_launch : (old mid new : Standing) (ask : ObjectFiles) (bytes : List ℕ) (e : RunError) →
+    ObjectLoaded old.files ask.object bytes → mid.files ≡ old.files → HasNoFewer old mid → HasNoFewer mid new →
+    LaunchCause mid new ask.launch None ask.turns e → TakingCause old new ask e
+exec_launch old mid new ask bytes Failed loaded same before after c =
+    rose_over old.faults mid.faults new.faults before.faults after.faults c
+exec_launch old mid new ask bytes Absent loaded same before after c = (
+  rose_over old.misses mid.misses new.misses before.misses after.misses c.0,
+  inr (bytes, loaded, subst (λ (f : Option FileMap). LacksFile f ask.launch) same c.1),
+)
+exec_launch old mid new ask bytes (Launch first) loaded same before after c =
+    inl (record {
+      bytes = bytes;
+      object_loaded = loaded;
+      launch_bytes = c.bytes;
+      launch_loaded = subst (λ (f : Option FileMap). HasFileStart f ask.launch 1048577 c.bytes) same c.loaded;
+      refused = c.refused;
+    })
+exec_launch old mid new ask bytes Memory loaded same before after c = tt
+exec_launch old mid new ask bytes _ loaded same before after c = absurd c
+
+-- what was read
+pub exec_read : (files later : Option FileMap) (ask : ObjectFiles) (bytes held : List ℕ) (text : Text) →
+    ObjectLoaded files ask.object bytes → held ≡ bytes → later ≡ files →
+    TextRead later ask.launch None ask.turns text → ExecRead files ask held text
+exec_read files later ask bytes held text loaded is same read = record {
+  object_loaded = subst (λ (b : List ℕ). ObjectLoaded files ask.object b) (sym is) loaded;
+  launch_bytes = read.bytes;
+  launch_loaded = subst (λ (f : Option FileMap). HasFileStart f ask.launch 1048577 read.bytes) same read.loaded;
+  reads = read.reads;
+}
+
+pub exec_taken : (files : Option FileMap) (ask : ObjectFiles) (bytes : List ℕ) (text : Text) (o : PlainObject) →
+    ExecRead files ask bytes text → IsObjectOf bytes o → NameKernel text o → ExecTaken files ask text o
+exec_taken files ask bytes text o read is names = record { bytes = bytes; read = read; is_text = is; names = names }
+
+pub exec_other : (old new : Standing) (ask : ObjectFiles) (bytes : List ℕ) (text : Text) (o : PlainObject) →
+    ExecRead old.files ask bytes text → IsObjectOf bytes o → (NameKernel text o → ⊥) →
+    TakingCause old new ask (Launch OtherKernel)
+exec_other old new ask bytes text o read is other =
+    inr (refl, record { bytes = bytes; text = text; object = o; read = read; is_text = is; other = other })
+
+pub exec_none : (old new : Standing) (ask : ObjectFiles) (bytes : List ℕ) (text : Text) →
+    ExecRead old.files ask bytes text → ((o : PlainObject) → IsObjectOf bytes o → ⊥) →
+    TakingCause old new ask NotObject
+exec_none old new ask bytes text read none = record { bytes = bytes; text = text; read = read; none = none }
+
+-- a refusal before the launches are bound
+pub taking_cause : (old new : Standing) (ask : ObjectFiles) (e : RunError) → TakingCause old new ask e →
+    ExecCause old new ask e
+taking_cause old new ask Failed c = c
+taking_cause old new ask Absent c = (c.0, inl c.1)
+taking_cause old new ask NotObject c = inl c
+taking_cause old new ask (Launch first) c = inl c
+taking_cause old new ask Memory c = tt
+taking_cause old new ask _ c = absurd c
+
+pub taking_leaves : (old new : Standing) (ask : ObjectFiles) (e : RunError) → new.files ≡ old.files →
+    ExecLeaves old new ask e
+taking_leaves old new ask Failed same = inl same
+taking_leaves old new ask _ same = same
+
+-- a refusal behind that
+stops : (files later : Option FileMap) (ask : ObjectFiles) (text : Text) (o : PlainObject) (e : RunError) →
+    ExecTaken files ask text o → later ≡ files → AreStopped later text (runs_each o text.list) e →
+    ExecStopped files ask e
+stops files later ask text o e taken same s = record {
+  text = text;
+  object = o;
+  taken = taken;
+  stopped = subst (λ (f : Option FileMap). AreStopped f text (runs_each o text.list) e) same s;
+}
+
+pub taken_cause : (old mid new : Standing) (ask : ObjectFiles) (text : Text) (o : PlainObject) (e : RunError) →
+    ExecTaken old.files ask text o → mid.files ≡ old.files → HasNoFewer old mid → HasNoFewer mid new →
+    RunsCause mid new text (runs_each o text.list) e → ExecCause old new ask e
+taken_cause old mid new ask text o Failed taken same before after c =
+    rose_over old.faults mid.faults new.faults before.faults after.faults c
+taken_cause old mid new ask text o Absent taken same before after c = (
+  rose_over old.misses mid.misses new.misses before.misses after.misses c.0,
+  inr (record {
+    text = text;
+    object = o;
+    taken = taken;
+    accepted = c.1;
+    lacks = subst (λ (f : Option FileMap). LacksOneFile f (loads_of text.buffers)) same c.2;
+  }),
+)
+taken_cause old mid new ask text o (Launch first) taken same before after c =
+    inr (record { text = text; object = o; taken = taken; refused = c })
+taken_cause old mid new ask text o (Range number several group item place) taken same before after c =
+    inr (stops old.files mid.files ask text o (Range number several group item place) taken same c)
+taken_cause old mid new ask text o (Parted number several group item place) taken same before after c =
+    inr (stops old.files mid.files ask text o (Parted number several group item place) taken same c)
+taken_cause old mid new ask text o (Turns number several) taken same before after c =
+    inr (stops old.files mid.files ask text o (Turns number several) taken same c)
+taken_cause old mid new ask text o Memory taken same before after c = tt
+taken_cause old mid new ask text o _ taken same before after c = absurd c
+
+pub taken_leaves : (old mid new : Standing) (ask : ObjectFiles) (text : Text) (o : PlainObject) (e : RunError) →
+    ExecTaken old.files ask text o → mid.files ≡ old.files → RunsLeave mid new text (runs_each o text.list) e →
+    ExecLeaves old new ask e
+taken_leaves old mid new ask text o Failed taken same (inl all) = inl (all ∙ same)
+taken_leaves old mid new ask text o Failed taken same (inr s) =
+    inr (record {
+      text = text;
+      object = o;
+      taken = taken;
+      stopped = subst (λ (f : Option FileMap). AreSaveStopped f new.files text (runs_each o text.list)) same s;
+    })
+taken_leaves old mid new ask text o Absent taken same left = left ∙ same
+taken_leaves old mid new ask text o (Source condition place) taken same left = left ∙ same
+taken_leaves old mid new ask text o (Launch first) taken same left = left ∙ same
+taken_leaves old mid new ask text o (Range number several group item place) taken same left = left ∙ same
+taken_leaves old mid new ask text o (Parted number several group item place) taken same left = left ∙ same
+taken_leaves old mid new ask text o (Turns number several) taken same left = left ∙ same
+taken_leaves old mid new ask text o Memory taken same left = left ∙ same
+taken_leaves old mid new ask text o NotObject taken same left = left ∙ same
+
+pub exec_done : (old mid new : Option FileMap) (ask : ObjectFiles) (text : Text) (o : PlainObject)
+    (summary : Summary) → ExecTaken old ask text o → mid ≡ old → AreRun mid new text (runs_each o text.list) summary →
+    ExecDone old new ask summary
+exec_done old mid new ask text o summary taken same run = record {
+  text = text;
+  object = o;
+  taken = taken;
+  run = subst (λ (f : Option FileMap). AreRun f new text (runs_each o text.list) summary) same run;
+}
+
+-- names that stay
+pub keeps_all : (old new : Option FileMap) (name : List ℕ) → new ≡ old → KeepsOthers old new name
+keeps_all old new name same = λ other apart. ap (λ (f : Option FileMap). told_file f other) same
+
+pub keeps_before : (old mid new : Option FileMap) (name : List ℕ) → mid ≡ old → KeepsOthers mid new name →
+    KeepsOthers old new name
+keeps_before old mid new name same others = subst (λ (f : Option FileMap). KeepsOthers f new name) same others
+
+-- the text without its launches
+abbrev pub without_launches : Text → Text
+without_launches text = record text { list = [] }
+
+-- a source without a unit
+pub refused_first : (bytes : List ℕ) (text : Text) (kernel : List ℕ) (e : RunError) →
+    first_kernel text.list ≡ Some kernel → ProgramCause bytes (without_launches text) e → FirstCause bytes text e
+refused_first bytes text kernel (Source condition place) first (inl stands) =
+    record { kernel = kernel; first = first; fault = inl stands }
+refused_first bytes text kernel (Source condition place) first (inr none) = absurd none
+refused_first bytes text kernel Memory first c = tt
+refused_first bytes text kernel _ first c = absurd c
+
+-- the text of the first launch's kernel
+pub first_is : (bytes : List ℕ) (text : Text) (kernel object : List ℕ) → first_kernel text.list ≡ Some kernel →
+    IsTextFrom bytes text.defines kernel text.lanes object → IsFirstText bytes text object
+first_is bytes text kernel object first is = record { kernel = kernel; first = first; is = is }
