@@ -1,6 +1,7 @@
 """Cases that are folders: a run with its files, and all that it is to leave."""
 import fnmatch
 import os
+import re
 
 from .calls import Check, call, status_fault
 from .files import Room, difference, files_of, from_hex, read, to_hex, write
@@ -8,23 +9,53 @@ from .listings import iterations_fault, listing_fault
 
 WORDS = 'run kernel.cl launch.toml'
 LANES = ('1', '4', '8', '16')
+# The file under which a kernel is built that a case runs, and how a launch names its kernel.
+OBJECT = 'built.wgo'
+KERNEL = re.compile(rb'^\s*kernel\s*=\s*"(\w+)"', re.M)
 # What stands in `expected` beside files that the run leaves.
 SAID = ('status', 'line', 'line_like', 'first_line', 'steps', 'iterations')
 NO_FILES = ('README.md', 'words', 'expected')
 
 
-def words_of(folder):
-    """The words of the command line of a case."""
+def commands_of(folder):
+    """The commands of a case, each a list of words."""
     path = os.path.join(folder, 'words')
-    return (read(path).decode() if os.path.exists(path) else WORDS).split()
+    lines = (read(path).decode() if os.path.exists(path) else WORDS).splitlines()
+    return [line.split() for line in lines] or [[]]
 
 
-def all_words(folder):
-    """The lists of words with which a case is run: a `run` that names no lanes also at each number of lanes."""
-    words = words_of(folder)
-    if words[:1] != ['run'] or len(words) < 3 or '--lanes' in words:
-        return [words]
-    return [words] + [words + ['--lanes', lanes] for lanes in LANES]
+def at_lanes(commands, lanes):
+    """The commands with that number of lanes, where one that takes lanes names none and a launch is run by the last."""
+    first, last = commands[0], commands[-1]
+    takes = first[:1] in (['run'], ['build']) and len(first) > 2 and '--lanes' not in first
+    return [first + ['--lanes', lanes], *commands[1:]] if takes and last[:1] in (['run'], ['exec']) else None
+
+
+def all_commands(folder):
+    """The lists of commands with which a case is run: where the first names no lanes also at each number of lanes."""
+    commands = commands_of(folder)
+    return [commands] + [each for each in (at_lanes(commands, lanes) for lanes in LANES) if each]
+
+
+def by_object(folder, files, status):
+    """The commands that build the kernel of a run and run its object file; none where it ends before its launches run
+    or these name several kernels."""
+    words = commands_of(folder)[-1]
+    if words[:1] != ['run'] or status not in (0, 5, 6, 7) or len(set(KERNEL.findall(files.get(words[2], b'')))) != 1:
+        return []
+    turns = words.index('--turns') if '--turns' in words else len(words)
+    lanes = words.index('--lanes') if '--lanes' in words else len(words)
+    build = ['build', *words[1:3], OBJECT, *words[lanes:lanes + 2]]
+    return [[build, ['exec', OBJECT, words[2], *words[turns:turns + 2]]]]
+
+
+def made_ready(program, commands, room):
+    """The files of a run's folder behind all commands but the last, each of which is to end with status 0."""
+    for words in commands[:-1]:
+        fault = status_fault(call(program, words, room), 0)
+        if fault:
+            return fault, {}
+    return None, files_as_left(room)
 
 
 def said_fault(want, said):
@@ -100,24 +131,30 @@ class Row:
         self.want = files_of(os.path.join(folder, 'expected'))
 
     def checks(self, programs):
-        """A check for each list of words."""
-        return [Check('%s: wgcc %s' % (self.name, ' '.join(words)), self.looker(programs, words))
-                for words in all_words(self.folder)]
+        """A check for each list of commands."""
+        built = by_object(self.folder, self.before, int(self.want.get('status', b'0')))
+        return [Check('%s: %s' % (self.name, '; '.join('wgcc ' + ' '.join(words) for words in commands)),
+                      self.looker(programs, commands)) for commands in all_commands(self.folder) + built]
 
-    def looker(self, programs, words):
+    def looker(self, programs, commands):
         """The function that makes one run and looks at it."""
         def look():
+            said = b''
             with Room(self.before) as room:
-                fault, said = fault_of(call(programs.wgcc, words, room), self.before, self.want, room)
+                fault, before = made_ready(programs.wgcc, commands, room)
+                if fault is None:
+                    fault, said = fault_of(call(programs.wgcc, commands[-1], room), before, self.want, room)
             return fault, said.decode('utf-8', 'replace').split('\n')[0]
         return look
 
     def bless(self, programs, is_named):
         """Writes anew what is expected; files that are not there yet only where the case is named."""
+        commands = commands_of(self.folder)
         with Room(self.before) as room:
-            ended = call(programs.wgcc, words_of(self.folder), room)
+            fault, before = made_ready(programs.wgcc, commands, room)
+            ended = call(programs.wgcc, commands[-1], room)
             after = files_as_left(room)
-        if ended.status is None:
+        if fault or ended.status is None:
             return
         said = ended.out if ended.status == 0 else ended.err
         self.put('status', b'%d\n' % ended.status, is_named)
@@ -125,15 +162,15 @@ class Row:
             self.put('first_line', said.split(b'\n')[0] + b'\n', False)
         elif 'line_like' not in self.want:
             self.put('line', said, is_named)
-        self.bless_files(after, is_named)
+        self.bless_files(before, after, is_named)
 
-    def bless_files(self, after, is_named):
+    def bless_files(self, before, after, is_named):
         """Writes the files that the run left other than they were."""
         for name in sorted({*self.want} - {*SAID} - {*after}):
             if not name.endswith('.one_of'):
                 self.remove(name)
         for name, content in after.items():
-            if content != self.before.get(name) and name + '.one_of' not in self.want:
+            if content != before.get(name) and name + '.one_of' not in self.want:
                 self.put(name, content, is_named)
 
     def paths(self, name):

@@ -1,0 +1,1 @@
+__kernel void far(__global int *a) { a[get_global_id(0) + 1] = 1; }
