@@ -1,5 +1,6 @@
 pub mod Accessing
 pub mod Agreeing
+pub mod Choosing
 pub mod Copying
 pub mod Ending
 pub mod Frames
@@ -8,8 +9,8 @@ pub mod Joining
 pub mod Keeping
 pub mod Knowing
 pub mod Leaving
-pub mod Plainly
 pub mod Moving
+pub mod Plainly
 pub mod Planned
 pub mod Sharing
 pub mod Sound

@@ -23,7 +23,7 @@ impl Reads {
 }
 
 /// These registers.
-fn reads_with<const N: usize>(registers: [Reg; N]) -> Reads
+pub(crate) fn reads_with<const N: usize>(registers: [Reg; N]) -> Reads
     requires { N ≤ 4 }
     ensures registers { take result.count result.registers ≡ registers.entry }
     ensures few { result.count ≤ 4 }

@@ -35,7 +35,7 @@ fn works_on(c: Counts, to: Reg, mask: Reg) -> bool
 }
 
 /// Whether a step is ready for the passes where it stands.
-fn is_ready_step(c: Counts, place: usize, step: Step) -> bool
+pub(crate) fn is_ready_step(c: Counts, place: usize, step: Step) -> bool
     ensures { result ≡ is_ready_step c place step }
 {
     match step {

@@ -8,7 +8,7 @@ use std::alloc::Global;
 use wg_num::Memory;
 
 /// The target of a jump.
-fn target_of(step: Step) -> Option<u32>
+pub(crate) fn target_of(step: Step) -> Option<u32>
     ensures { result ≡ target_of step }
 {
     match step {
