@@ -16,4 +16,3 @@ pub mod Sharing
 pub mod Sound
 pub mod Tests
 pub mod Tidying
-pub mod Wider
