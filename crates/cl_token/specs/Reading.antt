@@ -38,7 +38,7 @@ close_of (b ∷ bs) = if b == 42 && slice_index bs 0 == 47 then Some 0 else opti
 -- ---- tokens
 
 abbrev pub singles : List ℕ
-singles = codes "{}()[];,:?~!=<>+-*/%&|^"
+singles = codes "{}()[];,.:?~!=<>+-*/%&|^"
 
 -- what may stand before the sign of equality
 abbrev pub before_equals : List ℕ

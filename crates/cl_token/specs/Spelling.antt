@@ -15,8 +15,8 @@ IsOneOf (y ∷ ys) x = (x ≡ y) ⊎ IsOneOf ys x
 
 abbrev pub marks : List (List ℕ)
 marks =
-    codes "{" ∷ codes "}" ∷ codes "(" ∷ codes ")" ∷ codes "[" ∷ codes "]" ∷ codes ";" ∷ codes "," ∷ codes ":" ∷
-    codes "?" ∷ codes "~"
+    codes "{" ∷ codes "}" ∷ codes "(" ∷ codes ")" ∷ codes "[" ∷ codes "]" ∷ codes ";" ∷ codes "," ∷ codes "." ∷
+    codes ":" ∷ codes "?" ∷ codes "~"
     ∷ codes "!" ∷ codes "=" ∷ codes "==" ∷ codes "!=" ∷ codes "<" ∷ codes ">" ∷ codes "<=" ∷ codes ">=" ∷ codes "<<" ∷
     codes ">>" ∷ codes "<<=" ∷ codes ">>="
     ∷ codes "+" ∷ codes "-" ∷ codes "*" ∷ codes "/" ∷ codes "%" ∷ codes "&" ∷ codes "|" ∷ codes "^" ∷ codes "&&" ∷

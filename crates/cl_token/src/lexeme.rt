@@ -72,7 +72,7 @@ fn close_of(text: &[u8]) -> Option<usize>
 fn is_single(a: u8) -> bool
     ensures { result ≡ reading.is_single a }
 {
-    b"{}()[];,:?~!=<>+-*/%&|^".contains(&a)
+    b"{}()[];,.:?~!=<>+-*/%&|^".contains(&a)
 }
 
 fn is_double(a: u8, b: u8) -> bool

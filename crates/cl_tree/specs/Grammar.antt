@@ -13,7 +13,7 @@ use Rattle.cl_tree.specs.Nodes.{attribute_node, params_node, param_node, type_no
 use Rattle.cl_tree.specs.Nodes.{star_node, declare_node, declarator_node, declarator_set_node, list_node, block_node}
 use Rattle.cl_tree.specs.Nodes.{simple_node, if_node, if_else_node, while_node, do_node, for_node, switch_node}
 use Rattle.cl_tree.specs.Nodes.{case_node, default_node, leave_node, cond_node, cast_node, prefix_node, sizeof_node}
-use Rattle.cl_tree.specs.Nodes.{index_node, step_node, call_node, paren_node}
+use Rattle.cl_tree.specs.Nodes.{index_node, step_node, selection_node, call_node, paren_node}
 
 -- whether there are three trees
 abbrev pub are_three : Forest → Bool
@@ -271,7 +271,7 @@ pub data Spells : Sort → Value → List Leaf → Type 0 where
   unary_sizeof : (w o : Spot) {t : Syntax} {x : List Leaf} → Spells TypeName (one t) x → (c : Spot) →
       Spells Unary (one (sizeof_node w o t c)) (tok terminals.Sizeof w ∷ tok terminals.Open o ∷
       (x ++ (tok terminals.Close c ∷ [])))
-  -- postfix = primary { "[" expr "]" | "++" | "--" }, nested to the left
+  -- postfix = primary { "[" expr "]" | "++" | "--" | "." name }, nested to the left
   postfix_primary : {t : Syntax} {x : List Leaf} → Spells Primary (one t) x → Spells Postfix (one t) x
   index : {l : Syntax} {x : List Leaf} → Spells Postfix (one l) x → (o : Spot) {e : Syntax} {y : List Leaf} →
       Spells Expr (one e) y → (c : Spot) →
@@ -279,6 +279,8 @@ pub data Spells : Sort → Value → List Leaf → Type 0 where
       (x ++ (tok terminals.OpenBracket o ∷ (y ++ (tok terminals.CloseBracket c ∷ []))))
   step : {l : Syntax} {x : List Leaf} → Spells Postfix (one l) x → (m : Spot) →
       Spells Postfix (one (step_node l m)) (x ++ (tok terminals.Step m ∷ []))
+  selection : {l : Syntax} {x : List Leaf} → Spells Postfix (one l) x → (d n : Spot) →
+      Spells Postfix (one (selection_node l d n)) (x ++ (tok terminals.Point d ∷ tok terminals.Name n ∷ []))
   -- primary = number | truth | variable | call | paren
   number : (n : Spot) → Spells Primary (one (word_node forms.NumberNode n)) (tok terminals.Number n ∷ [])
   truth : (n : Spot) → Spells Primary (one (word_node forms.TruthNode n)) (tok terminals.Truth n ∷ [])

@@ -173,6 +173,10 @@ index_node l o e c = tree_of forms.PostfixNode (o ∷ c ∷ []) (first_of l) c.n
 abbrev pub step_node : Syntax → Spot → Syntax
 step_node l m = tree_of forms.PostfixNode (m ∷ []) (first_of l) m.number (forest1 l)
 
+-- a selection of components
+abbrev pub selection_node : Syntax → Spot → Spot → Syntax
+selection_node l d n = tree_of forms.PostfixNode (d ∷ n ∷ []) (first_of l) n.number (forest1 l)
+
 -- a call, with its arguments and the commas between them
 abbrev pub call_node : Spot → Spot → List Spot → Forest → Spot → Syntax
 call_node m o own ts c = tree_of forms.CallNode (m ∷ o ∷ (own ++ (c ∷ []))) m.number c.number ts

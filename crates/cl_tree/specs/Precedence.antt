@@ -11,6 +11,7 @@ abbrev pub looseness : Terminal → ℕ
 looseness terminals.Open = 0
 looseness terminals.OpenBracket = 0
 looseness terminals.Step = 0
+looseness terminals.Point = 0
 looseness terminals.Star = 1
 looseness terminals.Slash = 1
 looseness terminals.PlusMinus = 2

@@ -69,6 +69,7 @@ brackets =
     record { words = codes "," ∷ []; terminal = terminals.Comma } ∷
     record { words = codes ":" ∷ []; terminal = terminals.Colon } ∷
     record { words = codes "?" ∷ []; terminal = terminals.Question } ∷
+    record { words = codes "." ∷ []; terminal = terminals.Point } ∷
     []
 
 unfoldable pub bracket_of : List ℕ → Terminal

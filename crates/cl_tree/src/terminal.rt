@@ -85,6 +85,8 @@ pub enum Terminal {
     Tilde,
     /// `++`, `--`
     Step,
+    /// `.`
+    Point,
     /// A token that stands nowhere in the grammar.
     Other,
 }

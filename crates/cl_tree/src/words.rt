@@ -243,6 +243,9 @@ pub(crate) fn bracket(word: &[u8]) -> Terminal
     if is_one_of(word, &["?"]) {
         return Terminal::Question;
     }
+    if is_one_of(word, &["."]) {
+        return Terminal::Point;
+    }
     operator(word)
 }
 
