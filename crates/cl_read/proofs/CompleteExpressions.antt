@@ -9,7 +9,8 @@ use Rattle.cl_tree.specs.declared.terminal.Leaf.{Leaf}
 use Rattle.cl_tree.specs.declared.tree.Form.TheVariants as forms
 use Rattle.cl_tree.specs.Precedence.{joins, form_of, assigns, prefixes}
 use Rattle.cl_tree.specs.Syntax.{Syntax, Forest, more, nesting, deepest}
-use Rattle.cl_tree.specs.Nodes.{Spot, tok, pair_node, index_node, step_node, call_node, paren_node}
+use Rattle.cl_tree.specs.Nodes.{Spot, tok, pair_node, index_node, step_node, selection_node, call_node}
+use Rattle.cl_tree.specs.Nodes.{paren_node}
 use Rattle.cl_tree.specs.Grammar as grammar
 use Rattle.cl_tree.specs.Grammar.{Expr, Assign, Cond, Cast, Unary, Postfix, Level, Many}
 use Rattle.cl_tree.specs.Grammar.{Comma, one, list, Spells}
@@ -17,7 +18,7 @@ use Rattle.cl_read.specs.Starts.{starts_type, starts_expression, postfixes}
 use Rattle.cl_read.specs.Reading.{Got, Reader, ◌>>=◌, done, begins, is, choose, eat_in, eat, chain, Readers, is_unary}
 use Rattle.cl_read.specs.Reading.{call_of, primary_of, postfix_step, postfixed, paren_of, opened, sizeof_of}
 use Rattle.cl_read.specs.Reading.{operand_of, unary_of, cast_of, level_step, level_of, cond_of, assign_of, expr_step}
-use Rattle.cl_read.specs.Reading.{expr_of}
+use Rattle.cl_read.specs.Reading.{expr_of, selection_of}
 use Rattle.cl_read.proofs.Tails.{excluded, not_begun}
 use Rattle.cl_read.proofs.First.{expression_first, type_first}
 use Rattle.cl_read.proofs.Chains.{chain_stops, chain_goes}
@@ -35,6 +36,7 @@ unary_is (grammar.unary_postfix (grammar.postfix_primary (grammar.call n o h a c
 unary_is (grammar.unary_postfix (grammar.postfix_primary (grammar.paren o h c))) = refl
 unary_is (grammar.unary_postfix (grammar.index h o e c)) = refl
 unary_is (grammar.unary_postfix (grammar.step h m)) = refl
+unary_is (grammar.unary_postfix (grammar.selection h d m)) = refl
 unary_is (grammar.unary_step m h) = refl
 unary_is (grammar.unary_prefix j m q h) = refl
 unary_is (grammar.unary_sizeof w o h c) = refl
@@ -85,6 +87,11 @@ module _ (n : ℕ) (low : Readers) (g : AllGood low) (f : AllFull low n) where
       Got (step_node l m) rest
   unfolding postfix_step
   step_reads l m rest = refl
+
+  selection_reads : (l : Syntax) (d m : Spot) (rest : List Leaf) →
+      postfix_step n low l (tok terminals.Point d ∷ tok terminals.Name m ∷ rest) ≡ Got (selection_node l d m) rest
+  unfolding postfix_step selection_of
+  selection_reads l d m rest = refl
 
   -- a reader that is that of a parenthesis or else that of an operand
   module _ (q : Reader Syntax) (opens : (o : Spot) (ts : List Leaf) → begins starts_expression ts ≡ true →
@@ -145,6 +152,16 @@ module _ (n : ℕ) (low : Readers) (g : AllGood low) (f : AllFull low n) where
               chain_goes n postfixes (postfix_step n low) before.0 l (tok terminals.Step m ∷ rest) refl
               (at_most (nesting l) n (omega arith)) (omega (arith, before.1))
               ∙ onto (chain n postfixes (postfix_step n low) (before.0 - 1)) (step_reads l m rest) refl,
+        )
+    postfix_goes (grammar.selection {l = l} {x = x} h p m) d rest b =
+        let behind = tok terminals.Point p ∷ tok terminals.Name m ∷ rest in
+        let before = postfix_goes h (omega arith) behind refl in (
+          before.0 - 1,
+          omega (arith, before.1),
+          ap q (append_assoc x (tok terminals.Point p ∷ tok terminals.Name m ∷ []) rest) ∙ before.2 ∙
+              chain_goes n postfixes (postfix_step n low) before.0 l behind refl
+              (at_most (nesting l) n (omega arith)) (omega (arith, before.1))
+              ∙ onto (chain n postfixes (postfix_step n low) (before.0 - 1)) (selection_reads l p m rest) refl,
         )
 
     full_operand : {t : Syntax} {x : List Leaf} → Spells Unary (one t) x → nesting t ≤ suc n → (rest : List Leaf) →

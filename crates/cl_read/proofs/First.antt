@@ -155,6 +155,9 @@ expression_first e (grammar.index {x = x} h o {y = y} k c) r =
     (expression_first refl h ((tok terminals.OpenBracket o ∷ (y ++ (tok terminals.CloseBracket c ∷ []))) ++ r))
 expression_first e (grammar.step {x = x} h m) r =
     led starts_expression x (tok terminals.Step m ∷ []) r (expression_first refl h ((tok terminals.Step m ∷ []) ++ r))
+expression_first e (grammar.selection {x = x} h d n) r =
+    led starts_expression x (tok terminals.Point d ∷ tok terminals.Name n ∷ []) r
+    (expression_first refl h ((tok terminals.Point d ∷ tok terminals.Name n ∷ []) ++ r))
 expression_first e (grammar.number n) r = refl
 expression_first e (grammar.truth n) r = refl
 expression_first e (grammar.variable n) r = refl

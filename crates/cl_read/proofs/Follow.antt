@@ -45,6 +45,7 @@ behind_join k j q m r = next_above (looseness j) k q
 postfix_binds : (j : Terminal) → postfixes j ≡ true → nat_le (looseness j) 0 ≡ true
 postfix_binds terminals.OpenBracket e = refl
 postfix_binds terminals.Step e = refl
+postfix_binds terminals.Point e = refl
 postfix_binds _ e = absurd cc
 
 pub behind_postfixes : (rest : List Leaf) → Behind 0 rest → begins postfixes rest ≡ false

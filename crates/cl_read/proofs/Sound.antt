@@ -21,6 +21,7 @@ use Rattle.cl_read.specs.Reading.{star_of, front_of, behind_of, type_of, dimensi
 use Rattle.cl_read.specs.Reading.{declarator_of, declare_rest, declare_of, element_of, initializers_of, call_of}
 use Rattle.cl_read.specs.Reading.{primary_of, postfix_step, postfixed, paren_of, opened, sizeof_of, operand_of}
 use Rattle.cl_read.specs.Reading.{unary_of, cast_of, level_step, level_of, cond_of, assign_of, expr_step, expr_of}
+use Rattle.cl_read.specs.Reading.{selection_of}
 use Rattle.cl_read.proofs.Tails.{spot, leaves_at, same_terminal}
 use Rattle.cl_read.proofs.Good.{Took, Fine, Good, weaker, good_then, good_done, then_done, Starts, good_cond}
 use Rattle.cl_read.proofs.Rules.{choice, spot_of, then_eat_in, then_eat, eat_done, ended, good_if_begun, good_unless}
@@ -364,10 +365,11 @@ module _ (n : ℕ) (low : Readers) (g : AllGood low) where
 
   postfix_each : (l : Syntax) (x : List Leaf) → Tree_of Postfix l x →
       Good (postfix_step n low l) (λ r y. Tree_of Postfix r (x ++ y))
-  unfolding postfix_step
+  unfolding postfix_step selection_of
   postfix_each l x s = choice _ _ _ _
       (then_eat _ _ _ (λ o. good_then _ _ _ _ g.expr (λ e y h. eat_done _ _ _ (λ c. grammar.index s o h c))))
-      (eat_done _ _ _ (λ m. grammar.step s m))
+      (choice _ _ _ _ (then_eat _ _ _ (λ d. eat_done _ _ _ (λ m. grammar.selection s d m)))
+      (eat_done _ _ _ (λ m. grammar.step s m)))
 
   postfix_at : (l : Syntax) (x : List Leaf) → Tree_of Postfix l x → (j : Terminal) (m : Spot) → postfixes j ≡ true →
       (k : ℕ) → (t : Syntax) × (tail : List Terminal) × Tree_of Postfix t (x ++ (tok j m ∷ leaves_at k tail))
@@ -377,6 +379,7 @@ module _ (n : ℕ) (low : Readers) (g : AllGood low) where
     grammar.index s m (expr_of_cast (one_number k)) (spot terminals.CloseBracket (suc k)),
   )
   postfix_at l x s terminals.Step m e k = (_, [], grammar.step s m)
+  postfix_at l x s terminals.Point m e k = (_, terminals.Name ∷ [], grammar.selection s m (spot terminals.Name k))
   postfix_at l x s _ m e k = absurd cc
 
   good_postfixed : (l : Syntax) (x : List Leaf) → Tree_of Postfix l x →

@@ -40,6 +40,7 @@ kind_of terminals.Star = kinds.Mark
 kind_of terminals.Slash = kinds.Mark
 kind_of terminals.Tilde = kinds.Mark
 kind_of terminals.Step = kinds.Mark
+kind_of terminals.Point = kinds.Mark
 kind_of _ = kinds.Name
 
 spelled_so : (j : Terminal) → terminal_of (kind_of j) (spelling j) ≡ j
@@ -97,6 +98,7 @@ spelled_so terminals.Star = refl
 spelled_so terminals.Slash = refl
 spelled_so terminals.Tilde = refl
 spelled_so terminals.Step = refl
+spelled_so terminals.Point = refl
 spelled_so terminals.Other = refl
 
 abbrev pub token_at : Terminal → Token

@@ -20,7 +20,7 @@ in_order = terminals.Name ∷ terminals.Number ∷ terminals.Truth ∷ terminals
     terminals.Semicolon ∷ terminals.Comma ∷ terminals.Colon ∷ terminals.Question ∷ terminals.Equals ∷
     terminals.Compound ∷ terminals.OrOr ∷ terminals.AndAnd ∷ terminals.Bar ∷ terminals.Caret ∷ terminals.Ampersand ∷
     terminals.Equality ∷ terminals.Relation ∷ terminals.Shift ∷ terminals.PlusMinus ∷ terminals.Star ∷
-    terminals.Slash ∷ terminals.Tilde ∷ terminals.Step ∷ terminals.Other ∷ []
+    terminals.Slash ∷ terminals.Tilde ∷ terminals.Step ∷ terminals.Point ∷ terminals.Other ∷ []
 
 terminal_back : (j : Terminal) → get_or in_order (code j) terminals.Name ≡ j
 terminal_back terminals.Name = refl
@@ -75,6 +75,7 @@ terminal_back terminals.Star = refl
 terminal_back terminals.Slash = refl
 terminal_back terminals.Tilde = refl
 terminal_back terminals.Step = refl
+terminal_back terminals.Point = refl
 terminal_back terminals.Other = refl
 
 pub same_terminal : (a b : Terminal) → same a b ≡ true → a ≡ b
@@ -173,6 +174,7 @@ spelling terminals.Star = codes "*"
 spelling terminals.Slash = codes "/"
 spelling terminals.Tilde = codes "~"
 spelling terminals.Step = codes "++"
+spelling terminals.Point = codes "."
 spelling terminals.Other = codes "#"
 
 abbrev pub spot : Terminal → ℕ → Spot

@@ -12,7 +12,7 @@ use Rattle.cl_tree.specs.Nodes.{attribute_node, params_node, param_node, type_no
 use Rattle.cl_tree.specs.Nodes.{star_node, declare_node, declarator_node, declarator_set_node, list_node, block_node}
 use Rattle.cl_tree.specs.Nodes.{simple_node, if_node, if_else_node, while_node, do_node, for_node, switch_node}
 use Rattle.cl_tree.specs.Nodes.{case_node, default_node, leave_node, cond_node, cast_node, prefix_node, sizeof_node}
-use Rattle.cl_tree.specs.Nodes.{index_node, step_node, call_node, paren_node}
+use Rattle.cl_tree.specs.Nodes.{index_node, step_node, selection_node, call_node, paren_node}
 use Rattle.cl_read.specs.Starts.{same, starts_expression, starts_simple, starts_statement, starts_type, starts_core}
 use Rattle.cl_read.specs.Starts.{starts_declarator, starts_head, postfixes}
 
@@ -290,6 +290,10 @@ module _ (low : Readers) where
 
 -- ---- expressions
 
+-- behind an expression
+unfoldable pub selection_of : Syntax → Reader Syntax
+selection_of l = eat terminals.Point >>= λ d. eat terminals.Name >>= λ m. done (selection_node l d m)
+
 module _ (n : ℕ) (low : Readers) where
   unfoldable pub call_of : Spot → Spot → Reader Syntax
   call_of m o = choose (is terminals.Close) (eat terminals.Close >>= λ c. done (call_node m o [] none c))
@@ -304,8 +308,8 @@ module _ (n : ℕ) (low : Readers) where
 
   unfoldable pub postfix_step : Syntax → Reader Syntax
   postfix_step l = choose (is terminals.OpenBracket) (eat terminals.OpenBracket >>= λ o. low.expr >>= λ e.
-      eat terminals.CloseBracket >>= λ c. done (index_node l o e c)) (eat terminals.Step >>= λ m.
-      done (step_node l m))
+      eat terminals.CloseBracket >>= λ c. done (index_node l o e c)) (choose (is terminals.Point) (selection_of l)
+      (eat terminals.Step >>= λ m. done (step_node l m)))
 
   unfoldable pub postfixed : Syntax → Reader Syntax
   postfixed l = chain n postfixes postfix_step n l

@@ -56,7 +56,8 @@ code terminals.Star = 48
 code terminals.Slash = 49
 code terminals.Tilde = 50
 code terminals.Step = 51
-code terminals.Other = 52
+code terminals.Point = 52
+code terminals.Other = 53
 
 abbrev pub same : Terminal → Terminal → Bool
 same a b = nat_eq (code a) (code b)
@@ -150,4 +151,5 @@ starts_head _ = false
 abbrev pub postfixes : Terminal → Bool
 postfixes terminals.OpenBracket = true
 postfixes terminals.Step = true
+postfixes terminals.Point = true
 postfixes _ = false

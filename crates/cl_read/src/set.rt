@@ -131,7 +131,7 @@ fn binding(terminal: Terminal) -> u32
     ensures { result ≡ looseness terminal }
 {
     match terminal {
-        Terminal::Open | Terminal::OpenBracket | Terminal::Step => 0,
+        Terminal::Open | Terminal::OpenBracket | Terminal::Step | Terminal::Point => 0,
         Terminal::Star | Terminal::Slash => 1,
         Terminal::PlusMinus => 2,
         Terminal::Shift => 3,
@@ -162,7 +162,10 @@ pub fn contains(set: Set, terminal: Terminal) -> bool
         Set::Core => begins_core(terminal),
         Set::Declarator => matches!(terminal, Terminal::Star | Terminal::Name),
         Set::Head => matches!(terminal, Terminal::HeadWord | Terminal::Attribute),
-        Set::Postfix => matches!(terminal, Terminal::OpenBracket | Terminal::Step),
+        Set::Postfix => matches!(
+            terminal,
+            Terminal::OpenBracket | Terminal::Step | Terminal::Point
+        ),
         Set::Prefix => is_prefix(terminal),
         Set::Assignment => matches!(terminal, Terminal::Equals | Terminal::Compound),
         Set::Level(number) => u64::from(binding(terminal)) == u64::from(number) + 1,

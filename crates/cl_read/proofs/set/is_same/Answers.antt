@@ -59,6 +59,7 @@ tag_is terminals.Star = refl
 tag_is terminals.Slash = refl
 tag_is terminals.Tilde = refl
 tag_is terminals.Step = refl
+tag_is terminals.Point = refl
 tag_is terminals.Other = refl
 
 pub returns : goal.returns
