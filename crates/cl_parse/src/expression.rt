@@ -8,6 +8,7 @@ ghost use Rattle.cl_tree.specs.declared.terminal.Terminal.TheVariants as termina
 ghost use Rattle.cl_read.specs.Gives.{Gives, spot_of};
 ghost use Rattle.cl_read.specs.Members.{members};
 ghost use Rattle.cl_read.specs.Reading.{is, readers, chain, all_of, behind_comma, level_step, expr_step, postfix_step};
+ghost use Rattle.cl_read.specs.Reading.{selection_of};
 ghost use Rattle.cl_read.specs.Reading.{postfixed, paren_of, opened, sizeof_of, operand_of, primary_of, call_of};
 
 use crate::types::type_name;
@@ -375,6 +376,20 @@ fn postfix_parts(
     Ok((left, rest))
 }
 
+/// A selection of components behind an expression.
+#[tactic(auto, unfolding(cl_read::specs::Reading::selection_of))]
+fn selection(alloc: Global, left: Node, items: &[Leaf]) -> Result<(Node, &[Leaf]), Fail>
+    ensures { Gives (λ x. (view x.0.tree, x.1.now)) result (selection_of (view left.tree) items.now) }
+{
+    let first = first_token(&left);
+    let (point, rest) = take(items, Terminal::Point)?;
+    let (name, rest) = take(rest, Terminal::Name)?;
+    let parts = one(alloc, left)?;
+    let own = [point, name];
+    let node = make(alloc, Form::PostfixNode, &own, first, name.number, parts)?;
+    Ok((node, rest))
+}
+
 /// One index or step behind an operand.
 #[cycle(expression)]
 #[tactic(auto, unfolding(cl_read::specs::Reading::postfix_step))]
@@ -388,6 +403,9 @@ fn postfix_part(
         items.now) }
 {
     let first = first_token(&left);
+    if next_is(items, Terminal::Point) {
+        return selection(alloc, left, items);
+    }
     if !next_is(items, Terminal::OpenBracket) {
         let (step, rest) = take(items, Terminal::Step)?;
         let parts = one(alloc, left)?;
