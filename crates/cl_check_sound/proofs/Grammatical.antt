@@ -30,8 +30,13 @@ use Rattle.cl_check_sound.proofs.TypeFacts.{words, Qualifiers, BaseOk, type_spel
 
 -- ---- words of leaves
 
+-- what a word of a terminal says that is no point
+abbrev pub PlainWord : Terminal → List ℕ → Type 0
+PlainWord terminals.Point w = ⊥
+PlainWord j w = Word j w
+
 abbrev pub AllWords : List Leaf → Type 0
-AllWords x = Each (λ (leaf : Leaf). Word leaf.terminal leaf.word) x
+AllWords x = Each (λ (leaf : Leaf). PlainWord leaf.terminal leaf.word) x
 
 pub left : (x y : List Leaf) → AllWords (x ++ y) → AllWords x
 left [] y h = tt
@@ -290,7 +295,7 @@ front_words a b d c ha hb hd hc =
     subst (λ z. is_some (base_in (spelled z)) ≡ true) (append_assoc a b (d ++ c))
     (type_spelled (a ++ b) d c (qualifiers_append a b ha hb) hd hc)
 
-pub qualifier_word : (b : Bool) (j : Terminal) (m : Spot) → qualifies b j ≡ true → Word j m.word →
+pub qualifier_word : (b : Bool) (j : Terminal) (m : Spot) → qualifies b j ≡ true → PlainWord j m.word →
     QualifiersIf b (m ∷ [])
 qualifier_word b terminals.Qualifier m q h = λ e. (h, tt)
 qualifier_word b terminals.Restrict m q h = λ e. absurd (false≢true (sym e ∙ q))
@@ -306,14 +311,14 @@ operand_prefix (Some prefix_kinds.Content) p e h x = x
 operand_prefix (Some prefix_kinds.Size) p e h x = absurd (false≢true h)
 operand_prefix None p e h x = absurd (false≢true h)
 
-pub prefix_word : (j : Terminal) (w : List ℕ) → prefixes j ≡ true → Word j w → is_operand (prefix_in w) ≡ true
+pub prefix_word : (j : Terminal) (w : List ℕ) → prefixes j ≡ true → PlainWord j w → is_operand (prefix_in w) ≡ true
 prefix_word terminals.PlusMinus w h k = k.1
 prefix_word terminals.Tilde w h k = k
 prefix_word terminals.Ampersand w h k = k.1
 prefix_word terminals.Star w h k = k.1
 prefix_word j w h k = absurd (false≢true h)
 
-pub set_word : (j : Terminal) (w : List ℕ) → assigns j ≡ true → Word j w → is_some (setting_in w) ≡ true
+pub set_word : (j : Terminal) (w : List ℕ) → assigns j ≡ true → PlainWord j w → is_some (setting_in w) ≡ true
 set_word terminals.Equals w h k = k
 set_word terminals.Compound w h k = k
 set_word j w h k = absurd (false≢true h)
@@ -330,7 +335,7 @@ unfolding postfix_in
 index_word o c d g = ap (λ z. postfix_in (z ++ (32 ∷ c))) d ∙ ap (λ z. postfix_in (codes "[" ++ (32 ∷ z))) g
 
 -- an operator below && is one on two numbers
-binary_word : (n : ℕ) (j : Terminal) (w : List ℕ) → nat_eq (looseness j) n ≡ true → 1 ≤ n → n ≤ 8 → Word j w →
+binary_word : (n : ℕ) (j : Terminal) (w : List ℕ) → nat_eq (looseness j) n ≡ true → 1 ≤ n → n ≤ 8 → PlainWord j w →
     is_some (binary_in w) ≡ true
 binary_word n terminals.Star w e l m h = h.0
 binary_word n terminals.Slash w e l m h = h
@@ -344,6 +349,7 @@ binary_word n terminals.Bar w e l m h = h
 binary_word n terminals.Open w e l m h = let q = eqb-true 0 n e in absurd (omega arith)
 binary_word n terminals.OpenBracket w e l m h = let q = eqb-true 0 n e in absurd (omega arith)
 binary_word n terminals.Step w e l m h = let q = eqb-true 0 n e in absurd (omega arith)
+binary_word n terminals.Point w e l m h = absurd h
 binary_word n terminals.AndAnd w e l m h = let q = eqb-true 9 n e in absurd (omega arith)
 binary_word n terminals.OrOr w e l m h = let q = eqb-true 10 n e in absurd (omega arith)
 binary_word n terminals.Question w e l m h = let q = eqb-true 11 n e in absurd (omega arith)
@@ -352,7 +358,7 @@ binary_word n terminals.Compound w e l m h = let q = eqb-true 12 n e in absurd (
 binary_word n terminals.Comma w e l m h = let q = eqb-true 13 n e in absurd (omega arith)
 binary_word n j w e l m h = let q = eqb-true 14 n e in absurd (omega arith)
 
-pub level_shape : (k : ℕ) (j : Terminal) (w : List ℕ) (f l : ℕ) (a b : Syntax) → joins k j ≡ true → Word j w →
+pub level_shape : (k : ℕ) (j : Terminal) (w : List ℕ) (f l : ℕ) (a b : Syntax) → joins k j ≡ true → PlainWord j w →
     IsExpression a → IsExpression b → IsExpression (node (form_of k) w f l (more a (more b none)))
 level_shape zero j w f l a b e h x y = (binary_word 1 j w e (omega arith) (omega arith) h, x, y)
 level_shape (suc zero) j w f l a b e h x y = (binary_word 2 j w e (omega arith) (omega arith) h, x, y)

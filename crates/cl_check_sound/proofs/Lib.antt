@@ -45,6 +45,7 @@ pub mod Instances
 pub mod Accepted
 pub mod WordFacts
 pub mod TypeFacts
+pub mod Points
 pub mod Grammatical
 pub mod Spelled
 pub mod Decimals

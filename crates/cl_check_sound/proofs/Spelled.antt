@@ -1,14 +1,16 @@
 -- What the grammar spells has its shape: the induction over productions.
-use Rattle.std.proofs.Common.{◌≡◌, ℕ, suc, List, [], ◌∷◌, ◌++◌, Bool, true, false, refl, ap, inl, inr}
+use Rattle.std.proofs.Common.{◌≡◌, ℕ, suc, List, [], ◌∷◌, ◌++◌, Bool, true, false, refl, ap, inl, inr, arith}
 use Rattle.std.proofs.lemmas.Bool.{false≢true}
 use Rattle.cl_token.specs.declared.token.Token.{Token}
 use Rattle.cl_token.specs.declared.token.Kind.{Kind}
 use Rattle.cl_token.specs.declared.token.Kind.TheVariants as token_kinds
 use Rattle.cl_token.specs.Spelling.{HasValue}
+use Rattle.cl_tree.specs.declared.terminal.Terminal.{Terminal}
 use Rattle.cl_tree.specs.declared.terminal.Terminal.TheVariants as terminals
 use Rattle.cl_tree.specs.declared.terminal.Leaf.{Leaf}
 use Rattle.cl_tree.specs.Leaves.{leaves_of}
 use Rattle.cl_tree.specs.Nodes.{tok}
+use Rattle.cl_tree.specs.Words.{terminal_of}
 use Rattle.cl_tree.specs.Grammar.{Sort, Value, Spells}
 use Rattle.cl_tree.specs.Grammar as grammar
 use Rattle.cl_meaning.specs.Literals.{literal_in}
@@ -17,9 +19,11 @@ use Rattle.cl_meaning.specs.Kinds.{is_some}
 use Rattle.cl_check_sound.specs.Shape.{IsExpression, IsDefinition, IsAnnouncement}
 use Rattle.cl_meaning.proofs.Numbers.{literal_is}
 use Rattle.cl_check_sound.specs.Law.{NumbersRead, UnitsShaped}
-use Rattle.cl_check_sound.proofs.WordFacts.{token_word}
+use Rattle.cl_check_sound.proofs.WordFacts.{Word, token_word}
+use Rattle.cl_check_sound.proofs.Points.{points_in, own_points, points, no_points}
 use Rattle.cl_check_sound.proofs.TypeFacts.{type_spelled, qualifiers_append}
-use Rattle.cl_check_sound.proofs.Grammatical.{AllWords, left, right, ShapeOf, many_none, many_and, are_expressions}
+use Rattle.cl_check_sound.proofs.Grammatical.{PlainWord, AllWords, left, right, ShapeOf, many_none, many_and}
+use Rattle.cl_check_sound.proofs.Grammatical.{are_expressions}
 use Rattle.cl_check_sound.proofs.Grammatical.{are_items, are_lines, are_statements, are_declarators, are_params}
 use Rattle.cl_check_sound.proofs.Grammatical.{are_lengths, are_set, is_optional, maybe_parts, starred, param_shape}
 use Rattle.cl_check_sound.proofs.Grammatical.{type_with, base_type_word, base_of_sign, sign_core, one_word}
@@ -222,6 +226,7 @@ shape (grammar.index {l = l} {x = x} d o {e = e} {y = y} g c) h =
 shape (grammar.step {x = x} d m) h =
     let h1 = (right x (tok terminals.Step m ∷ []) h).0 in
     (h1.1, h1.2, shape d (left x (tok terminals.Step m ∷ []) h))
+shape (grammar.selection {x = x} d p n) h = absurd (right x (tok terminals.Point p ∷ tok terminals.Name n ∷ []) h).0
 shape (grammar.number n) h = h.0
 shape (grammar.truth n) h = h.0
 shape (grammar.variable n) h = tt
@@ -244,9 +249,18 @@ number_read token_kinds.Name w h e = absurd (false≢true (ap is_number e))
 number_read token_kinds.Mark w h e = absurd (false≢true (ap is_number e))
 number_read token_kinds.Hash w h e = absurd (false≢true (ap is_number e))
 
-all_words : (n : ℕ) (tokens : List Token) → NumbersRead tokens → AllWords (leaves_of n tokens)
-all_words n [] h = tt
-all_words n (t ∷ ts) h = (token_word t.kind t.word (number_read t.kind t.word h.0), all_words (suc n) ts h.1)
+plain_word : (j : Terminal) (w : List ℕ) → Word j w → own_points j w ≡ 0 → PlainWord j w
+plain_word terminals.Point w h e = let one : points_in w ≡ 1 = ap points_in h in absurd (omega (arith, one, e))
+plain_word j w h e = h
+
+all_words : (n : ℕ) (tokens : List Token) → NumbersRead tokens → points (leaves_of n tokens) ≡ 0 →
+    AllWords (leaves_of n tokens)
+all_words n [] h e = tt
+all_words n (t ∷ ts) h e = (
+  plain_word (terminal_of t.kind t.word) t.word (token_word t.kind t.word (number_read t.kind t.word h.0))
+      (omega (arith, e)),
+  all_words (suc n) ts h.1 (omega (arith, e)),
+)
 
 pub spelled_shape : UnitsShaped
-spelled_shape t tokens s h = shape s (all_words 0 tokens h)
+spelled_shape t tokens s h none = shape s (all_words 0 tokens h (no_points s none))

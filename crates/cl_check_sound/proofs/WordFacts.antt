@@ -68,6 +68,7 @@ Word terminals.Open w = w ≡ codes "("
 Word terminals.Close w = w ≡ codes ")"
 Word terminals.OpenBracket w = w ≡ codes "["
 Word terminals.CloseBracket w = w ≡ codes "]"
+Word terminals.Point w = w ≡ codes "."
 Word terminals.TypeWord w = (is_some (base_by (w ∷ [])) ≡ true) × (is_solid w ≡ true) × (is_qualifier w ≡ false)
 Word terminals.Sign w = (w ≡ codes "signed") ⊎ (w ≡ codes "unsigned")
 Word terminals.Char w = w ≡ codes "char"
@@ -144,7 +145,7 @@ bracket_rows = (
   (tt, tt),
   (
     (tt, tt),
-    ((refl, tt), ((refl, tt), ((refl, tt), ((refl, tt), ((tt, tt), ((tt, tt), ((tt, tt), ((tt, tt), tt)))))))),
+    ((refl, tt), ((refl, tt), ((refl, tt), ((refl, tt), ((tt, tt), ((tt, tt), ((tt, tt), ((tt, tt), ((refl, tt), tt))))))))),
   ),
 )
 

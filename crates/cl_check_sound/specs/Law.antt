@@ -1,5 +1,5 @@
 -- The laws: on expressions, on units, and on what the grammar spells.
-use Rattle.std.specs.Prelude.{◌<◌, ◌^◌, ℕ, List}
+use Rattle.std.specs.Prelude.{◌≡◌, ◌<◌, ◌^◌, ℕ, false, List}
 use Rattle.wg_num.specs.declared.types.Place.{Place}
 use Rattle.cl_token.specs.declared.token.Token.{Token}
 use Rattle.cl_token.specs.Spelling.{HasValue}
@@ -11,6 +11,7 @@ use Rattle.cl_model.specs.Lists.{Each}
 use Rattle.cl_model.specs.Valid.{IsValid}
 use Rattle.cl_tree.specs.Syntax.{Syntax}
 use Rattle.cl_tree.specs.Grammar.{SpellsUnit}
+use Rattle.cl_tree.specs.Selections.{has_selection}
 use Rattle.cl_limits.specs.Judged.{IsAccepted}
 use Rattle.cl_meaning.specs.declared.kind.Role.{Role}
 use Rattle.cl_meaning.specs.Environment.{Env}
@@ -42,9 +43,10 @@ UnitsValid = (places : List Place) (kernel : List ℕ) (unit : Syntax) → IsUni
 abbrev pub NumbersRead : List Token → Type 0
 NumbersRead tokens = Each (λ (t : Token). HasValue t.kind t.word) tokens
 
--- A tree that tokens spell has the shape of a unit.
+-- A tree without selections that tokens spell has the shape of a unit.
 abbrev pub UnitsShaped : Type 0
-UnitsShaped = (unit : Syntax) (tokens : List Token) → SpellsUnit unit tokens → NumbersRead tokens → IsUnit unit
+UnitsShaped = (unit : Syntax) (tokens : List Token) → SpellsUnit unit tokens → NumbersRead tokens →
+    has_selection unit ≡ false → IsUnit unit
 
 -- ---- what a source expands to
 

@@ -16,9 +16,9 @@ pub fn numbers_law()
     ensures { NumbersKept }
 {}
 
-/// A tree that tokens spell by the grammar has the shape of a unit, where each number among them has a value: each
-/// production has the parts that it may have, and the own words of types, operators and numbers say something
-/// (OpenCL 1.2, chapter 6; C99, sections 6.5 to 6.9).
+/// A tree without selections of components that tokens spell by the grammar has the shape of a unit, where each number
+/// among them has a value: each production has the parts that it may have, and the own words of types, operators and
+/// numbers say something (OpenCL 1.2, chapter 6; C99, sections 6.5 to 6.9).
 pub fn shape_law()
     ensures { UnitsShaped }
 {}
