@@ -1,7 +1,8 @@
 //! The check of a unit.
 
-ghost use Rattle.std.specs.Prelude.{◌≡◌, ℕ, Some, IfOk, map, length, slice_index};
+ghost use Rattle.std.specs.Prelude.{◌≡◌, ℕ, false, Some, IfOk, map, length, slice_index};
 ghost use Rattle.cl_tree.specs.Syntax.{view, views};
+ghost use Rattle.cl_tree.specs.Selections.{has_selection};
 ghost use Rattle.cl_meaning.specs.declared.fault.Fault.{Fault as FaultOf};
 ghost use Rattle.cl_meaning.specs.Faults as faults;
 ghost use Rattle.cl_meaning.specs.Meant as meant;
@@ -131,7 +132,8 @@ fn typed(alloc: Global, unit: &Tree, places: &[Place], asked: &Asked) -> Result<
     }
 }
 
-/// The typed program of a unit with the kernel of that name, where `places` are the places of the unit's tokens.
+/// The typed program of a unit with the kernel of that name, where `places` are the places of the unit's tokens. No
+/// selection of components stands in the unit.
 ///
 /// It is answered exactly where no node of the unit is at fault (E401 to E418, E422 and E424) and the kernel is
 /// above no limit (E419, E420, E421 and E423). Otherwise the first node at fault decides, in the order of the nodes'
@@ -145,6 +147,7 @@ pub fn check(
     places: &[Place],
     kernel: &[u8],
 ) -> Result<Program, CheckError>
+    requires selections { has_selection (view unit.now) ≡ false }
     ensures accepted { IfOk result (λ p. IsAccepted places.now kernel.now (view unit.now)) }
     ensures program { IfOk result (λ p. unit_of p ≡ meant.unit_meant places.now kernel.now (view unit.now)) }
     ensures refused { IfFault result (IsRefused places.now kernel.now (view unit.now)) }
