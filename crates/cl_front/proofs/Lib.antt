@@ -1,3 +1,4 @@
+pub mod SelectionLemmas
 pub mod FrontLemmas
 pub mod CompileLemmas
 pub mod ValidLemmas

@@ -19,7 +19,7 @@ accepted_valid source defines kernel typed fit c =
     let places = places_of source c.expanded in
     let read = c.is_source.read.1 in
     let shaped = spelled_shape c.unit c.expanded c.is_source.spelled
-    (expanded_read source c.is_source.read.0 c.expanded defines read.cuts fit read.expands) in
+    (expanded_read source c.is_source.read.0 c.expanded defines read.cuts fit read.expands) c.is_source.plain in
     subst (λ (t : Unit'). IsValid (erased.program_of t)) (sym c.means)
     (units_valid places kernel c.unit shaped c.accepted)
 

@@ -20,6 +20,7 @@ number_of conditions.NotClosed = 205
 number_of conditions.TooMany = 206
 number_of conditions.Syntax = 301
 number_of conditions.Nesting = 302
+number_of conditions.NoComponent = 502
 number_of (conditions.Unit fault) = number_of_fault fault
 
 -- the text of a fault of the unit
@@ -64,4 +65,5 @@ text_of conditions.NotClosed = codes "conditional not closed"
 text_of conditions.TooMany = codes "too many tokens"
 text_of conditions.Syntax = codes "syntax"
 text_of conditions.Nesting = codes "nested too deep"
+text_of conditions.NoComponent = codes "no such component"
 text_of (conditions.Unit fault) = text_of_unit fault

@@ -1,5 +1,5 @@
 -- What a source is before its kernels are looked at: its tokens, what they expand to, and the unit that those spell.
-use Rattle.std.specs.Prelude.{◌≡◌, ◌<◌, ◌≤◌, ⊤, ℕ, List, [], ◌∷◌, length, drop, Option, Some, None}
+use Rattle.std.specs.Prelude.{◌≡◌, ◌<◌, ◌≤◌, ⊤, ℕ, false, List, [], ◌∷◌, length, drop, Option, Some, None}
 use Rattle.wg_num.specs.declared.types.Place.{Place}
 use Rattle.cl_token.specs.declared.token.Token.{Token}
 use Rattle.cl_token.specs.declared.token.LexError.{LexError}
@@ -12,7 +12,9 @@ use Rattle.cl_prep.specs.declared.prep.PrepError.TheVariants as prep
 use Rattle.cl_prep.specs.Expands.{Expands, IsRefused as IsUnexpanded}
 use Rattle.cl_tree.specs.Syntax.{Syntax, nesting}
 use Rattle.cl_tree.specs.Grammar.{SpellsUnit}
+use Rattle.cl_tree.specs.Selections.{has_selection}
 use Rattle.cl_tree.specs.Places.{NoUnit, NoUnitWithin, SomeUnit, DeeperUnit}
+use Rattle.cl_front.specs.Selections.{first_selection}
 use Rattle.cl_front.specs.declared.condition.Condition.{Condition}
 use Rattle.cl_front.specs.declared.condition.Condition.TheVariants as conditions
 use Rattle.cl_front.specs.declared.front.SourceError.{SourceError}
@@ -28,11 +30,12 @@ pub record Reads (source : List ℕ) (defines : List Define) (tokens expanded : 
 abbrev pub AreExpanded : List ℕ → List Define → List Token → Type 0
 AreExpanded source defines expanded = (tokens : List Token) × Reads source defines tokens expanded
 
--- these are the expanded tokens of a source, and this is the unit that they spell
+-- these are the expanded tokens of a source, and this is the unit that they spell, in which nothing is selected
 pub record IsSource (source : List ℕ) (defines : List Define) (expanded : List Token) (unit : Syntax) : Type 0 where
   pub read : AreExpanded source defines expanded
   pub spelled : SpellsUnit unit expanded
   pub nests : nesting unit ≤ 256
+  pub plain : has_selection unit ≡ false
 
 -- A source has a unit.
 abbrev pub HasUnit : List ℕ → List Define → Type 0
@@ -81,6 +84,10 @@ pub data StandsAt (source : List ℕ) (defines : List Define) (condition : Condi
   too_deep : (tokens expanded : List Token) (at : ℕ) → Reads source defines tokens expanded →
       NoUnitWithin 256 expanded at → DeeperUnit 256 expanded at
       → condition ≡ conditions.Nesting → place ≡ place_of_token source expanded at →
+      StandsAt source defines condition place
+  no_component : (tokens expanded : List Token) (unit : Syntax) (at : ℕ) → Reads source defines tokens expanded →
+      SpellsUnit unit expanded → nesting unit ≤ 256 → first_selection unit ≡ Some at
+      → condition ≡ conditions.NoComponent → place ≡ place_of_token source expanded at →
       StandsAt source defines condition place
 
 -- The source is refused with this error, or memory ran out.

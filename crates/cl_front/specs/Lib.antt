@@ -1,4 +1,5 @@
 pub mod Conditions
 pub mod Front
-pub mod Typed
 pub mod Law
+pub mod Selections
+pub mod Typed

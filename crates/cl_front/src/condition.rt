@@ -5,7 +5,7 @@ ghost use Rattle.cl_front.specs.Conditions.{number_of, text_of, text_of_unit};
 
 use cl_meaning::Fault;
 
-/// A condition that refuses a source: of its bytes, its macros, its grammar, or its unit (OpenCL 1.2, chapter 6; C99,
+/// A condition that refuses a source: of its bytes, its macros, its grammar, its vectors, or its unit (OpenCL 1.2, chapter 6; C99,
 /// sections 6.4 to 6.10).
 #[derive(Clone, Copy, PartialEq, Eq, Debug)]
 pub enum Condition {
@@ -35,6 +35,8 @@ pub enum Condition {
     Syntax,
     /// E302: the units that go on from them all nest deeper than 256.
     Nesting,
+    /// E502: a selection names no component of a vector.
+    NoComponent,
     /// E401 to E424: a node of the unit is at fault.
     Unit(Fault),
 }
@@ -58,6 +60,7 @@ impl Condition {
             Condition::TooMany => 206,
             Condition::Syntax => 301,
             Condition::Nesting => 302,
+            Condition::NoComponent => 502,
             Condition::Unit(fault) => fault.number(),
         }
     }
@@ -80,6 +83,7 @@ impl Condition {
             Condition::TooMany => b"too many tokens",
             Condition::Syntax => b"syntax",
             Condition::Nesting => b"nested too deep",
+            Condition::NoComponent => b"no such component",
             Condition::Unit(fault) => unit_text(fault),
         }
     }

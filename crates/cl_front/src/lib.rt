@@ -4,6 +4,7 @@
 pub mod condition;
 pub mod front;
 pub mod laws;
+mod selection;
 pub mod typing;
 
 pub use condition::Condition;

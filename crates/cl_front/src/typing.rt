@@ -1,9 +1,10 @@
 //! From the unit of a source to the typed program with a kernel.
-ghost use Rattle.std.specs.Prelude.{◌≡◌, ◌≤◌, ℕ, List, length, All, IfOk, IfErr};
+ghost use Rattle.std.specs.Prelude.{◌≡◌, ◌≤◌, ℕ, false, List, length, All, IfOk, IfErr};
 ghost use Rattle.cl_token.specs.Places.{place_at};
 ghost use Rattle.cl_token.specs.Cuts.{limit};
 ghost use Rattle.cl_prep.specs.declared.prep.Define.{Define};
 ghost use Rattle.cl_tree.specs.Syntax.{view};
+ghost use Rattle.cl_tree.specs.Selections.{has_selection};
 ghost use Rattle.cl_front.specs.Front.{IsRefusal, IsSource, place_of_token};
 ghost use Rattle.cl_front.specs.Typed.{HasTypedUnit, IsKernelRefusal, IsUnitRefusal, places_of};
 ghost use Rattle.cl_front.specs.declared.front.SourceError.TheVariants as errors;
@@ -56,10 +57,11 @@ fn with_unit(
 }
 
 /// The unit of a source with these given names, or its refusal: E101 to E105 by its bytes, E201 to
-/// E206 by its macros, E301 and E302 by the grammar, in this order, each at the place that the
-/// condition names.
+/// E206 by its macros, E301 and E302 by the grammar, E502 by a selection, in this order, each at the
+/// place that the condition names.
 pub fn read_source(alloc: Global, source: &[u8], defines: &Defines) -> Result<Source, SourceError>
     ensures is { IfOk result (λ s. IsSource source.now defines.now.list.items s.tokens.items (view s.unit)) }
+    ensures plain { IfOk result (λ s. has_selection (view s.unit) ≡ false) }
     ensures places { IfOk result (λ s. s.places.items ≡ places_of source.now s.tokens.items) }
     ensures end { IfOk result (λ s. s.end ≡ place_at source.now (length source.now)) }
     ensures err { IfErr result (λ e. IsRefusal source.now defines.now.list.items e) }
@@ -90,6 +92,7 @@ fn token_place(source: &Source, token: u32) -> Place
 /// E424, at the first token of the node at fault, or at the end of the source where no kernel has
 /// the name. Limits (E419 to E421, E423) are looked at where no node is at fault.
 pub fn compile_kernel(alloc: Global, source: &Source, kernel: &[u8]) -> Result<Program, SourceError>
+    requires selections { has_selection (view source.now.unit) ≡ false }
     ensures ok { IfOk result (λ p. (bytes : List ℕ) (defines : List Define) →
         IsSource bytes defines source.now.tokens.items (view source.now.unit) →
         source.now.places.items ≡ places_of bytes source.now.tokens.items →
@@ -110,7 +113,7 @@ pub fn compile_kernel(alloc: Global, source: &Source, kernel: &[u8]) -> Result<P
 }
 
 /// The typed program of a source with these given names and the kernel of that name (OpenCL 1.2,
-/// chapter 6), or the first refusal: E101 to E105, E201 to E206, E301 and E302, E401 to E424.
+/// chapter 6), or the first refusal: E101 to E105, E201 to E206, E301 and E302, E502, E401 to E424.
 pub fn compile(
     alloc: Global,
     source: &[u8],
