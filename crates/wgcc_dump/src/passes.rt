@@ -10,9 +10,10 @@ use crate::text::Text;
 use crate::tokens_text::put_tokens;
 use crate::varying_text::put_varying;
 use crate::words::{Asked, Stage};
-use cl_front::{Source, compile_kernel, read_source};
+use cl_front::{compile_kernel, read_source, read_tokens};
 use cl_model::Program;
 use cl_prep::Defines;
+use cl_token::places;
 use ctx_plan::Plan;
 use ctx_plan::planning::plan;
 use diverge::analyse;
@@ -112,19 +113,23 @@ fn text_of(alloc: Global, asked: &Asked<'_>, program: &Program) -> Result<Vec<u8
     Ok(text.into_bytes())
 }
 
-fn tokens_text(alloc: Global, source: &Source) -> Result<Vec<u8>, DumpError> {
+fn tokens_text(alloc: Global, bytes: &[u8], defines: &Defines) -> Result<Vec<u8>, DumpError> {
+    let tokens = read_tokens(alloc, bytes, defines)?;
+    let places = places(alloc, bytes, &tokens)?;
     let mut text = Text::new(alloc);
-    put_tokens(&mut text, source);
+    put_tokens(&mut text, &tokens, &places);
     Ok(text.finish()?.into_bytes())
 }
 
-// The text of a stage behind the source.
-fn text_behind(alloc: Global, asked: &Asked<'_>, source: &Source) -> Result<Vec<u8>, DumpError> {
-    if let Stage::Tokens = asked.stage {
-        return tokens_text(alloc, source);
-    }
-    let program = compile_kernel(alloc, source, asked.kernel.as_bytes())?;
-    text_of(alloc, asked, &program)
+fn program_of(
+    alloc: Global,
+    asked: &Asked<'_>,
+    bytes: &[u8],
+    defines: &Defines,
+) -> Result<Program, DumpError> {
+    let source = read_source(alloc, bytes, defines)?;
+    let program = compile_kernel(alloc, &source, asked.kernel.as_bytes())?;
+    Ok(program)
 }
 
 /// The text of the stage that is asked for, of a source with these bytes.
@@ -136,6 +141,9 @@ pub(crate) fn stage_text(
     let defines = Defines {
         list: Vec::new(alloc),
     };
-    let source = read_source(alloc, bytes, &defines)?;
-    text_behind(alloc, asked, &source)
+    if let Stage::Tokens = asked.stage {
+        return tokens_text(alloc, bytes, &defines);
+    }
+    let program = program_of(alloc, asked, bytes, &defines)?;
+    text_of(alloc, asked, &program)
 }

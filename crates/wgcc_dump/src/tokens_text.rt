@@ -1,7 +1,6 @@
 //! Tokens as text: a line each, with its place, its kind and how it is spelled.
 
 use crate::text::{Text, put, put_name, put_place};
-use cl_front::Source;
 use cl_token::Token;
 use wg_num::Place;
 
@@ -14,10 +13,10 @@ fn put_token(text: &mut Text, token: &Token, place: Place) {
     text.push_str("\n");
 }
 
-/// Puts the tokens of a source behind its macros. One that comes from a macro has the place of the macro's name.
-pub(crate) fn put_tokens(text: &mut Text, source: &Source) {
-    for (number, token) in source.tokens.iter().enumerate() {
-        if let Some(place) = source.places.get(number) {
+/// Puts tokens behind their macros, each at its place. One that comes from a macro has the place of the macro's name.
+pub(crate) fn put_tokens(text: &mut Text, tokens: &[Token], places: &[Place]) {
+    for (number, token) in tokens.iter().enumerate() {
+        if let Some(place) = places.get(number) {
             put_token(text, token, *place);
         }
     }
