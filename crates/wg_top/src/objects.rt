@@ -1,7 +1,8 @@
 // Object files: `build` saves one, and `exec` runs one.
-ghost use Rattle.std.specs.Prelude.{◌≡◌, ◌≤◌, ℕ, List, Bool, true, All, IsTrue, ◌↔◌, IfOk, IfErr, length, map, sum};
+ghost use Rattle.std.specs.Prelude.{◌≡◌, ◌≤◌, ℕ, List, Bool, false, true, All, IsTrue, ◌↔◌, IfOk, IfErr, length, map, sum};
 ghost use Rattle.wg_num.specs.Operators.{lanes_of};
 ghost use Rattle.wg_outside.specs.Files.{KeepsOthers};
+ghost use Rattle.cl_tree.specs.Selections.{has_selection};
 ghost use Rattle.cl_tree.specs.Syntax.{view};
 ghost use Rattle.cl_token.specs.Places.{place_at};
 ghost use Rattle.cl_prep.specs.declared.prep.Define.{Define};
@@ -81,6 +82,7 @@ fn kernel_text(
     kernel: &Word,
     width: Width,
 ) -> Result<Vec<u8>, RunError>
+    requires selections { has_selection (view source.now.unit) ≡ false }
     ensures ok { IfOk result (λ v. (bytes : List ℕ) (defines : List Define) → All HasNumber defines →
         IsSource bytes defines source.now.tokens.items (view source.now.unit) →
         source.now.places.items ≡ places_of bytes source.now.tokens.items →

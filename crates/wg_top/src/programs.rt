@@ -1,6 +1,7 @@
 // The kernels of a source, one for each launch; each name is compiled once.
-ghost use Rattle.std.specs.Prelude.{◌≡◌, ℕ, List, All, IfOk, IfErr, length, map};
+ghost use Rattle.std.specs.Prelude.{◌≡◌, ℕ, false, List, All, IfOk, IfErr, length, map};
 ghost use Rattle.wg_num.specs.Operators.{lanes_of};
+ghost use Rattle.cl_tree.specs.Selections.{has_selection};
 ghost use Rattle.cl_tree.specs.Syntax.{view};
 ghost use Rattle.cl_token.specs.Places.{place_at};
 ghost use Rattle.cl_prep.specs.declared.prep.Define.{Define};
@@ -40,6 +41,7 @@ pub(crate) fn compile_alone(
     kernel: &Word,
     width: Width,
 ) -> Result<Compiled, RunError>
+    requires selections { has_selection (view source.now.unit) ≡ false }
     ensures compiled { IfOk result (λ c. (bytes : List ℕ) (defines : List Define) →
         IsSource bytes defines source.now.tokens.items (view source.now.unit) →
         source.now.places.items ≡ places_of bytes source.now.tokens.items →
@@ -67,6 +69,7 @@ fn compile_one(
     kernel: &Word,
     width: Width,
 ) -> Result<SharedKernel, RunError>
+    requires selections { has_selection (view source.now.unit) ≡ false }
     ensures compiled { IfOk result (λ c. (bytes : List ℕ) (defines : List Define) →
         IsSource bytes defines source.now.tokens.items (view source.now.unit) →
         source.now.places.items ≡ places_of bytes source.now.tokens.items →
@@ -96,6 +99,7 @@ fn kernel_for(
     width: Width,
     earlier: &[SharedKernel],
 ) -> Result<SharedKernel, RunError>
+    requires selections { has_selection (view source.now.unit) ≡ false }
     requires compiled { (bytes : List ℕ) (defines : List Define) →
         IsSource bytes defines source.now.tokens.items (view source.now.unit) →
         source.now.places.items ≡ places_of bytes source.now.tokens.items →
@@ -130,6 +134,7 @@ fn compile_each(
     list: &[LaunchPart],
     width: Width,
 ) -> Result<Vec<SharedKernel>, RunError>
+    requires selections { has_selection (view source.now.unit) ≡ false }
     ensures compiled { IfOk result (λ v. (bytes : List ℕ) (defines : List Define) →
         IsSource bytes defines source.now.tokens.items (view source.now.unit) →
         source.now.places.items ≡ places_of bytes source.now.tokens.items →
