@@ -1,0 +1,12 @@
+use Rattle.std.proofs.Common.{◌≡◌, drop, take, length}
+use Rattle.cl_tree.specs.Syntax.{views}
+use Rattle.cl_short_vec.specs.Kinds as spec
+use Rattle.cl_short_vec.specs.View.{names_of}
+use Rattle.cl_short_vec.proofs.names.behind_parameters.Given as goal
+
+abbrev pub invariant-loop-tree : goal.invariant-loop-tree
+invariant-loop-tree l = record {
+  declared : spec.behind_parameters (names_of l.names.items) (views (drop l.tree-index l.trees)) ≡
+      spec.behind_parameters (names_of l.fn.names.items) (views l.trees);
+  kept : take (length l.fn.names.items) l.names.items ≡ l.fn.names.items;
+}
