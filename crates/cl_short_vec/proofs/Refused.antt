@@ -328,7 +328,7 @@ unfolding names_outside base_in space_in binary_in setting_in prefix_in postfix_
     types_differ refusals refusals_in
 told18 = refl
 
--- ---- a number as an initialiser in the head of a `for`
+-- ---- an initialiser in the head of a `for`
 
 -- void k() { for (int4 t = 5;;) { } }
 pub told19 :
@@ -341,10 +341,23 @@ unfolding names_outside base_in space_in binary_in setting_in prefix_in postfix_
     types_differ refusals refusals_in
 told19 = refl
 
+-- void k() { for (int4 t = {1, 2, 3, 4};;) { } }
+pub told20 :
+    refusal_of (in_function 24 (more (two forms.ForNode (codes "for ( ; )") 5 23
+    (two forms.DeclareNode (codes ";") 7 19 (leaf forms.TypeNode (codes "int4") 7)
+    (one forms.DeclaratorNode (codes "t =") 8 18 (node forms.ListNode (codes "{ , , , }") 10 18
+    (more (leaf forms.NumberNode (codes "1") 11) (more (leaf forms.NumberNode (codes "2") 13)
+    (more (leaf forms.NumberNode (codes "3") 15) (more (leaf forms.NumberNode (codes "4") 17) none)))))))
+    (node forms.BlockNode (codes "{ }") 22 23 none)) none)) ≡ Some (refusal 501 10)
+unfolding names_outside base_in space_in binary_in setting_in prefix_in postfix_in intrinsic_in vector_in selected
+    selection_in kind_by marked marked_parts is_element role_of components_of misplaced no_component items_given
+    types_differ refusals refusals_in
+told20 = refl
+
 -- ---- a name that is not visible
 
 -- void k() { int x; x = q.x; }
-pub told20 :
+pub told21 :
     refusal_of (in_function 14 (more (two forms.DeclareNode (codes ";") 5 7 (leaf forms.TypeNode (codes "int") 5)
     (leaf forms.DeclaratorNode (codes "x") 6)) (more (one forms.SimpleNode (codes ";") 8 13
     (two forms.AssignNode (codes "=") 8 12 (leaf forms.VariableNode (codes "x") 8)
@@ -353,12 +366,12 @@ pub told20 :
 unfolding names_outside base_in space_in binary_in setting_in prefix_in postfix_in intrinsic_in vector_in selected
     selection_in kind_by marked marked_parts is_element role_of components_of misplaced no_component items_given
     types_differ refusals refusals_in
-told20 = refl
+told21 = refl
 
 -- ---- an inner scope hides a vector, as far as it goes
 
 -- void k() { int4 t; { int t; t = 1; } t = t.wzyx; }
-pub told21 :
+pub told22 :
     refusal_of (in_function 23 (more (two forms.DeclareNode (codes ";") 5 7 (leaf forms.TypeNode (codes "int4") 5)
     (leaf forms.DeclaratorNode (codes "t") 6)) (more (two forms.BlockNode (codes "{ }") 8 16
     (two forms.DeclareNode (codes ";") 9 11 (leaf forms.TypeNode (codes "int") 9)
@@ -370,12 +383,12 @@ pub told21 :
 unfolding names_outside base_in space_in binary_in setting_in prefix_in postfix_in intrinsic_in vector_in selected
     selection_in kind_by marked marked_parts is_element role_of components_of misplaced no_component items_given
     types_differ refusals refusals_in
-told21 = refl
+told22 = refl
 
 -- ---- a comparison gives the signed type
 
 -- void k() { uint4 t; t = t < t; }
-pub told22 :
+pub told23 :
     refusal_of (in_function 14 (more (two forms.DeclareNode (codes ";") 5 7 (leaf forms.TypeNode (codes "uint4") 5)
     (leaf forms.DeclaratorNode (codes "t") 6)) (more (one forms.SimpleNode (codes ";") 8 13
     (two forms.AssignNode (codes "=") 8 12 (leaf forms.VariableNode (codes "t") 8)
@@ -384,4 +397,4 @@ pub told22 :
 unfolding names_outside base_in space_in binary_in setting_in prefix_in postfix_in intrinsic_in vector_in selected
     selection_in kind_by marked marked_parts is_element role_of components_of misplaced no_component items_given
     types_differ refusals refusals_in
-told22 = refl
+told23 = refl

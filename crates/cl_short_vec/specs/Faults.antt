@@ -19,7 +19,8 @@ use Rattle.cl_short_vec.specs.declared.kinds.Kind.TheVariants.{Vectors, Pointer,
 use Rattle.cl_short_vec.specs.declared.roles.Around.{Around}
 use Rattle.cl_short_vec.specs.declared.roles.Around.TheVariants as around
 use Rattle.cl_short_vec.specs.declared.roles.Role.{Role}
-use Rattle.cl_short_vec.specs.declared.roles.Role.TheVariants.{Free, Used, Target, Base, Listed, Items, Typed, Declared}
+use Rattle.cl_short_vec.specs.declared.roles.Role.TheVariants.{Free, Used, Barred, Target, Base, Listed, Items, Typed}
+use Rattle.cl_short_vec.specs.declared.roles.Role.TheVariants.{Declared}
 use Rattle.cl_short_vec.specs.declared.refuse.VectorRefusal.{VectorRefusal}
 use Rattle.cl_short_vec.specs.Types.{vector_in, same_vector, selected, selection_in, picked, all_differ, numbers}
 use Rattle.cl_short_vec.specs.Kinds.{no_names, is_vector, is_operator, is_variable}
@@ -71,9 +72,11 @@ abbrev pub is_typed : Role → Bool
 is_typed Typed = true
 is_typed role = false
 
-abbrev pub is_used : Role → Bool
-is_used Used = true
-is_used role = false
+-- the initialiser of a vector variable, which is no list
+abbrev pub is_initial : Role → Bool
+is_initial Used = true
+is_initial Barred = true
+is_initial role = false
 
 -- a variable stands in a function, without another space word than `__private`
 abbrev pub is_private_at : Around → Option Space → Bool
@@ -94,7 +97,7 @@ misplaced_declarator role w parts = false
 unfoldable pub misplaced : Role → Syntax → Kind → Bool
 misplaced role (node forms.TypeNode w f l parts) k = is_some (vector_in w) && not (is_typed role)
 misplaced role (node forms.DeclaratorNode w f l parts) k = misplaced_declarator role w parts
-misplaced role (node forms.ListNode w f l parts) k = is_used role
+misplaced role (node forms.ListNode w f l parts) k = is_initial role
 misplaced role t k = misplaced_kind role k
 
 -- ---- E502, at a selection

@@ -20,7 +20,7 @@ use Rattle.cl_short_vec.specs.declared.roles.Around.TheVariants as around
 use Rattle.cl_short_vec.specs.declared.roles.Declaration.{Declaration}
 use Rattle.cl_short_vec.specs.declared.roles.Role.{Role}
 use Rattle.cl_short_vec.specs.declared.roles.Role.TheVariants.{Free, Used, Target, Base, Whole, Listed, Items, Head}
-use Rattle.cl_short_vec.specs.declared.roles.Role.TheVariants.{Outer, Typed, Declared}
+use Rattle.cl_short_vec.specs.declared.roles.Role.TheVariants.{Barred, Outer, Typed, Declared}
 use Rattle.cl_short_vec.specs.Types.{vector_type, selection_in}
 use Rattle.cl_short_vec.specs.Kinds.{is_vector, is_variable}
 use Rattle.cl_short_vec.specs.Marks.{Mark, mark, Marks, unmarked, marking, tree_at, kind_at, back, front_kind}
@@ -113,13 +113,14 @@ abbrev pub declaration_of : Role → Marks → Declaration
 declaration_of role parts =
     record { around = around_of role; vector = front_type parts; space = front_space parts }
 
-abbrev pub is_block : Around → Bool
-is_block around.Block = true
-is_block a = false
+-- the initialiser of a vector variable: in a block it may be a vector, in the head of a `for` it may not
+abbrev pub initial_at : Around → Role
+initial_at around.Block = Used
+initial_at around.Head = Barred
+initial_at around.Unit = Free
 
--- the initialiser of a vector variable in a block
 abbrev pub initial_role : Role → (variable : Bool) → Role
-initial_role (Declared d) variable = if variable && (is_some d.vector && is_block d.around) then Used else Free
+initial_role (Declared d) variable = if variable && is_some d.vector then initial_at d.around else Free
 initial_role role variable = Free
 
 -- the role of a part, where `front` says that it is the first and `back` that it is the last

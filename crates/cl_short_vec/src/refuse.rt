@@ -133,11 +133,12 @@ fn is_typed(role: Role) -> bool
     }
 }
 
-fn is_used(role: Role) -> bool
-    ensures { result ≡ spec.is_used role }
+/// Whether a list in braces that stands there initialises a vector variable.
+fn is_initial(role: Role) -> bool
+    ensures { result ≡ spec.is_initial role }
 {
     match role {
-        Role::Used => true,
+        Role::Used | Role::Barred => true,
         _ => false,
     }
 }
@@ -188,7 +189,7 @@ fn misplaced(role: Role, tree: &Tree, kind: Kind) -> bool
     match tree.form {
         Form::TypeNode => vector_of(tree.word.bytes()).is_some() && !is_typed(role),
         Form::DeclaratorNode => misplaced_declarator(role, tree.word.bytes(), &tree.parts),
-        Form::ListNode => is_used(role),
+        Form::ListNode => is_initial(role),
         _ => misplaced_kind(role, kind),
     }
 }

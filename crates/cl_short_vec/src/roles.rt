@@ -39,6 +39,8 @@ pub enum Role {
     Free,
     /// An operand of a vector, an initialiser or a right side.
     Used,
+    /// The initialiser of a vector variable in the head of a `for`, where no vector may stand.
+    Barred,
     /// A vector that is assigned to: a variable, an element or a selection of one alone.
     Target,
     /// A vector of which one component is selected: a variable, an element or a selection of one alone.
@@ -260,12 +262,14 @@ fn declaration_of(role: Role, parts: &[Marked]) -> Declaration
     }
 }
 
-fn is_block(around: Around) -> bool
-    ensures { result ≡ spec.is_block around }
+/// The role of the initialiser of a vector variable.
+fn initial_at(around: Around) -> Role
+    ensures { result ≡ spec.initial_at around }
 {
     match around {
-        Around::Block => true,
-        _ => false,
+        Around::Block => Role::Used,
+        Around::Head => Role::Barred,
+        Around::Unit => Role::Free,
     }
 }
 
@@ -275,8 +279,8 @@ fn initial_role(role: Role, variable: bool) -> Role
 {
     match role {
         Role::Declared(declaration) => {
-            if variable && declaration.vector.is_some() && is_block(declaration.around) {
-                return Role::Used;
+            if variable && declaration.vector.is_some() {
+                return initial_at(declaration.around);
             }
             Role::Free
         }
