@@ -4,10 +4,9 @@ use Rattle.std.specs.Prelude.{◌⊎◌, Result, Ok, Err, IfOk, IfErr}
 use Rattle.wg_outside.specs.Counts.{Rose}
 use Rattle.wg_outside.specs.Files.{FileMap, HasFileStart, LacksFile, told_file}
 use Rattle.buffer_io.specs.Loads.{LacksOneFile}
-use Rattle.buffer_io.specs.Saves.{AllSavedAs, KeepsAllBut}
 use Rattle.command_words.specs.Command.{Files}
 use Rattle.cl_model.specs.Sizes.{Launch as ModelLaunch}
-use Rattle.launch_file.specs.Binding.{loads_of, saves_of}
+use Rattle.launch_file.specs.Binding.{loads_of}
 use Rattle.launch_file.specs.Refusals.{Reads}
 use Rattle.launch_file.specs.Texts.{Text}
 use Rattle.launch_file.proofs.Unique.{one_text, read_or_refused}
@@ -24,9 +23,11 @@ use Rattle.wg_top.specs.Units.{HaveTypedUnits, bind_refusal}
 use Rattle.wg_top.specs.Launches.{launches_in, LaunchesRan, EndsSo}
 use Rattle.wg_top.specs.Stages.{BackCause}
 use Rattle.wg_top.specs.Causes.{Standing, HasNoFewer, ReadingFinds, Cause, BuffersLoaded, RunRead, RunStopped, RunStops}
+use Rattle.wg_top.specs.Causes.{StopsIn}
 use Rattle.wg_top.specs.Causes.{IsRun, IsDone, IsReadable, IsTaken, Accepted, AcceptedClean, AcceptedRun, LeavesClean}
 use Rattle.wg_top.specs.Causes.{HasLoops, LacksText, LacksName, IsSourceFault}
-use Rattle.wg_top.specs.Outcomes.{AreMade, models_in, AreDone, IsOutcomeOf}
+use Rattle.wg_top.specs.Loops.{HaveNoLoop}
+use Rattle.wg_top.specs.Outcomes.{models_in, AreClean}
 use Rattle.wg_top.specs.Lines.{status_of}
 use Rattle.wg_top.specs.Ends.{Outside, Ends, EndsClean}
 use Rattle.cl_front.proofs.FrontLemmas.{refused_or_unit}
@@ -154,34 +155,34 @@ pub stopped_of : (files : Option FileMap) (ask : Files) (e : RunError) → RunSt
 stopped_of files ask e x = record { text = x.text; units = x.units; read = x.read; stopped = x.stops.stopped }
 
 -- no launch of theirs is refused
+pub ran_not_stopped : (files : Option FileMap) (text : Text) (s : List Unit') (e : RunError) →
+    ((before : List (List ℕ)) → BuffersLoaded files text before → (after : List (List ℕ)) ×
+    LaunchesRan (programs_in text s) (launches_in text) before after) → StopsIn files text s e → ⊥
+ran_not_stopped files text s e all x =
+    let done = all x.stopped.before x.stopped.loaded in
+    none_refused text.several (programs_in text s) (launches_in text) x.stopped.before done.0 e done.1 x.stopped.ends
+
 none_stopped : (files : Option FileMap) (ask : Files) (text : Text) (s : List Unit') (e : RunError) →
     Accepted files ask text s → RunStops files ask e → ⊥
 none_stopped files ask text s e all x =
     let same = same_read files ask text x.text s x.units all.taken.readable x.read in
-    let before = x.stops.stopped.before in
-    let loaded : BuffersLoaded files text before =
-    subst (λ (t : Text). BuffersLoaded files t before) same.0 x.stops.stopped.loaded in
-    let ends : EndsSo text.several (programs_in text s) (launches_in text) before e =
-    subst (λ (us : List Unit'). EndsSo text.several (programs_in text us) (launches_in text) before e) same.1
-    (subst (λ (t : Text). EndsSo t.several (programs_in t x.units) (launches_in t) before e) same.0
-    x.stops.stopped.ends) in
-    let done = all.done before loaded in
-    none_refused text.several (programs_in text s) (launches_in text) before done.0 e done.1 ends
+    ran_not_stopped files text s e all.done (subst (λ (us : List Unit'). StopsIn files text us e) same.1
+    (subst (λ (t : Text). StopsIn files t x.units e) same.0 x.stops))
 
 -- and none of clean launches
+pub clean_not_stopped : (files : Option FileMap) (text : Text) (s : List Unit') (e : RunError) →
+    ((before : List (List ℕ)) → BuffersLoaded files text before → AreClean (models_in s) (launches_in text) before) →
+    StopsIn files text s e → ⊥
+clean_not_stopped files text s e clean x =
+    never_stops s (launches_in text) x.stopped.before e x.made (clean x.stopped.before x.stopped.loaded)
+    (may_end (programs_in text s) (models_in s) (launches_in text) x.stopped.before e x.outcome)
+
 none_unclean : (files : Option FileMap) (ask : Files) (text : Text) (s : List Unit') (e : RunError) →
     AcceptedClean files ask text s → RunStops files ask e → ⊥
 none_unclean files ask text s e all x =
     let same = same_read files ask text x.text s x.units all.taken.readable x.read in
-    let before = x.stops.stopped.before in
-    let loaded : BuffersLoaded files text before =
-    subst (λ (t : Text). BuffersLoaded files t before) same.0 x.stops.stopped.loaded in
-    let outcome : IsOutcomeOf (models_in s) (launches_in text) before e =
-    subst (λ (us : List Unit'). IsOutcomeOf (models_in us) (launches_in text) before e) same.1
-    (subst (λ (t : Text). IsOutcomeOf (models_in x.units) (launches_in t) before e) same.0
-    (may_end (programs_in x.text x.units) (models_in x.units) (launches_in x.text) before e x.stops.outcome)) in
-    never_stops s (launches_in text) before e (subst (λ (us : List Unit'). AreMade us) same.1 x.stops.made)
-    (all.clean before loaded) outcome
+    clean_not_stopped files text s e all.clean (subst (λ (us : List Unit'). StopsIn files text us e) same.1
+    (subst (λ (t : Text). StopsIn files t x.units e) same.0 x.stops))
 
 -- a refusal without a fault of the store is another than that
 pub not_failed : (old new : Standing) (ask : Files) (e : RunError) → (Rose old.faults new.faults → ⊥) →
@@ -235,27 +236,25 @@ ends_complete old new ask n ends all quiet out_quiet = elim ends [
 -- ---- clean launches
 
 -- what a run of clean launches leaves
+pub run_leaves : (old new : Option FileMap) (text : Text) (s : List Unit') (summary : Summary) →
+    ((before : List (List ℕ)) → BuffersLoaded old text before → AreClean (models_in s) (launches_in text) before) →
+    IsRun old new text s summary → LeavesClean old new text s
+run_leaves old new text s summary clean r = record {
+  before = r.run.before;
+  loaded = r.run.loaded;
+  after = r.after;
+  leaves = leaves_clean s (launches_in text) r.run.before r.after r.run.made (clean r.run.before r.run.loaded)
+      (are_done (programs_in text s) (models_in s) (launches_in text) r.run.before r.after r.run.ran);
+  saved = r.saved;
+  others = r.others;
+}
+
 done_clean : (old new : Option FileMap) (ask : Files) (text : Text) (s : List Unit') (summary : Summary) →
     AcceptedClean old ask text s → IsDone old new ask summary → LeavesClean old new text s
 done_clean old new ask text s summary all done =
     let same = same_read old ask text done.text s done.units all.taken.readable done.read in
-    let before = done.run.run.before in
-    let loaded : BuffersLoaded old text before =
-    subst (λ (t : Text). BuffersLoaded old t before) same.0 done.run.run.loaded in
-    let ran : AreDone (models_in s) (launches_in text) before done.run.after =
-    subst (λ (us : List Unit'). AreDone (models_in us) (launches_in text) before done.run.after) same.1
-    (subst (λ (t : Text). AreDone (models_in done.units) (launches_in t) before done.run.after) same.0
-    (are_done (programs_in done.text done.units) (models_in done.units) (launches_in done.text) before
-    done.run.after done.run.run.ran)) in
-    record {
-      before = before;
-      loaded = loaded;
-      after = done.run.after;
-      leaves = leaves_clean s (launches_in text) before done.run.after (subst (λ (us : List Unit'). AreMade us) same.1
-          done.run.run.made) (all.clean before loaded) ran;
-      saved = subst (λ (t : Text). AllSavedAs old new (saves_of t.buffers) done.run.after) same.0 done.run.saved;
-      others = subst (λ (t : Text). KeepsAllBut old new (saves_of t.buffers)) same.0 done.run.others;
-    }
+    run_leaves old new text s summary all.clean (subst (λ (us : List Unit'). IsRun old new text us summary) same.1
+    (subst (λ (t : Text). IsRun old new t done.units summary) same.0 done.run))
 
 -- a refusal of clean launches is want of memory
 refused_clean : (old new : Standing) (ask : Files) (text : Text) (s : List Unit') (e : RunError) (n : ℕ) →
@@ -322,15 +321,19 @@ ends_clean old new ask text s n ends all quiet out_quiet = elim ends [
 -- ---- loops
 
 -- a refusal for too many iterations says that there is a loop
+pub stopped_loops : (files : Option FileMap) (text : Text) (s : List Unit') (number : ℕ) (several : Bool) →
+    StopsIn files text s (Turns number several) → HaveNoLoop (models_in s) → ⊥
+stopped_loops files text s number several x free =
+    no_turns_of s (launches_in text) x.stopped.before number several x.made free
+    (may_end (programs_in text s) (models_in s) (launches_in text) x.stopped.before (Turns number several) x.outcome)
+
 has_loops : (files : Option FileMap) (ask : Files) (number : ℕ) (several : Bool) →
     RunStops files ask (Turns number several) → HasLoops files ask
 has_loops files ask number several x = record {
   text = x.text;
   units = x.units;
   read = x.read;
-  loops = λ free. no_turns_of x.units (launches_in x.text) x.stops.stopped.before number several x.stops.made free
-      (may_end (programs_in x.text x.units) (models_in x.units) (launches_in x.text) x.stops.stopped.before
-      (Turns number several) x.stops.outcome);
+  loops = stopped_loops files x.text x.units number several x.stops;
 }
 
 refused_loops : (old new : Standing) (ask : Files) (e : RunError) (n : ℕ) → n ≡ status_of e → Cause old new ask e →

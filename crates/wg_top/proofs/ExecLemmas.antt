@@ -5,7 +5,7 @@ use Rattle.wg_outside.specs.Counts.{Rose}
 use Rattle.wg_outside.specs.Files.{FileMap}
 use Rattle.buffer_io.specs.Loads.{LacksOneFile}
 use Rattle.command_words.specs.Command.{ObjectFiles}
-use Rattle.launch_file.specs.Binding.{loads_of, lengths_of}
+use Rattle.launch_file.specs.Binding.{loads_of}
 use Rattle.launch_file.specs.Texts.{Text}
 use Rattle.launch_file.specs.Refusals.{Reads}
 use Rattle.launch_file.specs.declared.refusal.Refusal.{Refusal}
@@ -19,7 +19,7 @@ use Rattle.wg_top.specs.declared.RunError.TheVariants.{NotObject}
 use Rattle.wg_top.specs.declared.Summary.{Summary}
 use Rattle.wg_top.specs.Causes.{Standing, BuffersLoaded}
 use Rattle.wg_top.specs.Lines.{status_of}
-use Rattle.wg_top.specs.Launches.{launches_in, LaunchesRan, EndsSo}
+use Rattle.wg_top.specs.Launches.{launches_in, LaunchesRan}
 use Rattle.wg_top.specs.Programs.{runs_refusal, programs_of, AreStopped}
 use Rattle.wg_top.specs.Objects.{runs_each, NameKernel, ExecRead, ExecTaken, ExecUnread, IsNoObject, NamesOther}
 use Rattle.wg_top.specs.Objects.{LacksExec}
@@ -27,8 +27,9 @@ use Rattle.wg_top.specs.Objects.{ExecStopped, TakingFinds, TakenFinds, ExecFinds
 use Rattle.wg_top.specs.Objects.{ExecDone, ExecAccepted}
 use Rattle.wg_top.specs.Ends.{Outside, EndsExec}
 use Rattle.wg_top.proofs.CompleteLemmas.{not_lacked, none_refused}
-use Rattle.wg_top.proofs.ExactLemmas.{lacks_loaded, same_start, lacks_started, same_before, one_refusal}
+use Rattle.wg_top.proofs.ExactLemmas.{lacks_loaded, same_start}
 use Rattle.wg_top.proofs.EndLemmas.{status_above}
+use Rattle.wg_top.proofs.FoundLemmas.{Found, unbound, no_buffer, stopped, fits, status_at, found_agree}
 
 two_texts : (bytes others : List ℕ) (turns : Option ℕ) (a b : Text) → bytes ≡ others → Reads bytes None turns a →
     Reads others None turns b → a ≡ b
@@ -45,7 +46,7 @@ module _ (fs : FileMap) (ask : ObjectFiles) where
         y.reads,
   )
 
-  taken_twice : (a b : Text) (o p : PlainObject) → ExecTaken (Some fs) ask a o → ExecTaken (Some fs) ask b p →
+  pub taken_twice : (a b : Text) (o p : PlainObject) → ExecTaken (Some fs) ask a o → ExecTaken (Some fs) ask b p →
       (a ≡ b) × (o ≡ p)
   taken_twice a b o p x y =
       let same = read_twice x.bytes y.bytes a b x.read y.read in
@@ -85,9 +86,8 @@ module _ (fs : FileMap) (ask : ObjectFiles) where
       (subst (λ (t : Text). NameKernel t o) (sym same.1) taken.names))
 
   -- what is found before the launches are bound is not found of what was taken
-  early : (e : RunError) (text : Text) (o : PlainObject) → TakingFinds (Some fs) ask e → ExecTaken (Some fs) ask text o
-      →
-      ⊥
+  pub early : (e : RunError) (text : Text) (o : PlainObject) → TakingFinds (Some fs) ask e →
+      ExecTaken (Some fs) ask text o → ⊥
   early Absent text o finds taken = lacks_read taken.bytes text finds taken.read
   early NotObject text o finds taken = none_text taken.bytes text o finds taken.read taken.is_text
   early (Launch first) text o (inl unread) taken = unread_read first taken.bytes text unread taken.read
@@ -121,62 +121,19 @@ module _ (fs : FileMap) (ask : ObjectFiles) where
 
   -- what was taken
   module _ (text : Text) (o : PlainObject) (taken : ExecTaken (Some fs) ask text o) where
-    data Late : Type 0 where
-      unbound : (first : Refusal) → runs_refusal text (runs_each o text.list) ≡ Some first → Late
-      no_buffer : runs_refusal text (runs_each o text.list) ≡ None → LacksOneFile (Some fs) (loads_of text.buffers) →
-          Late
-      stopped : (e : RunError) → AreStopped (Some fs) text (runs_each o text.list) e → Late
-      fits : (before after : List (List ℕ)) → runs_refusal text (runs_each o text.list) ≡ None →
-          BuffersLoaded (Some fs) text before →
-          LaunchesRan (programs_of (runs_each o text.list)) (launches_in text) before after → Late
+    abbrev Late : Type 0
+    Late = Found fs text (runs_refusal text (runs_each o text.list)) (programs_of (runs_each o text.list))
 
-    status_at : Late → ℕ
-    status_at (unbound x r) = 4
-    status_at (no_buffer a l) = 9
-    status_at (stopped e s) = status_of e
-    status_at (fits b a c l r) = 0
+    abbrev status_late : Late → ℕ
+    status_late x =
+        status_at fs text (runs_refusal text (runs_each o text.list)) (programs_of (runs_each o text.list)) x
 
-    both : (first : Refusal) → runs_refusal text (runs_each o text.list) ≡ Some first →
-        runs_refusal text (runs_each o text.list) ≡ None → ⊥
-    both first a b = let e : Some first ≡ None = sym a ∙ b in cc
+    late_agree : (x y : Late) → status_late x ≡ status_late y
+    late_agree x y =
+        found_agree fs text (runs_refusal text (runs_each o text.list)) (programs_of (runs_each o text.list)) x y
 
-    buffer : (before : List (List ℕ)) → LacksOneFile (Some fs) (loads_of text.buffers) →
-        BuffersLoaded (Some fs) text before → ⊥
-    buffer before lacks started =
-        lacks_started fs (lengths_of text.buffers) (loads_of text.buffers) before lacks.name started lacks.is_load
-        lacks.lacks
-
-    again : (e : RunError) (before : List (List ℕ)) (x : AreStopped (Some fs) text (runs_each o text.list) e) →
-        BuffersLoaded (Some fs) text before →
-        EndsSo text.several (programs_of (runs_each o text.list)) (launches_in text) before e
-    again e before x loaded =
-        subst (λ (b : List (List ℕ)). EndsSo text.several (programs_of (runs_each o text.list)) (launches_in text) b e)
-        (same_before fs (lengths_of text.buffers) (loads_of text.buffers) x.before before x.loaded loaded) x.ends
-
-    late_agree : (x y : Late) → status_at x ≡ status_at y
-    unfolding status_at
-    late_agree (unbound f a) (unbound g b) = refl
-    late_agree (unbound f a) (no_buffer b l) = absurd (both f a b)
-    late_agree (unbound f a) (stopped e s) = absurd (both f a s.accepted)
-    late_agree (unbound f a) (fits x y b l r) = absurd (both f a b)
-    late_agree (no_buffer a l) (unbound g b) = absurd (both g b a)
-    late_agree (no_buffer a l) (no_buffer b m) = refl
-    late_agree (no_buffer a l) (stopped e s) = absurd (buffer s.before l s.loaded)
-    late_agree (no_buffer a l) (fits x y b m r) = absurd (buffer x l m)
-    late_agree (stopped e s) (unbound g b) = absurd (both g b s.accepted)
-    late_agree (stopped e s) (no_buffer b l) = absurd (buffer s.before l s.loaded)
-    late_agree (stopped e s) (stopped d t) =
-        one_refusal text.several (programs_of (runs_each o text.list)) (launches_in text) t.before e d
-        (again e t.before s t.loaded) t.ends
-    late_agree (stopped e s) (fits x y b l r) =
-        absurd (none_refused text.several (programs_of (runs_each o text.list)) (launches_in text) x y e r
-        (again e x s l))
-    late_agree (fits x y a l r) (unbound g b) = absurd (both g b a)
-    late_agree (fits x y a l r) (no_buffer b m) = absurd (buffer x m l)
-    late_agree (fits x y a l r) (stopped e s) =
-        absurd (none_refused text.several (programs_of (runs_each o text.list)) (launches_in text) x y e r
-        (again e x s l))
-    late_agree (fits x y a l r) (fits x' y' b m s) = refl
+    stopped_so : (e : RunError) → AreStopped (Some fs) text (runs_each o text.list) e → Late
+    stopped_so e s = stopped e s.before s.accepted s.loaded s.ends
 
     at : (e : RunError) → ExecStopped (Some fs) ask e → AreStopped (Some fs) text (runs_each o text.list) e
     at e finds =
@@ -185,8 +142,8 @@ module _ (fs : FileMap) (ask : ObjectFiles) where
         (subst (λ (t : Text). AreStopped (Some fs) t (runs_each finds.object t.list) e) same.0 finds.stopped)
 
     -- what is found behind that
-    late : (e : RunError) → TakenFinds (Some fs) ask e → (x : Late) × (status_at x ≡ status_of e)
-    unfolding status_at
+    late : (e : RunError) → TakenFinds (Some fs) ask e → (x : Late) × (status_late x ≡ status_of e)
+    unfolding status_at stopped_so
     late Absent finds =
         let same = taken_twice finds.text text finds.object o finds.taken taken in (
           no_buffer
@@ -204,16 +161,16 @@ module _ (fs : FileMap) (ask : ObjectFiles) where
           refl,
         )
     late (Range number several group item place) finds =
-        (stopped (Range number several group item place) (at (Range number several group item place) finds), refl)
+        (stopped_so (Range number several group item place) (at (Range number several group item place) finds), refl)
     late (Parted number several group item place) finds =
-        (stopped (Parted number several group item place) (at (Parted number several group item place) finds), refl)
+        (stopped_so (Parted number several group item place) (at (Parted number several group item place) finds), refl)
     late (Turns number several) finds =
-        (stopped (Turns number several) (at (Turns number several) finds), refl)
+        (stopped_so (Turns number several) (at (Turns number several) finds), refl)
     late _ finds = absurd finds
 
     -- the run is done
     done : (new : Option FileMap) (summary : Summary) → ExecDone (Some fs) new ask summary → (x : Late) ×
-        (status_at x ≡ 0)
+        (status_late x ≡ 0)
     unfolding status_at
     done new summary d =
         let same = taken_twice d.text text d.object o d.taken taken in (

@@ -22,6 +22,7 @@ pub mod ExactLemmas
 pub mod ObjectLemmas
 pub mod ObjectCauseLemmas
 pub mod BuildLemmas
+pub mod FoundLemmas
 pub mod ExecLemmas
 pub mod AskedLemmas
 pub mod MiddleLemmas

@@ -77,7 +77,7 @@ shell_sum (n ∷ ns) =
 capped : (n : ℕ) → n ≤ 65536 → min n 18446744073709551615 ≡ n
 capped n small = omega (arith, small)
 
-one_needs : (kinds kinds' : List VarKind) (n n' : ℕ) (sizes sizes' : Option (List ℕ)) → kinds ≡ kinds' → n ≡ n' →
+pub one_needs : (kinds kinds' : List VarKind) (n n' : ℕ) (sizes sizes' : Option (List ℕ)) → kinds ≡ kinds' → n ≡ n' →
     sizes ≡ sizes' → ◌≡◌ {A = Needs} (record { kinds = kinds; local_bytes = n; required = sizes }) (record {
       kinds = kinds';
       local_bytes = n';

@@ -1,6 +1,6 @@
 -- The ends of a launch file's group programs are outcomes of its launches.
 use Rattle.std.proofs.Common.{◌≡◌, ℕ, zero, suc, ◌<◌, ◌≤◌, Bool, List, [], ◌∷◌, length, map, Option, Some}
-use Rattle.std.proofs.Common.{refl, sym, ◌∙◌, ap, subst, arith}
+use Rattle.std.proofs.Common.{refl, sym, ◌∙◌, ap, ap₂, subst, arith}
 use Rattle.std.specs.Prelude.{All, sum, slice_get, slice_index_or}
 use Rattle.std.proofs.Math.Nat.{mul-pos}
 use Rattle.std.proofs.lemmas.Option.{get_or_from_slice_get}
@@ -23,24 +23,24 @@ use Rattle.lane_code.specs.Program.{Plain}
 use Rattle.lane_code.specs.Run.{RunEnded}
 use Rattle.lane_code.specs.View.{plain_of}
 use Rattle.launch_file.specs.declared.text.BufferText.{BufferText}
-use Rattle.launch_file.specs.Binding.{launch_in, lengths_of}
+use Rattle.launch_file.specs.Binding.{launch_in, launch_refusal, lengths_of}
 use Rattle.launch_file.specs.Texts.{Text, Part}
 use Rattle.mask_lower.specs.Layout.{HasSizes}
 use Rattle.wg_compile.specs.declared.Compiled.{Compiled}
 use Rattle.wg_top.specs.declared.RunError.{RunError}
 use Rattle.wg_top.specs.declared.RunError.TheVariants as error
 use Rattle.wg_compile.specs.Passes.{names_in, kernel_in, group_in, IsLike}
-use Rattle.wg_top.specs.Units.{programs_in}
+use Rattle.wg_top.specs.Units.{programs_in, needs_in, first_refusal, or_later}
 use Rattle.wg_compile.specs.Correct.{IsCompilation}
 use Rattle.wg_compile.specs.Ends.{IsOutcome, EndsInOutcomes}
 use Rattle.wg_top.specs.Outcomes.{IsMade}
 use Rattle.wg_top.specs.Outcomes.{AreMade, HasGroupProgram, HaveGroupPrograms, models_in, RanInOutcomes, EndsInOutcome}
 use Rattle.wg_top.specs.Outcomes.{StopsAsOutcome}
-use Rattle.wg_top.specs.Programs.{HaveRoom}
+use Rattle.wg_top.specs.Programs.{Runs, programs_of, needs_refusal, HaveRoom}
 use Rattle.wg_top.specs.Shown.{code_shown}
 use Rattle.wg_top.specs.Launches.{launch_end, launches_in, LaunchRan, LaunchesRan, EndsBehind, EndsSo, site_place}
 use Rattle.wg_top.specs.Launches.{start_place}
-use Rattle.wg_top.proofs.MeaningLemmas.{end_like}
+use Rattle.wg_top.proofs.MeaningLemmas.{AreLike, end_like}
 
 -- ---- no size of a launch is 0
 
@@ -96,36 +96,13 @@ places_are width u lowered = lowered.parts.sites
 
 -- ---- of the kernels of a call
 
--- one list of what is so of each kernel, by recursion
-abbrev AllAt : (Compiled → Type 0) → List Compiled → Type 0
-AllAt P [] = Unit {0}
-AllAt P (c ∷ cs) = P c × AllAt P cs
-
-all_at : (P : Compiled → Type 0) (cs : List Compiled) → All P cs → AllAt P cs
-all_at P [] all = tt
-all_at P (c ∷ cs) all = (all 0 c (omega arith), all_at P cs (λ k d lt. all (suc k) d (omega arith)))
-
--- what is kept once is equal
-made_each : (width : ℕ) (cs : List Compiled) → AllAt (IsCompilation width) cs →
-    AllAt (λ c. IsValid (program_of (unit_of c.program))) cs → AreMade (map (λ c. unit_of c.program) cs)
-made_each width [] passes valid = tt
-made_each width (c ∷ cs) passes valid = (
-  record { valid = valid.0; lowered = (passes.0.correct valid.0).lowered; once = (passes.0.correct valid.0).once },
-  made_each width cs passes.1 valid.1,
-)
-
+-- the program of one is valid, and what is kept once is equal
 pub made_of : (width : ℕ) (c : Compiled) → IsCompilation width c → IsValid (program_of (unit_of c.program)) →
     IsMade (unit_of c.program)
 made_of width c passes valid =
     record { valid = valid; lowered = (passes.correct valid).lowered; once = (passes.correct valid).once }
 
-pub all_made : (width : ℕ) (cs : List Compiled) → All (IsCompilation width) cs →
-    All (λ c. IsValid (program_of (unit_of c.program))) cs → AreMade (map (λ c. unit_of c.program) cs)
-all_made width cs passes valid =
-    made_each width cs (all_at (IsCompilation width) cs passes) (all_at (λ c. IsValid (program_of (unit_of c.program)))
-    cs valid)
-
--- the group program of each
+-- its group program
 pub compiled_to : (width : ℕ) (c : Compiled) → IsCompilation width c → IsValid (program_of (unit_of c.program)) →
     HasGroupProgram width (unit_of c.program)
 compiled_to width c passes valid = record {
@@ -150,49 +127,115 @@ pub code_text_of : (width : ℕ) (c : Compiled) (text : List ℕ) → IsCompilat
 unfolding compiled_to
 code_text_of width c text passes valid is = (compiled_to width c passes valid, is)
 
-compiled_each : (width : ℕ) (cs : List Compiled) (parts : List Part) → AllAt (IsCompilation width) cs →
-    AllAt (λ c. IsValid (program_of (unit_of c.program))) cs →
-    map (λ c. c.group.kernel) cs ≡ map (λ p. p.kernel) parts →
-    HaveGroupPrograms width parts (map (λ c. unit_of c.program) cs)
-compiled_each width [] [] passes valid named = tt
-compiled_each width (c ∷ cs) (part ∷ parts) passes valid named =
-    let rest : map (λ (c : Compiled). c.group.kernel) cs ≡ map (λ (p : Part). p.kernel) parts = cc named in
-    (compiled_to width c passes.0 valid.0, compiled_each width cs parts passes.1 valid.1 rest)
-compiled_each width [] (part ∷ parts) passes valid named = absurd (let never : ⊥ = cc named in never)
-compiled_each width (c ∷ cs) [] passes valid named = absurd (let never : ⊥ = cc named in never)
+-- ---- what is run for units
 
-pub all_compiled : (width : ℕ) (cs : List Compiled) (parts : List Part) → All (IsCompilation width) cs →
+-- what is bound and run is a group program of the unit, and asks of its launches what the unit's kernel asks
+pub record IsRunFor (width : ℕ) (u : Unit') (r : Runs) : Type 0 where
+  pub made : IsMade u
+  pub group : HasGroupProgram width u
+  pub program : r.program ≡ group.group
+  pub needs : r.needs ≡ needs_in u
+
+-- the same of each launch
+abbrev pub AreRunsFor : (width : ℕ) → List Part → List Unit' → List Runs → Type 0
+AreRunsFor width [] [] [] = Unit {0}
+AreRunsFor width (part ∷ parts) (u ∷ units) (r ∷ rs) = IsRunFor width u r × AreRunsFor width parts units rs
+AreRunsFor width _ _ _ = ⊥
+
+module _ (width : ℕ) where
+  -- what is kept once is equal
+  pub are_made : (parts : List Part) (units : List Unit') (rs : List Runs) → AreRunsFor width parts units rs →
+      AreMade units
+  are_made [] [] [] all = tt
+  are_made (part ∷ parts) (u ∷ units) (r ∷ rs) all = (all.0.made, are_made parts units rs all.1)
+  are_made [] [] (r ∷ rs) all = absurd all
+  are_made [] (u ∷ units) rs all = absurd all
+  are_made (part ∷ parts) [] rs all = absurd all
+  are_made (part ∷ parts) (u ∷ units) [] all = absurd all
+
+  -- the group program of each
+  pub have_programs : (parts : List Part) (units : List Unit') (rs : List Runs) → AreRunsFor width parts units rs →
+      HaveGroupPrograms width parts units
+  have_programs [] [] [] all = tt
+  have_programs (part ∷ parts) (u ∷ units) (r ∷ rs) all = (all.0.group, have_programs parts units rs all.1)
+  have_programs [] [] (r ∷ rs) all = absurd all
+  have_programs [] (u ∷ units) rs all = absurd all
+  have_programs (part ∷ parts) [] rs all = absurd all
+  have_programs (part ∷ parts) (u ∷ units) [] all = absurd all
+
+  -- which does what that of its unit does
+  pub are_like : (parts : List Part) (units : List Unit') (rs : List Runs) → AreRunsFor width parts units rs →
+      AreLike (map (group_in width) units) (programs_of rs)
+  are_like [] [] [] all = tt
+  are_like (part ∷ parts) (u ∷ units) (r ∷ rs) all = (
+    subst (λ (p : Plain). IsLike (group_in width u) p) (sym all.0.program) all.0.group.like,
+    are_like parts units rs all.1,
+  )
+  are_like [] [] (r ∷ rs) all = absurd all
+  are_like [] (u ∷ units) rs all = absurd all
+  are_like (part ∷ parts) [] rs all = absurd all
+  are_like (part ∷ parts) (u ∷ units) [] all = absurd all
+
+  -- the condition that stands on the launches
+  pub same_refusal : (buffers : List BufferText) (parts : List Part) (units : List Unit') (rs : List Runs) →
+      AreRunsFor width parts units rs → needs_refusal buffers parts rs ≡ first_refusal buffers parts units
+  same_refusal buffers [] [] [] all = refl
+  same_refusal buffers (part ∷ parts) (u ∷ units) (r ∷ rs) all =
+      ap₂ or_later (ap (λ n. launch_refusal n buffers part) all.0.needs) (same_refusal buffers parts units rs all.1)
+  same_refusal buffers [] [] (r ∷ rs) all = absurd all
+  same_refusal buffers [] (u ∷ units) rs all = absurd all
+  same_refusal buffers (part ∷ parts) [] rs all = absurd all
+  same_refusal buffers (part ∷ parts) (u ∷ units) [] all = absurd all
+
+-- what is bound and run of a compiled kernel
+abbrev pub kernel_runs : Compiled → Runs
+kernel_runs c = record { needs = needs_in (unit_of c.program); program = plain_of c.group }
+
+pub compiled_runs : (width : ℕ) (cs : List Compiled) (parts : List Part) → All (IsCompilation width) cs →
     All (λ c. IsValid (program_of (unit_of c.program))) cs →
     map (λ c. c.group.kernel) cs ≡ map (λ p. p.kernel) parts →
-    HaveGroupPrograms width parts (map (λ c. unit_of c.program) cs)
-all_compiled width cs parts passes valid named =
-    compiled_each width cs parts (all_at (IsCompilation width) cs passes)
-    (all_at (λ c. IsValid (program_of (unit_of c.program))) cs valid) named
+    AreRunsFor width parts (map (λ c. unit_of c.program) cs) (map kernel_runs cs)
+compiled_runs width [] [] passes valid named = tt
+compiled_runs width (c ∷ cs) (part ∷ parts) passes valid named =
+    let rest : map (λ (c : Compiled). c.group.kernel) cs ≡ map (λ (p : Part). p.kernel) parts = cc named in
+    let passed : IsCompilation width c = passes 0 c (omega arith) in
+    let fine : IsValid (program_of (unit_of c.program)) = valid 0 c (omega arith) in (
+      record {
+        made = made_of width c passed fine;
+        group = compiled_to width c passed fine;
+        program = sym (compiled_group width c passed fine);
+        needs = refl;
+      },
+      compiled_runs width cs parts (λ k d lt. passes (suc k) d (omega arith)) (λ k d lt. valid (suc k) d (omega arith))
+          rest,
+    )
+compiled_runs width [] (part ∷ parts) passes valid named = absurd (let never : ⊥ = cc named in never)
+compiled_runs width (c ∷ cs) [] passes valid named = absurd (let never : ⊥ = cc named in never)
 
-promise : (width turns : ℕ) (buffers : List BufferText) (c : Compiled) (part : Part) → IsCompilation width c →
-    IsValid (program_of (unit_of c.program))
-    → LaunchFits (plain_of c.group).params (sum (plain_of c.group).locals) (launch_in turns buffers part) →
-    Promise (program_of (unit_of c.program)) (group_in width (unit_of c.program)) (launch_in turns buffers part)
-promise width turns buffers c part passes valid fits = record {
-  sites = places_are width (unit_of c.program) (passes.correct valid).lowered;
-  ends = ends_like (program_of (unit_of c.program)) (group_in width (unit_of c.program)) (plain_of c.group)
-      (launch_in turns buffers part) passes.group (passes.correct valid).outcomes
-      ((passes.correct valid).fits (launch_in turns buffers part) fits) (has_sizes turns buffers part fits.dimensions);
-  keeps = keeps_lengths (group_in width (unit_of c.program)) (launch_in turns buffers part);
-}
+promise : (width turns : ℕ) (buffers : List BufferText) (u : Unit') (r : Runs) (part : Part) → IsRunFor width u r →
+    LaunchFits r.program.params (sum r.program.locals) (launch_in turns buffers part) →
+    Promise (program_of u) (group_in width u) (launch_in turns buffers part)
+promise width turns buffers u r part is fits =
+    let launch : Launch = launch_in turns buffers part in
+    let mine : LaunchFits is.group.group.params (sum is.group.group.locals) launch =
+    subst (λ (p : Plain). LaunchFits p.params (sum p.locals) launch) is.program fits in
+    record {
+      sites = places_are width u is.made.lowered;
+      ends = ends_like (program_of u) (group_in width u) is.group.group launch is.group.like is.group.correct.outcomes
+          (is.group.correct.fits launch mine) (has_sizes turns buffers part fits.dimensions);
+      keeps = keeps_lengths (group_in width u) launch;
+    }
 
-promises : (width turns : ℕ) (buffers : List BufferText) (cs : List Compiled) (parts : List Part) →
-    AllAt (IsCompilation width) cs → AllAt (λ c. IsValid (program_of (unit_of c.program))) cs
-    → HaveRoom (map (λ c. plain_of c.group) cs) (map (launch_in turns buffers) parts)
-    → AllPromise (map program_of (map (λ c. unit_of c.program) cs))
-    (map (group_in width) (map (λ c. unit_of c.program) cs)) (map (launch_in turns buffers) parts)
-promises width turns buffers [] [] passes valid fit = tt
-promises width turns buffers (c ∷ cs) (part ∷ parts) passes valid fit = (
-  promise width turns buffers c part passes.0 valid.0 fit.0,
-  promises width turns buffers cs parts passes.1 valid.1 fit.1,
-)
-promises width turns buffers [] (part ∷ parts) passes valid fit = absurd fit
-promises width turns buffers (c ∷ cs) [] passes valid fit = absurd fit
+promises : (width turns : ℕ) (buffers : List BufferText) (parts : List Part) (units : List Unit') (rs : List Runs) →
+    AreRunsFor width parts units rs → HaveRoom (programs_of rs) (map (launch_in turns buffers) parts) →
+    AllPromise (map program_of units) (map (group_in width) units) (map (launch_in turns buffers) parts)
+promises width turns buffers [] [] [] all fit = tt
+promises width turns buffers (part ∷ parts) (u ∷ units) (r ∷ rs) all fit =
+    (promise width turns buffers u r part all.0 fit.0, promises width turns buffers parts units rs all.1 fit.1)
+promises width turns buffers [] [] (r ∷ rs) all fit = absurd all
+promises width turns buffers [] (u ∷ units) rs all fit = absurd all
+promises width turns buffers (part ∷ parts) [] rs all fit = absurd all
+promises width turns buffers (part ∷ parts) (u ∷ units) [] all fit = absurd all
 
 -- ---- launches one after the other
 
@@ -326,29 +369,22 @@ so_outcome several sizes gs ps launches before (error.Turns number s) known over
     }
 so_outcome several sizes gs ps launches before _ known over fit ends = absurd ends
 
--- ---- the launches of a file, with its kernels
+-- ---- the launches of a file
 
-module _ (text : Text) (cs : List Compiled) (passes : All (IsCompilation text.lanes) cs)
-    (valid : All (λ c. IsValid (program_of (unit_of c.program))) cs)
-    (fit : HaveRoom (map (λ c. plain_of c.group) cs) (launches_in text)) (before : List (List ℕ))
+module _ (text : Text) (units : List Unit') (rs : List Runs) (all : AreRunsFor text.lanes text.list units rs)
+    (fit : HaveRoom (programs_of rs) (launches_in text)) (before : List (List ℕ))
     (sizes : map (λ (b : List ℕ). length b) before ≡ lengths_of text.buffers) where
-  known : AllPromise (models_in (map (λ c. unit_of c.program) cs))
-      (programs_in text (map (λ c. unit_of c.program) cs)) (launches_in text)
-  known = promises text.lanes text.turns text.buffers cs text.list (all_at (IsCompilation text.lanes) cs passes)
-      (all_at (λ c. IsValid (program_of (unit_of c.program))) cs valid) fit
+  known : AllPromise (models_in units) (programs_in text units) (launches_in text)
+  known = promises text.lanes text.turns text.buffers text.list units rs all fit
 
-  pub ran_outcome : (after : List (List ℕ)) →
-      LaunchesRan (programs_in text (map (λ c. unit_of c.program) cs)) (launches_in text) before after →
-      RanInOutcomes (programs_in text (map (λ c. unit_of c.program) cs))
-      (models_in (map (λ c. unit_of c.program) cs)) (launches_in text) before after
+  pub ran_outcome : (after : List (List ℕ)) → LaunchesRan (programs_in text units) (launches_in text) before after →
+      RanInOutcomes (programs_in text units) (models_in units) (launches_in text) before after
   ran_outcome after ran =
       all_done (lengths_of text.buffers) _ _ (launches_in text) before after known
       (all_over text.turns text.buffers text.list) sizes ran
 
-  pub stop_outcome : (e : RunError) →
-      EndsSo text.several (programs_in text (map (λ c. unit_of c.program) cs)) (launches_in text) before e →
-      StopsAsOutcome (programs_in text (map (λ c. unit_of c.program) cs))
-      (models_in (map (λ c. unit_of c.program) cs)) (launches_in text) before e
+  pub stop_outcome : (e : RunError) → EndsSo text.several (programs_in text units) (launches_in text) before e →
+      StopsAsOutcome (programs_in text units) (models_in units) (launches_in text) before e
   stop_outcome e ends =
       so_outcome text.several (lengths_of text.buffers) _ _ (launches_in text) before e known
       (all_over text.turns text.buffers text.list) sizes ends

@@ -7,18 +7,15 @@ use Rattle.wg_outside.specs.Files.{FileMap}
 use Rattle.buffer_io.specs.Loads.{AllStartAs}
 use Rattle.buffer_io.specs.Saves.{AllSavedAs, KeepsAllBut, StopsAt}
 use Rattle.cl_model.specs.Sizes.{Launch}
-use Rattle.cl_model.specs.Valid.{IsValid}
 use Rattle.cl_model.specs.View.{launch_of}
 use Rattle.cl_meaning.specs.Typed.{Unit'}
 use Rattle.cl_meaning.specs.View.{unit_of}
-use Rattle.cl_check_sound.specs.Erased.{program_of}
 use Rattle.group_run.specs.declared.launcher.Launcher.{Launcher}
 use Rattle.lane_code.specs.Fits.{LaunchFits}
 use Rattle.lane_code.specs.Program.{Plain}
 use Rattle.lane_code.specs.View.{plain_of}
-use Rattle.launch_file.specs.declared.text.BufferText.{BufferText}
 use Rattle.launch_file.specs.Binding.{lengths_of, loads_of, saves_of}
-use Rattle.launch_file.specs.Texts.{Text, Part}
+use Rattle.launch_file.specs.Texts.{Text}
 use Rattle.wg_compile.specs.declared.Compiled.{Compiled}
 use Rattle.wg_compile.specs.Correct.{IsCompilation}
 use Rattle.wg_top.specs.declared.RunError.{RunError}
@@ -30,14 +27,15 @@ use Rattle.wg_top.specs.declared.runnable.Runnable.{Runnable}
 use Rattle.wg_top.specs.Causes.{Standing, BuffersLoaded, HasRun, IsRun}
 use Rattle.wg_top.specs.Launches.{launches_in, LaunchesRan, EndsSo, all_groups, all_items}
 use Rattle.wg_top.specs.Outcomes.{AreMade, HaveGroupPrograms}
-use Rattle.wg_top.specs.Programs.{HasKinds, Runs, runs_of, programs_of, needs_refusal, runs_refusal, HaveRoom}
+use Rattle.wg_top.specs.Programs.{HasKinds, Runs, runs_of, programs_of, runs_refusal, HaveRoom}
 use Rattle.wg_top.specs.Programs.{HaveRun, AreStopped, AreRun, AreSaveStopped, RunsCause, RunsLeave}
 use Rattle.wg_top.specs.Stages.{BackCause, LeavesOthers}
-use Rattle.wg_top.specs.Units.{needs_in, first_refusal, bind_refusal, programs_in, or_later}
+use Rattle.wg_top.specs.Units.{needs_in, bind_refusal, programs_in}
 use Rattle.wg_top.proofs.MeaningLemmas.{AreLike}
 use Rattle.wg_top.proofs.MiddleLemmas.{params_in}
-use Rattle.wg_top.proofs.OutcomeLemmas.{all_made, all_compiled, ran_outcome, stop_outcome}
-use Rattle.wg_top.proofs.RunLemmas.{programs_are, is_stopped, has_run, save_stopped, started_lengths}
+use Rattle.wg_top.proofs.OutcomeLemmas.{AreRunsFor, kernel_runs, are_made, have_programs, are_like, same_refusal}
+use Rattle.wg_top.proofs.OutcomeLemmas.{ran_outcome, stop_outcome}
+use Rattle.wg_top.proofs.RunLemmas.{is_stopped, has_run, save_stopped, started_lengths}
 
 -- ---- plain programs
 
@@ -141,10 +139,6 @@ first_same e = cc e
 rest_same : {A : Type 0} {x y : A} {xs ys : List A} → x ∷ xs ≡ y ∷ ys → xs ≡ ys
 rest_same e = cc e
 
--- what is bound and run of a compiled kernel
-abbrev pub kernel_runs : Compiled → Runs
-kernel_runs c = record { needs = needs_in (unit_of c.program); program = plain_of c.group }
-
 -- the runnables of compiled kernels
 pub runs_are : (cs : List Compiled) (rs : List Runnable) → map (λ r. r.program.now) rs ≡ map (λ c. c.program) cs →
     map (λ r. r.group.now) rs ≡ map (λ c. c.group) cs → map runs_of rs ≡ map kernel_runs cs
@@ -170,17 +164,7 @@ kinds_are width (c ∷ cs) (r ∷ rs) programs groups passes (suc k) d lt =
 kinds_are width [] (r ∷ rs) programs groups passes k d lt = absurd (let never : ⊥ = cc programs in never)
 kinds_are width (c ∷ cs) [] programs groups passes k d lt = absurd (omega arith)
 
-same_refusal : (buffers : List BufferText) (parts : List Part) (cs : List Compiled) →
-    needs_refusal buffers parts (map kernel_runs cs) ≡ first_refusal buffers parts (map (λ c. unit_of c.program) cs)
-same_refusal buffers [] [] = refl
-same_refusal buffers [] (c ∷ cs) = refl
-same_refusal buffers (part ∷ parts) [] = refl
-same_refusal buffers (part ∷ parts) (c ∷ cs) =
-    ap (or_later _) (same_refusal buffers parts cs)
-
-groups_are : (cs : List Compiled) → programs_of (map kernel_runs cs) ≡ map (λ c. plain_of c.group) cs
-groups_are [] = refl
-groups_are (c ∷ cs) = ap (λ ps. plain_of c.group ∷ ps) (groups_are cs)
+-- ---- programs that are run for units
 
 -- buffers that were loaded have their lengths
 loaded_sizes : (files : Option FileMap) (text : Text) (before : List (List ℕ)) → BuffersLoaded files text before →
@@ -194,43 +178,30 @@ loaded_sizes files text before loaded =
     map_same [] = refl
     map_same (b ∷ bs) = ap (λ xs. b ∷ xs) (map_same bs)
 
-module _ (old new : Standing) (text : Text) (cs : List Compiled) (passes : All (IsCompilation text.lanes) cs)
-    (valid : All (λ c. IsValid (program_of (unit_of c.program))) cs)
-    (names : map (λ c. c.group.kernel) cs ≡ map (λ p. p.kernel) text.list) where
-  abbrev units : List Unit'
-  units = map (λ c. unit_of c.program) cs
-
-  abbrev rs : List Runs
-  rs = map kernel_runs cs
-
+module _ (old new : Standing) (text : Text) (units : List Unit') (rs : List Runs)
+    (all : AreRunsFor text.lanes text.list units rs) where
   refused : runs_refusal text rs ≡ bind_refusal text units
-  refused = same_refusal text.buffers text.list cs
+  refused = same_refusal text.lanes text.buffers text.list units rs all
 
   like : AreLike (programs_in text units) (programs_of rs)
-  like = subst (λ (ps : List Plain). AreLike (programs_in text units) ps) (sym (groups_are cs))
-      (programs_are text.lanes cs passes)
+  like = are_like text.lanes text.list units rs all
 
   made : AreMade units
-  made = all_made text.lanes cs passes valid
+  made = are_made text.lanes text.list units rs all
 
   compiled : HaveGroupPrograms text.lanes text.list units
-  compiled = all_compiled text.lanes cs text.list passes valid names
-
-  room_for : HaveRoom (programs_of rs) (launches_in text) →
-      HaveRoom (map (λ c. plain_of c.group) cs) (launches_in text)
-  room_for = subst (λ (ps : List Plain). HaveRoom ps (launches_in text)) (groups_are cs)
+  compiled = have_programs text.lanes text.list units rs all
 
   ran_for : (before after : List (List ℕ)) → HaveRun old.files text rs before after → HasRun old.files text units after
   ran_for before after run =
       has_run old.files text units before after (programs_of rs) (launches_in text) run.loaded like refl run.ran made
-      compiled (ran_outcome text cs passes valid (room_for run.room) before
-      (loaded_sizes old.files text before run.loaded) after)
+      compiled (ran_outcome text units rs all run.room before (loaded_sizes old.files text before run.loaded) after)
 
   stopped_for : (e : RunError) → AreStopped old.files text rs e → BackCause old new text units e
   stopped_for e s =
       is_stopped old new text units s.before (programs_of rs) (launches_in text) e (sym refused ∙ s.accepted) s.loaded
-      like refl s.ends made compiled (stop_outcome text cs passes valid (room_for s.room) s.before
-      (loaded_sizes old.files text s.before s.loaded))
+      like refl s.ends made compiled (stop_outcome text units rs all s.room s.before (loaded_sizes old.files text
+      s.before s.loaded))
 
   pub back_for : (e : RunError) → RunsCause old new text rs e → BackCause old new text units e
   back_for Failed h = h

@@ -28,15 +28,12 @@ use Rattle.cl_check_sound.proofs.ErasedPrograms.{program_same}
 use Rattle.launch_file.specs.Refusals.{saved_again, saved_twice, is_this}
 use Rattle.launch_file.specs.Values.{HasTexts, HasNumber}
 use Rattle.lane_code.specs.Program.{Plain}
-use Rattle.lane_code.specs.View.{plain_of}
 use Rattle.wg_top.specs.declared.RunError.{RunError}
 use Rattle.wg_top.specs.declared.RunError.TheVariants.{Range, Parted, Turns}
 use Rattle.wg_compile.specs.declared.Compiled.{Compiled}
 use Rattle.cl_meaning.specs.Typed.{Unit'}
 use Rattle.cl_meaning.specs.View.{unit_of}
-use Rattle.wg_compile.specs.Passes.{group_in}
 use Rattle.wg_top.specs.Units.{programs_in}
-use Rattle.wg_compile.specs.Correct.{IsCompilation}
 use Rattle.wg_top.specs.Units.{HaveTypedUnits, bind_refusal}
 use Rattle.wg_top.specs.Causes.{Standing, BuffersLoaded, StopsIn, HasRun}
 use Rattle.wg_top.specs.Outcomes.{AreMade, HaveGroupPrograms, models_in, RanInOutcomes, StopsAsOutcome}
@@ -146,13 +143,6 @@ pub loaded_of : (files : Option FileMap) (text : Text) (first : Bindings) (befor
 loaded_of files text first before ready loaded =
     subst (λ (ls : List (Option (List ℕ))). AllStartAs files (lengths_of text.buffers) ls before) ready.loads
     (subst (λ (ns : List ℕ). AllStartAs files ns first.loads.items before) ready.lengths loaded)
-
--- the programs of the kernels
-pub programs_are : (width : ℕ) (kernels : List Compiled) → All (IsCompilation width) kernels →
-    AreLike (map (group_in width) (map (λ c. unit_of c.program) kernels)) (map (λ c. plain_of c.group) kernels)
-programs_are width [] all = tt
-programs_are width (c ∷ kernels) all =
-    ((all 0 c (omega arith)).group, programs_are width kernels (λ k d lt. all (suc k) d (omega arith)))
 
 -- a launch that is not done, which is an outcome of it
 stops_in : (files : Option FileMap) (text : Text) (units : List Unit') (before : List (List ℕ))

@@ -2,12 +2,14 @@ use Rattle.std.proofs.Common.{◌≡◌, ◌∙◌, List, length, map, ap}
 use Rattle.std.proofs.Common.{subst, arith}
 use Rattle.std.proofs.lemmas.List.{length-map}
 use Rattle.std.proofs.lemmas.Result.{IfOk-weaker, IfErr-weaker}
+use Rattle.cl_meaning.specs.View.{unit_of}
 use Rattle.wg_compile.specs.declared.Compiled.{Compiled}
 use Rattle.launch_file.specs.Texts.{Part, part_of, text_of}
 use Rattle.wg_top.specs.Causes.{Standing, standing}
 use Rattle.wg_top.specs.declared.runnable.Runnable.{Runnable}
 use Rattle.wg_top.specs.Programs.{Runs, runs_of, AreRun, RunsCause, RunsLeave}
-use Rattle.wg_top.proofs.ProgramsLemmas.{kernel_runs, back_for, left_for, run_for, runs_are, kinds_are}
+use Rattle.wg_top.proofs.OutcomeLemmas.{kernel_runs, compiled_runs}
+use Rattle.wg_top.proofs.ProgramsLemmas.{back_for, left_for, run_for, runs_are, kinds_are}
 use Rattle.wg_top.proofs.run.run_given.Goals as goal
 
 pub run_runnables-requires-clause-as_many : goal.run_runnables-requires-clause-as_many
@@ -46,7 +48,9 @@ returns-in-Ok-clause-ok g c =
     (ap (map (λ (r : Runnable). r.group.now)) c.deref-in-Ok.ensures.value ∙ (c.in-Ok.ensures.groups ∙
     ap (map (λ (k : Compiled). k.group)) c.deref.ensures.value)) in
     IfOk-weaker _ _ _ (λ summary run.
-    run_for old new text c.args.given.kernels.items c.requires.passes c.requires.valid c.requires.names summary
+    run_for old new text (map (λ (k : Compiled). unit_of k.program) c.args.given.kernels.items)
+    (map kernel_runs c.args.given.kernels.items) (compiled_runs text.lanes c.args.given.kernels.items text.list
+    c.requires.passes c.requires.valid c.requires.names) summary
     (subst (λ (rs : List Runs). AreRun old.files new.files text rs summary) are run)) c.run_runnables.ensures.ok
 
 pub returns-in-Ok-clause-err : goal.returns-in-Ok-clause-err
@@ -61,7 +65,9 @@ returns-in-Ok-clause-err g c =
     (ap (map (λ (r : Runnable). r.group.now)) c.deref-in-Ok.ensures.value ∙ (c.in-Ok.ensures.groups ∙
     ap (map (λ (k : Compiled). k.group)) c.deref.ensures.value)) in
     IfErr-weaker _ _ _ (λ error cause.
-    back_for old new text c.args.given.kernels.items c.requires.passes c.requires.valid c.requires.names error
+    back_for old new text (map (λ (k : Compiled). unit_of k.program) c.args.given.kernels.items)
+    (map kernel_runs c.args.given.kernels.items) (compiled_runs text.lanes c.args.given.kernels.items text.list
+    c.requires.passes c.requires.valid c.requires.names) error
     (subst (λ (rs : List Runs). RunsCause old new text rs error) are cause)) c.run_runnables.ensures.err
 
 pub returns-in-Ok-clause-left : goal.returns-in-Ok-clause-left
@@ -76,5 +82,7 @@ returns-in-Ok-clause-left g c =
     (ap (map (λ (r : Runnable). r.group.now)) c.deref-in-Ok.ensures.value ∙ (c.in-Ok.ensures.groups ∙
     ap (map (λ (k : Compiled). k.group)) c.deref.ensures.value)) in
     IfErr-weaker _ _ _ (λ error cause.
-    left_for old new text c.args.given.kernels.items c.requires.passes c.requires.valid c.requires.names error
+    left_for old new text (map (λ (k : Compiled). unit_of k.program) c.args.given.kernels.items)
+    (map kernel_runs c.args.given.kernels.items) (compiled_runs text.lanes c.args.given.kernels.items text.list
+    c.requires.passes c.requires.valid c.requires.names) error
     (subst (λ (rs : List Runs). RunsLeave old new text rs error) are cause)) c.run_runnables.ensures.left
