@@ -24,6 +24,7 @@ pub mod ObjectCauseLemmas
 pub mod BuildLemmas
 pub mod FoundLemmas
 pub mod ExecLemmas
+pub mod ExecOfSourceLemmas
 pub mod AskedLemmas
 pub mod MiddleLemmas
 pub mod PlanLemmas

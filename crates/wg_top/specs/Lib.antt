@@ -11,3 +11,4 @@ pub mod Objects
 pub mod Shown
 pub mod Sample
 pub mod Ends
+pub mod ExecOfSource

@@ -3,7 +3,7 @@
 
 ghost use Rattle.std.specs.Prelude.{◌≡◌, ◌⊎◌, List, map, string_bytes};
 ghost use Rattle.command_words.specs.Command.{Files, Request, run, TakesWords, files_of, request_of};
-ghost use Rattle.command_words.specs.Command.{build_of, object_of};
+ghost use Rattle.command_words.specs.Command.{ObjectFiles, exec, build_of, object_of};
 ghost use Rattle.launch_file.specs.Texts.{Text};
 ghost use Rattle.wg_outside.specs.Counts.{Rose};
 ghost use Rattle.wg_top.specs.Causes.{AcceptedClean, HasLoops};
@@ -12,6 +12,7 @@ ghost use Rattle.cl_meaning.specs.Typed.{Unit'};
 ghost use Rattle.wg_top.specs.Ends.{sink_standing, outside, AreWords, Ends, EndsShowing, EndsSample, EndsClean};
 ghost use Rattle.wg_top.specs.Ends.{EndsAsked, AcceptedFor, FindsFor, NoStoreFault, EndsSaying, KeepsOut, SaysLine};
 ghost use Rattle.wg_top.specs.Ends.{usage_line, EndsUnasked, EndsBuilding, EndsExec};
+ghost use Rattle.wg_top.specs.ExecOfSource.{IsExecOfSource};
 ghost use Rattle.wg_top.specs.Shown.{showing};
 ghost use Rattle.wg_top.specs.Lines.{status_of};
 
@@ -346,6 +347,12 @@ pub fn wgcc<S: Store, O: Sink, E: Sink>(
         (Rose (S.faults store.old) (S.faults store.new) → ⊥) →
         (Rose (O.faults out.old) (O.faults out.new) → ⊥) →
         EndsClean (S.files store.old) (S.files store.new) text units result }
+
+    // Where a source is compiled to the object that is run: what `run` does with that source.
+    ensures built { (ask : ObjectFiles) → AreWords (map string_bytes words.now) (exec ask) → IsExecOfSource
+        (outside S.files S.faults S.misses O.written O.faults E.written E.faults store.old out.old err.old)
+        (outside S.files S.faults S.misses O.written O.faults E.written E.faults store.new out.new err.new)
+        ask result }
 {
     match read_words(alloc, words) {
         Ok(asked) => do_words(alloc, asked, store, out, err),

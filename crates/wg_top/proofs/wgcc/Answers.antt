@@ -1,11 +1,12 @@
 use Rattle.std.proofs.Common.{map, inl, inr, refl, string_bytes}
-use Rattle.command_words.specs.Command.{Request, run, request_of}
+use Rattle.command_words.specs.Command.{Request, run, exec, request_of}
 use Rattle.wg_top.specs.Ends.{Outside, outside, EndsSaying, usage_line}
 use Rattle.wg_top.proofs.EndLemmas.{asked_failed, asked_absent, asked_no_save, asked_quiet, asked_line, asked_out}
 use Rattle.wg_top.proofs.EndLemmas.{asked_no_usage, asked_memory}
 use Rattle.wg_top.proofs.WordLemmas.{as_asked}
 use Rattle.wg_top.proofs.CompleteLemmas.{ends_clean, ends_loops}
 use Rattle.wg_top.proofs.AskedLemmas.{asked_complete, asked_exact}
+use Rattle.wg_top.proofs.ExecOfSourceLemmas.{exec_of_source}
 use Rattle.wg_top.proofs.wgcc.Goals as goal
 
 pub returns-in-Ok-clause-ends : goal.returns-in-Ok-clause-ends
@@ -123,6 +124,16 @@ returns-in-Ok-clause-looped g c =
     λ ask given seven. ends_loops old new ask c.do_words.result (as_asked old new (map string_bytes c.args.words.now)
     request (run ask) c.do_words.result c.in-Ok.ensures.asked given.asks c.do_words.ensures) seven
 
+pub returns-in-Ok-clause-built : goal.returns-in-Ok-clause-built
+returns-in-Ok-clause-built g c =
+    let old : Outside = (outside g.S.Store.files g.S.Store.faults g.S.Store.misses g.O.Sink.written g.O.Sink.faults
+    g.E.Sink.written g.E.Sink.faults c.args.store.now c.args.out.now c.args.err.now) in
+    let new : Outside = (outside g.S.Store.files g.S.Store.faults g.S.Store.misses g.O.Sink.written g.O.Sink.faults
+    g.E.Sink.written g.E.Sink.faults c.do_words.new.store c.do_words.new.out c.do_words.new.err) in
+    let request : Request = request_of c.in-Ok.asked in
+    λ ask given. exec_of_source old new ask c.do_words.result (as_asked old new (map string_bytes c.args.words.now)
+    request (exec ask) c.do_words.result c.in-Ok.ensures.asked given.asks c.do_words.ensures)
+
 pub returns-in-Ok-clause-exact : goal.returns-in-Ok-clause-exact
 returns-in-Ok-clause-exact g c =
     let old : Outside = (outside g.S.Store.files g.S.Store.faults g.S.Store.misses g.O.Sink.written g.O.Sink.faults
@@ -148,6 +159,21 @@ returns-in-Err-Memory-clause-ends g c =
       out_stays = refl;
       said = c.say_error.ensures.said;
     })
+
+pub returns-in-Err-Memory-clause-built : goal.returns-in-Err-Memory-clause-built
+returns-in-Err-Memory-clause-built g c =
+    let old : Outside = (outside g.S.Store.files g.S.Store.faults g.S.Store.misses g.O.Sink.written g.O.Sink.faults
+    g.E.Sink.written g.E.Sink.faults c.args.store.now c.args.out.now c.args.err.now) in
+    let new : Outside = (outside g.S.Store.files g.S.Store.faults g.S.Store.misses g.O.Sink.written g.O.Sink.faults
+    g.E.Sink.written g.E.Sink.faults c.args.store.now c.args.out.now c.say_error.new.sink) in
+    λ ask given. exec_of_source old new ask 8 (asked_memory old new (exec ask) (record {
+      store_stays = refl;
+      out_stays = refl;
+      said = c.say_error.ensures.said;
+    }))
+
+pub returns-in-Err-Usage-clause-built : goal.returns-in-Err-Usage-clause-built
+returns-in-Err-Usage-clause-built g c = λ ask given. absurd (c.read_words.ensures.usage (cc) given.taken)
 
 pub returns-in-Err-Usage-clause-complete : goal.returns-in-Err-Usage-clause-complete
 returns-in-Err-Usage-clause-complete g c =
