@@ -145,7 +145,10 @@ bracket_rows = (
   (tt, tt),
   (
     (tt, tt),
-    ((refl, tt), ((refl, tt), ((refl, tt), ((refl, tt), ((tt, tt), ((tt, tt), ((tt, tt), ((tt, tt), ((refl, tt), tt))))))))),
+    (
+      (refl, tt),
+      ((refl, tt), ((refl, tt), ((refl, tt), ((tt, tt), ((tt, tt), ((tt, tt), ((tt, tt), ((refl, tt), tt)))))))),
+    ),
   ),
 )
 

@@ -197,8 +197,7 @@ refused_or_unit source defines condition place (no_unit tokens expanded at reads
 refused_or_unit source defines condition place (too_deep tokens expanded at reads none deeper is placed) u =
     none expanded u.0 (continues_itself expanded at) (subst (λ (ts : List Token). SpellsUnit u.0 ts)
     (one_reading source defines u.2.read.0 tokens u.1 expanded u.2.read.1 reads) u.2.spelled) u.2.nests
-refused_or_unit source defines condition place (no_component tokens expanded unit at reads spelled nests first is placed)
-    u =
+refused_or_unit source defines condition place (no_component tokens expanded unit at reads spelled nests first is p) u =
     let same : u.0 ≡ unit = same_unit expanded u.0 unit (subst (λ (ts : List Token). SpellsUnit u.0 ts)
     (one_reading source defines u.2.read.0 tokens u.1 expanded u.2.read.1 reads) u.2.spelled) spelled in
     found_or_plain unit at first (subst (λ (t : Syntax). has_selection t ≡ false) same u.2.plain)

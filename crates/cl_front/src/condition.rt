@@ -5,8 +5,8 @@ ghost use Rattle.cl_front.specs.Conditions.{number_of, text_of, text_of_unit};
 
 use cl_meaning::Fault;
 
-/// A condition that refuses a source: of its bytes, its macros, its grammar, its vectors, or its unit (OpenCL 1.2, chapter 6; C99,
-/// sections 6.4 to 6.10).
+/// A condition that refuses a source: of its bytes, its macros, its grammar, its vectors, or its unit (OpenCL 1.2,
+/// chapter 6; C99, sections 6.4 to 6.10).
 #[derive(Clone, Copy, PartialEq, Eq, Debug)]
 pub enum Condition {
     /// E101: no token, blank or comment begins.

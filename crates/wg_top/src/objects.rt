@@ -1,5 +1,6 @@
 // Object files: `build` saves one, and `exec` runs one.
-ghost use Rattle.std.specs.Prelude.{◌≡◌, ◌≤◌, ℕ, List, Bool, false, true, All, IsTrue, ◌↔◌, IfOk, IfErr, length, map, sum};
+ghost use Rattle.std.specs.Prelude.{◌≡◌, ◌≤◌, ℕ, List, Bool, false, true, All, IsTrue, ◌↔◌, IfOk, IfErr, length};
+ghost use Rattle.std.specs.Prelude.{map, sum};
 ghost use Rattle.wg_num.specs.Operators.{lanes_of};
 ghost use Rattle.wg_outside.specs.Files.{KeepsOthers};
 ghost use Rattle.cl_tree.specs.Selections.{has_selection};
