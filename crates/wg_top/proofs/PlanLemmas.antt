@@ -27,7 +27,8 @@ plan_text_in u width p text valid correct is = record {
   lines = is;
   meaning = subst (AreLinesOf (program_of u) (names_in u) (crossing_of (program_of u))) (sym is)
       (lines_meant (program_of u) (names_in u) (kernel_in u) (plan_in u) correct.homes correct.lowered.cells valid);
-  once = crossing_differ (program_of u) (names_in u) (kernel_in u) (plan_in u) correct.homes correct.lowered.cells valid;
+  once = crossing_differ (program_of u) (names_in u) (kernel_in u) (plan_in u) correct.homes correct.lowered.cells
+      valid;
 }
 
 -- and so are those of a compiled kernel
