@@ -8,8 +8,8 @@ use Rattle.command_words.specs.declared.FileWords.{FileWords}
 use Rattle.command_words.specs.declared.BuildWords.{BuildWords}
 use Rattle.command_words.specs.declared.ObjectWords.{ObjectWords}
 use Rattle.command_words.specs.declared.Words.{Words}
-use Rattle.command_words.specs.declared.Words.TheVariants.{Run, Plan, Code, Sample, Build, Exec}
-use Rattle.clap.specs.declared.builder.action.ArgAction.TheVariants.{Set}
+use Rattle.command_words.specs.declared.Words.TheVariants.{Run, Cached, Plan, Code, Sample, Build, Exec}
+use Rattle.clap.specs.declared.builder.action.ArgAction.TheVariants.{Set, SetTrue}
 use Rattle.clap.specs.declared.builder.command.Command.{Command}
 use Rattle.clap.specs.declared.builder.command.Command.TheViews.{out-Command}
 use Rattle.clap.specs.declared.builder.value_parser.ValueParser.TheVariants as vp
@@ -28,10 +28,18 @@ abbrev pub number : Text → Rule
 number name =
     record (new_rule name) { required = true; action = Some Set; parser = Some (vp.Signed (pos 0) (pos 4294967295)) }
 
+-- a flag
+abbrev pub flag : Text → Rule
+flag name = record (new_rule name) { long = Some name; action = Some SetTrue }
+
 -- run SOURCE LAUNCH [--lanes N] [--turns N]
-abbrev pub run_app : App
-run_app = with_rule (with_rule (with_rule (with_rule (new_app (codes "run")) (argument (codes "SOURCE")))
+abbrev pub uncached_app : App
+uncached_app = with_rule (with_rule (with_rule (with_rule (new_app (codes "run")) (argument (codes "SOURCE")))
     (argument (codes "LAUNCH"))) (option (codes "lanes"))) (option (codes "turns"))
+
+-- the same with [--cache]
+abbrev pub run_app : App
+run_app = with_rule uncached_app (flag (codes "cache"))
 
 -- plan SOURCE LAUNCH
 abbrev pub plan_app : App
@@ -119,6 +127,8 @@ pub record ObjectFiles : Type 0 where
 -- what is asked for
 pub data Request : Type 0 where
   run : (files : Files) → Request
+  -- a run with the cache
+  cached : (files : Files) → Request
   plan : (files : Files) → Request
   code : (files : Files) → Request
   sample : (number : ℕ) → Request
@@ -138,6 +148,7 @@ object_of w = record { object = w.object.now; launch = w.launch.now; turns = w.t
 -- the plain view of what is asked for
 abbrev pub request_of : Words → Request
 request_of (Run files) = run (files_of files)
+request_of (Cached files) = cached (files_of files)
 request_of (Plan files) = plan (files_of files)
 request_of (Code files) = code (files_of files)
 request_of (Sample n) = sample n
@@ -162,9 +173,14 @@ pub record NamesObject (rows : List Row) (files : ObjectFiles) : Type 0 where
   pub launch : first_of (codes "LAUNCH") rows ≡ Some files.launch
   pub turns : IsNumberAt (codes "turns") rows files.turns
 
+-- a flag is given
+abbrev pub HasFlag : Text → List Row → Type 0
+HasFlag id rows = first_of id rows ≡ Some (codes "true")
+
 -- a command by its name and its rows
 abbrev pub IsAsked : Text → List Row → Request → Type 0
-IsAsked name rows (run files) = (name ≡ codes "run") × NamesFiles rows files
+IsAsked name rows (run files) = (name ≡ codes "run") × NamesFiles rows files × (HasFlag (codes "cache") rows → ⊥)
+IsAsked name rows (cached files) = (name ≡ codes "run") × NamesFiles rows files × HasFlag (codes "cache") rows
 IsAsked name rows (plan files) = (name ≡ codes "plan") × NamesFiles rows files
 IsAsked name rows (code files) = (name ≡ codes "code") × NamesFiles rows files
 IsAsked name rows (sample n) = (name ≡ codes "sample") × IsNumberAt (codes "NUMBER") rows (Some n)

@@ -1,13 +1,14 @@
 //! The command line: the words that the program takes, as `clap` reads them, and what they say.
 #![tactic(auto)]
 
-ghost use Rattle.std.specs.Prelude.{◌≡◌, [], map, false, string_bytes, Err, Some};
-ghost use Rattle.std.specs.Prelude.{IfOk, IfSome, option_map};
+ghost use Rattle.std.specs.Prelude.{◌≡◌, ◌↔◌, [], map, false, string_bytes, Err, Some};
+ghost use Rattle.std.specs.Prelude.{IfOk, IfSome, IsTrue, codes, option_map};
 ghost use Rattle.clap.specs.Words.{rule_of, subcommand_of, subcommand_rows_of, first_of, rows_of, found_of};
-ghost use Rattle.command_words.specs.Command.{argument, option, number, run_app, plan_app, code_app, sample_app};
+ghost use Rattle.command_words.specs.Command.{argument, option, number, flag, run_app, plan_app, code_app, sample_app};
 ghost use Rattle.command_words.specs.Command.{build_app, exec_app, NamesBuild, NamesObject, build_of, object_of};
-ghost use Rattle.command_words.specs.Command.{bare_app, wgcc_app, IsCommandOf, TakesWords, IsNumberFound, IsNumberAt};
-ghost use Rattle.command_words.specs.Command.{NamesFiles, IsAsked, Asks, AskFor, files_of, request_of};
+ghost use Rattle.command_words.specs.Command.{uncached_app, bare_app, wgcc_app, IsCommandOf, TakesWords};
+ghost use Rattle.command_words.specs.Command.{IsNumberFound, IsNumberAt};
+ghost use Rattle.command_words.specs.Command.{NamesFiles, HasFlag, IsAsked, Asks, AskFor, files_of, request_of};
 
 use clap::error::ErrorKind;
 use clap::{Arg, ArgAction, ArgMatches, Command, value_parser};
@@ -44,14 +45,29 @@ fn number<'a>(alloc: Global, name: &'a str) -> Arg<'a>
         .value_parser(value_parser!(u32))
 }
 
-fn run_command<'a>(alloc: Global) -> Result<Command<'a>, AllocError>
-    ensures { IfOk result (IsCommandOf run_app) }
+// A flag, which has no value of its own.
+fn flag<'a>(alloc: Global, name: &'a str) -> Arg<'a>
+    ensures rule { rule_of result ≡ flag name.entry.now }
+    ensures local { result.global ≡ false }
+{
+    Arg::new(alloc, name).long(name).action(ArgAction::SetTrue)
+}
+
+// `run` without its flag.
+fn uncached_command<'a>(alloc: Global) -> Result<Command<'a>, AllocError>
+    ensures { IfOk result (IsCommandOf uncached_app) }
 {
     Command::new(alloc, "run")
         .arg(argument(alloc, "SOURCE"))?
         .arg(argument(alloc, "LAUNCH"))?
         .arg(option(alloc, "lanes"))?
         .arg(option(alloc, "turns"))
+}
+
+fn run_command<'a>(alloc: Global) -> Result<Command<'a>, AllocError>
+    ensures { IfOk result (IsCommandOf run_app) }
+{
+    uncached_command(alloc)?.arg(flag(alloc, "cache"))
 }
 
 fn plan_command<'a>(alloc: Global) -> Result<Command<'a>, AllocError>
@@ -167,6 +183,8 @@ pub struct ObjectWords<'a> {
 pub enum Words<'a> {
     /// `run SOURCE LAUNCH [--lanes N] [--turns N]`
     Run(FileWords<'a>),
+    /// `run SOURCE LAUNCH [--lanes N] [--turns N] --cache`
+    Cached(FileWords<'a>),
     /// `plan SOURCE LAUNCH`
     Plan(FileWords<'a>),
     /// `code SOURCE LAUNCH [--lanes N]`
@@ -256,6 +274,28 @@ fn file_words<'a>(matches: &ArgMatches<'a>) -> Option<FileWords<'a>>
     })
 }
 
+// Whether a flag is given.
+fn is_given(matches: &ArgMatches<'_>, id: &str) -> bool
+    ensures { IsTrue result ↔ HasFlag id.now (rows_of (found_of matches.now)) }
+{
+    match text_at(matches, id) {
+        Some(text) => text == "true",
+        None => false,
+    }
+}
+
+// What `run` asks for, with the flag and without.
+fn run_words<'a>(matches: &ArgMatches<'a>) -> Option<Words<'a>>
+    ensures { IfSome result (λ w. IsAsked (codes "run") (rows_of (found_of matches.now)) (request_of w)) }
+{
+    let files = file_words(matches)?;
+    if is_given(matches, "cache") {
+        Some(Words::Cached(files))
+    } else {
+        Some(Words::Run(files))
+    }
+}
+
 fn build_words<'a>(matches: &ArgMatches<'a>) -> Option<BuildWords<'a>>
     ensures { IfSome result (λ w. NamesBuild (rows_of (found_of matches.now)) (build_of w)) }
 {
@@ -307,10 +347,7 @@ fn command_of<'a>(name: &str, matches: &ArgMatches<'a>) -> Option<Words<'a>>
     ensures { IfSome result (λ w. IsAsked name.now (rows_of (found_of matches.now)) (request_of w)) }
 {
     if name == "run" {
-        return match file_words(matches) {
-            Some(files) => Some(Words::Run(files)),
-            None => None,
-        };
+        return run_words(matches);
     }
     if name == "plan" {
         return match file_words(matches) {

@@ -23,6 +23,7 @@ number_of refusal.Lanes = 15
 number_of refusal.Turns = 16
 number_of refusal.Launches = 17
 number_of refusal.OtherKernel = 18
+number_of refusal.SavedUnderCacheName = 19
 
 -- the text that is printed behind the number
 abbrev pub text_of : Refusal → List ℕ
@@ -44,3 +45,4 @@ text_of refusal.Lanes = codes "lanes"
 text_of refusal.Turns = codes "turns"
 text_of refusal.Launches = codes "launches"
 text_of refusal.OtherKernel = codes "other kernel"
+text_of refusal.SavedUnderCacheName = codes "saved under a cache name"

@@ -42,10 +42,12 @@ pub enum Refusal {
     Launches,
     /// L18: a launch names another kernel than the object file holds.
     OtherKernel,
+    /// L19: a buffer is saved under a name of the compile cache.
+    SavedUnderCacheName,
 }
 
 impl Refusal {
-    /// The number that is printed behind `L`, 1 to 18.
+    /// The number that is printed behind `L`, 1 to 19.
     pub fn number(self) -> u16
         ensures { result ≡ number_of self }
     {
@@ -68,6 +70,7 @@ impl Refusal {
             Refusal::Turns => 16,
             Refusal::Launches => 17,
             Refusal::OtherKernel => 18,
+            Refusal::SavedUnderCacheName => 19,
         }
     }
 
@@ -94,6 +97,7 @@ impl Refusal {
             Refusal::Turns => b"turns",
             Refusal::Launches => b"launches",
             Refusal::OtherKernel => b"other kernel",
+            Refusal::SavedUnderCacheName => b"saved under a cache name",
         }
     }
 }
