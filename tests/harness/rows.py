@@ -24,11 +24,16 @@ def commands_of(folder):
     return [line.split() for line in lines] or [[]]
 
 
+def takes_lanes(words):
+    """Whether a command takes a number of lanes and names none."""
+    return words[:1] in (['run'], ['build']) and len(words) > 2 and '--lanes' not in words
+
+
 def at_lanes(commands, lanes):
-    """The commands with that number of lanes, where one that takes lanes names none and a launch is run by the last."""
-    first, last = commands[0], commands[-1]
-    takes = first[:1] in (['run'], ['build']) and len(first) > 2 and '--lanes' not in first
-    return [first + ['--lanes', lanes], *commands[1:]] if takes and last[:1] in (['run'], ['exec']) else None
+    """The commands with that number of lanes, where the first takes one and names none and a launch is run by the last."""
+    if not takes_lanes(commands[0]) or commands[-1][:1] not in (['run'], ['exec']):
+        return None
+    return [words + ['--lanes', lanes] if takes_lanes(words) else words for words in commands]
 
 
 def all_commands(folder):
@@ -38,10 +43,10 @@ def all_commands(folder):
 
 
 def by_object(folder, files, status):
-    """The commands that build the kernel of a run and run its object file; none where it ends before its launches run
-    or these name several kernels."""
+    """The commands that build the kernel of a run and run its object file; none where it ends before its launches run,
+    these name several kernels or the run keeps what it compiles."""
     words = commands_of(folder)[-1]
-    if words[:1] != ['run'] or status not in (0, 5, 6, 7) or len(set(KERNEL.findall(files.get(words[2], b'')))) != 1:
+    if words[:1] != ['run'] or '--cache' in words or status not in (0, 5, 6, 7) or len(set(KERNEL.findall(files.get(words[2], b'')))) != 1:
         return []
     turns = words.index('--turns') if '--turns' in words else len(words)
     lanes = words.index('--lanes') if '--lanes' in words else len(words)

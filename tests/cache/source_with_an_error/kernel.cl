@@ -1,0 +1,1 @@
+__kernel void inc(__global int *a) { b[0] = 1; }
