@@ -49,7 +49,7 @@ eight_long : (n : ℕ) → length (eight n) ≡ 8
 unfolding eight
 eight_long n = refl
 
-word_long : (word rest : List ℕ) → length (word_text word ++ rest) ≡ 8 + length word + length rest
+pub word_long : (word rest : List ℕ) → length (word_text word ++ rest) ≡ 8 + length word + length rest
 word_long word rest =
     let e = eight_long (length word) in
     omega (arith, length-append (word_text word) rest, length-append (eight (length word)) word, e)

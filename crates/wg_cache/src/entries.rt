@@ -7,6 +7,7 @@ ghost use Rattle.wg_outside.specs.Files.{LacksFile, HasSaved, KeepsOthers};
 ghost use Rattle.wg_object.specs.Plain.{PlainObject};
 ghost use Rattle.wg_object.specs.View.{object_of};
 ghost use Rattle.wg_object.specs.Text as texts;
+ghost use Rattle.wg_object.specs.Valid.{IsEight};
 ghost use Rattle.wg_cache.specs.Entries.{IsEntryOf, HasEntry, LacksEntry, IsFile};
 
 use crate::puts::{eight, put, put_word};
@@ -112,6 +113,7 @@ pub fn find<S: Store>(alloc: Global, store: &mut S, key: &Key) -> Result<Option<
 pub fn entry(alloc: Global, key: &Key, object: &Object) -> Result<Entry, Memory>
     ensures bytes { IfOk result (λ e. IsEntryOf e.bytes.items key.now.bytes.items (object_of object.now)) }
     ensures name { IfOk result (λ e. e.name ≡ key.now.name) }
+    ensures short { IfOk result (λ e. IsEight (length e.bytes.items)) }
 {
     let text = encode(alloc, object)?;
     let name = key.name.copy(alloc)?;

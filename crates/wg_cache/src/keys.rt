@@ -1,9 +1,9 @@
 //! The key of a kernel.
 
-ghost use Rattle.std.specs.Prelude.{◌≡◌, ◌++◌, ◌∷◌, [], OnOk, IfOk, IsUtf8};
+ghost use Rattle.std.specs.Prelude.{◌≡◌, ◌↔◌, ◌++◌, ◌∷◌, [], OnOk, IfOk, IsUtf8, IsTrue};
 ghost use Rattle.wg_num.specs.Operators as operators;
 ghost use Rattle.wg_object.specs.Text as texts;
-ghost use Rattle.wg_cache.specs.Keys.{key_bytes, key_name, define_text};
+ghost use Rattle.wg_cache.specs.Keys.{key_bytes, key_name, define_text, IsCacheName};
 
 use crate::puts::{eight, put, put_word};
 use crate::types::Key;
@@ -11,6 +11,9 @@ use cl_prep::{Define, Defines};
 use sha2::{Digest, Sha256};
 use std::alloc::Global;
 use wg_num::{Memory, Width, Word, lanes_of};
+
+/// What each name of a cache file begins with.
+const PREFIX: &str = "wgcc-cache-";
 
 /// Puts a number that is given for a name.
 fn put_define(out: &mut Vec<u8>, define: &Define) -> Result<(), Memory>
@@ -55,7 +58,7 @@ fn name_of(alloc: Global, key: &[u8]) -> Result<Word, Memory>
         return Err(Memory);
     };
     let mut text = Vec::new(alloc);
-    put(&mut text, "wgcc-cache-".as_bytes())?;
+    put(&mut text, PREFIX.as_bytes())?;
     put(&mut text, digits.as_bytes())?;
     Word::new(alloc, &text)
 }
@@ -95,4 +98,11 @@ pub fn key(
     let bytes = bytes_of(alloc, source, &defines.list, kernel, width)?;
     let name = name_of(alloc, &bytes)?;
     Ok(Key { name, bytes })
+}
+
+/// Whether a name begins as the names of cache files do.
+pub fn is_cache_name(name: &Word) -> bool
+    ensures { IsTrue result ↔ IsCacheName name.now }
+{
+    name.bytes().strip_prefix(PREFIX.as_bytes()).is_some()
 }

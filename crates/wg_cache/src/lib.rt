@@ -8,6 +8,6 @@ mod puts;
 mod types;
 
 pub use entries::{entry, find, keep};
-pub use keys::key;
+pub use keys::{is_cache_name, key};
 pub use laws::{entry_law, key_law, name_law};
 pub use types::{Entry, Key};
