@@ -3,7 +3,7 @@ use Rattle.std.proofs.Common.{◌≡◌, ℕ, List, Option, Some, None, inl, inr
 use Rattle.std.specs.Prelude.{◌⊎◌, is_some, true}
 use Rattle.wg_outside.specs.Counts.{Rose}
 use Rattle.wg_outside.specs.Files.{FileMap}
-use Rattle.command_words.specs.Command.{Files, Request, run, plan, code, sample, build, exec}
+use Rattle.command_words.specs.Command.{Files, Request, run, cached, plan, code, sample, build, exec}
 use Rattle.launch_file.specs.Texts.{Text}
 use Rattle.cl_meaning.specs.Typed.{Unit'}
 use Rattle.wg_top.specs.declared.RunError.{RunError}
@@ -17,6 +17,7 @@ use Rattle.wg_top.specs.Ends.{FindsFor, NoStoreFault}
 use Rattle.wg_top.proofs.CauseLemmas.{reading_cause}
 use Rattle.wg_top.proofs.BuildLemmas.{build_complete, build_exact}
 use Rattle.wg_top.proofs.ExecLemmas.{exec_complete, exec_exact}
+use Rattle.wg_top.proofs.HonestEndLemmas.{cached_complete, cached_exact}
 use Rattle.wg_top.proofs.CompleteLemmas.{none_found, not_failed, run_complete, ends_complete}
 use Rattle.wg_top.proofs.ExactLemmas.{lacks_loaded, launch_differs, source_differs, no_status, refusal, ends_exact}
 
@@ -145,6 +146,7 @@ pub asked_complete : (old new : Outside) (request : Request) (n : ℕ) → EndsA
     AcceptedFor old.store.files request → NoStoreFault request old.store.faults new.store.faults →
     (Rose old.out.faults new.out.faults → ⊥) → (n ≡ 0) ⊎ (n ≡ 8)
 asked_complete old new (run ask) n ends all quiet out_quiet = ends_complete old new ask n ends all quiet out_quiet
+asked_complete old new (cached ask) n ends all quiet out_quiet = cached_complete old new ask n ends all quiet out_quiet
 asked_complete old new (plan ask) n ends all quiet out_quiet =
     shown_complete old new ask plan_shown all.0 all.1 n ends all.2 quiet out_quiet
 asked_complete old new (code ask) n ends all quiet out_quiet =
@@ -161,6 +163,8 @@ pub asked_exact : (old new : Outside) (request : Request) (e : RunError) (n : �
     (n ≡ 8)
 asked_exact old new (run ask) e n ends finds quiet =
     ends_exact old new old.store.files ask e n refl finds.0 ends finds.1 quiet
+asked_exact old new (cached ask) e n ends finds quiet =
+    cached_exact old new old.store.files ask e n refl finds.0 ends finds.1 quiet
 asked_exact old new (plan ask) e n ends finds quiet =
     shown_exact old new old.store.files ask plan_shown e n refl finds.0 ends finds.1 quiet
 asked_exact old new (code ask) e n ends finds quiet =

@@ -16,7 +16,7 @@ use Rattle.cl_front.specs.Front.{HasUnit}
 use Rattle.wg_top.specs.Causes.{Standing, HasNoFewer, SourceLoaded, RunRead, StopsIn, RunStops, Cause}
 use Rattle.wg_top.specs.Causes.{ReadingCause, LeavesFiles, SaveStopped, IsRun, IsDone}
 use Rattle.wg_top.specs.Units.{HaveTypedUnits}
-use Rattle.wg_top.specs.Stages.{TextRead, LaunchCause, ProgramCause, BackCause, LeavesOthers}
+use Rattle.wg_top.specs.Stages.{SourceCause, TextRead, LaunchCause, ProgramCause, BackCause, LeavesOthers}
 
 -- counts that stand over two calls
 pub stands_over : (old new : Standing) (faults misses : ℕ) → old.faults ≤ faults → old.misses ≤ misses →
@@ -47,6 +47,14 @@ run_read files ask bytes held text s loaded same read unit are = record {
 pub rose_over : (a b c : ℕ) → a ≤ b → b ≤ c → Rose b c → Rose a c
 rose_over a b c ab bc rose small =
     elim (cases_lt b last_count) [ inl lt ↦ let up : b < c = rose lt in omega arith | inr ge ↦ omega arith ]
+
+-- a refusal while the source is loaded
+pub source_cause : (old new : Standing) (ask : Files) (e : RunError) → SourceCause old new ask.source e →
+    ReadingCause old new ask e
+source_cause old new ask Failed c = c
+source_cause old new ask Absent c = (c.0, inl c.1)
+source_cause old new ask Memory c = tt
+source_cause old new ask _ c = absurd c
 
 -- a refusal while the launch file is read
 pub launch_cause : (old mid new : Standing) (ask : Files) (bytes : List ℕ) (e : RunError) →

@@ -139,7 +139,7 @@ none_lacked files ask text s all lacks = elim lacks [
 ]
 
 -- what was read is what is there
-same_read : (files : Option FileMap) (ask : Files) (text other : Text) (s t : List Unit') →
+pub same_read : (files : Option FileMap) (ask : Files) (text other : Text) (s t : List Unit') →
     IsReadable files ask text s → RunRead files ask other t → (other ≡ text) × (t ≡ s)
 same_read files ask text other s t all read =
     let same : other ≡ text = read_text files ask text other s read.launch_bytes all read.launch_loaded read.reads in
@@ -336,7 +336,7 @@ has_loops files ask number several x = record {
   loops = stopped_loops files x.text x.units number several x.stops;
 }
 
-refused_loops : (old new : Standing) (ask : Files) (e : RunError) (n : ℕ) → n ≡ status_of e → Cause old new ask e →
+pub refused_loops : (old new : Standing) (ask : Files) (e : RunError) (n : ℕ) → n ≡ status_of e → Cause old new ask e →
     n ≡ 7 → HasLoops old.files ask
 refused_loops old new ask Failed n is cause seven = absurd (omega arith)
 refused_loops old new ask Absent n is cause seven = absurd (omega arith)

@@ -7,7 +7,7 @@ use Rattle.wg_top.specs.declared.RunError.TheVariants.{Failed, Absent, Source, L
 use Rattle.wg_top.specs.declared.RunError.TheVariants.{NotObject}
 use Rattle.wg_top.specs.Causes.{Standing, Cause, LeavesFiles}
 use Rattle.wg_top.specs.Lines.{error_line, done_line, sample_line, status_of}
-use Rattle.command_words.specs.Command.{Files, Request, run, plan, code, sample, build, exec}
+use Rattle.command_words.specs.Command.{Files, Request, run, cached, plan, code, sample, build, exec}
 use Rattle.wg_top.specs.Shown.{Showing, plan_shown, code_shown}
 use Rattle.wg_top.specs.Ends.{SinkStanding, Outside, Ends, EndsShowing, EndsSample, EndsAsked, EndsSaying, SaysLine}
 use Rattle.wg_top.specs.Ends.{KeepsOut}
@@ -15,6 +15,8 @@ use Rattle.wg_top.proofs.CauseLemmas.{reading_cause}
 use Rattle.wg_top.proofs.ObjectEndLemmas.{build_failed, build_absent, build_no_save, build_quiet, build_line, build_out}
 use Rattle.wg_top.proofs.ObjectEndLemmas.{build_no_usage, build_memory, exec_failed, exec_absent, exec_no_save}
 use Rattle.wg_top.proofs.ObjectEndLemmas.{exec_quiet, exec_line, exec_out, exec_no_usage, exec_memory}
+use Rattle.wg_top.proofs.CachedEndLemmas.{cached_failed, cached_absent, cached_no_save, cached_quiet, cached_line}
+use Rattle.wg_top.proofs.CachedEndLemmas.{cached_out, cached_no_usage, cached_memory}
 
 -- what a refusal's status says of its cause
 pub status_failed : (old new : Standing) (ask : Files) (e : RunError) (n : ℕ) → n ≡ status_of e →
@@ -283,6 +285,7 @@ sample_no_usage old_out new_out old_err new_err k n ends two = elim ends [
 pub asked_failed : (old new : Outside) (request : Request) (n : ℕ) → EndsAsked old new request n → n ≡ 1 →
     Rose old.store.faults new.store.faults ⊎ Rose old.out.faults new.out.faults
 asked_failed old new (run ask) n ends one = ends_failed old new ask n ends one
+asked_failed old new (cached ask) n ends one = cached_failed old new ask n ends one
 asked_failed old new (plan ask) n ends one = showing_failed old new ask plan_shown n ends one
 asked_failed old new (code ask) n ends one = showing_failed old new ask code_shown n ends one
 asked_failed old new (sample k) n ends one = inr (sample_failed old.out new.out old.err new.err k n ends.1 one)
@@ -292,6 +295,7 @@ asked_failed old new (exec ask) n ends one = exec_failed old new ask n ends one
 pub asked_absent : (old new : Outside) (request : Request) (n : ℕ) → EndsAsked old new request n → n ≡ 9 →
     Rose old.store.misses new.store.misses
 asked_absent old new (run ask) n ends nine = ends_absent old new ask n ends nine
+asked_absent old new (cached ask) n ends nine = cached_absent old new ask n ends nine
 asked_absent old new (plan ask) n ends nine = showing_absent old new ask plan_shown n ends nine
 asked_absent old new (code ask) n ends nine = showing_absent old new ask code_shown n ends nine
 asked_absent old new (sample k) n ends nine = absurd (sample_absent old.out new.out old.err new.err k n ends.1 nine)
@@ -301,6 +305,7 @@ asked_absent old new (exec ask) n ends nine = exec_absent old new ask n ends nin
 pub asked_no_save : (old new : Outside) (request : Request) (n : ℕ) → EndsAsked old new request n → (n ≡ 0 → ⊥) →
     (n ≡ 1 → ⊥) → new.store.files ≡ old.store.files
 asked_no_save old new (run ask) n ends a b = ends_no_save old new ask n ends a b
+asked_no_save old new (cached ask) n ends a b = cached_no_save old new ask n ends a b
 asked_no_save old new (plan ask) n ends a b = showing_stays old new ask plan_shown n ends
 asked_no_save old new (code ask) n ends a b = showing_stays old new ask code_shown n ends
 asked_no_save old new (sample k) n ends a b = ap (λ s. s.files) ends.0
@@ -310,6 +315,7 @@ asked_no_save old new (exec ask) n ends a b = exec_no_save old new ask n ends a 
 pub asked_quiet : (old new : Outside) (request : Request) (n : ℕ) → EndsAsked old new request n → n ≡ 0 →
     new.err ≡ old.err
 asked_quiet old new (run ask) n ends zero = ends_quiet old new ask n ends zero
+asked_quiet old new (cached ask) n ends zero = cached_quiet old new ask n ends zero
 asked_quiet old new (plan ask) n ends zero = showing_quiet old new ask plan_shown n ends zero
 asked_quiet old new (code ask) n ends zero = showing_quiet old new ask code_shown n ends zero
 asked_quiet old new (sample k) n ends zero = sample_quiet old.out new.out old.err new.err k n ends.1 zero
@@ -319,6 +325,7 @@ asked_quiet old new (exec ask) n ends zero = exec_quiet old new ask n ends zero
 pub asked_line : (old new : Outside) (request : Request) (n : ℕ) → EndsAsked old new request n → (n ≡ 0 → ⊥) →
     SaysLine old.err new.err
 asked_line old new (run ask) n ends not_done = ends_line old new ask n ends not_done
+asked_line old new (cached ask) n ends not_done = cached_line old new ask n ends not_done
 asked_line old new (plan ask) n ends not_done = showing_line old new ask plan_shown n ends not_done
 asked_line old new (code ask) n ends not_done = showing_line old new ask code_shown n ends not_done
 asked_line old new (sample k) n ends not_done = sample_line_said old.out new.out old.err new.err k n ends.1 not_done
@@ -328,6 +335,7 @@ asked_line old new (exec ask) n ends not_done = exec_line old new ask n ends not
 pub asked_out : (old new : Outside) (request : Request) (n : ℕ) → EndsAsked old new request n → (n ≡ 0 → ⊥) →
     KeepsOut old.out new.out
 asked_out old new (run ask) n ends not_done = ends_out old new ask n ends not_done
+asked_out old new (cached ask) n ends not_done = cached_out old new ask n ends not_done
 asked_out old new (plan ask) n ends not_done = showing_out old new ask plan_shown n ends not_done
 asked_out old new (code ask) n ends not_done = showing_out old new ask code_shown n ends not_done
 asked_out old new (sample k) n ends not_done = sample_out old.out new.out old.err new.err k n ends.1 not_done
@@ -336,6 +344,7 @@ asked_out old new (exec ask) n ends not_done = exec_out old new ask n ends not_d
 
 pub asked_no_usage : (old new : Outside) (request : Request) (n : ℕ) → EndsAsked old new request n → n ≡ 2 → ⊥
 asked_no_usage old new (run ask) n ends two = ends_no_usage old new ask n ends two
+asked_no_usage old new (cached ask) n ends two = cached_no_usage old new ask n ends two
 asked_no_usage old new (plan ask) n ends two = showing_no_usage old new ask plan_shown n ends two
 asked_no_usage old new (code ask) n ends two = showing_no_usage old new ask code_shown n ends two
 asked_no_usage old new (sample k) n ends two = sample_no_usage old.out new.out old.err new.err k n ends.1 two
@@ -389,5 +398,6 @@ asked_memory old new (sample k) saying = (
     out_stays = saying.out_stays;
   })),
 )
+asked_memory old new (cached ask) saying = cached_memory old new ask saying
 asked_memory old new (build ask) saying = build_memory old new ask saying
 asked_memory old new (exec ask) saying = exec_memory old new ask saying

@@ -26,7 +26,7 @@ use Rattle.wg_top.specs.Units.{programs_in}
 use Rattle.wg_top.specs.Units.{bind_refusal}
 use Rattle.wg_top.specs.Launches.{launches_in, LaunchesRan, EndsBehind, EndsSo}
 use Rattle.wg_top.specs.Causes.{Standing, SourceLoaded, LaunchLoaded, RunRead, RunBound, BuffersLoaded, TextRefused}
-use Rattle.wg_top.specs.Causes.{BindRefused, SourceRefused, RunStopped, Finds, Cause, IsDone}
+use Rattle.wg_top.specs.Causes.{BindRefused, SourceRefused, RunStopped, Finds, Cause, HasRun, IsDone}
 use Rattle.wg_top.specs.Lines.{status_of}
 use Rattle.wg_top.specs.Ends.{Outside, Ends}
 use Rattle.wg_top.specs.Outcomes.{models_in}
@@ -359,14 +359,14 @@ found files ask (Turns launch several) finds = (stopped (Turns launch several) f
 found files ask Memory finds = absurd finds
 found files ask NotObject finds = absurd finds
 
--- a run that is done comes to its end
-found_done : (files new : Option FileMap) (ask : Files) (summary : Summary) → IsDone files new ask summary →
-    (f : Found files ask) × (status_at files ask f ≡ 0)
+-- launches that ran come to their end
+found_ran : (files : Option FileMap) (ask : Files) (text : Text) (s : List Unit') (after : List (List ℕ)) →
+    RunRead files ask text s → bind_refusal text s ≡ None → HasRun files text s after → (f : Found files ask) ×
+    (status_at files ask f ≡ 0)
 unfolding status_at
-found_done files new ask summary done = (
-  fits done.text done.units (record { read = done.read; accepted = done.run.accepted }) done.run.run.before
-      done.run.after done.run.run.loaded (launches_ran (programs_in done.text done.units) (models_in done.units)
-      (launches_in done.text) done.run.run.before done.run.after done.run.run.ran),
+found_ran files ask text s after read accepted r = (
+  fits text s (record { read = read; accepted = accepted }) r.before after r.loaded (launches_ran (programs_in text s)
+      (models_in s) (launches_in text) r.before after r.ran),
   refl,
 )
 
@@ -379,13 +379,19 @@ one_status fs ask e d a b =
     sym x.1 ∙ (agree_on fs ask x.0 y.0 ∙ y.1)
 
 -- a run that is done is not refused
-pub no_status : (fs : FileMap) (new : Option FileMap) (ask : Files) (summary : Summary) (e : RunError) →
-    IsDone (Some fs) new ask summary → Finds (Some fs) ask e → ⊥
-no_status fs new ask summary e done finds =
-    let x = found_done (Some fs) new ask summary done in
+pub no_status_ran : (fs : FileMap) (ask : Files) (text : Text) (s : List Unit') (after : List (List ℕ)) (e : RunError) →
+    RunRead (Some fs) ask text s → bind_refusal text s ≡ None → HasRun (Some fs) text s after →
+    Finds (Some fs) ask e → ⊥
+no_status_ran fs ask text s after e read accepted ran finds =
+    let x = found_ran (Some fs) ask text s after read accepted ran in
     let y = found (Some fs) ask e finds in
     let zero : 0 ≡ status_of e = sym x.1 ∙ (agree_on fs ask x.0 y.0 ∙ y.1) in
     (status_above e (status_of e) refl).0 (sym zero)
+
+pub no_status : (fs : FileMap) (new : Option FileMap) (ask : Files) (summary : Summary) (e : RunError) →
+    IsDone (Some fs) new ask summary → Finds (Some fs) ask e → ⊥
+no_status fs new ask summary e done finds =
+    no_status_ran fs ask done.text done.units done.run.after e done.read done.run.accepted done.run.run finds
 
 -- a refusal has the status of what is found, or is want of memory
 pub refusal : (fs : FileMap) (old new : Standing) (ask : Files) (e d : RunError) (n : ℕ) → old.files ≡ Some fs →

@@ -45,7 +45,7 @@ same_needs o n kinds locals sizes = one_needs o.params n.kinds (sum o.locals) n.
 
 module _ (source : List ℕ) (defines : List Define) (kernel : List ℕ) (lanes : ℕ) (o : PlainObject)
     (c : CompilesTo source defines kernel lanes o) where
-  one_run : IsRunFor lanes c.typed (object_runs o)
+  pub one_run : IsRunFor lanes c.typed (object_runs o)
   one_run = record {
     made = c.made;
     group = c.group;

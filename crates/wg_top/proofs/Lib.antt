@@ -4,6 +4,7 @@ pub mod ProgramsLemmas
 pub mod ProgramLemmas
 pub mod CauseLemmas
 pub mod ObjectEndLemmas
+pub mod CachedEndLemmas
 pub mod EndLemmas
 pub mod CompleteLemmas
 pub mod ShapeLemmas
@@ -21,6 +22,10 @@ pub mod RunLemmas
 pub mod ExactLemmas
 pub mod ObjectLemmas
 pub mod ObjectCauseLemmas
+pub mod CachedLemmas
+pub mod CachedCauseLemmas
+pub mod HonestLemmas
+pub mod HonestEndLemmas
 pub mod BuildLemmas
 pub mod FoundLemmas
 pub mod ExecLemmas

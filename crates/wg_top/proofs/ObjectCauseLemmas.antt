@@ -2,6 +2,7 @@
 use Rattle.std.proofs.Common.{◌≡◌, ℕ, List, [], Option, Some, None, inl, inr, refl, sym, ◌∙◌, ap, subst}
 use Rattle.wg_outside.specs.Files.{FileMap, HasFileStart, LacksFile, HasSaved, KeepsOthers, told_file}
 use Rattle.buffer_io.specs.Loads.{LacksOneFile}
+use Rattle.cl_prep.specs.declared.prep.Define.{Define}
 use Rattle.command_words.specs.Command.{BuildFiles, ObjectFiles}
 use Rattle.launch_file.specs.Binding.{loads_of}
 use Rattle.launch_file.specs.Texts.{Text}
@@ -13,7 +14,7 @@ use Rattle.wg_top.specs.declared.RunError.TheVariants.{Failed, Absent, Source, L
 use Rattle.wg_top.specs.declared.RunError.TheVariants.{NotObject}
 use Rattle.wg_top.specs.declared.Summary.{Summary}
 use Rattle.wg_top.specs.Causes.{Standing, HasNoFewer, SourceLoaded}
-use Rattle.wg_top.specs.Stages.{TextRead, LaunchCause, KernelCause, ProgramCause}
+use Rattle.wg_top.specs.Stages.{SourceCause, TextRead, LaunchCause, KernelCause, ProgramCause, TypedCause}
 use Rattle.wg_top.specs.Programs.{AreRun, AreStopped, AreSaveStopped, RunsCause, RunsLeave}
 use Rattle.wg_top.specs.Objects.{first_kernel, IsFirstText, FirstCause, IsMadeText, IsBuilt, BuildCause, ObjectLoaded}
 use Rattle.wg_top.specs.Objects.{ExecRead, ExecTaken, ExecStopped, ExecDone, ExecCause, ExecLeaves}
@@ -21,6 +22,14 @@ use Rattle.wg_top.specs.Objects.{TakingCause, NameKernel, runs_each, IsTextFrom}
 use Rattle.wg_top.proofs.CauseLemmas.{rose_over}
 
 -- ---- build
+
+-- a refusal while the source is loaded
+pub build_source_cause : (old new : Standing) (ask : BuildFiles) (e : RunError) → SourceCause old new ask.source e →
+    BuildCause old new ask e
+build_source_cause old new ask Failed c = c
+build_source_cause old new ask Absent c = (c.0, inl c.1)
+build_source_cause old new ask Memory c = tt
+build_source_cause old new ask _ c = absurd c
 
 -- a refusal while the launch file is read
 pub build_launch : (old mid new : Standing) (ask : BuildFiles) (bytes : List ℕ) (e : RunError) →
@@ -247,6 +256,21 @@ refused_first bytes text kernel (Source condition place) first (inl stands) =
 refused_first bytes text kernel (Source condition place) first (inr none) = absurd none
 refused_first bytes text kernel Memory first c = tt
 refused_first bytes text kernel _ first c = absurd c
+
+-- for whatever kernel
+pub stands_typed : (bytes : List ℕ) (text : Text) (kernel : List ℕ) (e : RunError) →
+    ProgramCause bytes (without_launches text) e → TypedCause bytes text.defines kernel e
+stands_typed bytes text kernel (Source condition place) (inl stands) = inl stands
+stands_typed bytes text kernel (Source condition place) (inr none) = absurd none
+stands_typed bytes text kernel Memory c = tt
+stands_typed bytes text kernel _ c = absurd c
+
+-- the fault of a kernel
+pub kernel_typed : (bytes : List ℕ) (defines : List Define) (kernel : List ℕ) (e : RunError) →
+    KernelCause bytes defines kernel e → TypedCause bytes defines kernel e
+kernel_typed bytes defines kernel (Source condition place) c = inr c
+kernel_typed bytes defines kernel Memory c = tt
+kernel_typed bytes defines kernel _ c = absurd c
 
 -- the text of the first launch's kernel
 pub first_is : (bytes : List ℕ) (text : Text) (kernel object : List ℕ) → first_kernel text.list ≡ Some kernel →

@@ -13,7 +13,7 @@ use Rattle.wg_top.specs.Objects.{BuildCause, ExecCause, ExecLeaves}
 use Rattle.wg_top.specs.Ends.{Outside, EndsBuilding, EndsExec, EndsSaying, SaysLine, KeepsOut}
 
 -- a refusal is no success, and no fault of the words
-above : (e : RunError) (n : ℕ) → n ≡ status_of e → (n ≡ 0 → ⊥) × (n ≡ 2 → ⊥)
+pub above : (e : RunError) (n : ℕ) → n ≡ status_of e → (n ≡ 0 → ⊥) × (n ≡ 2 → ⊥)
 above Failed n is = (λ h. omega arith, λ h. omega arith)
 above Absent n is = (λ h. omega arith, λ h. omega arith)
 above (Source condition place) n is = (λ h. omega arith, λ h. omega arith)
@@ -25,7 +25,7 @@ above Memory n is = (λ h. omega arith, λ h. omega arith)
 above NotObject n is = (λ h. omega arith, λ h. omega arith)
 
 -- what a status says
-one_is : (e : RunError) (n : ℕ) → n ≡ status_of e → n ≡ 1 → e ≡ Failed
+pub one_is : (e : RunError) (n : ℕ) → n ≡ status_of e → n ≡ 1 → e ≡ Failed
 one_is Failed n is one = refl
 one_is Absent n is one = absurd (omega arith)
 one_is (Source condition place) n is one = absurd (omega arith)
@@ -36,7 +36,7 @@ one_is (Turns number several) n is one = absurd (omega arith)
 one_is Memory n is one = absurd (omega arith)
 one_is NotObject n is one = absurd (omega arith)
 
-nine_is : (e : RunError) (n : ℕ) → n ≡ status_of e → n ≡ 9 → e ≡ Absent
+pub nine_is : (e : RunError) (n : ℕ) → n ≡ status_of e → n ≡ 9 → e ≡ Absent
 nine_is Failed n is nine = absurd (omega arith)
 nine_is Absent n is nine = refl
 nine_is (Source condition place) n is nine = absurd (omega arith)
@@ -47,7 +47,7 @@ nine_is (Turns number several) n is nine = absurd (omega arith)
 nine_is Memory n is nine = absurd (omega arith)
 nine_is NotObject n is nine = absurd (omega arith)
 
-not_one : (e : RunError) (n : ℕ) → n ≡ status_of e → (n ≡ 1 → ⊥) → e ≡ Failed → ⊥
+pub not_one : (e : RunError) (n : ℕ) → n ≡ status_of e → (n ≡ 1 → ⊥) → e ≡ Failed → ⊥
 not_one e n is other same = other (is ∙ ap status_of same)
 
 -- ---- build

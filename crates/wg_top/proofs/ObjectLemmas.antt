@@ -38,7 +38,7 @@ use Rattle.wg_object.proofs.Together.{program_is}
 use Rattle.wg_top.specs.declared.runnable.Runnable.{Runnable}
 use Rattle.wg_top.specs.Units.{needs_in}
 use Rattle.wg_top.specs.Programs.{Runs, runs_of, HasKinds}
-use Rattle.wg_top.specs.Objects.{CompilesTo, IsTextFrom, needs_of_object, object_runs, runs_each, first_kernel}
+use Rattle.wg_top.specs.Objects.{CompilesTo, needs_of_object, object_runs, runs_each, first_kernel}
 use Rattle.wg_top.proofs.MiddleLemmas.{params_in}
 use Rattle.wg_top.proofs.OutcomeLemmas.{compiled_to, compiled_group, made_of}
 use Rattle.wg_top.proofs.RunLemmas.{numbers_fit, unit_valid}
@@ -149,7 +149,7 @@ module _ (x : Object) (program : Program) (shell : IsShell (object_of x) program
 
 -- ---- the object of a compiled kernel
 
-compiles : (bytes : List ℕ) (defines : List Define) (kernel : List ℕ) (width : ℕ) (c : Compiled) (x : Object) →
+pub compiles : (bytes : List ℕ) (defines : List Define) (kernel : List ℕ) (width : ℕ) (c : Compiled) (x : Object) →
     All HasNumber defines → IsCompilation width c → HasTypedUnit bytes defines kernel (unit_of c.program) →
     c.group.kernel ≡ kernel → x.group ≡ c.group → x.sizes ≡ (needs_in (unit_of c.program)).required →
     sum x.group.locals.items ≡ (needs_in (unit_of c.program)).local_bytes →
@@ -167,18 +167,6 @@ compiles bytes defines kernel width c x numbers passes typed name group sizes lo
       local_bytes = locals;
       sizes = sizes;
     }
-
-pub text_from : (bytes : List ℕ) (defines : List Define) (kernel : List ℕ) (width : ℕ) (c : Compiled) (x : Object)
-    (text : List ℕ) → All HasNumber defines → IsCompilation width c →
-    HasTypedUnit bytes defines kernel (unit_of c.program) → c.group.kernel ≡ kernel → x.group ≡ c.group →
-    x.sizes ≡ (needs_in (unit_of c.program)).required →
-    sum x.group.locals.items ≡ (needs_in (unit_of c.program)).local_bytes → IsObjectOf text (object_of x) →
-    IsTextFrom bytes defines kernel width text
-text_from bytes defines kernel width c x text numbers passes typed name group sizes locals is = record {
-  object = object_of x;
-  compiles = compiles bytes defines kernel width c x numbers passes typed name group sizes locals;
-  is_text = is;
-}
 
 -- the kernel that the first launch names
 pub first_named : (list : List LaunchPart) (part : LaunchPart) → 1 ≤ length list → part ≡ get_or list 0 part →

@@ -50,7 +50,7 @@ compiled_behind bytes defines (p ∷ parts) (v ∷ us) part u are one =
 compiled_behind bytes defines [] (v ∷ us) part u are one = absurd are
 compiled_behind bytes defines (p ∷ parts) [] part u are one = absurd are
 
-refused_behind : (bytes : List ℕ) (defines : List Define) (parts : List Part) (us : List Unit') (part : Part)
+pub refused_behind : (bytes : List ℕ) (defines : List Define) (parts : List Part) (us : List Unit') (part : Part)
     (rest : List Part) (condition : Condition) (place : Place) → HaveTypedUnits bytes defines parts us →
     IsFaulty bytes defines part.kernel condition place →
     IsFirstRefused bytes defines (parts ++ (part ∷ rest)) condition place

@@ -192,7 +192,8 @@ module _ (old new : Standing) (text : Text) (units : List Unit') (rs : List Runs
   compiled : HaveGroupPrograms text.lanes text.list units
   compiled = have_programs text.lanes text.list units rs all
 
-  ran_for : (before after : List (List ℕ)) → HaveRun old.files text rs before after → HasRun old.files text units after
+  pub ran_for : (before after : List (List ℕ)) → HaveRun old.files text rs before after →
+      HasRun old.files text units after
   ran_for before after run =
       has_run old.files text units before after (programs_of rs) (launches_in text) run.loaded like refl run.ran made
       compiled (ran_outcome text units rs all run.room before (loaded_sizes old.files text before run.loaded) after)

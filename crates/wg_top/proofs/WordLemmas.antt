@@ -1,7 +1,7 @@
 -- Words ask for one thing.
 use Rattle.std.proofs.Common.{◌≡◌, ℕ, List, Option, Some, None, get_or, codes, refl, sym, ◌∙◌, ap, subst, arith}
 use Rattle.clap.specs.Words.{Row, Text}
-use Rattle.command_words.specs.Command.{Request, run, plan, code, sample, build, exec, Asks, AskFor}
+use Rattle.command_words.specs.Command.{Request, run, cached, plan, code, sample, build, exec, Asks, AskFor}
 use Rattle.command_words.proofs.RowLemmas.{one_files, one_number, one_build, one_object}
 use Rattle.wg_top.specs.Ends.{Outside, EndsAsked}
 
@@ -107,6 +107,19 @@ one_ask (Some c) (exec f) (sample m) x y = absurd (no_name c.0 _ _ y.0 x.0 sampl
 one_ask (Some c) (exec f) (build g) x y = absurd (no_name c.0 _ _ y.0 x.0 build_exec)
 one_ask (Some c) (build f) (build g) x y = ap build (one_build c.1 f g x.1 y.1)
 one_ask (Some c) (exec f) (exec g) x y = ap exec (one_object c.1 f g x.1 y.1)
+one_ask (Some c) (cached f) (cached g) x y = ap cached (one_files c.1 f g x.1 y.1)
+one_ask (Some c) (cached f) (run g) x y = absurd (y.2 x.2)
+one_ask (Some c) (run f) (cached g) x y = absurd (x.2 y.2)
+one_ask (Some c) (cached f) (plan g) x y = absurd (no_name c.0 _ _ x.0 y.0 run_plan)
+one_ask (Some c) (plan g) (cached f) x y = absurd (no_name c.0 _ _ y.0 x.0 run_plan)
+one_ask (Some c) (cached f) (code g) x y = absurd (no_name c.0 _ _ x.0 y.0 run_code)
+one_ask (Some c) (code g) (cached f) x y = absurd (no_name c.0 _ _ y.0 x.0 run_code)
+one_ask (Some c) (cached f) (sample n) x y = absurd (no_name c.0 _ _ x.0 y.0 run_sample)
+one_ask (Some c) (sample n) (cached f) x y = absurd (no_name c.0 _ _ y.0 x.0 run_sample)
+one_ask (Some c) (cached f) (build g) x y = absurd (no_name c.0 _ _ x.0 y.0 run_build)
+one_ask (Some c) (build g) (cached f) x y = absurd (no_name c.0 _ _ y.0 x.0 run_build)
+one_ask (Some c) (cached f) (exec g) x y = absurd (no_name c.0 _ _ x.0 y.0 run_exec)
+one_ask (Some c) (exec g) (cached f) x y = absurd (no_name c.0 _ _ y.0 x.0 run_exec)
 
 -- how a command ends is how whatever the words ask for ends
 pub as_asked : (old new : Outside) (words : List Text) (a b : Request) (n : ℕ) → AskFor words a → AskFor words b →

@@ -6,7 +6,7 @@ use Rattle.wg_outside.specs.Files.{FileMap}
 use Rattle.wg_outside.specs.Bytes.{AppendsPrefix}
 use Rattle.wg_top.specs.declared.RunError.{RunError}
 use Rattle.wg_top.specs.declared.RunError.TheVariants.{Failed, Absent, Memory}
-use Rattle.command_words.specs.Command.{Files, Request, run, plan, code, sample, TakesWords, AskFor}
+use Rattle.command_words.specs.Command.{Files, Request, run, cached, plan, code, sample, TakesWords, AskFor}
 use Rattle.command_words.specs.Command.{BuildFiles, ObjectFiles, build, exec}
 use Rattle.wg_outside.specs.Files.{KeepsOthers}
 use Rattle.wg_object.specs.Plain.{PlainObject}
@@ -20,6 +20,7 @@ use Rattle.wg_top.specs.Shown.{Showing, plan_shown, code_shown, Shows}
 use Rattle.wg_top.specs.Sample.{sample_files, sample_ask, IsSample, SampleCause}
 use Rattle.wg_top.specs.Objects.{IsBuilt, BuildCause, BuildFinds, BuildAccepted, ExecDone, ExecCause, ExecLeaves}
 use Rattle.wg_top.specs.Objects.{ExecFinds, ExecAccepted}
+use Rattle.wg_top.specs.Cached.{CachedDone, CachedCause, CachedLeaves, CachedFinds, CachedAccepted}
 use Rattle.wg_top.specs.Lines.{IsSaid, built_line, done_line, sample_line, error_line, status_of}
 
 -- a sink at one moment
@@ -93,6 +94,37 @@ Ends old new ask status = EndsDone old new ask status ⊎ EndsUnsaid old new ask
 -- the run of clean launches is done and leaves what every interleaving leaves, or it wants memory and changes no file
 abbrev pub EndsClean : Option FileMap → Option FileMap → Text → List Unit' → (status : ℕ) → Type 0
 EndsClean old new text units status = ((status ≡ 0) × LeavesClean old new text units) ⊎ ((status ≡ 8) × (new ≡ old))
+
+-- a run with the cache is done, and its line is on `out`
+pub record EndsCachedDone (old new : Outside) (ask : Files) (status : ℕ) : Type 0 where
+  pub summary : Summary
+  pub status_is : status ≡ 0
+  pub done : CachedDone old.store.files new.store.files ask summary
+  pub said : Appends old.out.written new.out.written (done_line summary.groups summary.items)
+  pub err_stays : new.err ≡ old.err
+
+-- it is done, and its line could not be put on `out`
+pub record EndsCachedUnsaid (old new : Outside) (ask : Files) (status : ℕ) : Type 0 where
+  pub summary : Summary
+  pub status_is : status ≡ 1
+  pub done : CachedDone old.store.files new.store.files ask summary
+  pub failed : Rose old.out.faults new.out.faults
+  pub part : AppendsPrefix old.out.written new.out.written (done_line summary.groups summary.items)
+  pub said : Says old.err new.err (error_line ask.source Failed)
+
+-- it is refused, with its cause, its status and its line
+pub record EndsCachedRefused (old new : Outside) (ask : Files) (status : ℕ) : Type 0 where
+  pub error : RunError
+  pub status_is : status ≡ status_of error
+  pub cause : CachedCause old.store new.store ask error
+  pub leaves : CachedLeaves old.store new.store ask error
+  pub said : Says old.err new.err (error_line ask.source error)
+  pub out_stays : new.out ≡ old.out
+
+-- how a run with the cache ends, honest files or not
+abbrev pub EndsCached : Outside → Outside → Files → ℕ → Type 0
+EndsCached old new ask status =
+    EndsCachedDone old new ask status ⊎ EndsCachedUnsaid old new ask status ⊎ EndsCachedRefused old new ask status
 
 -- nothing but that line on `err` happens
 pub record EndsSaying (old new : Outside) (line : List ℕ) : Type 0 where
@@ -248,6 +280,7 @@ EndsExec old new ask status =
 -- how a command ends
 abbrev pub EndsAsked : Outside → Outside → Request → ℕ → Type 0
 EndsAsked old new (run ask) status = Ends old new ask status
+EndsAsked old new (cached ask) status = EndsCached old new ask status
 EndsAsked old new (plan ask) status = EndsShowing old new ask plan_shown status
 EndsAsked old new (code ask) status = EndsShowing old new ask code_shown status
 EndsAsked old new (sample number) status =
@@ -258,6 +291,7 @@ EndsAsked old new (exec ask) status = EndsExec old new ask status
 -- what a command loads is there and accepted, and the launches of a run are done; the sample has files of its own
 abbrev pub AcceptedFor : Option FileMap → Request → Type 0
 AcceptedFor files (run ask) = AcceptedRun files ask
+AcceptedFor files (cached ask) = CachedAccepted files ask
 AcceptedFor files (plan ask) = (text : Text) × (units : List Unit') × IsReadable files ask text units
 AcceptedFor files (code ask) = (text : Text) × (units : List Unit') × IsReadable files ask text units
 AcceptedFor files (sample number) = AcceptedRun (Some (sample_files number)) sample_ask
@@ -268,6 +302,7 @@ AcceptedFor files (exec ask) = (text : Text) × (object : PlainObject) × ExecAc
 -- its own
 abbrev pub FindsFor : Option FileMap → Request → RunError → Type 0
 FindsFor files (run ask) error = (is_some files ≡ true) × Finds files ask error
+FindsFor files (cached ask) error = (is_some files ≡ true) × CachedFinds files ask error
 FindsFor files (plan ask) error = (is_some files ≡ true) × ReadingFinds files ask error
 FindsFor files (code ask) error = (is_some files ≡ true) × ReadingFinds files ask error
 FindsFor files (sample number) error = Finds (Some (sample_files number)) sample_ask error
@@ -277,6 +312,7 @@ FindsFor files (exec ask) error = (is_some files ≡ true) × ExecFinds files as
 -- no fault of the store rose, which the sample leaves alone
 abbrev pub NoStoreFault : Request → (old new : ℕ) → Type 0
 NoStoreFault (run ask) old new = Rose old new → ⊥
+NoStoreFault (cached ask) old new = Rose old new → ⊥
 NoStoreFault (plan ask) old new = Rose old new → ⊥
 NoStoreFault (code ask) old new = Rose old new → ⊥
 NoStoreFault (sample number) old new = ⊤

@@ -1,5 +1,11 @@
--- What is known of a launch file that was read, and of its kernels.
-use Rattle.std.specs.Prelude.{◌≡◌, ◌≤◌, All, false, length, map}
+-- What is known of a launch file and of a source that were read, and of their kernels.
+use Rattle.std.specs.Prelude.{◌≡◌, ◌≤◌, ℕ, List, All, false, length, map}
+use Rattle.cl_token.specs.Places.{place_at}
+use Rattle.cl_prep.specs.declared.prep.Define.{Define}
+use Rattle.cl_tree.specs.Syntax.{view}
+use Rattle.cl_front.specs.declared.typing.Source.{Source}
+use Rattle.cl_front.specs.Front.{IsSource}
+use Rattle.cl_front.specs.Typed.{places_of}
 use Rattle.cl_model.specs.Valid.{IsValid}
 use Rattle.cl_check_sound.specs.Erased.{program_of}
 use Rattle.launch_file.specs.Texts.{text_of, part_of}
@@ -26,3 +32,9 @@ pub record IsGiven (given : Given) : Type 0 where
   pub passes : All (IsCompilation (text_of given.text).lanes) given.kernels.items
   pub valid : All (λ c. IsValid (program_of (unit_of c.program))) given.kernels.items
   pub names : map (λ c. c.group.kernel) given.kernels.items ≡ map (λ p. p.kernel) (text_of given.text).list
+
+-- a source that was read from these bytes, with these numbers for names
+pub record IsReadFrom (bytes : List ℕ) (defines : List Define) (source : Source) : Type 0 where
+  pub is : IsSource bytes defines source.tokens.items (view source.unit)
+  pub places : source.places.items ≡ places_of bytes source.tokens.items
+  pub end : source.end ≡ place_at bytes (length bytes)

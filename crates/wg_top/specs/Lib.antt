@@ -8,6 +8,9 @@ pub mod Lines
 pub mod Causes
 pub mod Stages
 pub mod Objects
+pub mod Cached
+pub mod Holding
+pub mod Honest
 pub mod Shown
 pub mod Sample
 pub mod Ends

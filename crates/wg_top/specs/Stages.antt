@@ -7,7 +7,7 @@ use Rattle.launch_file.specs.declared.refusal.Refusal.{Refusal}
 use Rattle.launch_file.specs.Refusals.{Reads, IsRefused}
 use Rattle.launch_file.specs.Binding.{loads_of}
 use Rattle.cl_prep.specs.declared.prep.Define.{Define}
-use Rattle.cl_front.specs.Typed.{IsFaulty}
+use Rattle.cl_front.specs.Typed.{IsFaulty, HasNoTypedUnit}
 use Rattle.launch_file.specs.Texts.{Text, Part}
 use Rattle.wg_top.specs.declared.RunError.{RunError}
 use Rattle.wg_top.specs.declared.RunError.TheVariants.{Failed, Absent, Source, Launch, Range, Parted, Turns, Memory}
@@ -28,6 +28,13 @@ pub record TextUnread (files : Option FileMap) (launch : List ℕ) (lanes turns 
   pub loaded : LaunchLoaded files launch bytes
   pub refused : IsRefused bytes lanes turns refusal
 
+-- the cause of a refusal while the source is loaded
+abbrev pub SourceCause : Standing → Standing → List ℕ → RunError → Type 0
+SourceCause old new source Failed = Rose old.faults new.faults
+SourceCause old new source Absent = Rose old.misses new.misses × LacksFile old.files source
+SourceCause old new source Memory = ⊤
+SourceCause old new source _ = ⊥
+
 -- the cause of a refusal while the launch file is read
 abbrev pub LaunchCause : Standing → Standing → List ℕ → Option ℕ → Option ℕ → RunError → Type 0
 LaunchCause old new launch lanes turns Failed = Rose old.faults new.faults
@@ -47,6 +54,12 @@ abbrev pub KernelCause : List ℕ → List Define → (kernel : List ℕ) → Ru
 KernelCause bytes defines kernel (Source condition place) = IsFaulty bytes defines kernel condition place
 KernelCause bytes defines kernel Memory = ⊤
 KernelCause bytes defines kernel _ = ⊥
+
+-- the same whether the source has a unit or not
+abbrev pub TypedCause : List ℕ → List Define → (kernel : List ℕ) → RunError → Type 0
+TypedCause bytes defines kernel (Source condition place) = HasNoTypedUnit bytes defines kernel condition place
+TypedCause bytes defines kernel Memory = ⊤
+TypedCause bytes defines kernel _ = ⊥
 
 -- the same of the launches' kernels
 abbrev pub KernelsCause : List ℕ → List Define → List Part → RunError → Type 0

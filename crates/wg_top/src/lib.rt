@@ -1,14 +1,17 @@
 //! The top call: from words to a status, from files to files, through all passes of the compiler.
 #![tactic(auto)]
 
-ghost use Rattle.std.specs.Prelude.{◌≡◌, ◌⊎◌, List, map, string_bytes};
+ghost use Rattle.std.specs.Prelude.{◌≡◌, ◌⊎◌, List, map, string_bytes, is_some, true};
 ghost use Rattle.command_words.specs.Command.{Files, Request, run, TakesWords, files_of, request_of};
-ghost use Rattle.command_words.specs.Command.{ObjectFiles, exec, build_of, object_of};
+ghost use Rattle.command_words.specs.Command.{ObjectFiles, exec, cached, build_of, object_of};
 ghost use Rattle.launch_file.specs.Texts.{Text};
 ghost use Rattle.wg_outside.specs.Counts.{Rose};
 ghost use Rattle.wg_top.specs.Causes.{AcceptedClean, HasLoops};
 ghost use Rattle.wg_top.specs.declared.RunError.{RunError};
 ghost use Rattle.cl_meaning.specs.Typed.{Unit'};
+ghost use Rattle.wg_top.specs.Ends.{EndsCached};
+ghost use Rattle.wg_top.specs.Cached.{Honest};
+ghost use Rattle.wg_top.specs.Honest.{WithHonestFiles};
 ghost use Rattle.wg_top.specs.Ends.{sink_standing, outside, AreWords, Ends, EndsShowing, EndsSample, EndsClean};
 ghost use Rattle.wg_top.specs.Ends.{EndsAsked, AcceptedFor, FindsFor, NoStoreFault, EndsSaying, KeepsOut, SaysLine};
 ghost use Rattle.wg_top.specs.Ends.{usage_line, EndsUnasked, EndsBuilding, EndsExec};
@@ -16,6 +19,7 @@ ghost use Rattle.wg_top.specs.ExecOfSource.{IsExecOfSource};
 ghost use Rattle.wg_top.specs.Shown.{showing};
 ghost use Rattle.wg_top.specs.Lines.{status_of};
 
+use crate::cached::run_cached;
 use crate::objects::{build_source, exec_object};
 use crate::sample::{SAMPLE, sample_sum};
 use crate::texts::{Shown, show_source};
@@ -26,6 +30,7 @@ use std::alloc::Global;
 use wg_num::Place;
 use wg_outside::{Failed, Sink, Store};
 
+mod cached;
 mod guard;
 mod launches;
 mod lines;
@@ -130,6 +135,34 @@ fn run_and_say<S: Store, O: Sink, E: Sink>(
         files.lanes,
         files.turns,
     ) {
+        Ok(summary) => match lines::say_done(out, summary.groups, summary.items) {
+            Ok(()) => 0,
+            Err(Failed) => {
+                lines::say_error(err, files.source, &RunError::Failed);
+                1
+            }
+        },
+        Err(error) => {
+            lines::say_error(err, files.source, &error);
+            status(&error)
+        }
+    }
+}
+
+// Runs the launches with the compile cache, and prints their line.
+fn cached_and_say<S: Store, O: Sink, E: Sink>(
+    alloc: Global,
+    files: FileWords,
+    store: &mut S,
+    out: &mut O,
+    err: &mut E,
+) -> u8
+    ensures { EndsCached
+        (outside S.files S.faults S.misses O.written O.faults E.written E.faults store.old out.old err.old)
+        (outside S.files S.faults S.misses O.written O.faults E.written E.faults store.new out.new err.new)
+        (files_of files.entry) result }
+{
+    match run_cached(alloc, store, files) {
         Ok(summary) => match lines::say_done(out, summary.groups, summary.items) {
             Ok(()) => 0,
             Err(Failed) => {
@@ -266,6 +299,7 @@ fn do_words<S: Store, O: Sink, E: Sink>(
 {
     match words {
         Words::Run(files) => run_and_say(alloc, files, store, out, err),
+        Words::Cached(files) => cached_and_say(alloc, files, store, out, err),
         Words::Plan(files) => show_and_say(alloc, Shown::Plan, files, store, out, err),
         Words::Code(files) => show_and_say(alloc, Shown::Code, files, store, out, err),
         Words::Sample(number) => sample_and_say(alloc, number, out, err),
@@ -285,7 +319,9 @@ fn do_words<S: Store, O: Sink, E: Sink>(
 /// does and put a text on `out`; `sample` runs a stored launch and puts the sum of its words there.
 /// `build SOURCE LAUNCH OBJECT [--lanes N]` saves the kernel of the first launch, compiled, as an
 /// object file; `exec OBJECT LAUNCH [--turns N]` runs the launches, all of which name that kernel, as
-/// `run` does, where status 3 is for an object file that holds no object.
+/// `run` does, where status 3 is for an object file that holds no object. `run SOURCE LAUNCH --cache`
+/// runs the object of the entry that a cache file has for a kernel, its source, its lanes and the
+/// numbers given for names, and else compiles it and keeps its entry behind the buffers.
 pub fn wgcc<S: Store, O: Sink, E: Sink>(
     alloc: Global,
     words: &[String],
@@ -350,6 +386,14 @@ pub fn wgcc<S: Store, O: Sink, E: Sink>(
 
     // Where a source is compiled to the object that is run: what `run` does with that source.
     ensures built { (ask : ObjectFiles) → AreWords (map string_bytes words.now) (exec ask) → IsExecOfSource
+        (outside S.files S.faults S.misses O.written O.faults E.written E.faults store.old out.old err.old)
+        (outside S.files S.faults S.misses O.written O.faults E.written E.faults store.new out.new err.new)
+        ask result }
+
+    // Where the files are told and each cache file among them is honest: what `run` does without the
+    // cache, and they stay honest.
+    ensures cached { (ask : Files) → AreWords (map string_bytes words.now) (cached ask) →
+        is_some (S.files store.old) ≡ true → Honest (S.files store.old) → WithHonestFiles
         (outside S.files S.faults S.misses O.written O.faults E.written E.faults store.old out.old err.old)
         (outside S.files S.faults S.misses O.written O.faults E.written E.faults store.new out.new err.new)
         ask result }

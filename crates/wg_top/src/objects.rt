@@ -21,11 +21,11 @@ ghost use Rattle.wg_top.specs.Given.{IsText};
 ghost use Rattle.wg_top.specs.Stages.{KernelCause};
 ghost use Rattle.wg_top.specs.Units.{needs_in};
 ghost use Rattle.wg_top.specs.Programs.{AreRun, HasKinds, RunsCause, RunsLeave, runs_of};
-ghost use Rattle.wg_top.specs.Objects.{IsTextFrom, IsFirstText, FirstCause, IsMadeText, IsBuilt, BuildCause};
+ghost use Rattle.wg_top.specs.Objects.{CompilesTo, IsTextFrom, IsFirstText, FirstCause, IsMadeText, IsBuilt, BuildCause};
 ghost use Rattle.wg_top.specs.Objects.{ExecTaken, ExecDone, ExecCause, ExecLeaves, TakingCause, runs_each};
 
 use crate::programs::{compile_alone, refused};
-use crate::reading::{Options, SOURCE_MOST, load_launch};
+use crate::reading::{Options, load_launch, load_source};
 use crate::run::run_runnables;
 use crate::runnable::Runnable;
 use crate::{RunError, Summary};
@@ -76,6 +76,32 @@ fn object_for(alloc: Global, compiled: Compiled) -> Result<Object, Memory>
     }
 }
 
+/// The object of the kernel with that name.
+pub(crate) fn object_of_kernel(
+    alloc: Global,
+    source: &Source,
+    kernel: &Word,
+    width: Width,
+) -> Result<Object, RunError>
+    ensures ok { IfOk result (λ o. (bytes : List ℕ) (defines : List Define) → All HasNumber defines →
+        IsSource bytes defines source.now.tokens.items (view source.now.unit) →
+        source.now.places.items ≡ places_of bytes source.now.tokens.items →
+        CompilesTo bytes defines kernel.now (lanes_of width) (object_of o)) }
+    ensures err { IfErr result (λ e. (bytes : List ℕ) (defines : List Define) →
+        IsSource bytes defines source.now.tokens.items (view source.now.unit) →
+        source.now.places.items ≡ places_of bytes source.now.tokens.items →
+        source.now.end ≡ place_at bytes (length bytes) → KernelCause bytes defines kernel.now e) }
+{
+    let compiled = match compile_alone(alloc, source, kernel, width) {
+        Ok(compiled) => compiled,
+        Err(error) => return Err(error),
+    };
+    match object_for(alloc, compiled) {
+        Ok(object) => Ok(object),
+        Err(Memory) => Err(RunError::Memory),
+    }
+}
+
 // The text of the object of the kernel with that name.
 fn kernel_text(
     alloc: Global,
@@ -93,16 +119,12 @@ fn kernel_text(
         source.now.places.items ≡ places_of bytes source.now.tokens.items →
         source.now.end ≡ place_at bytes (length bytes) → KernelCause bytes defines kernel.now e) }
 {
-    let compiled = match compile_alone(alloc, source, kernel, width) {
-        Ok(compiled) => compiled,
-        Err(error) => return Err(error),
-    };
-    match object_for(alloc, compiled) {
+    match object_of_kernel(alloc, source, kernel, width) {
         Ok(object) => match encode(alloc, &object) {
             Ok(text) => Ok(text),
             Err(Memory) => Err(RunError::Memory),
         },
-        Err(Memory) => Err(RunError::Memory),
+        Err(error) => Err(error),
     }
 }
 
@@ -127,11 +149,9 @@ fn text_for<S: Store>(alloc: Global, store: &mut S, files: BuildWords) -> Result
     ensures stands { HasNoFewer (standing S.files S.faults S.misses store.old)
         (standing S.files S.faults S.misses store.new) }
 {
-    let bytes = match store.load(alloc, files.source, SOURCE_MOST) {
+    let bytes = match load_source(alloc, store, files.source) {
         Ok(bytes) => bytes,
-        Err(LoadError::Absent) => return Err(RunError::Absent),
-        Err(LoadError::Failed) => return Err(RunError::Failed),
-        Err(LoadError::Memory) => return Err(RunError::Memory),
+        Err(error) => return Err(error),
     };
     let options = Options {
         lanes: files.lanes,

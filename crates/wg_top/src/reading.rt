@@ -1,8 +1,8 @@
 // The first steps of each command that has a source and a launch file.
 ghost use Rattle.std.specs.Prelude.{◌≡◌, IfOk, IfErr, map};
 ghost use Rattle.launch_file.specs.Texts.{text_of};
-ghost use Rattle.wg_top.specs.Causes.{standing, HasNoFewer, ReadingCause, RunRead};
-ghost use Rattle.wg_top.specs.Stages.{TextRead, LaunchCause};
+ghost use Rattle.wg_top.specs.Causes.{standing, HasNoFewer, SourceLoaded, ReadingCause, RunRead};
+ghost use Rattle.wg_top.specs.Stages.{SourceCause, TextRead, LaunchCause};
 ghost use Rattle.wg_top.specs.Given.{IsText, IsGiven};
 ghost use Rattle.wg_top.specs.Ends.{asked};
 ghost use Rattle.cl_meaning.specs.View.{unit_of};
@@ -14,8 +14,8 @@ use launch_file::{LaunchError, LaunchText, read};
 use std::alloc::Global;
 use wg_outside::{LoadError, Store};
 
-/// How many bytes of a source are loaded: one more than a source may have.
-pub(crate) const SOURCE_MOST: u64 = 262_145;
+// How many bytes of a source are loaded: one more than a source may have.
+const SOURCE_MOST: u64 = 262_145;
 
 // The same of a launch file.
 const LAUNCH_MOST: u64 = 1_048_577;
@@ -32,6 +32,27 @@ pub(crate) struct Given {
 pub(crate) struct Options {
     pub(crate) lanes: Option<u64>,
     pub(crate) turns: Option<u64>,
+}
+
+/// Loads the source.
+pub(crate) fn load_source<S: Store>(
+    alloc: Global,
+    store: &mut S,
+    source: &str,
+) -> Result<Vec<u8>, RunError>
+    ensures ok { IfOk result (λ v. SourceLoaded (S.files store.old) source.now v.items) }
+    ensures err { IfErr result (SourceCause (standing S.files S.faults S.misses store.old)
+        (standing S.files S.faults S.misses store.new) source.now) }
+    ensures files_stay { S.files store.new ≡ S.files store.old }
+    ensures stands { HasNoFewer (standing S.files S.faults S.misses store.old)
+        (standing S.files S.faults S.misses store.new) }
+{
+    match store.load(alloc, source, SOURCE_MOST) {
+        Ok(bytes) => Ok(bytes),
+        Err(LoadError::Absent) => Err(RunError::Absent),
+        Err(LoadError::Failed) => Err(RunError::Failed),
+        Err(LoadError::Memory) => Err(RunError::Memory),
+    }
 }
 
 /// Loads and reads the launch file.
@@ -79,11 +100,9 @@ pub(crate) fn read_all<S: Store>(
     ensures stands { HasNoFewer (standing S.files S.faults S.misses store.old)
         (standing S.files S.faults S.misses store.new) }
 {
-    let bytes = match store.load(alloc, source, SOURCE_MOST) {
+    let bytes = match load_source(alloc, store, source) {
         Ok(bytes) => bytes,
-        Err(LoadError::Absent) => return Err(RunError::Absent),
-        Err(LoadError::Failed) => return Err(RunError::Failed),
-        Err(LoadError::Memory) => return Err(RunError::Memory),
+        Err(error) => return Err(error),
     };
     let text = match load_launch(alloc, store, launch, options) {
         Ok(text) => text,

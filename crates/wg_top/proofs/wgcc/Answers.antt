@@ -1,5 +1,5 @@
 use Rattle.std.proofs.Common.{map, inl, inr, refl, string_bytes}
-use Rattle.command_words.specs.Command.{Request, run, exec, request_of}
+use Rattle.command_words.specs.Command.{Request, run, cached, exec, request_of}
 use Rattle.wg_top.specs.Ends.{Outside, outside, EndsSaying, usage_line}
 use Rattle.wg_top.proofs.EndLemmas.{asked_failed, asked_absent, asked_no_save, asked_quiet, asked_line, asked_out}
 use Rattle.wg_top.proofs.EndLemmas.{asked_no_usage, asked_memory}
@@ -7,6 +7,7 @@ use Rattle.wg_top.proofs.WordLemmas.{as_asked}
 use Rattle.wg_top.proofs.CompleteLemmas.{ends_clean, ends_loops}
 use Rattle.wg_top.proofs.AskedLemmas.{asked_complete, asked_exact}
 use Rattle.wg_top.proofs.ExecOfSourceLemmas.{exec_of_source}
+use Rattle.wg_top.proofs.HonestEndLemmas.{with_honest}
 use Rattle.wg_top.proofs.wgcc.Goals as goal
 
 pub returns-in-Ok-clause-ends : goal.returns-in-Ok-clause-ends
@@ -200,3 +201,30 @@ returns-in-Err-Usage-clause-unread g c =
 pub returns-in-Err-Memory-clause-unread : goal.returns-in-Err-Memory-clause-unread
 returns-in-Err-Memory-clause-unread g c =
     λ none. inr (refl, record { store_stays = refl; out_stays = refl; said = c.say_error.ensures.said })
+
+pub returns-in-Ok-clause-cached : goal.returns-in-Ok-clause-cached
+returns-in-Ok-clause-cached g c =
+    let old : Outside = (outside g.S.Store.files g.S.Store.faults g.S.Store.misses g.O.Sink.written g.O.Sink.faults
+    g.E.Sink.written g.E.Sink.faults c.args.store.now c.args.out.now c.args.err.now) in
+    let new : Outside = (outside g.S.Store.files g.S.Store.faults g.S.Store.misses g.O.Sink.written g.O.Sink.faults
+    g.E.Sink.written g.E.Sink.faults c.do_words.new.store c.do_words.new.out c.do_words.new.err) in
+    let request : Request = request_of c.in-Ok.asked in
+    λ ask given told honest. with_honest old new ask c.do_words.result told honest (as_asked old new
+    (map string_bytes c.args.words.now) request (cached ask) c.do_words.result c.in-Ok.ensures.asked given.asks
+    c.do_words.ensures)
+
+pub returns-in-Err-Memory-clause-cached : goal.returns-in-Err-Memory-clause-cached
+returns-in-Err-Memory-clause-cached g c =
+    let old : Outside = (outside g.S.Store.files g.S.Store.faults g.S.Store.misses g.O.Sink.written g.O.Sink.faults
+    g.E.Sink.written g.E.Sink.faults c.args.store.now c.args.out.now c.args.err.now) in
+    let new : Outside = (outside g.S.Store.files g.S.Store.faults g.S.Store.misses g.O.Sink.written g.O.Sink.faults
+    g.E.Sink.written g.E.Sink.faults c.args.store.now c.args.out.now c.say_error.new.sink) in
+    λ ask given told honest. with_honest old new ask 8 told honest (asked_memory old new (cached ask) (record {
+      store_stays = refl;
+      out_stays = refl;
+      said = c.say_error.ensures.said;
+    }))
+
+pub returns-in-Err-Usage-clause-cached : goal.returns-in-Err-Usage-clause-cached
+returns-in-Err-Usage-clause-cached g c =
+    λ ask given told honest. absurd (c.read_words.ensures.usage (cc) given.taken)
