@@ -83,6 +83,7 @@ pub(crate) fn object_of_kernel(
     kernel: &Word,
     width: Width,
 ) -> Result<Object, RunError>
+    requires selections { has_selection (view source.now.unit) ≡ false }
     ensures ok { IfOk result (λ o. (bytes : List ℕ) (defines : List Define) → All HasNumber defines →
         IsSource bytes defines source.now.tokens.items (view source.now.unit) →
         source.now.places.items ≡ places_of bytes source.now.tokens.items →
