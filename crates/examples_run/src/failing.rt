@@ -46,6 +46,7 @@ const CANNOT: &str = "wgcc: cannot read or write\n";
 // is to leave: its status, whether the file is saved, and the lines.
 #[derive(Clone, Copy)]
 struct Row<'a> {
+    cached: bool,
     launch: &'a str,
     store: &'a [u32],
     out: &'a [u32],
@@ -60,6 +61,7 @@ struct Row<'a> {
 
 // The run without a failure.
 const WHOLE: Row = Row {
+    cached: false,
     launch: LAUNCH,
     store: &[],
     out: &[],
@@ -91,8 +93,9 @@ const RANGE: Row = Row {
     ..WHOLE
 };
 
-// The source, the launch file and the buffer are loaded by the calls 0 to 2, and the buffer is saved by call 3.
-const ROWS: [Row; 10] = [
+// The source, the launch file and the buffer are loaded by the calls 0 to 2, and the buffer is saved by call 3. With the
+// compile cache call 2 looks for the kernel's entry, which is not there, and call 5 saves it, behind the buffer.
+const ROWS: [Row; 15] = [
     WHOLE,
     Row {
         store: &[0],
@@ -130,6 +133,30 @@ const ROWS: [Row; 10] = [
         told: "",
         ..RANGE
     },
+    Row {
+        cached: true,
+        ..WHOLE
+    },
+    Row {
+        cached: true,
+        store: &[2],
+        ..FAILED
+    },
+    Row {
+        cached: true,
+        store: &[4],
+        ..FAILED
+    },
+    Row {
+        cached: true,
+        store: &[5],
+        saved: true,
+        ..FAILED
+    },
+    Row {
+        cached: true,
+        ..RANGE
+    },
 ];
 
 // Whether a run leaves what its row says.
@@ -138,6 +165,9 @@ fn leaves(alloc: Global, row: &Row) -> Result<bool, Fail> {
     words.push(String::from_str(alloc, "run")?)?;
     words.push(String::from_str(alloc, "k.cl")?)?;
     words.push(String::from_str(alloc, "k.toml")?)?;
+    if row.cached {
+        words.push(String::from_str(alloc, "--cache")?)?;
+    }
     let mut store = MemoryStore::new(alloc, row.store, 8, row.file_room)?;
     store.add(alloc, "k.cl", INC.as_bytes())?;
     store.add(alloc, "k.toml", row.launch.as_bytes())?;
