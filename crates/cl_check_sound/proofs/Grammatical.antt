@@ -1,4 +1,4 @@
--- A unit that the grammar spells has the shape of a unit.
+-- A unit that the grammar spells has the wide shape of a unit.
 use Rattle.std.proofs.Common.{◌≡◌, ℕ, zero, suc, ◌≤◌, nat_eq, List, [], ◌∷◌, ◌++◌, append_assoc, Option, None, Some}
 use Rattle.std.proofs.Common.{Bool, true, false, refl, ap, sym, ◌∙◌, subst, inl, inr, ◌⊎◌, arith, eqb-true}
 use Rattle.std.proofs.lemmas.Bool.{false≢true}
@@ -21,22 +21,18 @@ use Rattle.cl_meaning.specs.declared.operators.Postfix.TheVariants as postfix_ki
 use Rattle.cl_meaning.specs.Operators.{binary_in, setting_in, prefix_in, postfix_in}
 use Rattle.cl_meaning.specs.Types.{base_in}
 use Rattle.cl_meaning.specs.Kinds.{is_some}
-use Rattle.cl_check_sound.specs.Shape.{IsType, PrefixOf, indexes, IsExpression, AreExpressions, IsList, AreLengths}
-use Rattle.cl_check_sound.specs.Shape.{IsDeclarator, AreDeclarators, IsDeclaration, IsOptional, IsSimple, IsStatement}
-use Rattle.cl_check_sound.specs.Shape.{AreStatements, AreLines, IsBlock, IsHead, IsResult, IsParam, AreParams}
-use Rattle.cl_check_sound.specs.Shape.{BehindHeads, IsFunction, IsPrototype, AreItems, IsUnit}
+use Rattle.cl_check_sound.specs.Shape.{IsType, PrefixOf, selects, indexes, IsExpressionOf, AreExpressionsOf, IsListOf}
+use Rattle.cl_check_sound.specs.Shape.{AreLengthsOf, IsDeclaratorOf, AreDeclaratorsOf, IsDeclarationOf, IsOptionalOf}
+use Rattle.cl_check_sound.specs.Shape.{IsSimpleOf, IsStatementOf, AreStatementsOf, AreLinesOf, IsBlockOf, IsHeadOf}
+use Rattle.cl_check_sound.specs.Shape.{IsResult, IsParam, AreParams, BehindHeadsOf, IsFunctionOf, IsPrototypeOf}
+use Rattle.cl_check_sound.specs.Shape.{AreItemsOf, IsUnitOf}
 use Rattle.cl_check_sound.proofs.WordFacts.{is_operand, Word}
 use Rattle.cl_check_sound.proofs.TypeFacts.{words, Qualifiers, BaseOk, type_spelled, qualifiers_append}
 
 -- ---- words of leaves
 
--- what a word of a terminal says that is no point
-abbrev pub PlainWord : Terminal → List ℕ → Type 0
-PlainWord terminals.Point w = ⊥
-PlainWord j w = Word j w
-
 abbrev pub AllWords : List Leaf → Type 0
-AllWords x = Each (λ (leaf : Leaf). PlainWord leaf.terminal leaf.word) x
+AllWords x = Each (λ (leaf : Leaf). Word leaf.terminal leaf.word) x
 
 pub left : (x y : List Leaf) → AllWords (x ++ y) → AllWords x
 left [] y h = tt
@@ -66,35 +62,35 @@ IsStar (node forms.StarNode w f l none) = Unit {0}
 IsStar t = ⊥
 
 abbrev pub IsAttribute : Syntax → Type 0
-IsAttribute (node forms.AttributeNode w f l parts) = AreExpressions parts
+IsAttribute (node forms.AttributeNode w f l parts) = AreExpressionsOf true parts
 IsAttribute t = ⊥
 
 abbrev pub PartOf : Sort → Syntax → Type 0
-PartOf Source t = IsUnit t
-PartOf Item t = IsFunction t ⊎ (IsPrototype t ⊎ IsDeclaration t)
-PartOf Head t = IsHead t
+PartOf Source t = IsUnitOf true t
+PartOf Item t = IsFunctionOf true t ⊎ (IsPrototypeOf true t ⊎ IsDeclarationOf true t)
+PartOf Head t = IsHeadOf true t
 PartOf Attribute t = IsAttribute t
 PartOf Result t = IsResult t
 PartOf Param t = IsParam t
 PartOf TypeName t = IsType t
 PartOf Star t = IsStar t
-PartOf Declare t = IsDeclaration t
-PartOf Declarator t = IsDeclarator t
-PartOf Init t = IsExpression t ⊎ IsList t
-PartOf Initializers t = IsList t
-PartOf Block t = IsBlock t
-PartOf Line t = IsDeclaration t ⊎ IsStatement t
-PartOf Start t = IsDeclaration t ⊎ IsSimple t
-PartOf Simple t = IsSimple t
-PartOf Statement t = IsStatement t
-PartOf Expr t = IsExpression t
-PartOf Assign t = IsExpression t
-PartOf Cond t = IsExpression t
-PartOf Cast t = IsExpression t
-PartOf Unary t = IsExpression t
-PartOf Postfix t = IsExpression t
-PartOf Primary t = IsExpression t
-PartOf (Level k) t = IsExpression t
+PartOf Declare t = IsDeclarationOf true t
+PartOf Declarator t = IsDeclaratorOf true t
+PartOf Init t = IsExpressionOf true t ⊎ IsListOf true t
+PartOf Initializers t = IsListOf true t
+PartOf Block t = IsBlockOf true t
+PartOf Line t = IsDeclarationOf true t ⊎ IsStatementOf true t
+PartOf Start t = IsDeclarationOf true t ⊎ IsSimpleOf true t
+PartOf Simple t = IsSimpleOf true t
+PartOf Statement t = IsStatementOf true t
+PartOf Expr t = IsExpressionOf true t
+PartOf Assign t = IsExpressionOf true t
+PartOf Cond t = IsExpressionOf true t
+PartOf Cast t = IsExpressionOf true t
+PartOf Unary t = IsExpressionOf true t
+PartOf Postfix t = IsExpressionOf true t
+PartOf Primary t = IsExpressionOf true t
+PartOf (Level k) t = IsExpressionOf true t
 PartOf Space t = IsSpace t
 PartOf s t = Unit {0}
 
@@ -108,7 +104,7 @@ QualifiersIf b a = b ≡ false → Qualifiers (words a)
 abbrev pub ManyOf : Sort → List Spot → Forest → Type 0
 ManyOf (Just s) a ts = AllParts (PartOf s) ts
 ManyOf (Comma s) a ts = AllParts (PartOf s) ts
-ManyOf Dimension a ts = AllParts IsExpression ts
+ManyOf Dimension a ts = AllParts (IsExpressionOf true) ts
 ManyOf (Qualifier b) a ts = QualifiersIf b a
 ManyOf s a ts = Unit {0}
 
@@ -117,8 +113,8 @@ ListOf (Maybe s) a ts = MaybePart (PartOf s) ts
 ListOf (Just s) a ts = AllParts (PartOf s) ts
 ListOf (Comma s) a ts = AllParts (PartOf s) ts
 ListOf (Many s) a ts = ManyOf s a ts
-ListOf Dimension a ts = AllParts IsExpression ts
-ListOf Elements a ts = AllParts IsExpression ts
+ListOf Dimension a ts = AllParts (IsExpressionOf true) ts
+ListOf Elements a ts = AllParts (IsExpressionOf true) ts
 ListOf Params a ts = AllParts IsParam ts
 ListOf (Qualifier b) a ts = QualifiersIf b a
 ListOf Base a ts = BaseOk (words a)
@@ -146,27 +142,27 @@ pub many_and : (s : Sort) (a b : List Spot) (ts us : Forest) → ListOf s a ts �
     ManyOf s (a ++ b) (joined ts us)
 many_and (Just s) a b ts us h k = parts_joined (PartOf s) ts us h k
 many_and (Comma s) a b ts us h k = parts_joined (PartOf s) ts us h k
-many_and Dimension a b ts us h k = parts_joined IsExpression ts us h k
+many_and Dimension a b ts us h k = parts_joined (IsExpressionOf true) ts us h k
 many_and (Qualifier z) a b ts us h k = λ e. qualifiers_append a b (h e) (k e)
 many_and s a b ts us h k = tt
 
-pub are_expressions : (ts : Forest) → AllParts IsExpression ts → AreExpressions ts
+pub are_expressions : (ts : Forest) → AllParts (IsExpressionOf true) ts → AreExpressionsOf true ts
 are_expressions none h = tt
 are_expressions (more t ts) h = (h.0, are_expressions ts h.1)
 
-pub are_items : (ts : Forest) → AllParts (PartOf Item) ts → AreItems ts
+pub are_items : (ts : Forest) → AllParts (PartOf Item) ts → AreItemsOf true ts
 are_items none h = tt
 are_items (more t ts) h = (h.0, are_items ts h.1)
 
-pub are_lines : (ts : Forest) → AllParts (PartOf Line) ts → AreLines ts
+pub are_lines : (ts : Forest) → AllParts (PartOf Line) ts → AreLinesOf true ts
 are_lines none h = tt
 are_lines (more t ts) h = (h.0, are_lines ts h.1)
 
-pub are_statements : (ts : Forest) → AllParts IsStatement ts → AreStatements ts
+pub are_statements : (ts : Forest) → AllParts (IsStatementOf true) ts → AreStatementsOf true ts
 are_statements none h = tt
 are_statements (more t ts) h = (h.0, are_statements ts h.1)
 
-pub are_declarators : (ts : Forest) → AllParts IsDeclarator ts → AreDeclarators ts
+pub are_declarators : (ts : Forest) → AllParts (IsDeclaratorOf true) ts → AreDeclaratorsOf true ts
 are_declarators none h = tt
 are_declarators (more t ts) h = (h.0, are_declarators ts h.1)
 
@@ -174,18 +170,18 @@ pub are_params : (ts : Forest) → AllParts IsParam ts → AreParams ts
 are_params none h = tt
 are_params (more t ts) h = (h.0, are_params ts h.1)
 
-pub are_lengths : (ts : Forest) → AllParts IsExpression ts → AreLengths ts
+pub are_lengths : (ts : Forest) → AllParts (IsExpressionOf true) ts → AreLengthsOf true ts
 are_lengths none h = tt
 are_lengths (more t none) h = inl h.0
 are_lengths (more t (more u us)) h = (h.0, are_lengths (more u us) h.1)
 
-pub are_set : (ts : Forest) (i : Syntax) → AllParts IsExpression ts → IsExpression i ⊎ IsList i →
-    AreLengths (joined ts (more i none))
+pub are_set : (ts : Forest) (i : Syntax) → AllParts (IsExpressionOf true) ts → IsExpressionOf true i ⊎ IsListOf true i →
+    AreLengthsOf true (joined ts (more i none))
 are_set none i h k = k
 are_set (more t none) i h k = (h.0, k)
 are_set (more t (more u us)) i h k = (h.0, are_set (more u us) i h.1 k)
 
-pub is_optional : (ts : Forest) → MaybePart IsExpression ts → IsOptional ts
+pub is_optional : (ts : Forest) → MaybePart (IsExpressionOf true) ts → IsOptionalOf true ts
 is_optional none h = tt
 is_optional (more t none) h = h
 is_optional (more t (more u us)) h = absurd h
@@ -197,23 +193,23 @@ maybe_parts P (more t (more u us)) h = absurd h
 
 -- ---- declarators
 
-first_of : (p : Syntax) (ps : Forest) → AreLengths (more p ps) → IsExpression p ⊎ IsList p
+first_of : (p : Syntax) (ps : Forest) → AreLengthsOf true (more p ps) → IsExpressionOf true p ⊎ IsListOf true p
 first_of p none h = h
 first_of p (more q qs) h = inl h.0
 
-plain_declarator : (w : List ℕ) (f l : ℕ) (p : Syntax) (ps : Forest) → IsExpression p ⊎ IsList p →
-    AreLengths (more p ps) → IsDeclarator (node forms.DeclaratorNode w f l (more p ps))
+plain_declarator : (w : List ℕ) (f l : ℕ) (p : Syntax) (ps : Forest) → IsExpressionOf true p ⊎ IsListOf true p →
+    AreLengthsOf true (more p ps) → IsDeclaratorOf true (node forms.DeclaratorNode w f l (more p ps))
 plain_declarator w f l (node forms.StarNode w' f' l' qs) ps (inl h) k = absurd h
 plain_declarator w f l (node forms.StarNode w' f' l' qs) ps (inr h) k = absurd h
 plain_declarator w f l p ps h k = k
 
-lengths_declarator : (w : List ℕ) (f l : ℕ) (ps : Forest) → AreLengths ps →
-    IsDeclarator (node forms.DeclaratorNode w f l ps)
+lengths_declarator : (w : List ℕ) (f l : ℕ) (ps : Forest) → AreLengthsOf true ps →
+    IsDeclaratorOf true (node forms.DeclaratorNode w f l ps)
 lengths_declarator w f l none h = tt
 lengths_declarator w f l (more p ps) h = plain_declarator w f l p ps (first_of p ps h) h
 
-pub starred : (w : List ℕ) (f l : ℕ) (ss ps : Forest) → MaybePart IsStar ss → AreLengths ps →
-    IsDeclarator (node forms.DeclaratorNode w f l (joined ss ps))
+pub starred : (w : List ℕ) (f l : ℕ) (ss ps : Forest) → MaybePart IsStar ss → AreLengthsOf true ps →
+    IsDeclaratorOf true (node forms.DeclaratorNode w f l (joined ss ps))
 starred w f l none ps h k = lengths_declarator w f l ps k
 starred w f l (more (node forms.StarNode w' f' l' none) none) ps h k = k
 starred w f l (more (node forms.StarNode w' f' l' none) (more u us)) ps h k = absurd h
@@ -295,7 +291,7 @@ front_words a b d c ha hb hd hc =
     subst (λ z. is_some (base_in (spelled z)) ≡ true) (append_assoc a b (d ++ c))
     (type_spelled (a ++ b) d c (qualifiers_append a b ha hb) hd hc)
 
-pub qualifier_word : (b : Bool) (j : Terminal) (m : Spot) → qualifies b j ≡ true → PlainWord j m.word →
+pub qualifier_word : (b : Bool) (j : Terminal) (m : Spot) → qualifies b j ≡ true → Word j m.word →
     QualifiersIf b (m ∷ [])
 qualifier_word b terminals.Qualifier m q h = λ e. (h, tt)
 qualifier_word b terminals.Restrict m q h = λ e. absurd (false≢true (sym e ∙ q))
@@ -311,14 +307,14 @@ operand_prefix (Some prefix_kinds.Content) p e h x = x
 operand_prefix (Some prefix_kinds.Size) p e h x = absurd (false≢true h)
 operand_prefix None p e h x = absurd (false≢true h)
 
-pub prefix_word : (j : Terminal) (w : List ℕ) → prefixes j ≡ true → PlainWord j w → is_operand (prefix_in w) ≡ true
+pub prefix_word : (j : Terminal) (w : List ℕ) → prefixes j ≡ true → Word j w → is_operand (prefix_in w) ≡ true
 prefix_word terminals.PlusMinus w h k = k.1
 prefix_word terminals.Tilde w h k = k
 prefix_word terminals.Ampersand w h k = k.1
 prefix_word terminals.Star w h k = k.1
 prefix_word j w h k = absurd (false≢true h)
 
-pub set_word : (j : Terminal) (w : List ℕ) → assigns j ≡ true → PlainWord j w → is_some (setting_in w) ≡ true
+pub set_word : (j : Terminal) (w : List ℕ) → assigns j ≡ true → Word j w → is_some (setting_in w) ≡ true
 set_word terminals.Equals w h k = k
 set_word terminals.Compound w h k = k
 set_word j w h k = absurd (false≢true h)
@@ -334,8 +330,11 @@ pub index_word : (o c : List ℕ) → o ≡ codes "[" → c ≡ codes "]" → po
 unfolding postfix_in
 index_word o c d g = ap (λ z. postfix_in (z ++ (32 ∷ c))) d ∙ ap (λ z. postfix_in (codes "[" ++ (32 ∷ z))) g
 
+pub selection_word : (d n : List ℕ) → d ≡ codes "." → selects (d ++ (32 ∷ n)) ≡ true
+selection_word d n e = ap (λ z. selects (z ++ (32 ∷ n))) e
+
 -- an operator below && is one on two numbers
-binary_word : (n : ℕ) (j : Terminal) (w : List ℕ) → nat_eq (looseness j) n ≡ true → 1 ≤ n → n ≤ 8 → PlainWord j w →
+binary_word : (n : ℕ) (j : Terminal) (w : List ℕ) → nat_eq (looseness j) n ≡ true → 1 ≤ n → n ≤ 8 → Word j w →
     is_some (binary_in w) ≡ true
 binary_word n terminals.Star w e l m h = h.0
 binary_word n terminals.Slash w e l m h = h
@@ -349,7 +348,7 @@ binary_word n terminals.Bar w e l m h = h
 binary_word n terminals.Open w e l m h = let q = eqb-true 0 n e in absurd (omega arith)
 binary_word n terminals.OpenBracket w e l m h = let q = eqb-true 0 n e in absurd (omega arith)
 binary_word n terminals.Step w e l m h = let q = eqb-true 0 n e in absurd (omega arith)
-binary_word n terminals.Point w e l m h = absurd h
+binary_word n terminals.Point w e l m h = let q = eqb-true 0 n e in absurd (omega arith)
 binary_word n terminals.AndAnd w e l m h = let q = eqb-true 9 n e in absurd (omega arith)
 binary_word n terminals.OrOr w e l m h = let q = eqb-true 10 n e in absurd (omega arith)
 binary_word n terminals.Question w e l m h = let q = eqb-true 11 n e in absurd (omega arith)
@@ -358,8 +357,8 @@ binary_word n terminals.Compound w e l m h = let q = eqb-true 12 n e in absurd (
 binary_word n terminals.Comma w e l m h = let q = eqb-true 13 n e in absurd (omega arith)
 binary_word n j w e l m h = let q = eqb-true 14 n e in absurd (omega arith)
 
-pub level_shape : (k : ℕ) (j : Terminal) (w : List ℕ) (f l : ℕ) (a b : Syntax) → joins k j ≡ true → PlainWord j w →
-    IsExpression a → IsExpression b → IsExpression (node (form_of k) w f l (more a (more b none)))
+pub level_shape : (k : ℕ) (j : Terminal) (w : List ℕ) (f l : ℕ) (a b : Syntax) → joins k j ≡ true → Word j w →
+    IsExpressionOf true a → IsExpressionOf true b → IsExpressionOf true (node (form_of k) w f l (more a (more b none)))
 level_shape zero j w f l a b e h x y = (binary_word 1 j w e (omega arith) (omega arith) h, x, y)
 level_shape (suc zero) j w f l a b e h x y = (binary_word 2 j w e (omega arith) (omega arith) h, x, y)
 level_shape (suc (suc zero)) j w f l a b e h x y = (binary_word 3 j w e (omega arith) (omega arith) h, x, y)
@@ -375,18 +374,19 @@ level_shape (suc (suc (suc (suc (suc (suc (suc (suc zero)))))))) j w f l a b e h
 level_shape (suc (suc (suc (suc (suc (suc (suc (suc (suc k))))))))) j w f l a b e h x y = (x, y)
 
 pub sizeof_shape : (w : List ℕ) (f l : ℕ) (t : Syntax) → prefix_in w ≡ Some prefix_kinds.Size → IsType t →
-    IsExpression (node forms.UnaryNode w f l (more t none))
-sizeof_shape w f l t e h = subst (λ z. PrefixOf z t (IsExpression t)) (sym e) h
+    IsExpressionOf true (node forms.UnaryNode w f l (more t none))
+sizeof_shape w f l t e h = subst (λ z. PrefixOf z t (IsExpressionOf true t)) (sym e) h
 
-pub index_shape : (w : List ℕ) (f l : ℕ) (a b : Syntax) → postfix_in w ≡ Some postfix_kinds.Index → IsExpression a →
-    IsExpression b → IsExpression (node forms.PostfixNode w f l (more a (more b none)))
+pub index_shape : (w : List ℕ) (f l : ℕ) (a b : Syntax) → postfix_in w ≡ Some postfix_kinds.Index →
+    IsExpressionOf true a → IsExpressionOf true b →
+    IsExpressionOf true (node forms.PostfixNode w f l (more a (more b none)))
 index_shape w f l a b e x y = (ap indexes e, x, y)
 
 -- ---- statements and functions
 
-pub for_shape : (w : List ℕ) (f l : ℕ) (d b : Syntax) (ts us : Forest) → IsDeclaration d ⊎ IsSimple d →
-    MaybePart IsExpression ts → MaybePart IsExpression us → IsStatement b →
-    IsStatement (node forms.ForNode w f l (more d (joined ts (joined us (more b none)))))
+pub for_shape : (w : List ℕ) (f l : ℕ) (d b : Syntax) (ts us : Forest) → IsDeclarationOf true d ⊎ IsSimpleOf true d →
+    MaybePart (IsExpressionOf true) ts → MaybePart (IsExpressionOf true) us → IsStatementOf true b →
+    IsStatementOf true (node forms.ForNode w f l (more d (joined ts (joined us (more b none)))))
 for_shape w f l d b none none h x y s = (h, s)
 for_shape w f l d b none (more e none) h x y s = (h, y, s)
 for_shape w f l d b (more c none) none h x y s = (h, x, s)
@@ -395,19 +395,20 @@ for_shape w f l d b (more c (more c' cs)) us h x y s = absurd x
 for_shape w f l d b none (more e (more e' es)) h x y s = absurd y
 for_shape w f l d b (more c none) (more e (more e' es)) h x y s = absurd y
 
-pub block_statement : (t : Syntax) → IsBlock t → IsStatement t
+pub block_statement : (t : Syntax) → IsBlockOf true t → IsStatementOf true t
 block_statement (node forms.BlockNode w f l parts) h = h
 block_statement t h = absurd h
 
-pub simple_statement : (t : Syntax) → IsSimple t → IsStatement t
+pub simple_statement : (t : Syntax) → IsSimpleOf true t → IsStatementOf true t
 simple_statement (node forms.SimpleNode w f l parts) h = h
 simple_statement t h = absurd h
 
-pub behind_heads : (P : Forest → Type 0) (heads : Forest) (r : Syntax) (rs : Forest) → AllParts IsHead heads →
-    P (more r rs) → BehindHeads P (joined heads (more r rs))
+pub behind_heads : (P : Forest → Type 0) (heads : Forest) (r : Syntax) (rs : Forest) → AllParts (IsHeadOf true) heads →
+    P (more r rs) → BehindHeadsOf true P (joined heads (more r rs))
 behind_heads P none (node form w f l parts) rs h p = inr p
 behind_heads P (more (node form w f l parts) ts) r rs h p = inl (h.0, behind_heads P ts r rs h.1 p)
 
-pub head_shape : (w : List ℕ) (f l : ℕ) (t : Syntax) → IsAttribute t → IsHead (node forms.HeadNode w f l (more t none))
+pub head_shape : (w : List ℕ) (f l : ℕ) (t : Syntax) → IsAttribute t →
+    IsHeadOf true (node forms.HeadNode w f l (more t none))
 head_shape w f l (node forms.AttributeNode w' f' l' parts) h = h
 head_shape w f l t h = absurd h

@@ -45,9 +45,10 @@ pub mod Instances
 pub mod Accepted
 pub mod WordFacts
 pub mod TypeFacts
-pub mod Points
 pub mod Grammatical
+pub mod Narrow
 pub mod Spelled
+pub mod Unselected
 pub mod Decimals
 pub mod ErasedPrograms
 pub mod Expanded

@@ -1,36 +1,34 @@
--- What the grammar spells has its shape: the induction over productions.
-use Rattle.std.proofs.Common.{◌≡◌, ℕ, suc, List, [], ◌∷◌, ◌++◌, Bool, true, false, refl, ap, inl, inr, arith}
+-- What the grammar spells has its wide shape: the induction over productions.
+use Rattle.std.proofs.Common.{◌≡◌, ℕ, suc, List, [], ◌∷◌, ◌++◌, Bool, true, false, refl, ap, inl, inr}
 use Rattle.std.proofs.lemmas.Bool.{false≢true}
 use Rattle.cl_token.specs.declared.token.Token.{Token}
 use Rattle.cl_token.specs.declared.token.Kind.{Kind}
 use Rattle.cl_token.specs.declared.token.Kind.TheVariants as token_kinds
 use Rattle.cl_token.specs.Spelling.{HasValue}
-use Rattle.cl_tree.specs.declared.terminal.Terminal.{Terminal}
 use Rattle.cl_tree.specs.declared.terminal.Terminal.TheVariants as terminals
 use Rattle.cl_tree.specs.declared.terminal.Leaf.{Leaf}
 use Rattle.cl_tree.specs.Leaves.{leaves_of}
 use Rattle.cl_tree.specs.Nodes.{tok}
-use Rattle.cl_tree.specs.Words.{terminal_of}
 use Rattle.cl_tree.specs.Grammar.{Sort, Value, Spells}
 use Rattle.cl_tree.specs.Grammar as grammar
 use Rattle.cl_meaning.specs.Literals.{literal_in}
 use Rattle.cl_meaning.specs.Operators.{prefix_in}
 use Rattle.cl_meaning.specs.Kinds.{is_some}
-use Rattle.cl_check_sound.specs.Shape.{IsExpression, IsDefinition, IsAnnouncement}
+use Rattle.cl_check_sound.specs.Shape.{IsExpressionOf, IsDefinitionOf, IsAnnouncement}
 use Rattle.cl_meaning.proofs.Numbers.{literal_is}
-use Rattle.cl_check_sound.specs.Law.{NumbersRead, UnitsShaped}
-use Rattle.cl_check_sound.proofs.WordFacts.{Word, token_word}
-use Rattle.cl_check_sound.proofs.Points.{points_in, own_points, points, no_points}
+use Rattle.cl_check_sound.specs.Law.{NumbersRead, UnitsShaped, WideShaped}
+use Rattle.cl_check_sound.proofs.WordFacts.{token_word}
+use Rattle.cl_check_sound.proofs.Narrow.{narrow}
 use Rattle.cl_check_sound.proofs.TypeFacts.{type_spelled, qualifiers_append}
-use Rattle.cl_check_sound.proofs.Grammatical.{PlainWord, AllWords, left, right, ShapeOf, many_none, many_and}
+use Rattle.cl_check_sound.proofs.Grammatical.{AllWords, left, right, ShapeOf, many_none, many_and}
 use Rattle.cl_check_sound.proofs.Grammatical.{are_expressions}
 use Rattle.cl_check_sound.proofs.Grammatical.{are_items, are_lines, are_statements, are_declarators, are_params}
 use Rattle.cl_check_sound.proofs.Grammatical.{are_lengths, are_set, is_optional, maybe_parts, starred, param_shape}
 use Rattle.cl_check_sound.proofs.Grammatical.{type_with, base_type_word, base_of_sign, sign_core, one_word}
 use Rattle.cl_check_sound.proofs.Grammatical.{core_of_char, core_of_int, core_of_length, core_of_both, front_words}
 use Rattle.cl_check_sound.proofs.Grammatical.{qualifier_word, operand_prefix, prefix_word, set_word, size_word}
-use Rattle.cl_check_sound.proofs.Grammatical.{index_word, level_shape, sizeof_shape, index_shape, for_shape}
-use Rattle.cl_check_sound.proofs.Grammatical.{block_statement, simple_statement, behind_heads, head_shape}
+use Rattle.cl_check_sound.proofs.Grammatical.{index_word, selection_word, level_shape, sizeof_shape, index_shape}
+use Rattle.cl_check_sound.proofs.Grammatical.{for_shape, block_statement, simple_statement, behind_heads, head_shape}
 
 pub shape : {s : Sort} {v : Value} {x : List Leaf} → Spells s v x → AllWords x → ShapeOf s v
 shape grammar.maybe_none h = tt
@@ -46,7 +44,7 @@ shape (grammar.function {heads = heads} {x = x} d {r = r} {y = y} e m o {ts = ts
     let h1 = right x (y ++ (tok terminals.Name m ∷ tok terminals.Open o ∷ (z ++ (tok terminals.Close c ∷ w)))) h in
     let h2 = right y (tok terminals.Name m ∷ tok terminals.Open o ∷ (z ++ (tok terminals.Close c ∷ w))) h1 in
     let h3 = right z (tok terminals.Close c ∷ w) h2.1.1 in
-    inl (behind_heads IsDefinition heads r _
+    inl (behind_heads (IsDefinitionOf true) heads r _
     (shape d (left x (y ++ (tok terminals.Name m ∷ tok terminals.Open o ∷ (z ++ (tok terminals.Close c ∷ w))))
     h)) (
       shape e (left y (tok terminals.Name m ∷ tok terminals.Open o ∷ (z ++ (tok terminals.Close c ∷ w)))
@@ -133,7 +131,7 @@ shape (grammar.declarator_set {ss = ss} {x = x} d m {ds = ds} {y = y} e k {i = i
     starred [] 0 0 ss _ (shape d (left x t1 h)) (are_set ds i (shape e (left y (tok terminals.Equals k ∷ z) h1))
     (shape g (right y (tok terminals.Equals k ∷ z) h1).1))
 shape (grammar.dimension o {ts = ts} {x = x} d c) h =
-    maybe_parts IsExpression ts (shape d (left x (tok terminals.CloseBracket c ∷ []) h.1))
+    maybe_parts (IsExpressionOf true) ts (shape d (left x (tok terminals.CloseBracket c ∷ []) h.1))
 shape (grammar.init_assign d) h = inl (shape d h)
 shape (grammar.init_list d) h = inr (shape d h)
 shape (grammar.initializers o {x = x} d {ts = ts} {y = y} e c) h =
@@ -209,9 +207,10 @@ shape (grammar.cast o {x = x} d c {y = y} e) h =
     let t1 = tok terminals.Close c ∷ y in
     (shape d (left x t1 h.1), shape e (right x t1 h.1).1)
 shape (grammar.unary_postfix d) h = shape d h
-shape (grammar.unary_step m {t = t} d) h = operand_prefix (prefix_in m.word) t (IsExpression t) h.0.0 (shape d h.1)
+shape (grammar.unary_step m {t = t} d) h =
+    operand_prefix (prefix_in m.word) t (IsExpressionOf true t) h.0.0 (shape d h.1)
 shape (grammar.unary_prefix j m q {t = t} d) h =
-    operand_prefix (prefix_in m.word) t (IsExpression t) (prefix_word j m.word q h.0) (shape d h.1)
+    operand_prefix (prefix_in m.word) t (IsExpressionOf true t) (prefix_word j m.word q h.0) (shape d h.1)
 shape (grammar.unary_sizeof w o {t = t} {x = x} d c) h =
     let t1 = tok terminals.Close c ∷ [] in
     let h1 = right x t1 h.1.1 in
@@ -225,8 +224,10 @@ shape (grammar.index {l = l} {x = x} d o {e = e} {y = y} g c) h =
     (shape g (left y t2 h1.1))
 shape (grammar.step {x = x} d m) h =
     let h1 = (right x (tok terminals.Step m ∷ []) h).0 in
-    (h1.1, h1.2, shape d (left x (tok terminals.Step m ∷ []) h))
-shape (grammar.selection {x = x} d p n) h = absurd (right x (tok terminals.Point p ∷ tok terminals.Name n ∷ []) h).0
+    inl (h1.1, h1.2, shape d (left x (tok terminals.Step m ∷ []) h))
+shape (grammar.selection {x = x} d p n) h =
+    let t1 = tok terminals.Point p ∷ tok terminals.Name n ∷ [] in
+    inr (selection_word p.word n.word (right x t1 h).0, shape d (left x t1 h))
 shape (grammar.number n) h = h.0
 shape (grammar.truth n) h = h.0
 shape (grammar.variable n) h = tt
@@ -249,18 +250,12 @@ number_read token_kinds.Name w h e = absurd (false≢true (ap is_number e))
 number_read token_kinds.Mark w h e = absurd (false≢true (ap is_number e))
 number_read token_kinds.Hash w h e = absurd (false≢true (ap is_number e))
 
-plain_word : (j : Terminal) (w : List ℕ) → Word j w → own_points j w ≡ 0 → PlainWord j w
-plain_word terminals.Point w h e = let one : points_in w ≡ 1 = ap points_in h in absurd (omega (arith, one, e))
-plain_word j w h e = h
+all_words : (n : ℕ) (tokens : List Token) → NumbersRead tokens → AllWords (leaves_of n tokens)
+all_words n [] h = tt
+all_words n (t ∷ ts) h = (token_word t.kind t.word (number_read t.kind t.word h.0), all_words (suc n) ts h.1)
 
-all_words : (n : ℕ) (tokens : List Token) → NumbersRead tokens → points (leaves_of n tokens) ≡ 0 →
-    AllWords (leaves_of n tokens)
-all_words n [] h e = tt
-all_words n (t ∷ ts) h e = (
-  plain_word (terminal_of t.kind t.word) t.word (token_word t.kind t.word (number_read t.kind t.word h.0))
-      (omega (arith, e)),
-  all_words (suc n) ts h.1 (omega (arith, e)),
-)
+pub spelled_wide : WideShaped
+spelled_wide t tokens s h = shape s (all_words 0 tokens h)
 
 pub spelled_shape : UnitsShaped
-spelled_shape t tokens s h none = shape s (all_words 0 tokens h (no_points s none))
+spelled_shape t tokens s h none = narrow t (spelled_wide t tokens s h) none

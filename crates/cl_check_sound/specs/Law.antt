@@ -1,5 +1,5 @@
 -- The laws: on expressions, on units, and on what the grammar spells.
-use Rattle.std.specs.Prelude.{◌≡◌, ◌<◌, ◌^◌, ℕ, false, List}
+use Rattle.std.specs.Prelude.{◌≡◌, ◌<◌, ◌^◌, ℕ, true, false, List}
 use Rattle.wg_num.specs.declared.types.Place.{Place}
 use Rattle.cl_token.specs.declared.token.Token.{Token}
 use Rattle.cl_token.specs.Spelling.{HasValue}
@@ -18,7 +18,7 @@ use Rattle.cl_meaning.specs.Environment.{Env}
 use Rattle.cl_meaning.specs.Faults.{Asked}
 use Rattle.cl_meaning.specs.Meant.{meant, unit_meant}
 use Rattle.cl_check_sound.specs.Erased.{program_of}
-use Rattle.cl_check_sound.specs.Shape.{IsExpression, IsUnit}
+use Rattle.cl_check_sound.specs.Shape.{IsExpression, IsUnit, IsUnitOf}
 use Rattle.cl_check_sound.specs.Sound.{SoundTree}
 use Rattle.cl_check_sound.specs.Fits.{Fits, PieceFits}
 
@@ -47,6 +47,14 @@ NumbersRead tokens = Each (λ (t : Token). HasValue t.kind t.word) tokens
 abbrev pub UnitsShaped : Type 0
 UnitsShaped = (unit : Syntax) (tokens : List Token) → SpellsUnit unit tokens → NumbersRead tokens →
     has_selection unit ≡ false → IsUnit unit
+
+-- Each tree that tokens spell has the wide shape, with selections.
+abbrev pub WideShaped : Type 0
+WideShaped = (unit : Syntax) (tokens : List Token) → SpellsUnit unit tokens → NumbersRead tokens → IsUnitOf true unit
+
+-- No selection stands in a tree of the narrow shape.
+abbrev pub NoneSelected : Type 0
+NoneSelected = (unit : Syntax) → IsUnit unit → has_selection unit ≡ false
 
 -- ---- what a source expands to
 

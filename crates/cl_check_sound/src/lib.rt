@@ -2,7 +2,14 @@
 //! the typed unit is a program as the model asks for.
 #![tactic(auto)]
 
-ghost use Rattle.cl_check_sound.specs.Law.{ExpressionsFit, NumbersKept, UnitsShaped, UnitsValid};
+ghost use Rattle.cl_check_sound.specs.Law.{
+  ExpressionsFit,
+  NoneSelected,
+  NumbersKept,
+  UnitsShaped,
+  UnitsValid,
+  WideShaped,
+};
 
 /// Expressions in which no node is at fault have a kind, and the pieces of the typed program for which they
 /// stand have the types that the validity of programs asks (OpenCL 1.2, section 6.2; C99, section 6.5).
@@ -23,10 +30,21 @@ pub fn shape_law()
     ensures { UnitsShaped }
 {}
 
-/// A unit of that shape in which no node is at fault, and whose kernel keeps the limits, stands for a valid program:
-/// its types fit, each variable is declared once and named behind its declaration alone, `break` and `continue` stand
-/// in loops and switches, no two operations have one site, calls end, tables have their bytes, and what the kernel
-/// runs is no larger than a program may be (OpenCL 1.2, chapter 6; C99, sections 6.5 to 6.9).
+/// Each tree that tokens spell, where each number among them has a value, has the wide shape of a unit: the same, but
+/// that selections of components stand in it, a point and a name behind an operand (OpenCL 1.2, section 6.1.7).
+pub fn wide_shape_law()
+    ensures { WideShaped }
+{}
+
+/// In a tree that has the shape of a unit, and not only the wide one, no selection of components stands.
+pub fn selection_law()
+    ensures { NoneSelected }
+{}
+
+/// A unit of the shape without selections in which no node is at fault, and whose kernel keeps the limits, stands for a
+/// valid program: its types fit, each variable is declared once and named behind its declaration alone, `break` and
+/// `continue` stand in loops and switches, no two operations have one site, calls end, tables have their bytes, and
+/// what the kernel runs is no larger than a program may be (OpenCL 1.2, chapter 6; C99, sections 6.5 to 6.9).
 pub fn valid_law()
     ensures { UnitsValid }
 {}
