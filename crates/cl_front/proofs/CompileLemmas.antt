@@ -10,6 +10,7 @@ use Rattle.cl_tree.specs.Grammar.{SpellsUnit}
 use Rattle.cl_read.proofs.WholeUnit.{same_unit}
 use Rattle.cl_meaning.specs.Typed.{Unit'}
 use Rattle.cl_check.specs.Checked.{IsRefused}
+use Rattle.cl_short_vec.specs.Unit.{scalarised_of}
 use Rattle.cl_check.proofs.Deciding.{accepted_or_not}
 use Rattle.cl_front.specs.declared.condition.Condition.{Condition}
 use Rattle.cl_front.specs.declared.front.SourceError.{SourceError}
@@ -59,11 +60,12 @@ faulty_or_compiled bytes defines kernel condition place typed bad good =
     let tokens =
     one_expanded bytes defines bad.expanded good.expanded bad.unit good.unit bad.is_source good.is_source in
     let unit = one_unit bytes defines bad.expanded good.expanded bad.unit good.unit bad.is_source good.is_source in
-    let refused : IsRefused (places_of bytes good.expanded) kernel good.unit bad.fault bad.token =
-    subst (λ (u : Syntax). IsRefused (places_of bytes good.expanded) kernel u bad.fault bad.token) unit
-    (subst (λ (ts : List Token). IsRefused (places_of bytes ts) kernel bad.unit bad.fault bad.token) tokens
-    bad.refused) in
-    accepted_or_not (places_of bytes good.expanded) kernel good.unit bad.fault bad.token refused good.accepted
+    let refused : IsRefused (places_of bytes good.expanded) kernel (scalarised_of good.unit) bad.fault bad.token =
+    subst (λ (u : Syntax). IsRefused (places_of bytes good.expanded) kernel (scalarised_of u) bad.fault bad.token)
+    unit (subst (λ (ts : List Token). IsRefused (places_of bytes ts) kernel (scalarised_of bad.unit) bad.fault
+    bad.token) tokens bad.refused) in
+    accepted_or_not (places_of bytes good.expanded) kernel (scalarised_of good.unit) bad.fault bad.token refused
+    good.accepted
 
 -- a source that is refused is not compiled
 pub refused_or_compiled : (bytes : List ℕ) (defines : List Define) (kernel : List ℕ) (condition : Condition)

@@ -1,5 +1,5 @@
 -- From a source to its unit: what is refused, and that nothing is both.
-use Rattle.std.proofs.Common.{◌≡◌, ℕ, ◌+◌, ◌<◌, ◌≤◌, Bool, false, List, [], ◌∷◌, ◌++◌, length, drop, Option, Some}
+use Rattle.std.proofs.Common.{◌≡◌, ℕ, ◌+◌, ◌<◌, ◌≤◌, Bool, List, [], ◌∷◌, ◌++◌, length, drop, Option, Some}
 use Rattle.std.proofs.Common.{None, inl, inr, refl, sym, ◌∙◌, ap, subst, arith, length-append}
 use Rattle.std.specs.Prelude.{Err}
 use Rattle.std.proofs.lemmas.Bool.{cases_lt}
@@ -23,15 +23,14 @@ use Rattle.cl_prep.specs.Progress.{IsRefusedOrMemory as IsUnexpandedOrMemory}
 use Rattle.cl_prep.proofs.Unique.{one_out, ends_or_fails}
 use Rattle.cl_tree.specs.Syntax.{Syntax, nesting}
 use Rattle.cl_tree.specs.Grammar.{SpellsUnit}
-use Rattle.cl_tree.specs.Selections.{has_selection}
 use Rattle.cl_tree.specs.Places.{Continues, NoUnit, NoUnitWithin, SomeUnit, DeeperUnit}
 use Rattle.cl_front.specs.declared.condition.Condition.{Condition}
 use Rattle.cl_front.specs.declared.condition.Condition.TheVariants as conditions
 use Rattle.cl_front.specs.Front.{Reads, HasUnit, place_of_token, condition_of_lexical}
-use Rattle.cl_front.specs.Front.{condition_of_expansion, StandsAt, uncut, unexpanded, no_unit, too_deep, no_component}
+use Rattle.cl_front.specs.Front.{condition_of_expansion, StandsAt, uncut, unexpanded, no_unit, too_deep, on_vectors}
 use Rattle.cl_read.proofs.WholeUnit.{same_unit}
-use Rattle.cl_front.specs.Selections.{first_selection}
-use Rattle.cl_front.proofs.SelectionLemmas.{found_or_plain}
+use Rattle.cl_short_vec.specs.declared.refuse.VectorRefusal.{VectorRefusal}
+use Rattle.cl_short_vec.specs.Faults.{refusal_of}
 
 -- ---- how many tokens a source has, and where an error of them stands
 
@@ -131,12 +130,12 @@ pub too_deep_stands : (source : List ℕ) (expanded : List Token) (at : ℕ) (pl
 too_deep_stands source expanded at place none deeper placed =
     λ defines tokens reads. too_deep tokens expanded at reads none deeper refl placed
 
-pub no_component_stands : (source : List ℕ) (expanded : List Token) (unit : Syntax) (at : ℕ) (place : Place) →
-    SpellsUnit unit expanded → nesting unit ≤ 256 → first_selection unit ≡ Some at →
-    place ≡ place_of_token source expanded at → (defines : List Define) (tokens : List Token) →
-    Reads source defines tokens expanded → StandsAt source defines conditions.NoComponent place
-no_component_stands source expanded unit at place spelled nests first placed =
-    λ defines tokens reads. no_component tokens expanded unit at reads spelled nests first refl placed
+pub on_vectors_stands : (source : List ℕ) (expanded : List Token) (unit : Syntax) (r : VectorRefusal)
+    (place : Place) → SpellsUnit unit expanded → nesting unit ≤ 256 → refusal_of unit ≡ Some r →
+    place ≡ place_of_token source expanded r.token → (defines : List Define) (tokens : List Token) →
+    Reads source defines tokens expanded → StandsAt source defines (conditions.Vector r.fault) place
+on_vectors_stands source expanded unit r place spelled nests told placed =
+    λ defines tokens reads. on_vectors tokens expanded unit r reads spelled nests told refl placed
 
 -- ---- nothing is both
 
@@ -197,7 +196,8 @@ refused_or_unit source defines condition place (no_unit tokens expanded at reads
 refused_or_unit source defines condition place (too_deep tokens expanded at reads none deeper is placed) u =
     none expanded u.0 (continues_itself expanded at) (subst (λ (ts : List Token). SpellsUnit u.0 ts)
     (one_reading source defines u.2.read.0 tokens u.1 expanded u.2.read.1 reads) u.2.spelled) u.2.nests
-refused_or_unit source defines condition place (no_component tokens expanded unit at reads spelled nests first is p) u =
+refused_or_unit source defines condition place (on_vectors tokens expanded unit r reads spelled nests told is p) u =
     let same : u.0 ≡ unit = same_unit expanded u.0 unit (subst (λ (ts : List Token). SpellsUnit u.0 ts)
     (one_reading source defines u.2.read.0 tokens u.1 expanded u.2.read.1 reads) u.2.spelled) spelled in
-    found_or_plain unit at first (subst (λ (t : Syntax). has_selection t ≡ false) same u.2.plain)
+    let none : refusal_of unit ≡ None = subst (λ (t : Syntax). refusal_of t ≡ None) same u.2.vectors in
+    let never : Some r ≡ None = sym told ∙ none in cc

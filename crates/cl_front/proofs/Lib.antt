@@ -1,4 +1,3 @@
-pub mod SelectionLemmas
 pub mod FrontLemmas
 pub mod CompileLemmas
 pub mod ValidLemmas

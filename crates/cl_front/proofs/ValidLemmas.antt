@@ -7,9 +7,11 @@ use Rattle.cl_meaning.specs.View.{unit_of}
 use Rattle.cl_check_sound.specs.Erased as erased
 use Rattle.cl_check_sound.specs.Law.{DefinesFit}
 use Rattle.cl_check_sound.proofs.Accepted.{units_valid}
-use Rattle.cl_check_sound.proofs.Spelled.{spelled_shape}
+use Rattle.cl_check_sound.proofs.Spelled.{spelled_wide}
 use Rattle.cl_check_sound.proofs.ErasedPrograms.{program_same}
 use Rattle.cl_check_sound.proofs.Expanded.{expanded_read}
+use Rattle.cl_short_vec.specs.Unit.{scalarised_of}
+use Rattle.cl_short_vec_sound.proofs.Units.{forms_shaped}
 use Rattle.cl_front.specs.Typed.{HasTypedUnit, places_of}
 use Rattle.cl_front.specs.Law.{ProgramsValid}
 
@@ -18,10 +20,10 @@ accepted_valid : (source : List ℕ) (defines : List Define) (kernel : List ℕ)
 accepted_valid source defines kernel typed fit c =
     let places = places_of source c.expanded in
     let read = c.is_source.read.1 in
-    let shaped = spelled_shape c.unit c.expanded c.is_source.spelled
-    (expanded_read source c.is_source.read.0 c.expanded defines read.cuts fit read.expands) c.is_source.plain in
+    let shaped = forms_shaped c.unit (spelled_wide c.unit c.expanded c.is_source.spelled
+    (expanded_read source c.is_source.read.0 c.expanded defines read.cuts fit read.expands)) in
     subst (λ (t : Unit'). IsValid (erased.program_of t)) (sym c.means)
-    (units_valid places kernel c.unit shaped c.accepted)
+    (units_valid places kernel (scalarised_of c.unit) shaped c.accepted)
 
 pub compiled_valid : ProgramsValid
 compiled_valid source defines kernel p fit c =

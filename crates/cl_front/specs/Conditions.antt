@@ -3,8 +3,15 @@ use Rattle.std.specs.Prelude.{ℕ, List, codes}
 use Rattle.cl_meaning.specs.declared.fault.Fault.{Fault}
 use Rattle.cl_meaning.specs.declared.fault.Fault.TheVariants as faults
 use Rattle.cl_meaning.specs.Numbers.{number_of as number_of_fault}
+use Rattle.cl_short_vec.specs.declared.refuse.VectorFault.{VectorFault}
+use Rattle.cl_short_vec.specs.declared.refuse.VectorFault.TheVariants as vector_faults
 use Rattle.cl_front.specs.declared.condition.Condition.{Condition}
 use Rattle.cl_front.specs.declared.condition.Condition.TheVariants as conditions
+
+abbrev pub number_of_vector : VectorFault → ℕ
+number_of_vector vector_faults.Misplaced = 501
+number_of_vector vector_faults.NoComponent = 502
+number_of_vector vector_faults.TypesDiffer = 503
 
 abbrev pub number_of : Condition → ℕ
 number_of conditions.NoToken = 101
@@ -20,8 +27,14 @@ number_of conditions.NotClosed = 205
 number_of conditions.TooMany = 206
 number_of conditions.Syntax = 301
 number_of conditions.Nesting = 302
-number_of conditions.NoComponent = 502
+number_of (conditions.Vector fault) = number_of_vector fault
 number_of (conditions.Unit fault) = number_of_fault fault
+
+-- the text of a fault with vectors
+abbrev pub text_of_vector : VectorFault → List ℕ
+text_of_vector vector_faults.Misplaced = codes "vector misplaced"
+text_of_vector vector_faults.NoComponent = codes "no such component"
+text_of_vector vector_faults.TypesDiffer = codes "component types differ"
 
 -- the text of a fault of the unit
 abbrev pub text_of_unit : Fault → List ℕ
@@ -65,5 +78,5 @@ text_of conditions.NotClosed = codes "conditional not closed"
 text_of conditions.TooMany = codes "too many tokens"
 text_of conditions.Syntax = codes "syntax"
 text_of conditions.Nesting = codes "nested too deep"
-text_of conditions.NoComponent = codes "no such component"
+text_of (conditions.Vector fault) = text_of_vector fault
 text_of (conditions.Unit fault) = text_of_unit fault

@@ -1,5 +1,5 @@
 -- What a source is before its kernels are looked at: its tokens, what they expand to, and the unit that those spell.
-use Rattle.std.specs.Prelude.{◌≡◌, ◌<◌, ◌≤◌, ⊤, ℕ, false, List, [], ◌∷◌, length, drop, Option, Some, None}
+use Rattle.std.specs.Prelude.{◌≡◌, ◌<◌, ◌≤◌, ⊤, ℕ, List, [], ◌∷◌, length, drop, Option, Some, None}
 use Rattle.wg_num.specs.declared.types.Place.{Place}
 use Rattle.cl_token.specs.declared.token.Token.{Token}
 use Rattle.cl_token.specs.declared.token.LexError.{LexError}
@@ -12,9 +12,10 @@ use Rattle.cl_prep.specs.declared.prep.PrepError.TheVariants as prep
 use Rattle.cl_prep.specs.Expands.{Expands, IsRefused as IsUnexpanded}
 use Rattle.cl_tree.specs.Syntax.{Syntax, nesting}
 use Rattle.cl_tree.specs.Grammar.{SpellsUnit}
-use Rattle.cl_tree.specs.Selections.{has_selection}
 use Rattle.cl_tree.specs.Places.{NoUnit, NoUnitWithin, SomeUnit, DeeperUnit}
-use Rattle.cl_front.specs.Selections.{first_selection}
+use Rattle.cl_short_vec.specs.declared.refuse.VectorRefusal.{VectorRefusal}
+use Rattle.cl_short_vec.specs.Faults.{refusal_of}
+use Rattle.cl_short_vec.specs.Unit.{scalarised_of}
 use Rattle.cl_front.specs.declared.condition.Condition.{Condition}
 use Rattle.cl_front.specs.declared.condition.Condition.TheVariants as conditions
 use Rattle.cl_front.specs.declared.front.SourceError.{SourceError}
@@ -30,12 +31,28 @@ pub record Reads (source : List ℕ) (defines : List Define) (tokens expanded : 
 abbrev pub AreExpanded : List ℕ → List Define → List Token → Type 0
 AreExpanded source defines expanded = (tokens : List Token) × Reads source defines tokens expanded
 
--- these are the expanded tokens of a source, and this is the unit that they spell, in which nothing is selected
+-- these are the expanded tokens of a source, and this is the unit that they spell, in which no condition on vectors
+-- stands
 pub record IsSource (source : List ℕ) (defines : List Define) (expanded : List Token) (unit : Syntax) : Type 0 where
   pub read : AreExpanded source defines expanded
   pub spelled : SpellsUnit unit expanded
   pub nests : nesting unit ≤ 256
-  pub plain : has_selection unit ≡ false
+  pub vectors : refusal_of unit ≡ None
+
+-- This is the unit without vectors that stands for the unit of the source.
+pub record IsScalarSource (source : List ℕ) (defines : List Define) (expanded : List Token) (form : Syntax) :
+    Type 0 where
+  pub unit : Syntax
+  pub is_source : IsSource source defines expanded unit
+  pub form_is : form ≡ scalarised_of unit
+
+-- This is the unit without vectors that stands for the unit that these tokens spell.
+pub record IsScalarUnit (expanded : List Token) (form : Syntax) : Type 0 where
+  pub unit : Syntax
+  pub spelled : SpellsUnit unit expanded
+  pub nests : nesting unit ≤ 256
+  pub vectors : refusal_of unit ≡ None
+  pub form_is : form ≡ scalarised_of unit
 
 -- A source has a unit.
 abbrev pub HasUnit : List ℕ → List Define → Type 0
@@ -85,10 +102,10 @@ pub data StandsAt (source : List ℕ) (defines : List Define) (condition : Condi
       NoUnitWithin 256 expanded at → DeeperUnit 256 expanded at
       → condition ≡ conditions.Nesting → place ≡ place_of_token source expanded at →
       StandsAt source defines condition place
-  no_component : (tokens expanded : List Token) (unit : Syntax) (at : ℕ) → Reads source defines tokens expanded →
-      SpellsUnit unit expanded → nesting unit ≤ 256 → first_selection unit ≡ Some at
-      → condition ≡ conditions.NoComponent → place ≡ place_of_token source expanded at →
-      StandsAt source defines condition place
+  on_vectors : (tokens expanded : List Token) (unit : Syntax) (r : VectorRefusal) →
+      Reads source defines tokens expanded → SpellsUnit unit expanded → nesting unit ≤ 256 →
+      refusal_of unit ≡ Some r → condition ≡ conditions.Vector r.fault →
+      place ≡ place_of_token source expanded r.token → StandsAt source defines condition place
 
 -- The source is refused with this error, or memory ran out.
 abbrev pub IsRefusal : List ℕ → List Define → SourceError → Type 0

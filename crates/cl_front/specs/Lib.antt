@@ -1,5 +1,4 @@
 pub mod Conditions
 pub mod Front
 pub mod Law
-pub mod Selections
 pub mod Typed

@@ -10,6 +10,7 @@ use Rattle.cl_meaning.specs.Typed.{Unit'}
 use Rattle.cl_meaning.specs.Meant.{unit_meant}
 use Rattle.cl_limits.specs.Judged.{IsAccepted}
 use Rattle.cl_check.specs.Checked.{IsRefused}
+use Rattle.cl_short_vec.specs.Unit.{scalarised_of}
 use Rattle.cl_front.specs.declared.condition.Condition.{Condition}
 use Rattle.cl_front.specs.declared.condition.Condition.TheVariants as conditions
 use Rattle.cl_front.specs.declared.front.SourceError.{SourceError}
@@ -20,15 +21,15 @@ use Rattle.cl_front.specs.Front.{IsSource, StandsAt, place_of_token}
 abbrev pub places_of : List ℕ → List Token → List Place
 places_of source tokens = map (λ t. place_at source t.start) tokens
 
--- no node of the unit is at fault, the kernel is within the limits, and this is the typed unit
+-- no node of the unit without vectors is at fault, the kernel is within the limits, and this is the typed unit
 pub record HasTypedUnit (source : List ℕ) (defines : List Define) (kernel : List ℕ) (typed : Unit') : Type 0 where
   pub expanded : List Token
   pub unit : Syntax
   pub is_source : IsSource source defines expanded unit
-  pub accepted : IsAccepted (places_of source expanded) kernel unit
-  pub means : typed ≡ unit_meant (places_of source expanded) kernel unit
+  pub accepted : IsAccepted (places_of source expanded) kernel (scalarised_of unit)
+  pub means : typed ≡ unit_meant (places_of source expanded) kernel (scalarised_of unit)
 
--- the condition is the first fault of the unit, and is reported at that place
+-- the condition is the first fault of the unit without vectors, and is reported at that place
 pub record IsFaulty (source : List ℕ) (defines : List Define) (kernel : List ℕ) (condition : Condition)
     (place : Place) : Type 0 where
   pub expanded : List Token
@@ -36,11 +37,11 @@ pub record IsFaulty (source : List ℕ) (defines : List Define) (kernel : List �
   pub is_source : IsSource source defines expanded unit
   pub fault : Fault
   pub token : ℕ
-  pub refused : IsRefused (places_of source expanded) kernel unit fault token
+  pub refused : IsRefused (places_of source expanded) kernel (scalarised_of unit) fault token
   pub condition_is : condition ≡ conditions.Unit fault
   pub place_is : place ≡ place_of_token source expanded token
 
--- the condition stands at that place: of the bytes, the macros, the grammar, or the unit
+-- the condition stands at that place: of the bytes, the macros, the grammar, the vectors, or the unit
 abbrev pub HasNoTypedUnit : List ℕ → List Define → (kernel : List ℕ) → Condition → Place → Type 0
 HasNoTypedUnit source defines kernel condition place =
     StandsAt source defines condition place ⊎ IsFaulty source defines kernel condition place

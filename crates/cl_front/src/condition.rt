@@ -1,9 +1,10 @@
 //! The conditions that refuse a source, each with its number and its text.
 
 ghost use Rattle.std.specs.Prelude.{◌≡◌};
-ghost use Rattle.cl_front.specs.Conditions.{number_of, text_of, text_of_unit};
+ghost use Rattle.cl_front.specs.Conditions.{number_of, number_of_vector, text_of, text_of_unit, text_of_vector};
 
 use cl_meaning::Fault;
+use cl_short_vec::VectorFault;
 
 /// A condition that refuses a source: of its bytes, its macros, its grammar, its vectors, or its unit (OpenCL 1.2,
 /// chapter 6; C99, sections 6.4 to 6.10).
@@ -35,8 +36,8 @@ pub enum Condition {
     Syntax,
     /// E302: the units that go on from them all nest deeper than 256.
     Nesting,
-    /// E502: a selection names no component of a vector.
-    NoComponent,
+    /// E501 to E503: a node of the unit is at fault with vectors.
+    Vector(VectorFault),
     /// E401 to E424: a node of the unit is at fault.
     Unit(Fault),
 }
@@ -60,7 +61,7 @@ impl Condition {
             Condition::TooMany => 206,
             Condition::Syntax => 301,
             Condition::Nesting => 302,
-            Condition::NoComponent => 502,
+            Condition::Vector(fault) => vector_number(fault),
             Condition::Unit(fault) => fault.number(),
         }
     }
@@ -83,9 +84,29 @@ impl Condition {
             Condition::TooMany => b"too many tokens",
             Condition::Syntax => b"syntax",
             Condition::Nesting => b"nested too deep",
-            Condition::NoComponent => b"no such component",
+            Condition::Vector(fault) => vector_text(fault),
             Condition::Unit(fault) => unit_text(fault),
         }
+    }
+}
+
+fn vector_number(fault: VectorFault) -> u16
+    ensures { result ≡ number_of_vector fault }
+{
+    match fault {
+        VectorFault::Misplaced => 501,
+        VectorFault::NoComponent => 502,
+        VectorFault::TypesDiffer => 503,
+    }
+}
+
+fn vector_text(fault: VectorFault) -> &'static [u8]
+    ensures { result.now ≡ text_of_vector fault }
+{
+    match fault {
+        VectorFault::Misplaced => b"vector misplaced",
+        VectorFault::NoComponent => b"no such component",
+        VectorFault::TypesDiffer => b"component types differ",
     }
 }
 

@@ -9,13 +9,13 @@ ghost use Rattle.cl_prep.specs.Progress.{IsRefusedOrMemory as IsUnexpandedOrMemo
 ghost use Rattle.cl_tree.specs.Syntax.{view, nesting};
 ghost use Rattle.cl_tree.specs.Grammar.{SpellsUnit};
 ghost use Rattle.cl_tree.specs.Selections.{has_selection};
-ghost use Rattle.cl_front.specs.Front.{Reads, AreExpanded, IsRefusal, place_of_token, condition_of_lexical};
+ghost use Rattle.cl_front.specs.Front.{Reads, AreExpanded, IsScalarUnit, IsRefusal, place_of_token, condition_of_lexical};
 ghost use Rattle.cl_front.specs.Front.{condition_of_expansion};
 
 use crate::condition::Condition;
-use crate::selection::first_selection;
 use cl_parse::{ParseError, parse};
 use cl_prep::{Defines, PrepError, expand};
+use cl_short_vec::{VectorError, scalarise};
 use cl_token::{LexError, Token, place_of, tokens};
 use cl_tree::Tree;
 use std::alloc::Global;
@@ -160,44 +160,46 @@ pub fn read_tokens(
     expand_tokens(alloc, source, defines, &tokens)
 }
 
-// The unit, or the refusal of its first selection.
-fn plain_unit(source: &[u8], expanded: &[Token], unit: Tree) -> Result<Tree, SourceError>
+// The unit without vectors, or the refusal of the first condition on vectors.
+fn scalar_unit(
+    alloc: Global,
+    source: &[u8],
+    expanded: &[Token],
+    unit: Tree,
+) -> Result<Tree, SourceError>
     requires short { length source.now ≤ limit }
     requires inside { All (λ t. t.start ≤ length source.now) expanded.now }
     requires spelled { SpellsUnit (view unit) expanded.now }
     requires nests { nesting (view unit) ≤ 256 }
-    ensures ok { IfOk result (λ t. t ≡ unit) }
+    ensures ok { IfOk result (λ t. IsScalarUnit expanded.now (view t)) }
     ensures plain { IfOk result (λ t. has_selection (view t) ≡ false) }
     ensures err { IfErr result (λ e. (defines : List Define) (tokens : List AnyToken) →
         Reads source.now defines tokens expanded.now → IsRefusal source.now defines e) }
 {
-    match first_selection(&unit) {
-        None => Ok(unit),
-        Some(token) => {
-            drop(unit);
-            Err(SourceError::Refused {
-                condition: Condition::NoComponent,
-                place: token_place(source, expanded, token),
-            })
-        }
+    match scalarise(alloc, unit) {
+        Ok(form) => Ok(form),
+        Err(VectorError::Refused(refusal)) => Err(SourceError::Refused {
+            condition: Condition::Vector(refusal.fault),
+            place: token_place(source, expanded, refusal.token),
+        }),
+        Err(VectorError::Memory) => Err(SourceError::Memory),
     }
 }
 
-/// The unit that the expanded tokens of a source spell (OpenCL 1.2, chapter 6; C99, sections 6.5 to
-/// 6.9), or its refusal (E301 and E302, then E502) at the place that the condition names. There are
-/// no vectors yet, so that each selection selects from something that is none (OpenCL 1.2, section
-/// 6.1.7), and the first one refuses the unit.
+/// The unit without vectors that stands for the unit that the expanded tokens of a source spell
+/// (OpenCL 1.2, chapter 6; C99, sections 6.5 to 6.9), or the refusal of that unit (E301 and E302,
+/// then E501 to E503) at the place that the condition names.
 pub fn read_unit(alloc: Global, source: &[u8], expanded: &[Token]) -> Result<Tree, SourceError>
     requires short { length source.now ≤ limit }
     requires inside { All (λ t. t.start ≤ length source.now) expanded.now }
     requires few { length expanded.now ≤ token_limit }
-    ensures ok { IfOk result (λ t. SpellsUnit (view t) expanded.now × (nesting (view t) ≤ 256)) }
+    ensures ok { IfOk result (λ t. IsScalarUnit expanded.now (view t)) }
     ensures plain { IfOk result (λ t. has_selection (view t) ≡ false) }
     ensures err { IfErr result (λ e. (defines : List Define) (tokens : List AnyToken) →
         Reads source.now defines tokens expanded.now → IsRefusal source.now defines e) }
 {
     match parse(alloc, expanded) {
-        Ok(unit) => plain_unit(source, expanded, unit),
+        Ok(unit) => scalar_unit(alloc, source, expanded, unit),
         Err(ParseError::Syntax { token }) => Err(SourceError::Refused {
             condition: Condition::Syntax,
             place: token_place(source, expanded, token),

@@ -4,7 +4,6 @@
 pub mod condition;
 pub mod front;
 pub mod laws;
-mod selection;
 pub mod typing;
 
 pub use condition::Condition;

@@ -5,7 +5,7 @@ ghost use Rattle.cl_token.specs.Cuts.{limit};
 ghost use Rattle.cl_prep.specs.declared.prep.Define.{Define};
 ghost use Rattle.cl_tree.specs.Syntax.{view};
 ghost use Rattle.cl_tree.specs.Selections.{has_selection};
-ghost use Rattle.cl_front.specs.Front.{IsRefusal, IsSource, place_of_token};
+ghost use Rattle.cl_front.specs.Front.{IsRefusal, IsScalarSource, place_of_token};
 ghost use Rattle.cl_front.specs.Typed.{HasTypedUnit, IsKernelRefusal, IsUnitRefusal, places_of};
 ghost use Rattle.cl_front.specs.declared.front.SourceError.TheVariants as errors;
 ghost use Rattle.cl_meaning.specs.View.{unit_of};
@@ -21,7 +21,7 @@ use std::alloc::Global;
 use wg_num::{Memory, Place};
 
 /// A source that has a unit: its expanded tokens, the place of each and of the end of the source,
-/// and the unit that they spell.
+/// and the unit without vectors that stands for the one that they spell.
 #[derive(Drop)]
 pub struct Source {
     pub tokens: Vec<Token>,
@@ -56,11 +56,11 @@ fn with_unit(
     }
 }
 
-/// The unit of a source with these given names, or its refusal: E101 to E105 by its bytes, E201 to
-/// E206 by its macros, E301 and E302 by the grammar, E502 by a selection, in this order, each at the
-/// place that the condition names.
+/// The unit of a source with these given names, as a unit without vectors, or its refusal: E101 to
+/// E105 by its bytes, E201 to E206 by its macros, E301 and E302 by the grammar, E501 to E503 by its
+/// vectors, in this order, each at the place that the condition names.
 pub fn read_source(alloc: Global, source: &[u8], defines: &Defines) -> Result<Source, SourceError>
-    ensures is { IfOk result (λ s. IsSource source.now defines.now.list.items s.tokens.items (view s.unit)) }
+    ensures is { IfOk result (λ s. IsScalarSource source.now defines.now.list.items s.tokens.items (view s.unit)) }
     ensures plain { IfOk result (λ s. has_selection (view s.unit) ≡ false) }
     ensures places { IfOk result (λ s. s.places.items ≡ places_of source.now s.tokens.items) }
     ensures end { IfOk result (λ s. s.end ≡ place_at source.now (length source.now)) }
@@ -94,11 +94,11 @@ fn token_place(source: &Source, token: u32) -> Place
 pub fn compile_kernel(alloc: Global, source: &Source, kernel: &[u8]) -> Result<Program, SourceError>
     requires selections { has_selection (view source.now.unit) ≡ false }
     ensures ok { IfOk result (λ p. (bytes : List ℕ) (defines : List Define) →
-        IsSource bytes defines source.now.tokens.items (view source.now.unit) →
+        IsScalarSource bytes defines source.now.tokens.items (view source.now.unit) →
         source.now.places.items ≡ places_of bytes source.now.tokens.items →
         HasTypedUnit bytes defines kernel.now (unit_of p)) }
     ensures err { IfErr result (λ e. (bytes : List ℕ) (defines : List Define) →
-        IsSource bytes defines source.now.tokens.items (view source.now.unit) →
+        IsScalarSource bytes defines source.now.tokens.items (view source.now.unit) →
         source.now.places.items ≡ places_of bytes source.now.tokens.items →
         source.now.end ≡ place_at bytes (length bytes) → IsUnitRefusal bytes defines kernel.now e) }
 {
@@ -113,7 +113,7 @@ pub fn compile_kernel(alloc: Global, source: &Source, kernel: &[u8]) -> Result<P
 }
 
 /// The typed program of a source with these given names and the kernel of that name (OpenCL 1.2,
-/// chapter 6), or the first refusal: E101 to E105, E201 to E206, E301 and E302, E502, E401 to E424.
+/// chapter 6), or the first refusal: E101 to E105, E201 to E206, E301 and E302, E501 to E503, E401 to E424.
 pub fn compile(
     alloc: Global,
     source: &[u8],

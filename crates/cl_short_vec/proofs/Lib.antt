@@ -2,5 +2,10 @@ pub mod Views
 pub mod Words
 pub mod Stacks
 pub mod Marking
+pub mod Growing
+pub mod Scalars
 pub mod Telling
 pub mod Refused
+pub mod Slices
+pub mod Units
+pub mod Plainness

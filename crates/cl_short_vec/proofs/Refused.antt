@@ -6,6 +6,8 @@ use Rattle.cl_tree.specs.Syntax.{Syntax, node, Forest, none, more}
 use Rattle.cl_meaning.specs.Names.{intrinsic_in}
 use Rattle.cl_meaning.specs.Operators.{binary_in, setting_in, prefix_in, postfix_in}
 use Rattle.cl_meaning.specs.Types.{names_outside, base_in, space_in}
+use Rattle.cl_short_vec.specs.declared.refuse.VectorFault.{VectorFault}
+use Rattle.cl_short_vec.specs.declared.refuse.VectorFault.TheVariants as vector_faults
 use Rattle.cl_short_vec.specs.declared.refuse.VectorRefusal.{VectorRefusal}
 use Rattle.cl_short_vec.specs.Types.{vector_in, selected, selection_in}
 use Rattle.cl_short_vec.specs.Marks.{kind_by, marked, marked_parts}
@@ -13,8 +15,8 @@ use Rattle.cl_short_vec.specs.Roles.{is_element, role_of}
 use Rattle.cl_short_vec.specs.Faults.{components_of, misplaced, no_component, items_given, types_differ, refusals}
 use Rattle.cl_short_vec.specs.Faults.{refusals_in, refusal_of}
 
-abbrev refusal : ℕ → ℕ → VectorRefusal
-refusal number token = record { number = number; token = token }
+abbrev refusal : VectorFault → ℕ → VectorRefusal
+refusal fault token = record { fault = fault; token = token }
 
 -- nodes with no part, one and two
 abbrev leaf : Form → List ℕ → ℕ → Syntax
@@ -45,7 +47,7 @@ pub told0 :
     (leaf forms.DeclaratorNode (codes "t") 11)) (one forms.SimpleNode (codes ";") 13 20
     (two forms.AssignNode (codes "=") 13 19 (one forms.PostfixNode (codes ". x") 13 15
     (leaf forms.VariableNode (codes "t") 13)) (one forms.PostfixNode (codes ". sF") 17 19
-    (leaf forms.VariableNode (codes "t") 17))))) none)))))) ≡ Some (refusal 502 17)
+    (leaf forms.VariableNode (codes "t") 17))))) none)))))) ≡ Some (refusal vector_faults.NoComponent 17)
 unfolding names_outside base_in space_in binary_in setting_in prefix_in postfix_in intrinsic_in vector_in selected
     selection_in kind_by marked marked_parts is_element role_of components_of misplaced no_component items_given
     types_differ refusals refusals_in
@@ -58,7 +60,7 @@ pub told1 :
     refusal_of (in_function 12 (more (two forms.DeclareNode (codes ";") 5 7 (leaf forms.TypeNode (codes "int4") 5)
     (leaf forms.DeclaratorNode (codes "t") 6)) (more (one forms.SimpleNode (codes ";") 8 11
     (two forms.AssignNode (codes "=") 8 10 (leaf forms.VariableNode (codes "t") 8)
-    (leaf forms.NumberNode (codes "5") 10))) none))) ≡ Some (refusal 503 8)
+    (leaf forms.NumberNode (codes "5") 10))) none))) ≡ Some (refusal vector_faults.TypesDiffer 8)
 unfolding names_outside base_in space_in binary_in setting_in prefix_in postfix_in intrinsic_in vector_in selected
     selection_in kind_by marked marked_parts is_element role_of components_of misplaced no_component items_given
     types_differ refusals refusals_in
@@ -74,7 +76,7 @@ pub told2 :
     (more (one forms.SimpleNode (codes ";") 11 16 (two forms.AssignNode (codes "=") 11 15
     (leaf forms.VariableNode (codes "t") 11) (two forms.SumNode (codes "+") 13 15
     (leaf forms.VariableNode (codes "t") 13) (leaf forms.VariableNode (codes "u") 15)))) none))))
-    ≡ Some (refusal 503 13)
+    ≡ Some (refusal vector_faults.TypesDiffer 13)
 unfolding names_outside base_in space_in binary_in setting_in prefix_in postfix_in intrinsic_in vector_in selected
     selection_in kind_by marked marked_parts is_element role_of components_of misplaced no_component items_given
     types_differ refusals refusals_in
@@ -92,7 +94,7 @@ pub told3 :
     (leaf forms.VariableNode (codes "x") 13) (one forms.PostfixNode (codes ". x") 15 21
     (one forms.ParenNode (codes "( )") 15 19 (two forms.SumNode (codes "+") 16 18
     (leaf forms.VariableNode (codes "t") 16) (leaf forms.VariableNode (codes "u") 18)))))) none))))
-    ≡ Some (refusal 501 15)
+    ≡ Some (refusal vector_faults.Misplaced 15)
 unfolding names_outside base_in space_in binary_in setting_in prefix_in postfix_in intrinsic_in vector_in selected
     selection_in kind_by marked marked_parts is_element role_of components_of misplaced no_component items_given
     types_differ refusals refusals_in
@@ -106,7 +108,7 @@ pub told4 :
     (one forms.DeclaratorNode (codes "t =") 6 16 (node forms.ListNode (codes "{ , , , }") 8 16
     (more (leaf forms.NumberNode (codes "1") 9) (more (leaf forms.NumberNode (codes "2") 11)
     (more (leaf forms.NumberNode (codes "3") 13) (more (leaf forms.NumberNode (codes "4") 15) none))))))) none))
-    ≡ Some (refusal 501 8)
+    ≡ Some (refusal vector_faults.Misplaced 8)
 unfolding names_outside base_in space_in binary_in setting_in prefix_in postfix_in intrinsic_in vector_in selected
     selection_in kind_by marked marked_parts is_element role_of components_of misplaced no_component items_given
     types_differ refusals refusals_in
@@ -120,7 +122,7 @@ pub told5 :
     (leaf forms.DeclaratorNode (codes "t") 6)) (more (one forms.SimpleNode (codes ";") 8 15
     (two forms.AssignNode (codes "=") 8 14 (one forms.PostfixNode (codes ". xx") 8 10
     (leaf forms.VariableNode (codes "t") 8)) (one forms.PostfixNode (codes ". xy") 12 14
-    (leaf forms.VariableNode (codes "t") 12)))) none))) ≡ Some (refusal 502 8)
+    (leaf forms.VariableNode (codes "t") 12)))) none))) ≡ Some (refusal vector_faults.NoComponent 8)
 unfolding names_outside base_in space_in binary_in setting_in prefix_in postfix_in intrinsic_in vector_in selected
     selection_in kind_by marked marked_parts is_element role_of components_of misplaced no_component items_given
     types_differ refusals refusals_in
@@ -136,7 +138,7 @@ pub told6 :
     (two forms.CastNode (codes "( )") 10 17 (leaf forms.TypeNode (codes "int4") 11)
     (one forms.ParenNode (codes "( )") 13 17 (two forms.ExprNode (codes ",") 14 16
     (leaf forms.NumberNode (codes "1") 14) (leaf forms.NumberNode (codes "2") 16)))))) none)))
-    ≡ Some (refusal 503 10)
+    ≡ Some (refusal vector_faults.TypesDiffer 10)
 unfolding names_outside base_in space_in binary_in setting_in prefix_in postfix_in intrinsic_in vector_in selected
     selection_in kind_by marked marked_parts is_element role_of components_of misplaced no_component items_given
     types_differ refusals refusals_in
@@ -149,7 +151,7 @@ pub told7 :
     refusal_of (in_function 13 (more (two forms.DeclareNode (codes ";") 5 7 (leaf forms.TypeNode (codes "int4") 5)
     (leaf forms.DeclaratorNode (codes "t") 6)) (more (one forms.SimpleNode (codes ";") 8 12
     (one forms.CallNode (codes "f ( )") 8 11 (leaf forms.VariableNode (codes "t") 10))) none)))
-    ≡ Some (refusal 501 10)
+    ≡ Some (refusal vector_faults.Misplaced 10)
 unfolding names_outside base_in space_in binary_in setting_in prefix_in postfix_in intrinsic_in vector_in selected
     selection_in kind_by marked marked_parts is_element role_of components_of misplaced no_component items_given
     types_differ refusals refusals_in
@@ -162,7 +164,7 @@ pub told8 :
     refusal_of (one forms.UnitNode (codes "") 0 7 (node forms.FunctionNode (codes "k ( )") 0 7
     (more (leaf forms.ResultNode (codes "void") 0) (more (one forms.ParamsNode (codes "") 3 4
     (one forms.ParamNode (codes "t") 3 4 (leaf forms.TypeNode (codes "int4") 3)))
-    (more (node forms.BlockNode (codes "{ }") 6 7 none) none))))) ≡ Some (refusal 501 3)
+    (more (node forms.BlockNode (codes "{ }") 6 7 none) none))))) ≡ Some (refusal vector_faults.Misplaced 3)
 unfolding names_outside base_in space_in binary_in setting_in prefix_in postfix_in intrinsic_in vector_in selected
     selection_in kind_by marked marked_parts is_element role_of components_of misplaced no_component items_given
     types_differ refusals refusals_in
@@ -174,7 +176,7 @@ told8 = refl
 pub told9 :
     refusal_of (in_function 14 (more (two forms.DeclareNode (codes ";") 5 13 (leaf forms.TypeNode (codes "int4") 5)
     (two forms.DeclaratorNode (codes "a [ ] [ ]") 6 12 (leaf forms.NumberNode (codes "2") 8)
-    (leaf forms.NumberNode (codes "2") 11))) none)) ≡ Some (refusal 501 6)
+    (leaf forms.NumberNode (codes "2") 11))) none)) ≡ Some (refusal vector_faults.Misplaced 6)
 unfolding names_outside base_in space_in binary_in setting_in prefix_in postfix_in intrinsic_in vector_in selected
     selection_in kind_by marked marked_parts is_element role_of components_of misplaced no_component items_given
     types_differ refusals refusals_in
@@ -188,7 +190,7 @@ pub told10 :
     (leaf forms.DeclaratorNode (codes "t") 6)) (more (node forms.ForNode (codes "for ( ; )") 8 17
     (more (leaf forms.SimpleNode (codes ";") 10) (more (two forms.AssignNode (codes "=") 12 14
     (leaf forms.VariableNode (codes "t") 12) (leaf forms.VariableNode (codes "t") 14))
-    (more (node forms.BlockNode (codes "{ }") 16 17 none) none)))) none))) ≡ Some (refusal 501 12)
+    (more (node forms.BlockNode (codes "{ }") 16 17 none) none)))) none))) ≡ Some (refusal vector_faults.Misplaced 12)
 unfolding names_outside base_in space_in binary_in setting_in prefix_in postfix_in intrinsic_in vector_in selected
     selection_in kind_by marked marked_parts is_element role_of components_of misplaced no_component items_given
     types_differ refusals refusals_in
@@ -209,7 +211,7 @@ pub told11 :
     (more (one forms.SimpleNode (codes ";") 26 33 (two forms.AssignNode (codes "=") 26 32
     (one forms.PostfixNode (codes ". xy") 26 28 (leaf forms.VariableNode (codes "t") 26))
     (one forms.PostfixNode (codes ". lo") 30 32 (leaf forms.VariableNode (codes "t") 30)))) none)))))
-    ≡ Some (refusal 502 26)
+    ≡ Some (refusal vector_faults.NoComponent 26)
 unfolding names_outside base_in space_in binary_in setting_in prefix_in postfix_in intrinsic_in vector_in selected
     selection_in kind_by marked marked_parts is_element role_of components_of misplaced no_component items_given
     types_differ refusals refusals_in
@@ -249,7 +251,7 @@ pub told13 :
     (leaf forms.DeclaratorNode (codes "t") 6)) (more (one forms.SimpleNode (codes ";") 8 16
     (two forms.AssignNode (codes "=") 8 15 (leaf forms.VariableNode (codes "t") 8)
     (two forms.CallNode (codes "min ( , )") 10 15 (leaf forms.VariableNode (codes "t") 12)
-    (leaf forms.NumberNode (codes "1") 14)))) none))) ≡ Some (refusal 503 10)
+    (leaf forms.NumberNode (codes "1") 14)))) none))) ≡ Some (refusal vector_faults.TypesDiffer 10)
 unfolding names_outside base_in space_in binary_in setting_in prefix_in postfix_in intrinsic_in vector_in selected
     selection_in kind_by marked marked_parts is_element role_of components_of misplaced no_component items_given
     types_differ refusals refusals_in
@@ -263,7 +265,7 @@ pub told14 :
     (one forms.TypeNode (codes "int4") 0 1 (leaf forms.SpaceNode (codes "__constant") 0))
     (two forms.DeclaratorNode (codes "c [ ] =") 2 11 (leaf forms.NumberNode (codes "2") 4)
     (two forms.ListNode (codes "{ , }") 7 11 (leaf forms.NumberNode (codes "1") 8)
-    (leaf forms.NumberNode (codes "2") 10))))) ≡ Some (refusal 501 2)
+    (leaf forms.NumberNode (codes "2") 10))))) ≡ Some (refusal vector_faults.Misplaced 2)
 unfolding names_outside base_in space_in binary_in setting_in prefix_in postfix_in intrinsic_in vector_in selected
     selection_in kind_by marked marked_parts is_element role_of components_of misplaced no_component items_given
     types_differ refusals refusals_in
@@ -274,7 +276,7 @@ pub told15 :
     refusal_of (in_function 17 (more (two forms.DeclareNode (codes ";") 5 16 (leaf forms.TypeNode (codes "int4") 5)
     (two forms.DeclaratorNode (codes "a [ ] =") 6 15 (leaf forms.NumberNode (codes "2") 8)
     (two forms.ListNode (codes "{ , }") 11 15 (leaf forms.NumberNode (codes "1") 12)
-    (leaf forms.NumberNode (codes "2") 14)))) none)) ≡ Some (refusal 501 6)
+    (leaf forms.NumberNode (codes "2") 14)))) none)) ≡ Some (refusal vector_faults.Misplaced 6)
 unfolding names_outside base_in space_in binary_in setting_in prefix_in postfix_in intrinsic_in vector_in selected
     selection_in kind_by marked marked_parts is_element role_of components_of misplaced no_component items_given
     types_differ refusals refusals_in
@@ -308,7 +310,7 @@ pub told17 :
     (two forms.AssignNode (codes "=") 9 16 (leaf forms.VariableNode (codes "a") 9)
     (one forms.UnaryNode (codes "&") 11 16 (one forms.UnaryNode (codes "-") 12 16
     (two forms.PostfixNode (codes "[ ]") 13 16 (leaf forms.VariableNode (codes "a") 13)
-    (leaf forms.NumberNode (codes "1") 15))))))) none))))) ≡ Some (refusal 501 12)
+    (leaf forms.NumberNode (codes "1") 15))))))) none))))) ≡ Some (refusal vector_faults.Misplaced 12)
 unfolding names_outside base_in space_in binary_in setting_in prefix_in postfix_in intrinsic_in vector_in selected
     selection_in kind_by marked marked_parts is_element role_of components_of misplaced no_component items_given
     types_differ refusals refusals_in
@@ -322,7 +324,7 @@ pub told18 :
     (leaf forms.DeclaratorNode (codes "t") 6)) (more (one forms.SimpleNode (codes ";") 8 14
     (two forms.AssignNode (codes "=") 8 13 (leaf forms.VariableNode (codes "t") 8)
     (two forms.CastNode (codes "( )") 10 13 (leaf forms.TypeNode (codes "int4") 11)
-    (leaf forms.VariableNode (codes "t") 13)))) none))) ≡ Some (refusal 501 11)
+    (leaf forms.VariableNode (codes "t") 13)))) none))) ≡ Some (refusal vector_faults.Misplaced 11)
 unfolding names_outside base_in space_in binary_in setting_in prefix_in postfix_in intrinsic_in vector_in selected
     selection_in kind_by marked marked_parts is_element role_of components_of misplaced no_component items_given
     types_differ refusals refusals_in
@@ -335,7 +337,7 @@ pub told19 :
     refusal_of (in_function 16 (more (two forms.ForNode (codes "for ( ; )") 5 15
     (two forms.DeclareNode (codes ";") 7 11 (leaf forms.TypeNode (codes "int4") 7)
     (one forms.DeclaratorNode (codes "t =") 8 10 (leaf forms.NumberNode (codes "5") 10)))
-    (node forms.BlockNode (codes "{ }") 14 15 none)) none)) ≡ Some (refusal 503 8)
+    (node forms.BlockNode (codes "{ }") 14 15 none)) none)) ≡ Some (refusal vector_faults.TypesDiffer 8)
 unfolding names_outside base_in space_in binary_in setting_in prefix_in postfix_in intrinsic_in vector_in selected
     selection_in kind_by marked marked_parts is_element role_of components_of misplaced no_component items_given
     types_differ refusals refusals_in
@@ -348,7 +350,7 @@ pub told20 :
     (one forms.DeclaratorNode (codes "t =") 8 18 (node forms.ListNode (codes "{ , , , }") 10 18
     (more (leaf forms.NumberNode (codes "1") 11) (more (leaf forms.NumberNode (codes "2") 13)
     (more (leaf forms.NumberNode (codes "3") 15) (more (leaf forms.NumberNode (codes "4") 17) none)))))))
-    (node forms.BlockNode (codes "{ }") 22 23 none)) none)) ≡ Some (refusal 501 10)
+    (node forms.BlockNode (codes "{ }") 22 23 none)) none)) ≡ Some (refusal vector_faults.Misplaced 10)
 unfolding names_outside base_in space_in binary_in setting_in prefix_in postfix_in intrinsic_in vector_in selected
     selection_in kind_by marked marked_parts is_element role_of components_of misplaced no_component items_given
     types_differ refusals refusals_in
@@ -362,7 +364,7 @@ pub told21 :
     (leaf forms.DeclaratorNode (codes "x") 6)) (more (one forms.SimpleNode (codes ";") 8 13
     (two forms.AssignNode (codes "=") 8 12 (leaf forms.VariableNode (codes "x") 8)
     (one forms.PostfixNode (codes ". x") 10 12 (leaf forms.VariableNode (codes "q") 10)))) none)))
-    ≡ Some (refusal 502 10)
+    ≡ Some (refusal vector_faults.NoComponent 10)
 unfolding names_outside base_in space_in binary_in setting_in prefix_in postfix_in intrinsic_in vector_in selected
     selection_in kind_by marked marked_parts is_element role_of components_of misplaced no_component items_given
     types_differ refusals refusals_in
@@ -393,7 +395,7 @@ pub told23 :
     (leaf forms.DeclaratorNode (codes "t") 6)) (more (one forms.SimpleNode (codes ";") 8 13
     (two forms.AssignNode (codes "=") 8 12 (leaf forms.VariableNode (codes "t") 8)
     (two forms.OrderNode (codes "<") 10 12 (leaf forms.VariableNode (codes "t") 10)
-    (leaf forms.VariableNode (codes "t") 12)))) none))) ≡ Some (refusal 503 8)
+    (leaf forms.VariableNode (codes "t") 12)))) none))) ≡ Some (refusal vector_faults.TypesDiffer 8)
 unfolding names_outside base_in space_in binary_in setting_in prefix_in postfix_in intrinsic_in vector_in selected
     selection_in kind_by marked marked_parts is_element role_of components_of misplaced no_component items_given
     types_differ refusals refusals_in

@@ -10,6 +10,7 @@ use Rattle.cl_short_vec.specs.Marks.{Mark, Marks, marking}
 use Rattle.cl_short_vec.specs.Roles.{role_of}
 use Rattle.cl_short_vec.specs.Faults.{told, is_end, refusals, refusals_in}
 use Rattle.cl_short_vec.specs.View.{mark_of, marks_of}
+use Rattle.cl_short_vec.proofs.Views.{mark_out}
 
 pub told_first : (xs ys : List VectorRefusal) (r : VectorRefusal) → told xs ≡ Some r → told (xs ++ ys) ≡ Some r
 told_first [] ys r h = absurd (cc)
@@ -19,13 +20,13 @@ pub told_later : (xs ys : List VectorRefusal) → told xs ≡ None → told (xs 
 told_later [] ys h = refl
 told_later (x ∷ xs) ys h = absurd (cc)
 
-pub ruleset tells = (told_first, told_later)
+pub ruleset node_told = (told_first, told_later, mark_out)
 
 ends : (ms : List Marked) → is_end (marks_of ms) ≡ nat_eq (length ms) 0
 ends [] = refl
 ends (m ∷ ms) = sym (ne_eqb (length (m ∷ ms)) 0 (λ h. absurd (omega (arith, h))))
 
-marks_drop : (ms : List Marked) (i : ℕ) (m : Marked) → i < length ms → m ≡ get_or ms i m →
+pub marks_drop : (ms : List Marked) (i : ℕ) (m : Marked) → i < length ms → m ≡ get_or ms i m →
     marks_of (drop i ms) ≡ marking (mark_of m) (marks_of (drop (i + 1) ms))
 marks_drop ms i m h e =
     let one : suc i ≡ i + 1 = omega arith in

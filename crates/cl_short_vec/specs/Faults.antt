@@ -21,9 +21,11 @@ use Rattle.cl_short_vec.specs.declared.roles.Around.TheVariants as around
 use Rattle.cl_short_vec.specs.declared.roles.Role.{Role}
 use Rattle.cl_short_vec.specs.declared.roles.Role.TheVariants.{Free, Used, Barred, Target, Base, Listed, Items, Typed}
 use Rattle.cl_short_vec.specs.declared.roles.Role.TheVariants.{Declared}
+use Rattle.cl_short_vec.specs.declared.refuse.VectorFault.TheVariants as vector_faults
 use Rattle.cl_short_vec.specs.declared.refuse.VectorRefusal.{VectorRefusal}
 use Rattle.cl_short_vec.specs.Types.{vector_in, same_vector, selected, selection_in, picked, all_differ, numbers}
 use Rattle.cl_short_vec.specs.Kinds.{no_names, is_vector, is_operator, is_variable}
+use Rattle.cl_short_vec.specs.Plain.{has_vectors}
 use Rattle.cl_short_vec.specs.Marks.{Mark, mark, Marks, unmarked, marking, kind_at, back, front_kind, back_kind}
 use Rattle.cl_short_vec.specs.Marks.{vector_among, front_type, marked}
 use Rattle.cl_short_vec.specs.Roles.{is_place, sets_vector, is_list_cast, back_form, role_of}
@@ -203,9 +205,9 @@ types_differ role (node form w f l ps) k parts = is_operator form && not (fits (
 
 -- the least number whose condition stands
 abbrev pub least : ℕ → (misplaced lacks differ : Bool) → List VectorRefusal
-least token true b c = record { number = 501; token = token } ∷ []
-least token false true c = record { number = 502; token = token } ∷ []
-least token false false true = record { number = 503; token = token } ∷ []
+least token true b c = record { fault = vector_faults.Misplaced; token = token } ∷ []
+least token false true c = record { fault = vector_faults.NoComponent; token = token } ∷ []
+least token false false true = record { fault = vector_faults.TypesDiffer; token = token } ∷ []
 least token false false false = []
 
 abbrev pub refusal_at : Role → Mark → List VectorRefusal
@@ -227,10 +229,12 @@ unfoldable mutual
   refusals_in role m front (marking p ps) =
       refusals (role_of role m front (is_end ps) p) p ++ refusals_in role m false ps
 
--- the condition that is told of a unit, if one stands at a node of it: the first
+-- the first
 abbrev pub told : List VectorRefusal → Option VectorRefusal
 told [] = None
 told (r ∷ rs) = Some r
 
+-- The condition that is told of a unit, if one stands at a node of it. A unit that names no vector type and selects
+-- nothing has none.
 abbrev pub refusal_of : Syntax → Option VectorRefusal
-refusal_of unit = told (refusals Free (marked no_names unit))
+refusal_of unit = if has_vectors unit then told (refusals Free (marked no_names unit)) else None

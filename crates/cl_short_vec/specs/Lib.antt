@@ -2,5 +2,13 @@ pub mod Types
 pub mod Kinds
 pub mod Marks
 pub mod Roles
+pub mod Plain
 pub mod Faults
 pub mod View
+pub mod Nodes
+pub mod Made
+pub mod Order
+pub mod Parts
+pub mod Scalar
+pub mod Unit
+pub mod Answers

@@ -115,7 +115,7 @@ fn kind_by(
 }
 
 /// The node of a tree with these parts.
-#[tactic(auto, using(crate::proofs::Views::mark_out, cl_meaning::proofs::Views::view_out))]
+#[tactic(auto, using(crate::proofs::Views::node_seen))]
 fn mark_node<'a>(
     alloc: Global,
     names: &[Entry<'a>],

@@ -3,12 +3,14 @@
 ghost use Rattle.std.specs.Prelude.{◌≡◌, ℕ, List, option_map, IfOk, true, map};
 ghost use Rattle.cl_tree.specs.Syntax.{view, views};
 ghost use Rattle.cl_meaning.specs.Declarations.{form_of, word_of, parts_of};
+ghost use Rattle.cl_short_vec.specs.declared.roles.Role.TheVariants.{Free as free};
 ghost use Rattle.cl_short_vec.specs.Faults as spec;
 ghost use Rattle.cl_short_vec.specs.View.{mark_of, marks_of};
 
 use crate::kinds::{Kind, Reach, is_operator, is_vector};
 use crate::marks::{Marked, back, back_kind, front_kind, front_type, mark_unit, vector_among};
 use crate::names::is_variable;
+use crate::plain::has_vectors;
 use crate::roles::{Around, Role, back_form, is_list_cast, is_place, role_of, sets_vector};
 use crate::selections::{all_components, all_differ, picked, selected, selection_of};
 use crate::types::{Vector, same_vector, vector_of};
@@ -19,10 +21,21 @@ use cl_tree::{Form, Tree};
 use std::alloc::Global;
 use wg_num::{Memory, same_type};
 
-/// A condition that stands at a node: its number, from 501 to 503, and the first token of the node.
+/// A condition on vectors (OpenCL 1.2, sections 6.1.2, 6.1.6, 6.1.7 and 6.3).
+#[derive(Clone, Copy, PartialEq, Eq, Debug)]
+pub enum VectorFault {
+    /// E501: a vector or a vector type stands where none may.
+    Misplaced,
+    /// E502: a selection names no component of a vector, or a target names one twice.
+    NoComponent,
+    /// E503: vectors that must have one type have not, or a list does not fill its components.
+    TypesDiffer,
+}
+
+/// A condition that stands at a node: the condition, and the number of the first token of the node.
 #[derive(Clone, Copy, PartialEq, Eq, Debug)]
 pub struct VectorRefusal {
-    pub number: u16,
+    pub fault: VectorFault,
     pub token: u32,
 }
 
@@ -36,7 +49,11 @@ fn all_of(alloc: Global, kind: Kind) -> Result<Vec<usize>, Memory>
     }
 }
 
-fn selected_in(alloc: Global, kind: Kind, name: &[u8]) -> Result<Option<Vec<usize>>, Memory>
+pub(crate) fn selected_in(
+    alloc: Global,
+    kind: Kind,
+    name: &[u8],
+) -> Result<Option<Vec<usize>>, Memory>
     ensures { IfOk result (λ o. option_map (λ v. v.items) o ≡ spec.selected_in kind name.now) }
 {
     match kind {
@@ -100,8 +117,8 @@ fn components_by(
 }
 
 /// The components of a variable or element that a place stands for, in order. `Memory` where memory was refused.
-#[tactic(auto, using(crate::proofs::Views::parted, crate::proofs::Views::mark_out), unfolding(crate::specs::Faults::components_of))]
-fn components_of(alloc: Global, node: &Marked) -> Result<Vec<usize>, Memory>
+#[tactic(auto, using(crate::proofs::Views::parts_seen), unfolding(crate::specs::Faults::components_of))]
+pub(crate) fn components_of(alloc: Global, node: &Marked) -> Result<Vec<usize>, Memory>
     ensures { IfOk result (λ v. v.items ≡ spec.components_of (mark_of node.now)) }
 {
     match node.parts.as_slice() {
@@ -243,7 +260,7 @@ fn lacks_component(
 
 /// E502: whether a selection selects nothing, or is a target that names a component twice. `Memory` where memory was
 /// refused.
-#[tactic(auto, using(crate::proofs::Views::mark_out, cl_meaning::proofs::Views::view_out), unfolding(crate::specs::Faults::no_component))]
+#[tactic(auto, using(crate::proofs::Views::node_seen), unfolding(crate::specs::Faults::no_component))]
 fn no_component(alloc: Global, role: Role, node: &Marked) -> Result<bool, Memory>
     ensures { IfOk result (λ b. b ≡ spec.no_component role (mark_of node.now)) }
 {
@@ -331,7 +348,7 @@ fn items_by(
 
 /// How many components the items of a list give together, or one item; `None` where one has components of another
 /// type. `Memory` where the number has no room.
-#[tactic(auto, using(crate::proofs::Views::parted, cl_meaning::proofs::Views::view_out), unfolding(crate::specs::Faults::items_given))]
+#[tactic(auto, using(crate::proofs::Views::parts_of_node), unfolding(crate::specs::Faults::items_given))]
 fn items_given(vector: Vector, node: &Marked) -> Result<Option<usize>, Memory>
     ensures { IfOk result (λ o. o ≡ spec.items_given vector (mark_of node.now)) }
 {
@@ -456,19 +473,28 @@ fn types_differ(role: Role, tree: &Tree, kind: Kind, parts: &[Marked]) -> Result
 }
 
 /// The least condition that stands at a node, parts aside. `Memory` where memory was refused.
-#[tactic(auto, using(crate::proofs::Views::mark_out, cl_meaning::proofs::Views::view_out))]
+#[tactic(auto, using(crate::proofs::Views::node_seen))]
 fn refusal_at(alloc: Global, role: Role, node: &Marked) -> Result<Option<VectorRefusal>, Memory>
     ensures { IfOk result (λ r. r ≡ spec.told (spec.refusal_at role (mark_of node.now))) }
 {
     let token = node.tree.first;
     if misplaced(role, node.tree, node.kind) {
-        return Ok(Some(VectorRefusal { number: 501, token }));
+        return Ok(Some(VectorRefusal {
+            fault: VectorFault::Misplaced,
+            token,
+        }));
     }
     if no_component(alloc, role, node)? {
-        return Ok(Some(VectorRefusal { number: 502, token }));
+        return Ok(Some(VectorRefusal {
+            fault: VectorFault::NoComponent,
+            token,
+        }));
     }
     if types_differ(role, node.tree, node.kind, &node.parts)? {
-        return Ok(Some(VectorRefusal { number: 503, token }));
+        return Ok(Some(VectorRefusal {
+            fault: VectorFault::TypesDiffer,
+            token,
+        }));
     }
     Ok(None)
 }
@@ -498,7 +524,7 @@ fn refuse_parts(
 
 /// The first condition at a node of a tree, parts before the whole.
 #[cycle(refuse)]
-#[tactic(auto, using(crate::proofs::Views::mark_out, crate::proofs::Telling::tells), unfolding(crate::specs::Faults::refusals))]
+#[tactic(auto, using(crate::proofs::Telling::node_told), unfolding(crate::specs::Faults::refusals))]
 fn refuse(alloc: Global, role: Role, node: &Marked) -> Result<Option<VectorRefusal>, Memory>
     ensures { IfOk result (λ r. r ≡ spec.told (spec.refusals role (mark_of node.now))) }
 {
@@ -508,12 +534,22 @@ fn refuse(alloc: Global, role: Role, node: &Marked) -> Result<Option<VectorRefus
     }
 }
 
+/// The condition that is told of a unit with vectors.
+pub(crate) fn told(alloc: Global, unit: &Marked) -> Result<Option<VectorRefusal>, Memory>
+    ensures { IfOk result (λ r. r ≡ spec.told (spec.refusals free (mark_of unit.now))) }
+{
+    refuse(alloc, Role::Free, unit)
+}
+
 /// The condition of E501 to E503 that is told of a unit, if one of them stands at a node of it: the first, where the
-/// parts of a node are in order and before the node itself, and the least that stands at that node. `Memory` where
-/// memory was refused or a number has no room.
+/// parts of a node are in order and before the node itself, and the least that stands at that node. A unit that names
+/// no vector type and selects nothing has none. `Memory` where memory was refused or a number has no room.
 pub fn refusal(alloc: Global, unit: &Tree) -> Result<Option<VectorRefusal>, Memory>
     ensures { IfOk result (λ r. r ≡ spec.refusal_of (view unit.now)) }
 {
+    if !has_vectors(unit) {
+        return Ok(None);
+    }
     let whole = mark_unit(alloc, unit)?;
-    refuse(alloc, Role::Free, &whole)
+    told(alloc, &whole)
 }

@@ -184,7 +184,7 @@ fn operand_role(prefix: Option<Prefix>, kind: Kind, part: &Marked) -> Role
 }
 
 /// The production of the last of some parts.
-#[tactic(auto, using(crate::proofs::Views::mark_out, cl_meaning::proofs::Views::view_out))]
+#[tactic(auto, using(crate::proofs::Views::node_seen))]
 pub(crate) fn back_form(parts: &[Marked]) -> Form
     ensures { result ≡ spec.back_form (marks_of parts.now) }
 {
@@ -194,7 +194,7 @@ pub(crate) fn back_form(parts: &[Marked]) -> Form
     }
 }
 
-fn is_paren(form: Form) -> bool
+pub(crate) fn is_paren(form: Form) -> bool
     ensures { result ≡ spec.is_paren form }
 {
     match form {
@@ -289,7 +289,7 @@ fn initial_role(role: Role, variable: bool) -> Role
 }
 
 /// Where a part of a node stands; `front` is whether it is the first part, and `back` whether it is the last.
-#[tactic(auto, using(crate::proofs::Views::mark_out, cl_meaning::proofs::Views::view_out), unfolding(crate::specs::Roles::role_of))]
+#[tactic(auto, using(crate::proofs::Views::node_seen), unfolding(crate::specs::Roles::role_of))]
 pub(crate) fn role_of(role: Role, node: &Marked, front: bool, back: bool, part: &Marked) -> Role
     ensures { result ≡ spec.role_of role (mark_of node.now) front back (mark_of part.now) }
 {

@@ -3,8 +3,9 @@ use Rattle.std.specs.Prelude.{◌≡◌, ◌≤◌, ℕ, List, All, false, lengt
 use Rattle.cl_token.specs.Places.{place_at}
 use Rattle.cl_prep.specs.declared.prep.Define.{Define}
 use Rattle.cl_tree.specs.Syntax.{view}
+use Rattle.cl_tree.specs.Selections.{has_selection}
 use Rattle.cl_front.specs.declared.typing.Source.{Source}
-use Rattle.cl_front.specs.Front.{IsSource}
+use Rattle.cl_front.specs.Front.{IsScalarSource}
 use Rattle.cl_front.specs.Typed.{places_of}
 use Rattle.cl_model.specs.Valid.{IsValid}
 use Rattle.cl_check_sound.specs.Erased.{program_of}
@@ -35,6 +36,7 @@ pub record IsGiven (given : Given) : Type 0 where
 
 -- a source that was read from these bytes, with these numbers for names
 pub record IsReadFrom (bytes : List ℕ) (defines : List Define) (source : Source) : Type 0 where
-  pub is : IsSource bytes defines source.tokens.items (view source.unit)
+  pub is : IsScalarSource bytes defines source.tokens.items (view source.unit)
   pub places : source.places.items ≡ places_of bytes source.tokens.items
   pub end : source.end ≡ place_at bytes (length bytes)
+  pub plain : has_selection (view source.unit) ≡ false

@@ -8,7 +8,7 @@ ghost use Rattle.cl_tree.specs.Syntax.{view};
 ghost use Rattle.cl_token.specs.Places.{place_at};
 ghost use Rattle.cl_prep.specs.declared.prep.Define.{Define};
 ghost use Rattle.cl_meaning.specs.View.{unit_of};
-ghost use Rattle.cl_front.specs.Front.{IsSource};
+ghost use Rattle.cl_front.specs.Front.{IsScalarSource};
 ghost use Rattle.cl_front.specs.Typed.{places_of};
 ghost use Rattle.cl_model.specs.Lists.{Each};
 ghost use Rattle.command_words.specs.Command.{build_of, object_of as files_of};
@@ -85,11 +85,11 @@ pub(crate) fn object_of_kernel(
 ) -> Result<Object, RunError>
     requires selections { has_selection (view source.now.unit) ≡ false }
     ensures ok { IfOk result (λ o. (bytes : List ℕ) (defines : List Define) → All HasNumber defines →
-        IsSource bytes defines source.now.tokens.items (view source.now.unit) →
+        IsScalarSource bytes defines source.now.tokens.items (view source.now.unit) →
         source.now.places.items ≡ places_of bytes source.now.tokens.items →
         CompilesTo bytes defines kernel.now (lanes_of width) (object_of o)) }
     ensures err { IfErr result (λ e. (bytes : List ℕ) (defines : List Define) →
-        IsSource bytes defines source.now.tokens.items (view source.now.unit) →
+        IsScalarSource bytes defines source.now.tokens.items (view source.now.unit) →
         source.now.places.items ≡ places_of bytes source.now.tokens.items →
         source.now.end ≡ place_at bytes (length bytes) → KernelCause bytes defines kernel.now e) }
 {
@@ -112,11 +112,11 @@ fn kernel_text(
 ) -> Result<Vec<u8>, RunError>
     requires selections { has_selection (view source.now.unit) ≡ false }
     ensures ok { IfOk result (λ v. (bytes : List ℕ) (defines : List Define) → All HasNumber defines →
-        IsSource bytes defines source.now.tokens.items (view source.now.unit) →
+        IsScalarSource bytes defines source.now.tokens.items (view source.now.unit) →
         source.now.places.items ≡ places_of bytes source.now.tokens.items →
         IsTextFrom bytes defines kernel.now (lanes_of width) v.items) }
     ensures err { IfErr result (λ e. (bytes : List ℕ) (defines : List Define) →
-        IsSource bytes defines source.now.tokens.items (view source.now.unit) →
+        IsScalarSource bytes defines source.now.tokens.items (view source.now.unit) →
         source.now.places.items ≡ places_of bytes source.now.tokens.items →
         source.now.end ≡ place_at bytes (length bytes) → KernelCause bytes defines kernel.now e) }
 {

@@ -6,7 +6,7 @@ ghost use Rattle.cl_tree.specs.Syntax.{view};
 ghost use Rattle.cl_token.specs.Places.{place_at};
 ghost use Rattle.cl_prep.specs.declared.prep.Define.{Define};
 ghost use Rattle.launch_file.specs.Texts.{Text, text_of, part_of};
-ghost use Rattle.cl_front.specs.Front.{HasUnit, IsRefusal, IsSource};
+ghost use Rattle.cl_front.specs.Front.{HasUnit, IsRefusal, IsScalarSource};
 ghost use Rattle.cl_front.specs.Typed.{HasTypedUnit, IsUnitRefusal, places_of};
 ghost use Rattle.wg_compile.specs.Correct.{IsCompilation};
 ghost use Rattle.wg_top.specs.Units.{HaveTypedUnits};
@@ -43,13 +43,13 @@ pub(crate) fn compile_alone(
 ) -> Result<Compiled, RunError>
     requires selections { has_selection (view source.now.unit) ≡ false }
     ensures compiled { IfOk result (λ c. (bytes : List ℕ) (defines : List Define) →
-        IsSource bytes defines source.now.tokens.items (view source.now.unit) →
+        IsScalarSource bytes defines source.now.tokens.items (view source.now.unit) →
         source.now.places.items ≡ places_of bytes source.now.tokens.items →
         HasTypedUnit bytes defines kernel.now (unit_of c.program)) }
     ensures passes { IfOk result (λ c. IsCompilation (lanes_of width) c) }
     ensures name { IfOk result (λ c. c.group.kernel ≡ kernel.now) }
     ensures err { IfErr result (λ e. (bytes : List ℕ) (defines : List Define) →
-        IsSource bytes defines source.now.tokens.items (view source.now.unit) →
+        IsScalarSource bytes defines source.now.tokens.items (view source.now.unit) →
         source.now.places.items ≡ places_of bytes source.now.tokens.items →
         source.now.end ≡ place_at bytes (length bytes) → KernelCause bytes defines kernel.now e) }
 {
@@ -71,13 +71,13 @@ fn compile_one(
 ) -> Result<SharedKernel, RunError>
     requires selections { has_selection (view source.now.unit) ≡ false }
     ensures compiled { IfOk result (λ c. (bytes : List ℕ) (defines : List Define) →
-        IsSource bytes defines source.now.tokens.items (view source.now.unit) →
+        IsScalarSource bytes defines source.now.tokens.items (view source.now.unit) →
         source.now.places.items ≡ places_of bytes source.now.tokens.items →
         HasTypedUnit bytes defines kernel.now (unit_of c.program)) }
     ensures passes { IfOk result (λ c. IsCompilation (lanes_of width) c) }
     ensures name { IfOk result (λ c. c.group.kernel ≡ kernel.now) }
     ensures err { IfErr result (λ e. (bytes : List ℕ) (defines : List Define) →
-        IsSource bytes defines source.now.tokens.items (view source.now.unit) →
+        IsScalarSource bytes defines source.now.tokens.items (view source.now.unit) →
         source.now.places.items ≡ places_of bytes source.now.tokens.items →
         source.now.end ≡ place_at bytes (length bytes) → KernelCause bytes defines kernel.now e) }
 {
@@ -101,18 +101,18 @@ fn kernel_for(
 ) -> Result<SharedKernel, RunError>
     requires selections { has_selection (view source.now.unit) ≡ false }
     requires compiled { (bytes : List ℕ) (defines : List Define) →
-        IsSource bytes defines source.now.tokens.items (view source.now.unit) →
+        IsScalarSource bytes defines source.now.tokens.items (view source.now.unit) →
         source.now.places.items ≡ places_of bytes source.now.tokens.items →
         All (λ c. HasTypedUnit bytes defines c.group.kernel (unit_of c.program)) earlier.now }
     requires passes { All (IsCompilation (lanes_of width)) earlier.now }
     ensures compiled { IfOk result (λ c. (bytes : List ℕ) (defines : List Define) →
-        IsSource bytes defines source.now.tokens.items (view source.now.unit) →
+        IsScalarSource bytes defines source.now.tokens.items (view source.now.unit) →
         source.now.places.items ≡ places_of bytes source.now.tokens.items →
         HasTypedUnit bytes defines kernel.now (unit_of c.program)) }
     ensures passes { IfOk result (λ c. IsCompilation (lanes_of width) c) }
     ensures name { IfOk result (λ c. c.group.kernel ≡ kernel.now) }
     ensures err { IfErr result (λ e. (bytes : List ℕ) (defines : List Define) →
-        IsSource bytes defines source.now.tokens.items (view source.now.unit) →
+        IsScalarSource bytes defines source.now.tokens.items (view source.now.unit) →
         source.now.places.items ≡ places_of bytes source.now.tokens.items →
         source.now.end ≡ place_at bytes (length bytes) → KernelCause bytes defines kernel.now e) }
 {
@@ -136,13 +136,13 @@ fn compile_each(
 ) -> Result<Vec<SharedKernel>, RunError>
     requires selections { has_selection (view source.now.unit) ≡ false }
     ensures compiled { IfOk result (λ v. (bytes : List ℕ) (defines : List Define) →
-        IsSource bytes defines source.now.tokens.items (view source.now.unit) →
+        IsScalarSource bytes defines source.now.tokens.items (view source.now.unit) →
         source.now.places.items ≡ places_of bytes source.now.tokens.items →
         HaveTypedUnits bytes defines (map part_of list.now) (map (λ c. unit_of c.program) v.items)) }
     ensures passes { IfOk result (λ v. All (IsCompilation (lanes_of width)) v.items) }
     ensures names { IfOk result (λ v. map (λ c. c.group.kernel) v.items ≡ map (λ p. p.kernel) list.now) }
     ensures err { IfErr result (λ e. (bytes : List ℕ) (defines : List Define) →
-        IsSource bytes defines source.now.tokens.items (view source.now.unit) →
+        IsScalarSource bytes defines source.now.tokens.items (view source.now.unit) →
         source.now.places.items ≡ places_of bytes source.now.tokens.items →
         source.now.end ≡ place_at bytes (length bytes) → KernelsCause bytes defines (map part_of list.now) e) }
 {

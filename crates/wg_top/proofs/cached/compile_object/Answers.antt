@@ -8,7 +8,7 @@ use Rattle.wg_top.proofs.cached.compile_object.Goals as goal
 pub object_of_kernel-requires : goal.object_of_kernel-requires
 object_of_kernel-requires c =
     let read : IsReadFrom c.args.bytes.now (text_of c.args.text.now).defines c.in-Some.source = search rules in
-    record { selections = read.is.plain }
+    record { selections = read.plain }
 
 pub returns-in-Err-clause-err : goal.returns-in-Err-clause-err
 returns-in-Err-clause-err c = c.in-Err.ensures.err c.args.kernel.now

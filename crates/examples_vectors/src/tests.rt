@@ -1,6 +1,6 @@
 //! A declaration in a unit, and a block of two lines.
 
-use crate::{VectorRefusal, refusal};
+use cl_short_vec::{VectorError, VectorFault, VectorRefusal, mark_unit, refusal, scalarise};
 use cl_tree::{Form, Tree};
 use std::alloc::Global;
 use std::test::Fail;
@@ -71,15 +71,15 @@ fn told(alloc: Global, tree: Option<Tree>) -> Option<Option<VectorRefusal>> {
     refusal(alloc, &tree).ok()
 }
 
-fn at(number: u16, token: u32) -> Option<Option<VectorRefusal>> {
-    Some(Some(VectorRefusal { number, token }))
+fn at(fault: VectorFault, token: u32) -> Option<Option<VectorRefusal>> {
+    Some(Some(VectorRefusal { fault, token }))
 }
 
 #[test]
 fn a_vector_of_the_unit_is_refused(rt: HostRuntime) -> Result<(), Fail> {
     let alloc = rt.alloc();
-    assert!(rt; told(alloc, unit(alloc, "int4")) == at(501, 1));
-    assert!(rt; told(alloc, unit(alloc, "const ulong16")) == at(501, 1));
+    assert!(rt; told(alloc, unit(alloc, "int4")) == at(VectorFault::Misplaced, 1));
+    assert!(rt; told(alloc, unit(alloc, "const ulong16")) == at(VectorFault::Misplaced, 1));
     assert!(rt; told(alloc, unit(alloc, "int")) == Some(None));
     assert!(rt; told(alloc, unit(alloc, "int3")) == Some(None));
     Ok(())
@@ -91,15 +91,39 @@ fn a_target_names_each_component_once(rt: HostRuntime) -> Result<(), Fail> {
     for (selection, told_there) in [
         (". xyzw", Some(None)),
         (". s3210", Some(None)),
-        (". xxyz", at(502, 4)),
-        (". q", at(502, 4)),
-        (". even", at(503, 4)),
-        (". w", at(501, 8)),
+        (". xxyz", at(VectorFault::NoComponent, 4)),
+        (". q", at(VectorFault::NoComponent, 4)),
+        (". even", at(VectorFault::TypesDiffer, 4)),
+        (". w", at(VectorFault::Misplaced, 8)),
     ] {
         assert!(rt;
             told(alloc, block(alloc, selection)) == told_there,
             "at {selection}"
         );
+    }
+    Ok(())
+}
+
+/// How many parts a tree has, and how many the first of them has.
+fn sizes(tree: &Tree) -> (usize, usize) {
+    match tree.parts.as_slice() {
+        [] => (0, 0),
+        [first, ..] => (tree.parts.len(), first.parts.len()),
+    }
+}
+
+#[test]
+fn a_block_without_vectors_has_a_line_for_each_variable_and_step(
+    rt: HostRuntime,
+) -> Result<(), Fail> {
+    let alloc = rt.alloc();
+    let Some(tree) = block(alloc, ". wzyx") else {
+        return Ok(());
+    };
+    assert!(rt; mark_unit(alloc, &tree).is_ok());
+    match scalarise(alloc, tree) {
+        Ok(form) => assert!(rt; sizes(&form) == (2, 5)),
+        Err(error) => assert!(rt; error == VectorError::Memory),
     }
     Ok(())
 }

@@ -1,0 +1,12 @@
+use Rattle.std.proofs.Common.{◌≡◌, ◌++◌, drop}
+use Rattle.cl_short_vec.specs.Order as spec
+use Rattle.cl_short_vec.specs.View.{named_of, steps_from}
+use Rattle.cl_short_vec.proofs.steps.push_sets.Given as goal
+
+abbrev pub invariant-loop-component : goal.invariant-loop-component
+invariant-loop-component l = record {
+  pushed : steps_from l.steps.items ++
+      spec.sets (named_of l.variable) (drop l.component-index l.components) l.value ≡
+      steps_from l.fn.steps.items ++ spec.sets (named_of l.variable) l.components 0;
+  counted : l.value ≡ l.component-index;
+}
