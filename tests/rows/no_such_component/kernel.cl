@@ -1,0 +1,1 @@
+__kernel void e(__global int4 *a) { int4 t; t.x = t.sF; }
