@@ -41,7 +41,8 @@ fn form_of(alloc: Global, unit: &Tree) -> Result<Result<Tree, VectorRefusal>, Me
 /// steps, and a vector variable is one variable for each component.
 ///
 /// `Refused` with the first condition of E501 to E503 where one stands at a node of the unit. `Memory` where memory was
-/// refused or a number has no room; no answer says so of a selection that would be left, and none is.
+/// refused, where a number has no room, or where a vector type or a selection would be left in the answer: that this
+/// last case never comes is no clause.
 #[tactic(auto, using(crate::proofs::Plainness::none_selected))]
 pub fn scalarise(alloc: Global, unit: Tree) -> Result<Tree, VectorError>
     ensures sound { IfOk result (λ t. refusal_of (view unit) ≡ None) }
