@@ -183,7 +183,7 @@ each_both : {A : Type 0} (Q R : A → Type 0) (xs : List A) → Each Q xs → Ea
 each_both Q R [] h k = tt
 each_both Q R (x ∷ xs) h k = ((h.0, k.0), each_both Q R xs h.1 k.1)
 
-nothing_at_start : (P : Program) (ms : List (List ℕ)) (places : List Place) (gs : List Signature) →
+pub nothing_at_start : (P : Program) (ms : List (List ℕ)) (places : List Place) (gs : List Signature) →
     AtUnit P ms (at_start places gs)
 nothing_at_start P ms places gs = ((λ f q m e. absurd (none-some m e)), (λ q m e. absurd (none-some m e)))
 
@@ -193,48 +193,48 @@ not_is false h = absurd (false≢true (sym h))
 
 module _ (places : List Place) (kernel : List ℕ) (w : List ℕ) (f l : ℕ) (items : Forest) (h : AreItems items)
     (acc : IsAccepted places kernel (node forms.UnitNode w f l items)) where
-  abbrev unit : Syntax
+  abbrev pub unit : Syntax
   unit = node forms.UnitNode w f l items
 
-  abbrev gs : List Signature
+  abbrev pub gs : List Signature
   gs = definitions_in items
 
-  abbrev start : Env
+  abbrev pub start : Env
   start = at_start places gs
 
-  abbrev asked : Asked
+  abbrev pub asked : Asked
   asked = asked_in places kernel unit
 
-  sound : SoundTree asked start roles.Other unit
+  pub sound : SoundTree asked start roles.Other unit
   sound = (sound_tree asked start roles.Other unit [] (all_good asked (nodes_of places unit) acc.sound (λ q k. k))).0
 
-  parts : SoundParts asked start forms.UnitNode None items
+  pub parts : SoundParts asked start forms.UnitNode None items
   parts = unit_parts asked start w f l items sound
 
-  abbrev top : ℕ → (ℕ → ℕ) → ℕ
+  abbrev pub top : ℕ → (ℕ → ℕ) → ℕ
   top k c = called_sum c asked.calls k
 
   topped : (k : ℕ) (c : ℕ → ℕ) → extras (calls_alone c) k start forms.UnitNode true items ≤ top k c
   topped k c = let a = tree_called c k start roles.Other unit [] in let b =
       unit_extra c k start w f l items in omega arith
 
-  abbrev ms : MadeParts
+  abbrev pub ms : MadeParts
   ms = parts_meant start forms.UnitNode true [] items
 
-  abbrev Fs : List typed_specs.Function
+  abbrev pub Fs : List typed_specs.Function
   Fs = functions_in ms.pieces
 
-  abbrev ws : List ℕ
+  abbrev pub ws : List ℕ
   ws = blocks_in items
 
-  abbrev last : Env
+  abbrev pub last : Env
   last = behind_parts start forms.UnitNode true items
 
   facts : Known top 0 gs ms ws 0
   facts = known asked top start true [] None items [] h parts (empty_scope, refl) tt refl topped
 
   -- the typed unit, without names
-  abbrev P : Program
+  abbrev pub P : Program
   P = record {
     tables = map table_of last.tables;
     functions = map function_of Fs;
@@ -251,7 +251,7 @@ module _ (places : List Place) (kernel : List ℕ) (w : List ℕ) (f l : ℕ) (i
   function_is : (i : ℕ) (F : typed_specs.Function) → slice_get Fs i ≡ Some F → function_at P i ≡ function_of F
   function_is i F e = ap (λ z. unwrap_or z no_function) (map_slice function_of Fs i F e)
 
-  called : AllCalled P gs
+  pub called : AllCalled P gs
   called n g s k =
       let lg = (facts_lengths top 0 gs Fs ws facts.facts).0 in
       let lt = slice_within gs n g s in
@@ -361,7 +361,7 @@ module _ (places : List Place) (kernel : List ℕ) (w : List ℕ) (f l : ℕ) (i
         omega arith);
   }
 
-  program_is : program_of (unit_meant places kernel unit) ≡ P
+  pub program_is : program_of (unit_meant places kernel unit) ≡ P
   program_is =
       let b = unit_built start w f l items in
       ap (λ z. record {

@@ -171,7 +171,7 @@ result_inside asked env role (node forms.ResultNode w f l (more t none)) h s =
     apart d e = false≢true (ap is_outside e)
 result_inside asked env role t h s = absurd h
 
-function_head : (e : Env) (front : Bool) (t : Syntax) (k : Option Kind) → IsHead t →
+pub function_head : (e : Env) (front : Bool) (t : Syntax) (k : Option Kind) → IsHead t →
     later (behind e t) forms.FunctionNode front t k ≡ head_env e t
 unfolding later
 function_head e front (node forms.HeadNode w f l none) k h =
@@ -181,7 +181,7 @@ function_head e front (node forms.HeadNode w f l (more (node forms.AttributeNode
     (head_leaves e (node forms.HeadNode w f l (more (node forms.AttributeNode w' f' l' parts) none)) h)
 function_head e front t k h = absurd h
 
-function_result : (e : Env) (front : Bool) (t : Syntax) (k : Option Kind) → IsResult t →
+pub function_result : (e : Env) (front : Bool) (t : Syntax) (k : Option Kind) → IsResult t →
     later (behind e t) forms.FunctionNode front t k ≡ named_env e t
 unfolding later
 function_result e front (node forms.ResultNode w f l none) k h =
@@ -191,7 +191,7 @@ function_result e front (node forms.ResultNode w f l (more t none)) k h =
     (result_leaves e (node forms.ResultNode w f l (more t none)) h)
 function_result e front t k h = absurd h
 
-function_params : (e : Env) (front : Bool) (t : Syntax) (k : Option Kind) → IsParams t →
+pub function_params : (e : Env) (front : Bool) (t : Syntax) (k : Option Kind) → IsParams t →
     later (behind e t) forms.FunctionNode front t k ≡ params_env e t
 unfolding later
 function_params e front (node forms.ParamsNode w f l ps) k h = refl
@@ -298,6 +298,13 @@ entered_head e eb t g x = record {
 
 -- ---- functions
 
+-- the last of these parts is the block, and that is visible at it
+abbrev pub Leads : Env → Bool → Forest → Env → Syntax → Type 0
+Leads e front none eb block = ⊥
+Leads e front (more b none) eb block = (e ≡ eb) × (b ≡ block)
+Leads e front (more p (more q qs)) eb block =
+    Leads (later (behind e p) forms.FunctionNode front p (kind_of e p)) false (more q qs) eb block
+
 pub record Front (asked : Asked) (e : Env) (sites : List Place) (front : Bool) (g : Signature) (parts : Forest) : Type
     0 where
   pub eb : Env
@@ -314,6 +321,7 @@ pub record Front (asked : Asked) (e : Env) (sites : List Place) (front : Bool) (
       held m (length sites) + extra m k eb block ≤ held m (length sb) + extras m k e forms.FunctionNode front parts
   pub nodes : block_nodes parts ≡ count_nodes block
   pub some : (t : Syntax) → block_nodes (more t parts) ≡ block_nodes parts
+  pub leads : Leads e front parts eb block
 
 -- the signature, from the parts behind the heads
 signed : (g : Signature) (r p b : Syntax) → IsResult r → IsParams p → IsBlock b →
@@ -367,7 +375,7 @@ extras_function m k e front r p b hr hp =
     ∙ ap (λ z. extra m k e r + (extra m k (named_env e r) p + extras m k z forms.FunctionNode false (more b none)))
     (function_params (named_env e r) false p (kind_of (named_env e r) p) hp)
 
-sound_function : (asked : Asked) (e : Env) (b0 : Before) (r p b : Syntax) → IsResult r → IsParams p →
+pub sound_function : (asked : Asked) (e : Env) (b0 : Before) (r p b : Syntax) → IsResult r → IsParams p →
     SoundParts asked e forms.FunctionNode b0 (more r (more p (more b none))) → SoundTree asked e roles.Other r ×
     SoundTree asked (named_env e r) roles.Other p × SoundTree asked (params_env (named_env e r) p) roles.Other b
 sound_function asked e b0 r p b hr hp s =
@@ -377,7 +385,7 @@ sound_function asked e b0 r p b hr hp s =
     (function_params (named_env e r) false p (kind_of (named_env e r) p) hp) s1.1 in
     (s.0, s1.0, s2.0)
 
-definition_front : (asked : Asked) (e : Env) (sites : List Place) (b0 : Before) (front : Bool) (g : Signature)
+pub definition_front : (asked : Asked) (e : Env) (sites : List Place) (b0 : Before) (front : Bool) (g : Signature)
     (r p b : Syntax) → IsResult r → IsParams p → IsBlock b →
     SoundParts asked e forms.FunctionNode b0 (more r (more p (more b none))) →
     Front asked e sites front g (more r (more p (more b none)))
@@ -403,10 +411,25 @@ definition_front asked e sites b0 front g r p b hr hp hb s =
           let d = extras_function m k e front r p b hr hp in omega arith);
       nodes = refl;
       some = λ t. refl;
+      leads = (
+        ap (λ z. later (behind z p) forms.FunctionNode false p (kind_of z p))
+            (function_result e front r (kind_of e r) hr) ∙
+            function_params (named_env e r) false p (kind_of (named_env e r) p) hp,
+        refl,
+      );
     }
 
+-- its block stands behind the parameters
+pub definition_block : (asked : Asked) (e : Env) (sites : List Place) (b0 : Before) (front : Bool) (g : Signature)
+    (r p b : Syntax) (hr : IsResult r) (hp : IsParams p) (hb : IsBlock b)
+    (s : SoundParts asked e forms.FunctionNode b0 (more r (more p (more b none)))) →
+    ((definition_front asked e sites b0 front g r p b hr hp hb s).block ≡ b) ×
+    ((definition_front asked e sites b0 front g r p b hr hp hb s).eb ≡ params_env (named_env e r) p)
+unfolding definition_front
+definition_block asked e sites b0 front g r p b hr hp hb s = (refl, refl)
+
 -- behind a head
-head_front : (asked : Asked) (e : Env) (sites : List Place) (front : Bool) (g : Signature) (w : List ℕ) (f l : ℕ)
+pub head_front : (asked : Asked) (e : Env) (sites : List Place) (front : Bool) (g : Signature) (w : List ℕ) (f l : ℕ)
     (hs ps : Forest) → IsHead (node forms.HeadNode w f l hs) →
     Front asked (head_env e (node forms.HeadNode w f l hs)) (meant e sites (node forms.HeadNode w f l hs)).sites false
     (record g { kernel = g.kernel || is_kernel_head (node forms.HeadNode w f l hs) }) ps →
@@ -433,11 +456,29 @@ head_front asked e sites front g w f l hs ps h x =
           let d = ap (λ y. extras m k y forms.FunctionNode false ps) hd in omega arith);
       nodes = x.some t ∙ x.nodes;
       some = λ u. refl;
+      leads = leads_on ps x.leads;
     }
   where
+    leads_on : (qs : Forest) → Leads (head_env e (node forms.HeadNode w f l hs)) false qs x.eb x.block →
+        Leads e front (more (node forms.HeadNode w f l hs) qs) x.eb x.block
+    leads_on none k = absurd k
+    leads_on (more q qs) k =
+        let t = node forms.HeadNode w f l hs in
+        subst (λ z. Leads z false (more q qs) x.eb x.block) (sym (function_head e front t (kind_of e t) h)) k
+
     last_behind : (p : Piece) (ps : List Piece) (q : Piece) → last_piece ps ≡ Some q → last_piece (p ∷ ps) ≡ Some q
     last_behind p [] q e = absurd (none-some q e)
     last_behind p (r ∷ rs) q e = e
+
+-- with the same block
+pub head_block : (asked : Asked) (e : Env) (sites : List Place) (front : Bool) (g : Signature) (w : List ℕ) (f l : ℕ)
+    (hs ps : Forest) (h : IsHead (node forms.HeadNode w f l hs))
+    (x : Front asked (head_env e (node forms.HeadNode w f l hs)) (meant e sites (node forms.HeadNode w f l hs)).sites
+    false (record g { kernel = g.kernel || is_kernel_head (node forms.HeadNode w f l hs) }) ps) →
+    ((head_front asked e sites front g w f l hs ps h x).block ≡ x.block) ×
+    ((head_front asked e sites front g w f l hs ps h x).eb ≡ x.eb)
+unfolding head_front
+head_block asked e sites front g w f l hs ps h x = (refl, refl)
 
 pub function_front : (asked : Asked) (e : Env) (sites : List Place) (b0 : Before) (front : Bool) (g : Signature)
     (parts : Forest) → BehindHeads IsDefinition parts → SoundParts asked e forms.FunctionNode b0 parts →

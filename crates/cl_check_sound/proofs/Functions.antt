@@ -380,10 +380,10 @@ module _ (asked : Asked) (u : Env) (sites : List Place) (w : List ℕ) (f' l : �
         (omega arith) (fr.entered.at P plain asked.missing (subst (λ z. is_deep (z ++ empty_scope ∷ []) ≡ true)
         (sym us.1) refl) own holds_param at_first)
 
-    here : Here P plain asked.missing (numbers_below (length fr.eb.variables)) (body_env fr.eb)
+    pub here : Here P plain asked.missing (numbers_below (length fr.eb.variables)) (body_env fr.eb)
     here = record { within = within; at = at_body; result = ap result_of (sym fr.entered.result) }
 
-    finals : Finals plain (ending fr.eb fr.block).variables (ending fr.eb fr.block).arrays
+    pub finals : Finals plain (ending fr.eb fr.block).variables (ending fr.eb fr.block).arrays
     finals = record { variables = refl; arrays = refl }
 
     body_stated : LinesStated P plain (numbers_below (length fr.eb.variables)) (body_env fr.eb) typed.body

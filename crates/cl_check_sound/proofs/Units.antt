@@ -56,7 +56,7 @@ unit_meant_next : (u : Env) (front : Bool) (sites : List Place) (p : Syntax) (ps
 unfolding parts_meant later
 unit_meant_next u front sites p ps = refl
 
-unit_behind_next : (u : Env) (front : Bool) (p : Syntax) (ps : Forest) →
+pub unit_behind_next : (u : Env) (front : Bool) (p : Syntax) (ps : Forest) →
     behind_parts u forms.UnitNode front (more p ps) ≡ behind_parts (behind u p) forms.UnitNode false ps
 unfolding behind_parts later
 unit_behind_next u front p ps = refl
@@ -66,25 +66,25 @@ unit_extras_next : (m : Weights) (k : ℕ) (u : Env) (front : Bool) (p : Syntax)
 unfolding later
 unit_extras_next m k u front p ps = refl
 
-unit_sound_next : (asked : Asked) (u : Env) (b : Before) (p : Syntax) (ps : Forest) →
+pub unit_sound_next : (asked : Asked) (u : Env) (b : Before) (p : Syntax) (ps : Forest) →
     SoundParts asked u forms.UnitNode b (more p ps) → SoundTree asked u roles.Other p ×
     SoundParts asked (behind u p) forms.UnitNode (Some (last_of p)) ps
 unfolding later
 unit_sound_next asked u b p ps s = (s.0, s.1)
 
-unit_none : (u : Env) (front : Bool) (sites : List Place) → (behind_parts u forms.UnitNode front none ≡ u) ×
+pub unit_none : (u : Env) (front : Bool) (sites : List Place) → (behind_parts u forms.UnitNode front none ≡ u) ×
     (parts_meant u forms.UnitNode front sites none ≡ record { pieces = []; sites = sites })
 unfolding behind_parts parts_meant
 unit_none u front sites = (refl, refl)
 
-front_of : (asked : Asked) (u : Env) (sites : List Place) (w : List ℕ) (f l : ℕ) (parts : Forest) →
+pub front_of : (asked : Asked) (u : Env) (sites : List Place) (w : List ℕ) (f l : ℕ) (parts : Forest) →
     BehindHeads IsDefinition parts → SoundTree asked u roles.Other (node forms.FunctionNode w f l parts) →
     Front asked (in_definition u (name_in w)) sites true (bare w) parts
 unfolding inside
 front_of asked u sites w f l parts h s =
     function_front asked (in_definition u (name_in w)) sites None true (bare w) parts h s.0
 
-fore_of : (asked : Asked) (u : Env) (sites : List Place) (w : List ℕ) (f l : ℕ) (parts : Forest) →
+pub fore_of : (asked : Asked) (u : Env) (sites : List Place) (w : List ℕ) (f l : ℕ) (parts : Forest) →
     BehindHeads IsAnnouncement parts → SoundTree asked u roles.Other (node forms.PrototypeNode w f l parts) →
     Fore asked (in_prototype u) sites true parts
 unfolding inside
@@ -111,7 +111,7 @@ declaration_what u sites (node forms.DeclareNode w f l (more t ds)) fs h = refl
 declaration_what u sites t fs h = absurd h
 
 -- an item declares no function where it is none
-no_definition : (t : Syntax) (ps : Forest) → IsDeclaration t → (definitions_in (more t ps) ≡ definitions_in ps) ×
+pub no_definition : (t : Syntax) (ps : Forest) → IsDeclaration t → (definitions_in (more t ps) ≡ definitions_in ps) ×
     (blocks_in (more t ps) ≡ blocks_in ps)
 no_definition (node forms.DeclareNode w f l (more t ds)) ps h = (refl, refl)
 no_definition t ps h = absurd h
@@ -292,17 +292,17 @@ definition_known u w parts done rest n fm g =
     (ap (λ z. bytes_eq z (name_in w)) (name_of w parts) ∙ bytes_same (name_in w))
 
 -- behind an item that is no function
-unit_line : (asked : Asked) (u : Env) (t : Syntax) → IsDeclaration t → SoundTree asked u roles.Other t → OneScope u →
-    UnitGrown u (behind u t)
+pub unit_line : (asked : Asked) (u : Env) (t : Syntax) → IsDeclaration t → SoundTree asked u roles.Other t →
+    OneScope u → UnitGrown u (behind u t)
 unit_line asked u t h s o = (constant_line no_program asked [] u roles.Other t h s refl o).grown
 
-prototype_grown : (asked : Asked) (u : Env) (sites : List Place) (w : List ℕ) (f l : ℕ) (parts : Forest)
+pub prototype_grown : (asked : Asked) (u : Env) (sites : List Place) (w : List ℕ) (f l : ℕ) (parts : Forest)
     (fo : Fore asked (in_prototype u) sites true parts) → OneScope u →
     UnitGrown u (behind u (node forms.PrototypeNode w f l parts))
 prototype_grown asked u sites w f l parts fo o =
     subst (λ z. UnitGrown u z) (sym (prototype_leaves asked u sites w f l parts fo)) (prototype_cases u (name_in w) o).0
 
-definition_grown : (asked : Asked) (u : Env) (sites : List Place) (w : List ℕ) (f l : ℕ) (parts : Forest)
+pub definition_grown : (asked : Asked) (u : Env) (sites : List Place) (w : List ℕ) (f l : ℕ) (parts : Forest)
     (fr : Front asked (in_definition u (name_in w)) sites true (bare w) parts) →
     UnitGrown u (behind u (node forms.FunctionNode w f l parts))
 definition_grown asked u sites w f l parts fr =
@@ -370,7 +370,7 @@ pub record AllValid (P : Program) (Fs : List typed_specs.Function) (u later : En
   pub tables' : AllTables u.tables → AllTables later.tables
   pub grown' : UnitGrown u later
 
-definition_there : (name : List ℕ) (n : ℕ) (done : List Signature) (g : Signature) (rest : List Signature) →
+pub definition_there : (name : List ℕ) (n : ℕ) (done : List Signature) (g : Signature) (rest : List Signature) →
     bytes_eq g.name name ≡ true → definition_from name n (done ++ g ∷ rest) ≡ None → ⊥
 definition_there name n [] g rest e h =
     none-some (n, g.kernel) (sym h ∙ ap (λ b. if b then Some (n, g.kernel) else definition_from name (suc n) rest) e)
@@ -444,7 +444,7 @@ unit_line_rest asked u (more p ps) b (inr (inl h), hs) s o = absurd h
 module _ (P : Program) (asked : Asked) (gs : List Signature) (tabs : List Table) (pt : P.tables ≡ map table_of tabs)
     (called : AllCalled P gs) where
   -- what is visible behind a prototype
-  prototype_at : (u : Env) (sites : List Place) (w : List ℕ) (f l : ℕ) (parts : Forest)
+  pub prototype_at : (u : Env) (sites : List Place) (w : List ℕ) (f l : ℕ) (parts : Forest)
       (fo : Fore asked (in_prototype u) sites true parts) →
       SoundTree asked u roles.Other (node forms.PrototypeNode w f l parts) → u.functions ≡ gs → OneScope u →
       AtUnit P asked.missing u → AtUnit P asked.missing (behind u (node forms.PrototypeNode w f l parts))

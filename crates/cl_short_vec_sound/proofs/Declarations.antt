@@ -35,7 +35,7 @@ use Rattle.cl_short_vec_sound.proofs.Steps.{StepsAre, IsValue, initial_are, line
 -- ---- declarators
 
 -- a declarator has the parts that its parts became
-kept : (w : List ℕ) (f l : ℕ) (ps : Forest) (k : Kind) (ms : Marks) →
+pub kept : (w : List ℕ) (f l : ℕ) (ps : Forest) (k : Kind) (ms : Marks) →
     scalar (mark (node forms.DeclaratorNode w f l ps) k ms) ≡ node forms.DeclaratorNode w f l (scalars ms)
 unfolding scalar scalars
 kept w f l ps k unmarked = refl
@@ -65,7 +65,7 @@ lengths_are form all names front (more p none) s h = initialiser_is p names s.0 
 lengths_are form all names front (more p (more q qs)) s h =
     (expression_is p names s.0 h.0, lengths_are form all (later form all names front p) false (more q qs) s.1 h.1)
 
-declarator_is : (t : Syntax) (names : Names) → SmallMark (marked names t) → IsDeclaratorOf true t →
+pub declarator_is : (t : Syntax) (names : Names) → SmallMark (marked names t) → IsDeclaratorOf true t →
     IsDeclarator (scalar (marked names t))
 unfolding scalar scalars marked marked_parts
 declarator_is (node forms.DeclaratorNode w f l ps) names s h =
@@ -94,7 +94,7 @@ declarators_are form all names front (more p ps) s h =
 
 -- ---- behind a vector type
 
-joined_declarators : (a b : Forest) → AreDeclarators a → AreDeclarators b → AreDeclarators (joined a b)
+pub joined_declarators : (a b : Forest) → AreDeclarators a → AreDeclarators b → AreDeclarators (joined a b)
 joined_declarators none b h k = k
 joined_declarators (more d ds) b h k = (h.0, joined_declarators ds b h.1 k)
 
@@ -102,7 +102,7 @@ pub joined_lines : (a b : Forest) → AreLines a → AreLines b → AreLines (jo
 joined_lines none b h k = k
 joined_lines (more d ds) b h k = (h.0, joined_lines ds b h.1 k)
 
-components_are : (x : Named) (cs : List ℕ) → AreDeclarators (component_declarators x cs)
+pub components_are : (x : Named) (cs : List ℕ) → AreDeclarators (component_declarators x cs)
 components_are x [] = tt
 components_are x (c ∷ cs) = (tt, components_are x cs)
 
@@ -173,7 +173,7 @@ by_type v t ms w b h = by (nat_eq (dimensions_in w) 0)
     by true = components_are (declared_name t) (numbers 0 1 v.count)
     by false = (h, tt)
 
-vector_declarator : (v : Vector) (t : Syntax) (names : Names) → v.count ≤ 16 → SmallMark (marked names t) →
+pub vector_declarator : (v : Vector) (t : Syntax) (names : Names) → v.count ≤ 16 → SmallMark (marked names t) →
     IsDeclaratorOf true t → AreDeclarators (declarators_of v (marked names t))
 unfolding marked
 vector_declarator v (node forms.DeclaratorNode w f l ps) names b s h =
@@ -181,7 +181,7 @@ vector_declarator v (node forms.DeclaratorNode w f l ps) names b s h =
     (array_is v w f l ps names ps b s.1 h)
 vector_declarator v t names b s h = absurd h
 
-vector_declarators : (v : Vector) (form : Form) (all : Forest) (names : Names) (front : Bool) (ps : Forest) →
+pub vector_declarators : (v : Vector) (form : Form) (all : Forest) (names : Names) (front : Bool) (ps : Forest) →
     v.count ≤ 16 → SmallMarks (marked_parts form all names front ps) → AreDeclaratorsOf true ps →
     AreDeclarators (all_declarators v (marked_parts form all names front ps))
 unfolding marked_parts
@@ -260,8 +260,8 @@ value_lines v type d (Some e) t h k = lines_are (Some type) (record {
   value = e;
 }) (initial_steps v (declared_name (tree_at d)) e) t (k v (declared_name (tree_at d)))
 
-declarator_lines_are : (v : Vector) (type : Mark) (t : Syntax) (names : Names) → v.count ≤ 16 → IsType (scalar type) →
-    SmallMark (marked names t) → IsDeclaratorOf true t →
+pub declarator_lines_are : (v : Vector) (type : Mark) (t : Syntax) (names : Names) → v.count ≤ 16 →
+    IsType (scalar type) → SmallMark (marked names t) → IsDeclaratorOf true t →
     AreLines (declarator_lines v type (marked names t) (initialiser (marked names t)))
 unfolding marked
 declarator_lines_are v type (node forms.DeclaratorNode w f l ps) names b k s h =
@@ -272,7 +272,7 @@ declarator_lines_are v type (node forms.DeclaratorNode w f l ps) names b k s h =
     (set_value (is_set w) (back ms) (declarator_value w f l ps names ps s.1 h))
 declarator_lines_are v type t names b k s h = absurd h
 
-vector_lines_are : (v : Vector) (type : Mark) (form : Form) (all : Forest) (names : Names) (front : Bool)
+pub vector_lines_are : (v : Vector) (type : Mark) (form : Form) (all : Forest) (names : Names) (front : Bool)
     (ps : Forest) → v.count ≤ 16 → IsType (scalar type) → SmallMarks (marked_parts form all names front ps) →
     AreDeclaratorsOf true ps → AreLines (vector_lines v type (marked_parts form all names front ps))
 unfolding marked_parts

@@ -209,7 +209,7 @@ front_type_small : (ms : Marks) → SmallVector (front_type ms)
 front_type_small unmarked = tt
 front_type_small (marking m ms) = type_small (tree_at m)
 
-kind_small : (names : Names) (form : Form) (w : List ℕ) (ms : Marks) → SmallNames names → SmallMarks ms →
+pub kind_small : (names : Names) (form : Form) (w : List ℕ) (ms : Marks) → SmallNames names → SmallMarks ms →
     SmallKind (kind_by names form w ms)
 unfolding kind_by
 kind_small names forms.VariableNode w ms n h = n (name_in w)
@@ -231,7 +231,7 @@ kind_small names form w ms n h = either_small (is_operator form) (joined_kind (b
 pub nothing_small : SmallNames no_names
 nothing_small q = tt
 
-with_small : (names : Names) (name : List ℕ) (k : Kind) → SmallNames names → SmallKind k →
+pub with_small : (names : Names) (name : List ℕ) (k : Kind) → SmallNames names → SmallKind k →
     SmallNames (with_name names name k)
 with_small names name k n h q = either_small (bytes_eq name q) k (names q) h (n q)
 
@@ -249,12 +249,12 @@ behind_declared_small None names type d h n = by (is_some (declared_in type))
     by true = with_small names (name_in (word_of d)) Other n tt
     by false = n
 
-behind_declarator_small : (names : Names) (type d : Syntax) → SmallNames names →
+pub behind_declarator_small : (names : Names) (type d : Syntax) → SmallNames names →
     SmallNames (behind_declarator names type d)
 behind_declarator_small names type d n =
     behind_declared_small (vector_type type) names type d (type_small type) n
 
-behind_declarators_small : (names : Names) (type : Syntax) (ds : Forest) → SmallNames names →
+pub behind_declarators_small : (names : Names) (type : Syntax) (ds : Forest) → SmallNames names →
     SmallNames (behind_declarators names type ds)
 behind_declarators_small names type none n = n
 behind_declarators_small names type (more d ds) n =
@@ -275,7 +275,7 @@ behind_parameters_small names none n = n
 behind_parameters_small names (more p ps) n = behind_parameters_small (behind_parameter names p) ps
     (with_small names (name_in (word_of p)) (parameter_kind (parts_of p)) n (parameter_small (parts_of p)))
 
-behind_small : (names : Names) (t : Syntax) → SmallNames names → SmallNames (behind names t)
+pub behind_small : (names : Names) (t : Syntax) → SmallNames names → SmallNames (behind names t)
 behind_small names (node forms.DeclareNode w f l none) n = n
 behind_small names (node forms.DeclareNode w f l (more type ds)) n = behind_declarators_small names type ds n
 behind_small names (node forms.ParamsNode w f l parts) n = behind_parameters_small names parts n
@@ -287,7 +287,7 @@ behind_part_small : (names : Names) (parts : Forest) (front : Bool) (p : Syntax)
 behind_part_small names (more type ds) false p n = behind_declarator_small names type p n
 behind_part_small names parts front p n = n
 
-later_small : (form : Form) (parts : Forest) (names : Names) (front : Bool) (p : Syntax) → SmallNames names →
+pub later_small : (form : Form) (parts : Forest) (names : Names) (front : Bool) (p : Syntax) → SmallNames names →
     SmallNames (later form parts names front p)
 later_small forms.DeclareNode parts names front p n = behind_part_small names parts front p n
 later_small form parts names front p n = behind_small names p n

@@ -34,7 +34,7 @@ use Rattle.cl_short_vec_sound.proofs.Declarations.{joined_lines, declaration_is,
 
 -- ---- expressions and declarations among statements
 
-whole_expression : (t : Syntax) (names : Names) → SmallMark (marked names t) → IsExpressionOf true t →
+pub whole_expression : (t : Syntax) (names : Names) → SmallMark (marked names t) → IsExpressionOf true t →
     IsExpression (scalarised (marked names t))
 unfolding scalarised marked
 whole_expression (node forms.UnitNode w f l ps) names s h = absurd h
@@ -51,7 +51,7 @@ whole_expression (node forms.SimpleNode w f l ps) names s h = absurd h
 whole_expression (node forms.DeclareNode w f l ps) names s h = absurd h
 whole_expression (node form w f l ps) names s h = expression_is (node form w f l ps) names s h
 
-whole_declaration : (t : Syntax) (names : Names) → SmallMark (marked names t) → IsDeclarationOf true t →
+pub whole_declaration : (t : Syntax) (names : Names) → SmallMark (marked names t) → IsDeclarationOf true t →
     IsDeclaration (scalarised (marked names t))
 unfolding scalarised marked
 whole_declaration (node forms.DeclareNode w f l (more t ds)) names s h =
@@ -60,7 +60,7 @@ whole_declaration t names s h = absurd h
 
 -- ---- simple statements
 
-block_is : (s : Span) (o : Option Bin) (a b : Syntax) (names after : Names) → SmallMark (marked names a) →
+pub block_is : (s : Span) (o : Option Bin) (a b : Syntax) (names after : Names) → SmallMark (marked names a) →
     SmallMark (marked after b) → IsExpressionOf true a → IsExpressionOf true b →
     IsStatement (set_block s o (marked names a) (marked after b))
 block_is s o a b names after z y h k =
@@ -71,7 +71,7 @@ either_statement : (z : Bool) (s t : Syntax) → IsStatement s → IsStatement t
 either_statement true s t h k = h
 either_statement false s t h k = k
 
-whole_statement : (w : List ℕ) (f l : ℕ) (s : Span) (a : Syntax) (names : Names) → SmallMark (marked names a) →
+pub whole_statement : (w : List ℕ) (f l : ℕ) (s : Span) (a : Syntax) (names : Names) → SmallMark (marked names a) →
     IsExpressionOf true a → IsStatement (whole_by (form_of (tree_at (marked names a))) s (marked names a)
     (node forms.SimpleNode w f l (forest1 (scalar (marked names a)))))
 unfolding marked marked_parts
@@ -87,7 +87,7 @@ whole_statement w f l s (node forms.AssignNode w' f' l' (more a (more b none))) 
     (block_is s (operator_in (setting_in w')) a b names after z.1.0 z.1.1.0 h.1 h.2) (expression_is t names z h)
 whole_statement w f l s (node form w' f' l' ps) names z h = expression_is (node form w' f' l' ps) names z h
 
-simple_is : (t : Syntax) (names : Names) → SmallMark (marked names t) → IsSimpleOf true t →
+pub simple_is : (t : Syntax) (names : Names) → SmallMark (marked names t) → IsSimpleOf true t →
     IsSimple (scalar (marked names t))
 unfolding scalar marked marked_parts
 simple_is (node forms.SimpleNode w f l none) names s h = tt
@@ -95,7 +95,7 @@ simple_is (node forms.SimpleNode w f l (more a none)) names s h = expression_is 
 simple_is t names s h = absurd h
 
 -- in front of a `for`
-start_is : (t : Syntax) (names : Names) → SmallMark (marked names t) → IsDeclarationOf true t ⊎ IsSimpleOf true t →
+pub start_is : (t : Syntax) (names : Names) → SmallMark (marked names t) → IsDeclarationOf true t ⊎ IsSimpleOf true t →
     IsDeclaration (if is_declaration (marked names t) then scalarised (marked names t) else scalar (marked names t)) ⊎
     IsSimple (if is_declaration (marked names t) then scalarised (marked names t) else scalar (marked names t))
 unfolding marked
@@ -111,14 +111,14 @@ start_is t names s (inr h) = absurd h
 -- ---- statements
 
 -- a declaration is some lines, and a statement a line by itself
-declared_line : (t : Syntax) (names : Names) → SmallMark (marked names t) → IsDeclarationOf true t →
+pub declared_line : (t : Syntax) (names : Names) → SmallMark (marked names t) → IsDeclarationOf true t →
     AreLines (block_line (marked names t) (scalarised (marked names t)))
 unfolding marked
 declared_line (node forms.DeclareNode w f l ps) names s h =
     declaration_lines_are (node forms.DeclareNode w f l ps) names s h
 declared_line t names s h = absurd h
 
-one_line : (t : Syntax) (names : Names) → IsStatementOf true t → IsStatement (scalarised (marked names t)) →
+pub one_line : (t : Syntax) (names : Names) → IsStatementOf true t → IsStatement (scalarised (marked names t)) →
     AreLines (block_line (marked names t) (scalarised (marked names t)))
 unfolding marked
 one_line (node forms.DeclareNode w f l ps) names h k = absurd h
@@ -127,7 +127,7 @@ one_line t names h k = (inr k, tt)
 mutual
   unfolding scalarised all_scalarised block_lines loop_parts scalar marked marked_parts
 
-  statement_is : (t : Syntax) (names : Names) → SmallMark (marked names t) → IsStatementOf true t →
+  pub statement_is : (t : Syntax) (names : Names) → SmallMark (marked names t) → IsStatementOf true t →
       IsStatement (scalarised (marked names t))
   statement_is (node forms.BlockNode w f l ps) names s h = lines_is forms.BlockNode ps names true ps s.1 h
   statement_is (node forms.SimpleNode w f l none) names s h = tt
@@ -178,14 +178,14 @@ mutual
   statement_is (node forms.ReturnNode w f l (more e none)) names s h = expression_is e names s.1.0 h
   statement_is t names s h = absurd h
 
-  statements_are : (form : Form) (all : Forest) (names : Names) (front : Bool) (ps : Forest) →
+  pub statements_are : (form : Form) (all : Forest) (names : Names) (front : Bool) (ps : Forest) →
       SmallMarks (marked_parts form all names front ps) → AreStatementsOf true ps →
       AreStatements (all_scalarised (marked_parts form all names front ps))
   statements_are form all names front none s h = tt
   statements_are form all names front (more p ps) s h =
       (statement_is p names s.0 h.0, statements_are form all (later form all names front p) false ps s.1 h.1)
 
-  lines_is : (form : Form) (all : Forest) (names : Names) (front : Bool) (ps : Forest) →
+  pub lines_is : (form : Form) (all : Forest) (names : Names) (front : Bool) (ps : Forest) →
       SmallMarks (marked_parts form all names front ps) → AreLinesOf true ps →
       AreLines (block_lines (marked_parts form all names front ps))
   lines_is form all names front none s h = tt
@@ -202,7 +202,7 @@ mutual
 
 -- ---- functions and prototypes
 
-result_is : (t : Syntax) (names : Names) → IsResult t → IsResult (scalar (marked names t))
+pub result_is : (t : Syntax) (names : Names) → IsResult t → IsResult (scalar (marked names t))
 unfolding scalar marked marked_parts
 result_is (node forms.ResultNode w f l none) names h = tt
 result_is (node forms.ResultNode w f l (more t none)) names h = type_is t names h
@@ -230,7 +230,7 @@ kept_params w f l ps k (marking a unmarked) = refl
 kept_params w f l ps k (marking a (marking b unmarked)) = refl
 kept_params w f l ps k (marking a (marking b (marking c ms))) = refl
 
-params_is : (t : Syntax) (names : Names) → IsParams t → IsParams (scalar (marked names t))
+pub params_is : (t : Syntax) (names : Names) → IsParams t → IsParams (scalar (marked names t))
 unfolding marked
 params_is (node forms.ParamsNode w f l ps) names h =
     subst IsParams (sym (kept_params w f l ps (kind_at (marked names (node forms.ParamsNode w f l ps)))
@@ -245,7 +245,7 @@ kept_attribute w f l ps k (marking a unmarked) = refl
 kept_attribute w f l ps k (marking a (marking b unmarked)) = refl
 kept_attribute w f l ps k (marking a (marking b (marking c ms))) = refl
 
-head_is : (t : Syntax) (names : Names) → SmallMark (marked names t) → IsHeadOf true t →
+pub head_is : (t : Syntax) (names : Names) → SmallMark (marked names t) → IsHeadOf true t →
     IsHead (scalar (marked names t))
 unfolding scalar marked marked_parts
 head_is (node forms.HeadNode w f l none) names s h = tt
@@ -257,25 +257,25 @@ head_is (node forms.HeadNode w f l (more (node forms.AttributeNode w' f' l' ps) 
 head_is t names s h = absurd h
 
 -- what is no statement is what an expression is
-same_head : (t : Syntax) (names : Names) → IsHeadOf true t → IsHead (scalar (marked names t)) →
+pub same_head : (t : Syntax) (names : Names) → IsHeadOf true t → IsHead (scalar (marked names t)) →
     IsHead (scalarised (marked names t))
 unfolding scalarised marked
 same_head (node forms.HeadNode w f l ps) names h k = k
 same_head t names h k = absurd h
 
-same_result : (t : Syntax) (names : Names) → IsResult t → IsResult (scalar (marked names t)) →
+pub same_result : (t : Syntax) (names : Names) → IsResult t → IsResult (scalar (marked names t)) →
     IsResult (scalarised (marked names t))
 unfolding scalarised marked
 same_result (node forms.ResultNode w f l ps) names h k = k
 same_result t names h k = absurd h
 
-same_params : (t : Syntax) (names : Names) → IsParams t → IsParams (scalar (marked names t)) →
+pub same_params : (t : Syntax) (names : Names) → IsParams t → IsParams (scalar (marked names t)) →
     IsParams (scalarised (marked names t))
 unfolding scalarised marked
 same_params (node forms.ParamsNode w f l ps) names h k = k
 same_params t names h k = absurd h
 
-body_is : (t : Syntax) (names : Names) → SmallMark (marked names t) → IsBlockOf true t →
+pub body_is : (t : Syntax) (names : Names) → SmallMark (marked names t) → IsBlockOf true t →
     IsBlock (scalarised (marked names t))
 unfolding scalarised marked
 body_is (node forms.BlockNode w f l ps) names s h = lines_is forms.BlockNode ps names true ps s.1 h
@@ -340,7 +340,7 @@ announced form all names front (more (node head w f l qs) ps) s (inr h) =
     others_first IsAnnouncement (scalar (marked names t)) (scalars (marked_parts form all n false ps))
     (announcement_is form all names front (more t ps) h)
 
-function_is : (t : Syntax) (names : Names) → SmallMark (marked names t) → IsFunctionOf true t →
+pub function_is : (t : Syntax) (names : Names) → SmallMark (marked names t) → IsFunctionOf true t →
     IsFunction (scalarised (marked names t))
 unfolding scalarised marked
 function_is (node forms.FunctionNode w f l ps) names s h = defined forms.FunctionNode ps names true ps s.1 h
@@ -354,7 +354,7 @@ kept_prototype w f l ps k (marking a unmarked) = refl
 kept_prototype w f l ps k (marking a (marking b unmarked)) = refl
 kept_prototype w f l ps k (marking a (marking b (marking c ms))) = refl
 
-prototype_is : (t : Syntax) (names : Names) → SmallMark (marked names t) → IsPrototypeOf true t →
+pub prototype_is : (t : Syntax) (names : Names) → SmallMark (marked names t) → IsPrototypeOf true t →
     IsPrototype (scalarised (marked names t))
 unfolding scalarised marked
 prototype_is (node forms.PrototypeNode w f l ps) names s h =
@@ -364,7 +364,7 @@ prototype_is t names s h = absurd h
 
 -- ---- units
 
-items_are : (form : Form) (all : Forest) (names : Names) (front : Bool) (ps : Forest) →
+pub items_are : (form : Form) (all : Forest) (names : Names) (front : Bool) (ps : Forest) →
     SmallMarks (marked_parts form all names front ps) → AreItemsOf true ps →
     AreItems (all_scalarised (marked_parts form all names front ps))
 unfolding all_scalarised marked_parts
@@ -376,7 +376,7 @@ items_are form all names front (more p ps) s (inr (inl h), k) =
 items_are form all names front (more p ps) s (inr (inr h), k) =
     (inr (inr (whole_declaration p names s.0 h)), items_are form all (later form all names front p) false ps s.1 k)
 
-unit_is : (t : Syntax) (names : Names) → SmallMark (marked names t) → IsUnitOf true t →
+pub unit_is : (t : Syntax) (names : Names) → SmallMark (marked names t) → IsUnitOf true t →
     IsUnit (scalarised (marked names t))
 unfolding scalarised marked
 unit_is (node forms.UnitNode w f l ps) names s h = items_are forms.UnitNode ps names true ps s.1 h
