@@ -1,0 +1,660 @@
+-- T6a on typed statements: where each statement of a list stands for a step, an item that comes to the list goes along
+-- the steps. What an evaluation leaves of the variables of its function is asked, as `Keeps`.
+use Rattle.std.proofs.Common.{◌≡◌, ℕ, suc, ℤ, pos, Bool, true, false, List, [], ◌∷◌, ◌++◌, Some}
+use Rattle.std.proofs.Common.{if◌then◌else◌, ◌⊎◌, inl, inr, refl, sym, ap, ◌∙◌, subst, nat_eq}
+use Rattle.std.proofs.lemmas.Bool.{eq-eqb, eqb-true, false≢true}
+use Rattle.work_items.specs.Items.{Next, Goes, Loads, Stores}
+use Rattle.work_items.specs.Memory.{Access}
+use Rattle.work_items.specs.Histories.{Deed, Passed, Turned, Read, Wrote, History, nothing, going, doing, DoesOnce}
+use Rattle.wg_num.specs.declared.types.IntType.{IntType}
+use Rattle.wg_num.specs.Wrap.{wrap_of, IsValue}
+use Rattle.wg_num.proofs.WrapLaws.{IsValue-value}
+use Rattle.wg_num.specs.Bytes.{bytes_of, value_of_bytes}
+use Rattle.std.specs.Simd.Lanes.{number_l}
+use Rattle.wg_num.specs.Operators.{unary_of, binary_of}
+use Rattle.wg_num.specs.Builtins.{builtin_of}
+use Rattle.cl_model.specs.declared.program.Root.{Root}
+use Rattle.cl_model.specs.Tree.{Literal, Variable, Unary, Binary, Builtin, Convert, Set, Load, Store}
+use Rattle.cl_model.specs.Tree.{Expression, Apply, single, pair, more, none, Do, Declare, Statements}
+use Rattle.cl_model.specs.Tree.{also, Program}
+use Rattle.cl_model.specs.Sizes.{Launch}
+use Rattle.cl_model.specs.Task.{Operand, Own as OwnLeg, Nth, Point, Task, Run, Evaluate, Finish, Discard, Keep}
+use Rattle.cl_model.specs.Task.{Frame, Item}
+use Rattle.cl_model.specs.Steps.{last, before, set_in, in_order, access_at, object_at, item_next, frame_of}
+use Rattle.cl_model.specs.Steps.{frames_below}
+use Rattle.cl_model.specs.Meaning.{lengths_of, MayBeTold}
+use Rattle.cl_meaning.specs.Environment.{Env}
+use Rattle.cl_short_vec.specs.Marks.{Mark, kind_at}
+use Rattle.cl_short_vec.specs.Order.{Named, Step, Offset, Number, Copy, Load as LoadStep, Set as SetStep}
+use Rattle.cl_short_vec.specs.Order.{Store as StoreStep, type_in}
+use Rattle.cl_short_vec_correct.specs.Values.{Leaves, Worth}
+use Rattle.cl_short_vec_correct.specs.Doing.{Got, with_number, with_component, with_offset, first_at, index_of, Sets}
+use Rattle.cl_short_vec_correct.specs.Doing.{sets_nothing, sets_one, IsElement, IsComponent, StandsIn}
+use Rattle.cl_short_vec_correct.specs.Doing.{Evaluates, Along, between, behind, in_offset, offset, in_number, number}
+use Rattle.cl_short_vec_correct.specs.Doing.{copy, load, store, set}
+use Rattle.cl_short_vec_correct.specs.Emits.{Known, knows, IsIn, Fresh, Own, literal, variable, unary, binary, convert}
+use Rattle.cl_short_vec_correct.specs.Emits.{builtin, builtin_one, builtin_three, Spares, Emits, end, offset_line}
+use Rattle.cl_short_vec_correct.specs.Emits.{number_line, copy_line, load_line, store_line, set_line, declare_line}
+
+-- ---- what helping variables hold
+
+-- the variables hold these values in a frame
+abbrev pub Holds : List Known → Frame → Type 0
+Holds [] f = Unit {0}
+Holds (k ∷ ks) f = (f.variables k.variable ≡ k.value) × Holds ks f
+
+held : (ks : List Known) (f : Frame) (x : ℕ) (v : ℤ) → IsIn ks x v → Holds ks f → f.variables x ≡ v
+held [] f x v i h = absurd i
+held (k ∷ ks) f x v (inl (p, q)) (h, hs) = ap f.variables (sym p) ∙ h ∙ q
+held (k ∷ ks) f x v (inr i) (h, hs) = held ks f x v i hs
+
+same_number : (x : ℕ) → nat_eq x x ≡ true
+same_number x = eq-eqb x x refl
+
+pub still_holds : (ks : List Known) (f : Frame) (x : ℕ) (v : ℤ) → Fresh x ks → Holds ks f → Holds ks (set_in f x v)
+still_holds [] f x v fr h = tt
+still_holds (k ∷ ks) f x v (e, fr) (h, hs) = (
+  subst (λ (b : Bool). (if b then v else f.variables k.variable) ≡ k.value) (sym e) h,
+  still_holds ks f x v fr hs,
+)
+
+now_holds : (f : Frame) (x : ℕ) (v : ℤ) → (set_in f x v).variables x ≡ v
+now_holds f x v = subst (λ (b : Bool). (if b then v else f.variables x) ≡ v) (sym (same_number x)) refl
+
+abbrev pub it : ℕ → List Task → List ℤ → List Frame → Item
+it n tasks values frames = record { number = n; tasks = tasks; values = values; frames = frames }
+
+-- ---- one step of a history
+
+abbrev after_or : Item → Next Item → Item
+after_or d (Goes a) = a
+after_or d n = d
+
+goes_same : (a b : Item) → Goes a ≡ Goes b → a ≡ b
+goes_same a b e = ap (after_or a) e
+
+module _ (program : Program) (launch : Launch) (buffers : List (List ℕ)) where
+  abbrev pub D : Item → List Deed → Item → Type 0
+  D = History (lengths_of program launch buffers) (MayBeTold program launch buffers) (item_next program launch)
+
+  abbrev Once : Next Item → Deed → Item → Type 0
+  Once = DoesOnce (lengths_of program launch buffers) (MayBeTold program launch buffers)
+
+  pub peel : (i j to : Item) (deeds : List Deed) → item_next program launch i ≡ Goes j → D i deeds to →
+      ((to ≡ i) × (deeds ≡ [])) ⊎ D j deeds to
+  peel i j to deeds e nothing = inl (refl, refl)
+  peel i j to deeds e (going {mid = mid} g h) = inr (subst (λ m. D m deeds to) (goes_same mid j (sym g ∙ e)) h)
+  peel i j to deeds e (doing {mid = mid} {deed = deed} d h) =
+      absurd (never deed mid (subst (λ n. Once n deed mid) e d))
+    where
+      never : (deed : Deed) (mid : Item) → Once (Goes j) deed mid → ⊥
+      never deed mid x = x
+
+  -- ---- own expressions
+
+  abbrev Same : ℕ → List Frame → Item → List Deed → Type 0
+  Same n fs to deeds = (to.number ≡ n) × (to.frames ≡ fs) × (deeds ≡ [])
+
+  abbrev Comes : ℕ → List Frame → Item → Item → List Deed → Type 0
+  Comes n fs j to deeds = Same n fs to deeds ⊎ D j deeds to
+
+  -- one step ahead
+  first : (n : ℕ) (fs : List Frame) (ts us : List Task) (vs ws : List ℤ) (to : Item) (deeds : List Deed) →
+      item_next program launch (it n ts vs fs) ≡ Goes (it n us ws fs) → D (it n ts vs fs) deeds to →
+      Comes n fs (it n us ws fs) to deeds
+  first n fs ts us vs ws to deeds e h = elim (peel (it n ts vs fs) (it n us ws fs) to deeds e h) [
+    | inl (q, z) ↦ inl (ap (λ (i : Item). i.number) q, ap (λ (i : Item). i.frames) q, z)
+    | inr g ↦ inr g
+  ]
+
+  own_runs : (known : List Known) (e : Expression) (v : ℤ) → Own known e v → (at : Point) (n : ℕ) (rest : List Task)
+      (vs : List ℤ) (f : Frame) (fs : List Frame) (to : Item) (deeds : List Deed) → Holds known f →
+      D (it n (Evaluate at e ∷ rest) vs (f ∷ fs)) deeds to → Comes n (f ∷ fs) (it n rest (v ∷ vs) (f ∷ fs)) to deeds
+  own_runs known e v (literal u of) at n rest vs f fs to deeds k h =
+      first n (f ∷ fs) (Evaluate at (Apply (Literal u of) none) ∷ rest) rest vs (u ∷ vs) to deeds refl h
+  own_runs known e v (variable x u i) at n rest vs f fs to deeds k h =
+      first n (f ∷ fs) (Evaluate at (Apply (Variable x) none) ∷ rest) rest vs (u ∷ vs) to deeds
+      (ap (λ (w : ℤ). Goes (it n rest (w ∷ vs) (f ∷ fs))) (held known f x u i k)) h
+  own_runs known e v (unary op of a u p) at n rest vs f fs to deeds k h =
+      elim (first n (f ∷ fs) (Evaluate at (Apply (Unary op of) (single a)) ∷ rest)
+      (Evaluate (at ++ Operand 0 ∷ []) a ∷ Finish at (Unary op of) 1 ∷ rest) vs vs to deeds refl h) [
+        | inl s ↦ inl s
+        | inr g ↦ elim (own_runs known a u p (at ++ Operand 0 ∷ []) n (Finish at (Unary op of) 1 ∷ rest) vs f fs to
+            deeds k g) [
+              | inl s ↦ inl s
+              | inr g ↦ first n (f ∷ fs) (Finish at (Unary op of) 1 ∷ rest) rest (u ∷ vs) (unary_of op of u ∷ vs) to
+                  deeds refl g
+            ]
+      ]
+  own_runs known e v (convert t a u p) at n rest vs f fs to deeds k h =
+      elim (first n (f ∷ fs) (Evaluate at (Apply (Convert t) (single a)) ∷ rest)
+      (Evaluate (at ++ Operand 0 ∷ []) a ∷ Finish at (Convert t) 1 ∷ rest) vs vs to deeds refl h) [
+        | inl s ↦ inl s
+        | inr g ↦ elim (own_runs known a u p (at ++ Operand 0 ∷ []) n (Finish at (Convert t) 1 ∷ rest) vs f fs to deeds
+            k g) [
+              | inl s ↦ inl s
+              | inr g ↦ first n (f ∷ fs) (Finish at (Convert t) 1 ∷ rest) rest (u ∷ vs) (wrap_of t u ∷ vs) to deeds
+                  refl g
+            ]
+      ]
+  own_runs known e v (binary op of a b u w p q) at n rest vs f fs to deeds k h =
+      elim (first n (f ∷ fs) (Evaluate at (Apply (Binary op of) (pair a b)) ∷ rest)
+      (Evaluate (at ++ Operand 0 ∷ []) a ∷ Evaluate (at ++ Operand 1 ∷ []) b ∷ Finish at (Binary op of) 2 ∷ rest) vs vs
+      to deeds refl h) [
+        | inl s ↦ inl s
+        | inr g ↦ elim (own_runs known a u p (at ++ Operand 0 ∷ []) n (Evaluate (at ++ Operand 1 ∷ []) b ∷
+            Finish at (Binary op of) 2 ∷ rest) vs f fs to deeds k g) [
+              | inl s ↦ inl s
+              | inr g ↦ elim (own_runs known b w q (at ++ Operand 1 ∷ []) n (Finish at (Binary op of) 2 ∷ rest) (u ∷ vs)
+                  f fs to deeds k g) [
+                    | inl s ↦ inl s
+                    | inr g ↦ first n (f ∷ fs) (Finish at (Binary op of) 2 ∷ rest) rest (w ∷ u ∷ vs)
+                        (binary_of op of u w ∷ vs) to deeds refl g
+                  ]
+            ]
+      ]
+  own_runs known e v (builtin g of a b u w p q) at n rest vs f fs to deeds k h =
+      elim (first n (f ∷ fs) (Evaluate at (Apply (Builtin g of) (pair a b)) ∷ rest)
+      (Evaluate (at ++ Operand 0 ∷ []) a ∷ Evaluate (at ++ Operand 1 ∷ []) b ∷ Finish at (Builtin g of) 2 ∷ rest) vs vs
+      to deeds refl h) [
+        | inl s ↦ inl s
+        | inr h1 ↦ elim (own_runs known a u p (at ++ Operand 0 ∷ []) n (Evaluate (at ++ Operand 1 ∷ []) b ∷
+            Finish at (Builtin g of) 2 ∷ rest) vs f fs to deeds k h1) [
+              | inl s ↦ inl s
+              | inr h2 ↦ elim (own_runs known b w q (at ++ Operand 1 ∷ []) n (Finish at (Builtin g of) 2 ∷ rest)
+                  (u ∷ vs) f fs to deeds k h2) [
+                    | inl s ↦ inl s
+                    | inr h3 ↦ first n (f ∷ fs) (Finish at (Builtin g of) 2 ∷ rest) rest (w ∷ u ∷ vs)
+                        (builtin_of g of u w (pos 0) ∷ vs) to deeds refl h3
+                  ]
+            ]
+      ]
+  own_runs known e v (builtin_one g of a u p) at n rest vs f fs to deeds k h =
+      elim (first n (f ∷ fs) (Evaluate at (Apply (Builtin g of) (single a)) ∷ rest)
+      (Evaluate (at ++ Operand 0 ∷ []) a ∷ Finish at (Builtin g of) 1 ∷ rest) vs vs to deeds refl h) [
+        | inl s ↦ inl s
+        | inr h1 ↦ elim (own_runs known a u p (at ++ Operand 0 ∷ []) n (Finish at (Builtin g of) 1 ∷ rest) vs f fs to
+            deeds k h1) [
+              | inl s ↦ inl s
+              | inr h2 ↦ first n (f ∷ fs) (Finish at (Builtin g of) 1 ∷ rest) rest (u ∷ vs)
+                  (builtin_of g of u (pos 0) (pos 0) ∷ vs) to deeds refl h2
+            ]
+      ]
+  own_runs known e v (builtin_three g of a b c u w x p q r) at n rest vs f fs to deeds k h =
+      let L = Finish at (Builtin g of) 3 ∷ rest in
+      elim (first n (f ∷ fs) (Evaluate at (Apply (Builtin g of) (more a (pair b c))) ∷ rest)
+      (Evaluate (at ++ Operand 0 ∷ []) a ∷ Evaluate (at ++ Operand 1 ∷ []) b ∷ Evaluate (at ++ Operand 2 ∷ []) c ∷ L) vs
+      vs to deeds refl h) [
+        | inl s ↦ inl s
+        | inr h1 ↦ elim (own_runs known a u p (at ++ Operand 0 ∷ []) n (Evaluate (at ++ Operand 1 ∷ []) b ∷
+            Evaluate (at ++ Operand 2 ∷ []) c ∷ L) vs f fs to deeds k h1) [
+              | inl s ↦ inl s
+              | inr h2 ↦ elim (own_runs known b w q (at ++ Operand 1 ∷ []) n (Evaluate (at ++ Operand 2 ∷ []) c ∷ L)
+                  (u ∷ vs) f fs to deeds k h2) [
+                    | inl s ↦ inl s
+                    | inr h3 ↦ elim (own_runs known c x r (at ++ Operand 2 ∷ []) n L (w ∷ u ∷ vs) f fs to deeds k h3) [
+                      | inl s ↦ inl s
+                      | inr h4 ↦ first n (f ∷ fs) L rest (x ∷ w ∷ u ∷ vs) (builtin_of g of u w x ∷ vs) to deeds refl h4
+                    ]
+                  ]
+            ]
+      ]
+
+-- ---- what lies between the steps
+
+pub computes_same : (helps : ℕ → Type 0) (i j : Item) → j.number ≡ i.number → j.frames ≡ i.frames →
+    Sets helps sets_nothing i j
+computes_same helps i j n f = record {
+  number = n;
+  function = ap (λ fs. (frame_of fs).function) f;
+  path = ap (λ fs. (frame_of fs).path) f;
+  objects = ap (λ fs. (frame_of fs).objects) f;
+  below = ap frames_below f;
+  set = λ x v e. absurd e;
+  kept = λ x h s. ap (λ fs. (frame_of fs).variables x) f;
+}
+
+-- a variable of the first frame is set
+set_variable : (helps : ℕ → Type 0) (n : ℕ) (ts us : List Task) (vs ws : List ℤ) (f : Frame) (fs : List Frame)
+    (x : ℕ) (v : ℤ) → Sets helps (sets_one x v) (it n ts vs (f ∷ fs)) (it n us ws (set_in f x v ∷ fs))
+set_variable helps n ts us vs ws f fs x v = record {
+  number = refl;
+  function = refl;
+  path = refl;
+  objects = refl;
+  below = refl;
+  set = λ y w e. ap (set_in f x v).variables e.0 ∙ now_holds f x v ∙ sym e.1;
+  kept = λ y h s. other y (s v);
+}
+  where
+    tells : (y : ℕ) (b : Bool) → nat_eq x y ≡ b → ((y ≡ x) × (v ≡ v) → ⊥) →
+        (if b then v else f.variables y) ≡ f.variables y
+    tells y true e s = absurd (s (sym (eqb-true x y e), refl))
+    tells y false e s = refl
+
+    other : (y : ℕ) → ((y ≡ x) × (v ≡ v) → ⊥) → (set_in f x v).variables y ≡ f.variables y
+    other y s = tells y (nat_eq x y) refl s
+
+-- setting a helping variable is computing
+computes_set : (helps : ℕ → Type 0) (i j : Item) (x : ℕ) (v : ℤ) → helps x → Sets helps (sets_one x v) i j →
+    Sets helps sets_nothing i j
+computes_set helps i j x v h s = record {
+  number = s.number;
+  function = s.function;
+  path = s.path;
+  objects = s.objects;
+  below = s.below;
+  set = λ y w e. absurd e;
+  kept = λ y k e. s.kept y k (λ w q. k (subst helps (sym q.0) h));
+}
+
+-- first computing, and then what sets
+computes_then : (helps : ℕ → Type 0) (sets : ℕ → ℤ → Type 0) (i j k : Item) → Sets helps sets_nothing i j →
+    Sets helps sets j k → Sets helps sets i k
+computes_then helps sets i j k a b = record {
+  number = b.number ∙ a.number;
+  function = b.function ∙ a.function;
+  path = b.path ∙ a.path;
+  objects = b.objects ∙ a.objects;
+  below = b.below ∙ a.below;
+  set = b.set;
+  kept = λ x h s. b.kept x h s ∙ a.kept x h (λ v e. e);
+}
+
+module _ (program : Program) (launch : Launch) (buffers : List (List ℕ)) (env later : Env) (helps : ℕ → Type 0)
+    (result : Leaves → Worth) (rest : List Task) where
+  abbrev pub DD : Item → List Deed → Item → Type 0
+  DD = D program launch buffers
+
+  abbrev pub Al : List Step → Got → Item → List Deed → Item → Type 0
+  Al = Along program launch buffers env later helps result rest
+
+  abbrev C : Item → Item → Type 0
+  C = Sets helps sets_nothing
+
+  -- computing in front
+  pub ahead : {steps : List Step} {got : Got} {i j to : Item} {deeds : List Deed} → C i j → Al steps got j deeds to →
+      Al steps got i deeds to
+  ahead {i = i} {j = j} c (between {to = to} d) = between (computes_then helps sets_nothing i j to c d)
+  ahead {i = i} {j = j} c (behind {mid = m} d e h) = behind (computes_then helps sets_nothing i j m c d) e h
+  ahead {i = i} {j = j} c (in_offset {start = m} r e a d h) =
+      in_offset r e a (computes_then helps sets_nothing i j m c d) h
+  ahead {i = i} {j = j} c (offset {start = m} r e v a d h b) =
+      offset r e v a (computes_then helps sets_nothing i j m c d) h b
+  ahead {i = i} {j = j} c (in_number {start = m} e a d h) = in_number e a (computes_then helps sets_nothing i j m c d) h
+  ahead {i = i} {j = j} c (number {start = m} e v a d h b) =
+      number e v a (computes_then helps sets_nothing i j m c d) h b
+  ahead {i = i} {j = j} c (copy {mid = m} y a d b) = copy y a (computes_then helps sets_nothing i j m c d) b
+  ahead {i = i} {j = j} c (load {start = m} r e site bytes a d o b) =
+      load r e site bytes a (computes_then helps sets_nothing i j m c d) o b
+  ahead {i = i} {j = j} c (store {start = m} r e site a d o b) =
+      store r e site a (computes_then helps sets_nothing i j m c d) o b
+  ahead {i = i} {j = j} c (set {mid = m} of y a d b) =
+      set of y a (computes_then helps (sets_one y _) i j m c d) b
+
+  -- what is asked of evaluations: an item stands in one, or has come behind it in a frame where the variables that help
+  -- hold what they held
+  abbrev pub KeepsHeld : Type 0
+  KeepsHeld = (known : List Known) (e : Expression) → Spares known e → (at : Point) (n : ℕ) (tail : List Task)
+      (vs : List ℤ) (f : Frame) (fs : List Frame) (to : Item) (deeds : List Deed) → Holds known f →
+      DD (it n (Evaluate at e ∷ tail) vs (f ∷ fs)) deeds to →
+      ((t : Task) × (ts : List Task) × (to.tasks ≡ t ∷ (ts ++ tail)))
+      ⊎ ((g : Frame) × (us : List ℤ) × (front : List Deed) × (further : List Deed) ×
+      DD (it n (Evaluate at e ∷ tail) vs (f ∷ fs)) front (it n tail us (g ∷ fs)) × Holds known g ×
+      DD (it n tail us (g ∷ fs)) further to × (deeds ≡ front ++ further))
+
+  -- ---- accesses
+
+  abbrev Acc : Next Item → Deed → Item → Type 0
+  Acc = DoesOnce (lengths_of program launch buffers) (MayBeTold program launch buffers)
+
+  loads_deed : (site : ℕ) (access : Access) (after : List ℕ → Item) (deed : Deed) (mid to : Item) (ds : List Deed) →
+      Acc (Loads site access after) deed mid → DD mid ds to →
+      (bytes : List ℕ) × Acc (Loads site access after) (Read site access bytes) (after bytes) × DD (after bytes) ds to ×
+      (deed ≡ Read site access bytes)
+  loads_deed site access after Passed mid to ds d h = absurd d
+  loads_deed site access after Turned mid to ds d h = absurd d
+  loads_deed site access after (Wrote a b c e) mid to ds d h = absurd d
+  loads_deed site access after (Read s a bytes) mid to ds (p, q, fits, told, r) h = (
+    bytes,
+    (refl, refl, fits, told, refl),
+    subst (λ m. DD m ds to) (sym r) h,
+    ap (λ z. Read z a bytes) (sym p) ∙ ap (λ z. Read site z bytes) (sym q),
+  )
+
+  peel_loads : (i to : Item) (deeds : List Deed) (site : ℕ) (access : Access) (after : List ℕ → Item) →
+      item_next program launch i ≡ Loads site access after → DD i deeds to →
+      ((to ≡ i) × (deeds ≡ [])) ⊎ ((bytes : List ℕ) × (ds : List Deed) ×
+      Acc (Loads site access after) (Read site access bytes) (after bytes) × DD (after bytes) ds to ×
+      (deeds ≡ Read site access bytes ∷ ds))
+  peel_loads i to deeds site access after e nothing = inl (refl, refl)
+  peel_loads i to deeds site access after e (going {mid = mid} g h) = absurd (goes_not_loads (sym g ∙ e))
+    where
+      is_goes : Next Item → Bool
+      is_goes (Goes a) = true
+      is_goes n = false
+
+      goes_not_loads : Goes mid ≡ Loads site access after → ⊥
+      goes_not_loads q = false≢true (sym (ap is_goes q))
+  peel_loads i to deeds site access after e (doing {mid = mid} {deed = deed} {deeds = ds} d h) =
+      let r = loads_deed site access after deed mid to ds (subst (λ n. Acc n deed mid) e d) h in
+      inr (r.0, ds, r.1, r.2, ap (λ z. z ∷ ds) r.3)
+
+  stores_deed : (site object : ℕ) (index : ℤ) (bytes : List ℕ) (after : Item) (deed : Deed) (mid to : Item)
+      (ds : List Deed) → Acc (Stores site object index bytes after) deed mid → DD mid ds to →
+      Acc (Stores site object index bytes after) (Wrote site object index bytes) after × DD after ds to ×
+      (deed ≡ Wrote site object index bytes)
+  stores_deed site object index bytes after Passed mid to ds d h = absurd d
+  stores_deed site object index bytes after Turned mid to ds d h = absurd d
+  stores_deed site object index bytes after (Read s a bs) mid to ds d h = absurd d
+  stores_deed site object index bytes after (Wrote s o x bs) mid to ds (p, q, u, v, fits, r) h = (
+    (refl, refl, refl, refl, fits, refl),
+    subst (λ m. DD m ds to) (sym r) h,
+    ap (λ z. Wrote z o x bs) (sym p) ∙ (ap (λ z. Wrote site z x bs) (sym q) ∙
+        (ap (λ z. Wrote site object z bs) (sym u) ∙ ap (Wrote site object index) (sym v))),
+  )
+
+  peel_stores : (i to : Item) (deeds : List Deed) (site object : ℕ) (index : ℤ) (bytes : List ℕ) (after : Item) →
+      item_next program launch i ≡ Stores site object index bytes after → DD i deeds to →
+      ((to ≡ i) × (deeds ≡ [])) ⊎ ((ds : List Deed) ×
+      Acc (Stores site object index bytes after) (Wrote site object index bytes) after × DD after ds to ×
+      (deeds ≡ Wrote site object index bytes ∷ ds))
+  peel_stores i to deeds site object index bytes after e nothing = inl (refl, refl)
+  peel_stores i to deeds site object index bytes after e (going {mid = mid} g h) = absurd (goes_not_stores (sym g ∙ e))
+    where
+      is_goes : Next Item → Bool
+      is_goes (Goes a) = true
+      is_goes n = false
+
+      goes_not_stores : Goes mid ≡ Stores site object index bytes after → ⊥
+      goes_not_stores q = false≢true (sym (ap is_goes q))
+  peel_stores i to deeds site object index bytes after e (doing {mid = mid} {deed = deed} {deeds = ds} d h) =
+      let r = stores_deed site object index bytes after deed mid to ds (subst (λ n. Acc n deed mid) e d) h in
+      inr (ds, r.0, r.1, ap (λ z. z ∷ ds) r.2)
+
+  -- ---- the item goes along the steps
+
+  -- where the history ends before anything but helping variables changed
+  pub stop : (steps : List Step) (got : Got) (i to : Item) (deeds : List Deed) → to.number ≡ i.number →
+      to.frames ≡ i.frames → deeds ≡ [] → Al steps got i deeds to
+  stop steps got i to deeds n f z = subst (λ ds. Al steps got i ds to) (sym z) (between (computes_same helps i to n f))
+
+  -- where it ends at an item with the same number and frames
+  stopped : (steps : List Step) (got : Got) (i j to : Item) (deeds : List Deed) → j.number ≡ i.number →
+      j.frames ≡ i.frames → to ≡ j → deeds ≡ [] → Al steps got i deeds to
+  stopped steps got i j to deeds n f e z =
+      stop steps got i to deeds (ap (λ (a : Item). a.number) e ∙ n) (ap (λ (a : Item). a.frames) e ∙ f) z
+
+  module _ (kept : KeepsHeld) where
+    abbrev At : Point → ℕ → Point
+    At at k = at ++ Nth k ∷ []
+
+    abbrev Follows : List Known → Got → List Step → Statements → Type 0
+    Follows known got steps ss = (at : Point) (k n : ℕ) (vs : List ℤ) (f : Frame) (fs : List Frame) (to : Item)
+        (deeds : List Deed) → Holds known f → DD (it n (in_order at k ss rest) vs (f ∷ fs)) deeds to →
+        Al steps got (it n (in_order at k ss rest) vs (f ∷ fs)) deeds to
+
+    -- the value that is there is kept in a helping variable, and then the others
+    keeping : (known : List Known) (got : Got) (steps : List Step) (ss : Statements) (x : ℕ) → helps x →
+        Fresh x known → (at : Point) (k n : ℕ) (us : List ℤ) (f : Frame) (fs : List Frame) (to : Item)
+        (deeds : List Deed) → Holds known f → Follows (knows x (last us) known) got steps ss →
+        DD (it n (Keep (At at k) x ∷ in_order at (suc k) ss rest) us (f ∷ fs)) deeds to →
+        Al steps got (it n (Keep (At at k) x ∷ in_order at (suc k) ss rest) us (f ∷ fs)) deeds to
+    keeping known got steps ss x help fresh at k n us f fs to deeds holds others h =
+        let i = it n (Keep (At at k) x ∷ in_order at (suc k) ss rest) us (f ∷ fs) in
+        let j = it n (in_order at (suc k) ss rest) (before us) (set_in f x (last us) ∷ fs) in
+        elim (peel program launch buffers i j to deeds refl h) [
+          | inl (q, z) ↦ stopped steps got i i to deeds refl refl q z
+          | inr g ↦ ahead (computes_set helps i j x (last us) help (set_variable helps n (Keep (At at k) x ∷
+              in_order at (suc k) ss rest) (in_order at (suc k) ss rest) us (before us) f fs x (last us)))
+              (others at (suc k) n (before us) (set_in f x (last us)) fs to deeds (
+                now_holds f x (last us),
+                still_holds known f x (last us) fresh holds,
+              ) g)
+        ]
+
+    -- an evaluation whose value a helping variable keeps
+    evaluated : (G : ℤ → Type 0) (known : List Known) (got : Got) (next : ℤ → Got) (step : Step) (steps : List Step)
+        (ss : Statements)
+        (x : ℕ) (e : Expression) → Spares known e → helps x → Fresh x known →
+        ((from start to : Item) (deeds : List Deed) → C from start →
+        StandsIn program launch buffers e start deeds to → Al (step ∷ steps) got from deeds to) →
+        ((from start mid to : Item) (deeds further : List Deed) (v : ℤ) → C from start →
+        Evaluates program launch buffers e start deeds mid v →
+        (G v → Al steps (next v) mid further to) → Al (step ∷ steps) got from (deeds ++ further) to) →
+        ((v : ℤ) → G v → Follows (knows x v known) (next v) steps ss) →
+        Follows known got (step ∷ steps) (also (Declare x (Some e)) ss)
+    evaluated G known got next step steps ss x e spares help fresh inside whole others at k n vs f fs to deeds holds h =
+        let T = in_order at (suc k) ss rest in
+        let i = it n (Run (At at k) (Declare x (Some e)) ∷ T) vs (f ∷ fs) in
+        let j = it n (Evaluate (At at k ++ Operand 0 ∷ []) e ∷ Keep (At at k) x ∷ T) vs (f ∷ fs) in
+        elim (peel program launch buffers i j to deeds refl h) [
+          | inl (q, z) ↦
+              stopped (step ∷ steps) got i i to deeds refl refl q z
+          | inr h1 ↦ elim (kept known e spares (At at k ++ Operand 0 ∷ []) n (Keep (At at k) x ∷ T) vs f fs to deeds
+              holds h1) [
+                | inl (t, ts, q) ↦ inside i j to deeds (computes_same helps i j refl refl) (record {
+                  at = At at k ++ Operand 0 ∷ [];
+                  rest = Keep (At at k) x ∷ T;
+                  begins = refl;
+                  does = h1;
+                  task = t;
+                  tasks = ts;
+                  stands = q;
+                })
+                | inr (g, us, front, further, a, holds', b, p) ↦
+                    subst (λ ds. Al (step ∷ steps) got i ds to) (sym p) (whole i j
+                    (it n (Keep (At at k) x ∷ T) us (g ∷ fs)) to front further (last us)
+                    (computes_same helps i j refl refl) (record {
+                      at = At at k ++ Operand 0 ∷ [];
+                      rest = Keep (At at k) x ∷ T;
+                      begins = refl;
+                      does = a;
+                      behind = refl;
+                      value = refl;
+                    }) (λ z. keeping known (next (last us)) steps ss x help fresh at k n us g fs to further holds'
+                    (others (last us) z) b))
+              ]
+        ]
+
+    -- a component of a variable
+    copied : (known : List Known) (got : Got) (steps : List Step) (ss : Statements) (of : IntType) (m : Named)
+        (c x y : ℕ) → IsComponent env m c of y → helps x → Fresh x known →
+        ((v : ℤ) → IsValue of v → Follows (knows x v known) (with_component got m.span.first c v) steps ss) →
+        Follows known got (Copy of m c ∷ steps) (also (Declare x (Some (Apply (Variable y) none))) ss)
+    copied known got steps ss of m c x y is_component help fresh others at k n vs f fs to deeds holds h =
+        let T = in_order at (suc k) ss rest in
+        let e = Apply (Variable y) none in
+        let i = it n (Run (At at k) (Declare x (Some e)) ∷ T) vs (f ∷ fs) in
+        let j = it n (Evaluate (At at k ++ Operand 0 ∷ []) e ∷ Keep (At at k) x ∷ T) vs (f ∷ fs) in
+        let o = it n (Keep (At at k) x ∷ T) (f.variables y ∷ vs) (f ∷ fs) in
+        elim (peel program launch buffers i j to deeds refl h) [
+          | inl (q, z) ↦
+              stopped (Copy of m c ∷ steps) got i i to deeds refl refl q z
+          | inr h1 ↦ elim (peel program launch buffers j o to deeds refl h1) [
+            | inl (q, z) ↦
+                stopped (Copy of m c ∷ steps) got i j to deeds refl refl q z
+            | inr h2 ↦ copy y is_component (computes_same helps i o refl refl) (λ g. keeping known
+                (with_component got m.span.first c (f.variables y)) steps ss x help fresh at k n (f.variables y ∷ vs) f
+                fs to deeds holds (others (f.variables y) g) h2)
+          ]
+        ]
+
+    -- one load
+    loaded : (known : List Known) (got : Got) (steps : List Step) (ss : Statements) (m : Mark) (c x site : ℕ)
+        (r : Root) (e index : Expression) → IsElement env m r e →
+        Own known index (index_of got m c) → helps x → Fresh x known →
+        ((v : ℤ) → IsValue (type_in (kind_at m)) v →
+        Follows (knows x v known) (with_component got (first_at m) c v) steps ss) →
+        Follows known got (LoadStep m c ∷ steps)
+        (also (Declare x (Some (Apply (Load site (type_in (kind_at m)) r) (single index)))) ss)
+    loaded known got steps ss m c x site r e index is_element own help fresh others at k n vs f fs to deeds
+        holds h =
+        let T = in_order at (suc k) ss rest in
+        let of = type_in (kind_at m) in
+        let E = Apply (Load site of r) (single index) in
+        let p = At at k ++ Operand 0 ∷ [] in
+        let i = it n (Run (At at k) (Declare x (Some E)) ∷ T) vs (f ∷ fs) in
+        let j = it n (Evaluate p E ∷ Keep (At at k) x ∷ T) vs (f ∷ fs) in
+        let L = Finish p (Load site of r) 1 ∷ Keep (At at k) x ∷ T in
+        let o = it n L (index_of got m c ∷ vs) (f ∷ fs) in
+        elim (peel program launch buffers i j to deeds refl h) [
+          | inl (q, z) ↦ stopped (LoadStep m c ∷ steps) got i i to deeds refl refl q z
+          | inr h1 ↦ elim (first program launch buffers n (f ∷ fs) (Evaluate p E ∷ Keep (At at k) x ∷ T)
+              (Evaluate (p ++ Operand 0 ∷ []) index ∷ L) vs vs to deeds refl h1) [
+                | inl s ↦ stop (LoadStep m c ∷ steps) got i to deeds s.0 s.1 s.2
+                | inr h2 ↦ elim (own_runs program launch buffers known index (index_of got m c) own
+                    (p ++ Operand 0 ∷ []) n L vs f fs to deeds holds h2) [
+                      | inl s ↦ stop (LoadStep m c ∷ steps) got i to deeds s.0 s.1 s.2
+                      | inr h3 ↦ elim (peel_loads o to deeds site (access_at program launch o of r (index_of got m c))
+                          (λ bytes. it n (Keep (At at k) x ∷ T) (value_of_bytes of bytes ∷ vs) (f ∷ fs)) refl h3) [
+                            | inl (q, z) ↦ stopped (LoadStep m c ∷ steps) got i o to deeds refl refl q z
+                            | inr (bytes, ds, once, h4, z) ↦ subst (λ d. Al (LoadStep m c ∷ steps) got i d to) (sym z)
+                                (load r e site bytes is_element (computes_same helps i o refl refl) once
+                                (keeping known (with_component got (first_at m) c (value_of_bytes of bytes)) steps ss
+                                x help fresh at k n (value_of_bytes of bytes ∷ vs) f fs to ds holds
+                                (others (value_of_bytes of bytes) (IsValue-value of (number_l 256 bytes))) h4))
+                          ]
+                    ]
+              ]
+        ]
+
+    -- one store
+    stored : (known : List Known) (got : Got) (steps : List Step) (ss : Statements) (m : Mark) (c y site : ℕ)
+        (r : Root) (e index value : Expression) → IsElement env m r e →
+        Own known index (index_of got m c) →
+        Own known value (result got.leaves y) → Follows known got steps ss →
+        Follows known got (StoreStep m c y ∷ steps)
+        (also (Do (Apply (Store site (type_in (kind_at m)) r) (pair index value))) ss)
+    stored known got steps ss m c y site r e index value is_element own_index own_value others at k n vs f fs to
+        deeds holds h =
+        let T = in_order at (suc k) ss rest in
+        let of = type_in (kind_at m) in
+        let E = Apply (Store site of r) (pair index value) in
+        let p = At at k ++ Operand 0 ∷ [] in
+        let K = Discard (At at k ++ OwnLeg 0 ∷ []) ∷ T in
+        let L = Finish p (Store site of r) 2 ∷ K in
+        let i = it n (Run (At at k) (Do E) ∷ T) vs (f ∷ fs) in
+        let u = index_of got m c in
+        let w = result got.leaves y in
+        let o = it n L (w ∷ u ∷ vs) (f ∷ fs) in
+        elim (first program launch buffers n (f ∷ fs) (Run (At at k) (Do E) ∷ T) (Evaluate p E ∷ K) vs vs to deeds refl
+        h) [
+          | inl s ↦ stop (StoreStep m c y ∷ steps) got i to deeds s.0 s.1 s.2
+          | inr h1 ↦ elim (first program launch buffers n (f ∷ fs) (Evaluate p E ∷ K) (Evaluate (p ++ Operand 0 ∷ [])
+              index ∷ Evaluate (p ++ Operand 1 ∷ []) value ∷ L) vs vs to deeds refl h1) [
+                | inl s ↦ stop (StoreStep m c y ∷ steps) got i to deeds s.0 s.1 s.2
+                | inr h2 ↦ elim (own_runs program launch buffers known index u own_index (p ++ Operand 0 ∷ []) n
+                    (Evaluate (p ++ Operand 1 ∷ []) value ∷ L) vs f fs to deeds holds h2) [
+                      | inl s ↦ stop (StoreStep m c y ∷ steps) got i to deeds s.0 s.1 s.2
+                      | inr h3 ↦ elim (own_runs program launch buffers known value w own_value (p ++ Operand 1 ∷ []) n L
+                          (u ∷ vs) f fs to deeds holds h3) [
+                            | inl s ↦ stop (StoreStep m c y ∷ steps) got i to deeds s.0 s.1 s.2
+                            | inr h4 ↦ elim (peel_stores o to deeds site (object_at program launch o r) u
+                                (bytes_of of w) (it n K (w ∷ vs) (f ∷ fs)) refl h4) [
+                                  | inl (q, z) ↦ stopped (StoreStep m c y ∷ steps) got i o to deeds refl refl q z
+                                  | inr (ds, once, h5, z) ↦
+                                      subst (λ d. Al (StoreStep m c y ∷ steps) got i d to) (sym z)
+                                      (store r e site is_element (computes_same helps i o refl refl) once
+                                      (elim (first program launch buffers n (f ∷ fs) K T (w ∷ vs) vs to ds refl h5) [
+                                        | inl s ↦ stop steps got (it n K (w ∷ vs) (f ∷ fs)) to ds s.0 s.1 s.2
+                                        | inr h6 ↦ ahead (computes_same helps (it n K (w ∷ vs) (f ∷ fs))
+                                            (it n T vs (f ∷ fs)) refl refl) (others at (suc k) n vs f fs to ds holds h6)
+                                      ]))
+                                ]
+                          ]
+                    ]
+              ]
+        ]
+
+    -- a component is set
+    assigned : (known : List Known) (got : Got) (steps : List Step) (ss : Statements) (m : Named) (c y x : ℕ)
+        (of : IntType) (value : Expression) → IsComponent later m c of x → Own known value (result got.leaves y) →
+        Fresh x known → Follows known got steps ss →
+        Follows known got (SetStep m c y ∷ steps) (also (Do (Apply (Set x) (single value))) ss)
+    assigned known got steps ss m c y x of value is_component own fresh others at k n vs f fs to deeds holds h =
+        let T = in_order at (suc k) ss rest in
+        let E = Apply (Set x) (single value) in
+        let p = At at k ++ Operand 0 ∷ [] in
+        let K = Discard (At at k ++ OwnLeg 0 ∷ []) ∷ T in
+        let L = Finish p (Set x) 1 ∷ K in
+        let i = it n (Run (At at k) (Do E) ∷ T) vs (f ∷ fs) in
+        let w = result got.leaves y in
+        let o = it n L (w ∷ vs) (f ∷ fs) in
+        let g = set_in f x w in
+        let a = it n K (w ∷ vs) (g ∷ fs) in
+        elim (first program launch buffers n (f ∷ fs) (Run (At at k) (Do E) ∷ T) (Evaluate p E ∷ K) vs vs to deeds refl
+        h) [
+          | inl s ↦ stop (SetStep m c y ∷ steps) got i to deeds s.0 s.1 s.2
+          | inr h1 ↦ elim (first program launch buffers n (f ∷ fs) (Evaluate p E ∷ K) (Evaluate (p ++ Operand 0 ∷ [])
+              value ∷ L) vs vs to deeds refl h1) [
+                | inl s ↦ stop (SetStep m c y ∷ steps) got i to deeds s.0 s.1 s.2
+                | inr h2 ↦ elim (own_runs program launch buffers known value w own (p ++ Operand 0 ∷ []) n L vs f fs to
+                    deeds holds h2) [
+                      | inl s ↦ stop (SetStep m c y ∷ steps) got i to deeds s.0 s.1 s.2
+                      | inr h3 ↦ elim (peel program launch buffers o a to deeds refl h3) [
+                        | inl (q, z) ↦ stopped (SetStep m c y ∷ steps) got i o to deeds refl refl q z
+                        | inr h4 ↦ set of x is_component (set_variable helps n (Run (At at k) (Do E) ∷ T) K vs (w ∷ vs)
+                            f fs x w) (elim (first program launch buffers n (g ∷ fs) K T (w ∷ vs) vs to deeds refl h4) [
+                              | inl s ↦ stop steps got a to deeds s.0 s.1 s.2
+                              | inr h5 ↦ ahead (computes_same helps a (it n T vs (g ∷ fs)) refl refl)
+                                  (others at (suc k) n vs g fs to deeds (still_holds known f x w fresh holds) h5)
+                            ])
+                      ]
+                    ]
+              ]
+        ]
+
+    -- a component is declared
+    declared : (known : List Known) (got : Got) (steps : List Step) (ss : Statements) (m : Named) (c y x : ℕ)
+        (of : IntType) (value : Expression) → IsComponent later m c of x → Own known value (result got.leaves y) →
+        Fresh x known → Follows known got steps ss →
+        Follows known got (SetStep m c y ∷ steps) (also (Declare x (Some value)) ss)
+    declared known got steps ss m c y x of value is_component own fresh others at k n vs f fs to deeds holds h =
+        let T = in_order at (suc k) ss rest in
+        let p = At at k ++ Operand 0 ∷ [] in
+        let K = Keep (At at k) x ∷ T in
+        let i = it n (Run (At at k) (Declare x (Some value)) ∷ T) vs (f ∷ fs) in
+        let w = result got.leaves y in
+        let o = it n K (w ∷ vs) (f ∷ fs) in
+        let a = it n T vs (set_in f x w ∷ fs) in
+        elim (first program launch buffers n (f ∷ fs) (Run (At at k) (Declare x (Some value)) ∷ T)
+        (Evaluate p value ∷ K) vs vs to deeds refl h) [
+          | inl s ↦ stop (SetStep m c y ∷ steps) got i to deeds s.0 s.1 s.2
+          | inr h1 ↦ elim (own_runs program launch buffers known value w own p n K vs f fs to deeds holds h1) [
+            | inl s ↦ stop (SetStep m c y ∷ steps) got i to deeds s.0 s.1 s.2
+            | inr h2 ↦ elim (peel program launch buffers o a to deeds refl h2) [
+              | inl (q, z) ↦ stopped (SetStep m c y ∷ steps) got i o to deeds refl refl q z
+              | inr h3 ↦ set of x is_component (set_variable helps n (Run (At at k) (Declare x (Some value)) ∷ T) T vs
+                  vs f fs x w)
+                  (others at (suc k) n vs (set_in f x w) fs to deeds (still_holds known f x w fresh holds) h3)
+            ]
+          ]
+        ]
+
+    -- Where statements stand for steps, an item that comes to them goes along the steps.
+    pub follows : {known : List Known} {got : Got} {steps : List Step} {ss : Statements} →
+        Emits env later helps result known got steps ss → Follows known got steps ss
+    follows (end known got) = λ at k n vs f fs to deeds holds h.
+        behind (computes_same helps (it n rest vs (f ∷ fs)) (it n rest vs (f ∷ fs)) refl refl) refl h
+    follows (offset_line known got steps ss m r e x is_element spares help fresh lines) =
+        evaluated (λ v. Unit {0}) known got (λ v. with_offset got (first_at m) v) (Offset m) steps ss x e spares help
+        fresh
+        (λ from start to deeds c s. in_offset r e is_element c s)
+        (λ from start mid to deeds further v c ev al. offset r e v is_element c ev (al tt))
+        (λ v g. follows (lines v))
+    follows (number_line known got steps ss of m e x is_number spares help fresh lines) =
+        evaluated (IsValue of) known got (λ v. with_number got (first_at m) v) (Number of m) steps ss x e spares help
+        fresh (λ from start to deeds c s. in_number e is_number c s)
+        (λ from start mid to deeds further v c ev al. number e v is_number c ev al)
+        (λ v g. follows (lines v g))
+    follows (copy_line known got steps ss of m c x y is_component help fresh lines) =
+        copied known got steps ss of m c x y is_component help fresh (λ v g. follows (lines v g))
+    follows (load_line known got steps ss m c x site r e index is_element own help fresh lines) =
+        loaded known got steps ss m c x site r e index is_element own help fresh (λ v g. follows (lines v g))
+    follows (store_line known got steps ss m c j site r e index value is_element own_index own_value lines) =
+        stored known got steps ss m c j site r e index value is_element own_index own_value (follows lines)
+    follows (set_line known got steps ss m c j x of value is_component own fresh lines) =
+        assigned known got steps ss m c j x of value is_component own fresh (follows lines)
+    follows (declare_line known got steps ss m c j x of value is_component own fresh lines) =
+        declared known got steps ss m c j x of value is_component own fresh (follows lines)

@@ -1,0 +1,6 @@
+pub mod Values
+pub mod Doing
+pub mod Sources
+pub mod Emits
+pub mod Each
+pub mod Law

@@ -1,0 +1,22 @@
+//! What the unit without vectors does for each vector statement.
+#![tactic(auto)]
+
+ghost use Rattle.cl_short_vec_correct.specs.Law.{StatementsDo, StepsDone};
+
+/// Typed statements that stand for the steps of a vector statement do these steps, in order, in every launch, on all
+/// buffers, in all histories: they evaluate the numbers and where elements stand, load and store each component of an
+/// element by one access, and set variables, and what they set or store is the result for what the steps before gave.
+/// Nothing else of the item changes but helping variables. What is said behind a number, or behind a component of a
+/// variable, is said where that is a value of its type.
+pub fn steps_law()
+    ensures { StepsDone }
+{}
+
+/// In the typed program of each source that is accepted, every assignment to a vector and every initialiser of one does
+/// its steps so: the target's place, its old components, the leaves of the value from left to right, and then the
+/// components of the target, with the values that the operators, the functions and lists in parentheses give on the
+/// components of the leaves (OpenCL 1.2, sections 6.1.6, 6.1.7, 6.2.6, 6.3 and 6.12.3). Its helping variables stand for
+/// nothing that the source can name. Numbers that are given for names are below 2 to the power 63.
+pub fn statements_law()
+    ensures { StatementsDo }
+{}
