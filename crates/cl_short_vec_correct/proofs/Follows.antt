@@ -1,204 +1,72 @@
--- T6a on typed statements: where each statement of a list stands for a step, an item that comes to the list goes along
+-- Where each statement of a list stands for a step, an item that comes to the list goes along
 -- the steps. What an evaluation leaves of the variables of its function is asked, as `Keeps`.
-use Rattle.std.proofs.Common.{◌≡◌, ℕ, suc, ℤ, pos, Bool, true, false, List, [], ◌∷◌, ◌++◌, Some}
+use Rattle.std.proofs.Common.{◌≡◌, ℕ, suc, ℤ, Bool, true, false, List, [], ◌∷◌, ◌++◌, Option, Some}
 use Rattle.std.proofs.Common.{if◌then◌else◌, ◌⊎◌, inl, inr, refl, sym, ap, ◌∙◌, subst, nat_eq}
-use Rattle.std.proofs.lemmas.Bool.{eq-eqb, eqb-true, false≢true}
+use Rattle.std.proofs.lemmas.Bool.{eqb-true, false≢true}
+use Rattle.std.proofs.lemmas.Option.{same_Some}
 use Rattle.work_items.specs.Items.{Next, Goes, Loads, Stores}
 use Rattle.work_items.specs.Memory.{Access}
-use Rattle.work_items.specs.Histories.{Deed, Passed, Turned, Read, Wrote, History, nothing, going, doing, DoesOnce}
+use Rattle.work_items.specs.Histories.{Deed, Passed, Turned, Read, Wrote, nothing, going, doing, DoesOnce}
 use Rattle.wg_num.specs.declared.types.IntType.{IntType}
-use Rattle.wg_num.specs.Wrap.{wrap_of, IsValue}
+use Rattle.wg_num.specs.Wrap.{IsValue}
 use Rattle.wg_num.proofs.WrapLaws.{IsValue-value}
 use Rattle.wg_num.specs.Bytes.{bytes_of, value_of_bytes}
 use Rattle.std.specs.Simd.Lanes.{number_l}
-use Rattle.wg_num.specs.Operators.{unary_of, binary_of}
-use Rattle.wg_num.specs.Builtins.{builtin_of}
 use Rattle.cl_model.specs.declared.program.Root.{Root}
-use Rattle.cl_model.specs.Tree.{Literal, Variable, Unary, Binary, Builtin, Convert, Set, Load, Store}
-use Rattle.cl_model.specs.Tree.{Expression, Apply, single, pair, more, none, Do, Declare, Statements}
+use Rattle.cl_model.specs.Tree.{Variable, Set, Load, Store}
+use Rattle.cl_model.specs.Tree.{Expression, Apply, single, pair, none, Do, Declare, Statements}
 use Rattle.cl_model.specs.Tree.{also, Program}
 use Rattle.cl_model.specs.Sizes.{Launch}
 use Rattle.cl_model.specs.Task.{Operand, Own as OwnLeg, Nth, Point, Task, Run, Evaluate, Finish, Discard, Keep}
 use Rattle.cl_model.specs.Task.{Frame, Item}
 use Rattle.cl_model.specs.Steps.{last, before, set_in, in_order, access_at, object_at, item_next, frame_of}
 use Rattle.cl_model.specs.Steps.{frames_below}
+use Rattle.cl_model.specs.Calls.{function_at}
+use Rattle.cl_model.specs.Valid.{HasVariable, kind_type}
 use Rattle.cl_model.specs.Meaning.{lengths_of, MayBeTold}
+use Rattle.cl_model_typed.specs.Known.{AreKnown}
+use Rattle.cl_model_typed.specs.Known as of_numbers
+use Rattle.cl_model_typed.specs.Expected.{keeps, Ahead, ends, goes_on, NoneLeft, Fits}
+use Rattle.cl_model_typed.specs.Law.{IsTyped}
+use Rattle.cl_model_typed.proofs.Histories.{stays}
 use Rattle.cl_meaning.specs.Environment.{Env}
 use Rattle.cl_short_vec.specs.Marks.{Mark, kind_at}
 use Rattle.cl_short_vec.specs.Order.{Named, Step, Offset, Number, Copy, Load as LoadStep, Set as SetStep}
 use Rattle.cl_short_vec.specs.Order.{Store as StoreStep, type_in}
 use Rattle.cl_short_vec_correct.specs.Values.{Leaves, Worth}
 use Rattle.cl_short_vec_correct.specs.Doing.{Got, with_number, with_component, with_offset, first_at, index_of, Sets}
-use Rattle.cl_short_vec_correct.specs.Doing.{sets_nothing, sets_one, IsElement, IsComponent, StandsIn}
+use Rattle.cl_short_vec_correct.specs.Doing.{sets_nothing, sets_one, IsElement, IsComponent, StandsIn, IsDeclaredAs}
 use Rattle.cl_short_vec_correct.specs.Doing.{Evaluates, Along, between, behind, in_offset, offset, in_number, number}
 use Rattle.cl_short_vec_correct.specs.Doing.{copy, load, store, set}
-use Rattle.cl_short_vec_correct.specs.Emits.{Known, knows, IsIn, Fresh, Own, literal, variable, unary, binary, convert}
-use Rattle.cl_short_vec_correct.specs.Emits.{builtin, builtin_one, builtin_three, Spares, Emits, end, offset_line}
+use Rattle.cl_short_vec_correct.specs.Emits.{Known, knows, Fresh, Own}
+use Rattle.cl_short_vec_correct.specs.Emits.{Spares, Emits, end, offset_line}
 use Rattle.cl_short_vec_correct.specs.Emits.{number_line, copy_line, load_line, store_line, set_line, declare_line}
+use Rattle.cl_short_vec_correct.proofs.Evaluated.{Holds, still_holds, now_holds, it, D, peel, first, own_runs}
+use Rattle.cl_short_vec_correct.proofs.Evaluated.{then_further, one_step, own_reaches}
 
--- ---- what helping variables hold
+-- ---- values of their types
 
--- the variables hold these values in a frame
-abbrev pub Holds : List Known → Frame → Type 0
-Holds [] f = Unit {0}
-Holds (k ∷ ks) f = (f.variables k.variable ≡ k.value) × Holds ks f
+-- a variable has one type
+one_type : (program : Program) (function x : ℕ) (t u : IntType) → HasVariable (function_at program function) x t →
+    HasVariable (function_at program function) x u → t ≡ u
+one_type program function x t u (k, e, h) (l, d, g) = sym h ∙ ap kind_type (same_Some k l (sym e ∙ d)) ∙ g
 
-held : (ks : List Known) (f : Frame) (x : ℕ) (v : ℤ) → IsIn ks x v → Holds ks f → f.variables x ≡ v
-held [] f x v i h = absurd i
-held (k ∷ ks) f x v (inl (p, q)) (h, hs) = ap f.variables (sym p) ∙ h ∙ q
-held (k ∷ ks) f x v (inr i) (h, hs) = held ks f x v i hs
+-- what an item that fits is about to keep is a value of the variable's type
+kept_value : (program : Program) (p : Point) (x : ℕ) (rest : List Task) (us : List ℤ) (function : ℕ) (fs : List Frame)
+    (known : List of_numbers.Known) (base : Option (List of_numbers.Known)) (of : IntType) →
+    HasVariable (function_at program function) x of → AreKnown known us →
+    Ahead program NoneLeft (Keep p x ∷ rest) function fs known base → IsValue of (last us)
+kept_value program p x rest us function fs known base of h k (ends e) = absurd (some_tasks (sym e))
+  where
+    is_none : List Task → Bool
+    is_none [] = true
+    is_none (t ∷ ts) = false
 
-same_number : (x : ℕ) → nat_eq x x ≡ true
-same_number x = eq-eqb x x refl
-
-pub still_holds : (ks : List Known) (f : Frame) (x : ℕ) (v : ℤ) → Fresh x ks → Holds ks f → Holds ks (set_in f x v)
-still_holds [] f x v fr h = tt
-still_holds (k ∷ ks) f x v (e, fr) (h, hs) = (
-  subst (λ (b : Bool). (if b then v else f.variables k.variable) ≡ k.value) (sym e) h,
-  still_holds ks f x v fr hs,
-)
-
-now_holds : (f : Frame) (x : ℕ) (v : ℤ) → (set_in f x v).variables x ≡ v
-now_holds f x v = subst (λ (b : Bool). (if b then v else f.variables x) ≡ v) (sym (same_number x)) refl
-
-abbrev pub it : ℕ → List Task → List ℤ → List Frame → Item
-it n tasks values frames = record { number = n; tasks = tasks; values = values; frames = frames }
-
--- ---- one step of a history
-
-abbrev after_or : Item → Next Item → Item
-after_or d (Goes a) = a
-after_or d n = d
-
-goes_same : (a b : Item) → Goes a ≡ Goes b → a ≡ b
-goes_same a b e = ap (after_or a) e
-
-module _ (program : Program) (launch : Launch) (buffers : List (List ℕ)) where
-  abbrev pub D : Item → List Deed → Item → Type 0
-  D = History (lengths_of program launch buffers) (MayBeTold program launch buffers) (item_next program launch)
-
-  abbrev Once : Next Item → Deed → Item → Type 0
-  Once = DoesOnce (lengths_of program launch buffers) (MayBeTold program launch buffers)
-
-  pub peel : (i j to : Item) (deeds : List Deed) → item_next program launch i ≡ Goes j → D i deeds to →
-      ((to ≡ i) × (deeds ≡ [])) ⊎ D j deeds to
-  peel i j to deeds e nothing = inl (refl, refl)
-  peel i j to deeds e (going {mid = mid} g h) = inr (subst (λ m. D m deeds to) (goes_same mid j (sym g ∙ e)) h)
-  peel i j to deeds e (doing {mid = mid} {deed = deed} d h) =
-      absurd (never deed mid (subst (λ n. Once n deed mid) e d))
-    where
-      never : (deed : Deed) (mid : Item) → Once (Goes j) deed mid → ⊥
-      never deed mid x = x
-
-  -- ---- own expressions
-
-  abbrev Same : ℕ → List Frame → Item → List Deed → Type 0
-  Same n fs to deeds = (to.number ≡ n) × (to.frames ≡ fs) × (deeds ≡ [])
-
-  abbrev Comes : ℕ → List Frame → Item → Item → List Deed → Type 0
-  Comes n fs j to deeds = Same n fs to deeds ⊎ D j deeds to
-
-  -- one step ahead
-  first : (n : ℕ) (fs : List Frame) (ts us : List Task) (vs ws : List ℤ) (to : Item) (deeds : List Deed) →
-      item_next program launch (it n ts vs fs) ≡ Goes (it n us ws fs) → D (it n ts vs fs) deeds to →
-      Comes n fs (it n us ws fs) to deeds
-  first n fs ts us vs ws to deeds e h = elim (peel (it n ts vs fs) (it n us ws fs) to deeds e h) [
-    | inl (q, z) ↦ inl (ap (λ (i : Item). i.number) q, ap (λ (i : Item). i.frames) q, z)
-    | inr g ↦ inr g
-  ]
-
-  own_runs : (known : List Known) (e : Expression) (v : ℤ) → Own known e v → (at : Point) (n : ℕ) (rest : List Task)
-      (vs : List ℤ) (f : Frame) (fs : List Frame) (to : Item) (deeds : List Deed) → Holds known f →
-      D (it n (Evaluate at e ∷ rest) vs (f ∷ fs)) deeds to → Comes n (f ∷ fs) (it n rest (v ∷ vs) (f ∷ fs)) to deeds
-  own_runs known e v (literal u of) at n rest vs f fs to deeds k h =
-      first n (f ∷ fs) (Evaluate at (Apply (Literal u of) none) ∷ rest) rest vs (u ∷ vs) to deeds refl h
-  own_runs known e v (variable x u i) at n rest vs f fs to deeds k h =
-      first n (f ∷ fs) (Evaluate at (Apply (Variable x) none) ∷ rest) rest vs (u ∷ vs) to deeds
-      (ap (λ (w : ℤ). Goes (it n rest (w ∷ vs) (f ∷ fs))) (held known f x u i k)) h
-  own_runs known e v (unary op of a u p) at n rest vs f fs to deeds k h =
-      elim (first n (f ∷ fs) (Evaluate at (Apply (Unary op of) (single a)) ∷ rest)
-      (Evaluate (at ++ Operand 0 ∷ []) a ∷ Finish at (Unary op of) 1 ∷ rest) vs vs to deeds refl h) [
-        | inl s ↦ inl s
-        | inr g ↦ elim (own_runs known a u p (at ++ Operand 0 ∷ []) n (Finish at (Unary op of) 1 ∷ rest) vs f fs to
-            deeds k g) [
-              | inl s ↦ inl s
-              | inr g ↦ first n (f ∷ fs) (Finish at (Unary op of) 1 ∷ rest) rest (u ∷ vs) (unary_of op of u ∷ vs) to
-                  deeds refl g
-            ]
-      ]
-  own_runs known e v (convert t a u p) at n rest vs f fs to deeds k h =
-      elim (first n (f ∷ fs) (Evaluate at (Apply (Convert t) (single a)) ∷ rest)
-      (Evaluate (at ++ Operand 0 ∷ []) a ∷ Finish at (Convert t) 1 ∷ rest) vs vs to deeds refl h) [
-        | inl s ↦ inl s
-        | inr g ↦ elim (own_runs known a u p (at ++ Operand 0 ∷ []) n (Finish at (Convert t) 1 ∷ rest) vs f fs to deeds
-            k g) [
-              | inl s ↦ inl s
-              | inr g ↦ first n (f ∷ fs) (Finish at (Convert t) 1 ∷ rest) rest (u ∷ vs) (wrap_of t u ∷ vs) to deeds
-                  refl g
-            ]
-      ]
-  own_runs known e v (binary op of a b u w p q) at n rest vs f fs to deeds k h =
-      elim (first n (f ∷ fs) (Evaluate at (Apply (Binary op of) (pair a b)) ∷ rest)
-      (Evaluate (at ++ Operand 0 ∷ []) a ∷ Evaluate (at ++ Operand 1 ∷ []) b ∷ Finish at (Binary op of) 2 ∷ rest) vs vs
-      to deeds refl h) [
-        | inl s ↦ inl s
-        | inr g ↦ elim (own_runs known a u p (at ++ Operand 0 ∷ []) n (Evaluate (at ++ Operand 1 ∷ []) b ∷
-            Finish at (Binary op of) 2 ∷ rest) vs f fs to deeds k g) [
-              | inl s ↦ inl s
-              | inr g ↦ elim (own_runs known b w q (at ++ Operand 1 ∷ []) n (Finish at (Binary op of) 2 ∷ rest) (u ∷ vs)
-                  f fs to deeds k g) [
-                    | inl s ↦ inl s
-                    | inr g ↦ first n (f ∷ fs) (Finish at (Binary op of) 2 ∷ rest) rest (w ∷ u ∷ vs)
-                        (binary_of op of u w ∷ vs) to deeds refl g
-                  ]
-            ]
-      ]
-  own_runs known e v (builtin g of a b u w p q) at n rest vs f fs to deeds k h =
-      elim (first n (f ∷ fs) (Evaluate at (Apply (Builtin g of) (pair a b)) ∷ rest)
-      (Evaluate (at ++ Operand 0 ∷ []) a ∷ Evaluate (at ++ Operand 1 ∷ []) b ∷ Finish at (Builtin g of) 2 ∷ rest) vs vs
-      to deeds refl h) [
-        | inl s ↦ inl s
-        | inr h1 ↦ elim (own_runs known a u p (at ++ Operand 0 ∷ []) n (Evaluate (at ++ Operand 1 ∷ []) b ∷
-            Finish at (Builtin g of) 2 ∷ rest) vs f fs to deeds k h1) [
-              | inl s ↦ inl s
-              | inr h2 ↦ elim (own_runs known b w q (at ++ Operand 1 ∷ []) n (Finish at (Builtin g of) 2 ∷ rest)
-                  (u ∷ vs) f fs to deeds k h2) [
-                    | inl s ↦ inl s
-                    | inr h3 ↦ first n (f ∷ fs) (Finish at (Builtin g of) 2 ∷ rest) rest (w ∷ u ∷ vs)
-                        (builtin_of g of u w (pos 0) ∷ vs) to deeds refl h3
-                  ]
-            ]
-      ]
-  own_runs known e v (builtin_one g of a u p) at n rest vs f fs to deeds k h =
-      elim (first n (f ∷ fs) (Evaluate at (Apply (Builtin g of) (single a)) ∷ rest)
-      (Evaluate (at ++ Operand 0 ∷ []) a ∷ Finish at (Builtin g of) 1 ∷ rest) vs vs to deeds refl h) [
-        | inl s ↦ inl s
-        | inr h1 ↦ elim (own_runs known a u p (at ++ Operand 0 ∷ []) n (Finish at (Builtin g of) 1 ∷ rest) vs f fs to
-            deeds k h1) [
-              | inl s ↦ inl s
-              | inr h2 ↦ first n (f ∷ fs) (Finish at (Builtin g of) 1 ∷ rest) rest (u ∷ vs)
-                  (builtin_of g of u (pos 0) (pos 0) ∷ vs) to deeds refl h2
-            ]
-      ]
-  own_runs known e v (builtin_three g of a b c u w x p q r) at n rest vs f fs to deeds k h =
-      let L = Finish at (Builtin g of) 3 ∷ rest in
-      elim (first n (f ∷ fs) (Evaluate at (Apply (Builtin g of) (more a (pair b c))) ∷ rest)
-      (Evaluate (at ++ Operand 0 ∷ []) a ∷ Evaluate (at ++ Operand 1 ∷ []) b ∷ Evaluate (at ++ Operand 2 ∷ []) c ∷ L) vs
-      vs to deeds refl h) [
-        | inl s ↦ inl s
-        | inr h1 ↦ elim (own_runs known a u p (at ++ Operand 0 ∷ []) n (Evaluate (at ++ Operand 1 ∷ []) b ∷
-            Evaluate (at ++ Operand 2 ∷ []) c ∷ L) vs f fs to deeds k h1) [
-              | inl s ↦ inl s
-              | inr h2 ↦ elim (own_runs known b w q (at ++ Operand 1 ∷ []) n (Evaluate (at ++ Operand 2 ∷ []) c ∷ L)
-                  (u ∷ vs) f fs to deeds k h2) [
-                    | inl s ↦ inl s
-                    | inr h3 ↦ elim (own_runs known c x r (at ++ Operand 2 ∷ []) n L (w ∷ u ∷ vs) f fs to deeds k h3) [
-                      | inl s ↦ inl s
-                      | inr h4 ↦ first n (f ∷ fs) L rest (x ∷ w ∷ u ∷ vs) (builtin_of g of u w x ∷ vs) to deeds refl h4
-                    ]
-                  ]
-            ]
-      ]
+    some_tasks : [] ≡ Keep p x ∷ rest → ⊥
+    some_tasks q = false≢true (sym (ap is_none q))
+kept_value program p x rest [] function fs known base of h k (goes_on (keeps t there) a) = absurd k
+kept_value program p x rest (v ∷ us) function fs known base of h k (goes_on (keeps t there) a) =
+    subst (λ u. IsValue u v) (one_type program function x t of there h) k.0
 
 -- ---- what lies between the steps
 
@@ -282,9 +150,10 @@ module _ (program : Program) (launch : Launch) (buffers : List (List ℕ)) (env 
   ahead {i = i} {j = j} c (offset {start = m} r e v a d h b) =
       offset r e v a (computes_then helps sets_nothing i j m c d) h b
   ahead {i = i} {j = j} c (in_number {start = m} e a d h) = in_number e a (computes_then helps sets_nothing i j m c d) h
-  ahead {i = i} {j = j} c (number {start = m} e v a d h b) =
-      number e v a (computes_then helps sets_nothing i j m c d) h b
-  ahead {i = i} {j = j} c (copy {mid = m} y a d b) = copy y a (computes_then helps sets_nothing i j m c d) b
+  ahead {i = i} {j = j} c (number {start = m} e v a d h w b) =
+      number e v a (computes_then helps sets_nothing i j m c d) h w b
+  ahead {i = i} {j = j} c (copy {mid = m} y a d w b) =
+      copy y a (computes_then helps sets_nothing i j m c d) w b
   ahead {i = i} {j = j} c (load {start = m} r e site bytes a d o b) =
       load r e site bytes a (computes_then helps sets_nothing i j m c d) o b
   ahead {i = i} {j = j} c (store {start = m} r e site a d o b) =
@@ -300,7 +169,8 @@ module _ (program : Program) (launch : Launch) (buffers : List (List ℕ)) (env 
       DD (it n (Evaluate at e ∷ tail) vs (f ∷ fs)) deeds to →
       ((t : Task) × (ts : List Task) × (to.tasks ≡ t ∷ (ts ++ tail)))
       ⊎ ((g : Frame) × (us : List ℤ) × (front : List Deed) × (further : List Deed) ×
-      DD (it n (Evaluate at e ∷ tail) vs (f ∷ fs)) front (it n tail us (g ∷ fs)) × Holds known g ×
+      DD (it n (Evaluate at e ∷ tail) vs (f ∷ fs)) front (it n tail us (g ∷ fs)) ×
+      (Holds known g × (g.function ≡ f.function)) ×
       DD (it n tail us (g ∷ fs)) further to × (deeds ≡ front ++ further))
 
   -- ---- accesses
@@ -385,276 +255,344 @@ module _ (program : Program) (launch : Launch) (buffers : List (List ℕ)) (env 
   stopped steps got i j to deeds n f e z =
       stop steps got i to deeds (ap (λ (a : Item). a.number) e ∙ n) (ap (λ (a : Item). a.frames) e ∙ f) z
 
-  module _ (kept : KeepsHeld) where
-    abbrev At : Point → ℕ → Point
-    At at k = at ++ Nth k ∷ []
+  -- the item stands in this function, in which variables that are declared there have their types
+  module _ (kept : KeepsHeld) (typed : IsTyped program launch) (function : ℕ)
+      (types : (x : ℕ) (of : IntType) → IsDeclaredAs later x of → HasVariable (function_at program function) x of)
+    where
+      -- items that fit
+      reached_fits : (i j : Item) (deeds : List Deed) → DD i deeds j → Fits program i → Fits program j
+      reached_fits i j deeds d h = stays program launch typed d h
 
-    abbrev Follows : List Known → Got → List Step → Statements → Type 0
-    Follows known got steps ss = (at : Point) (k n : ℕ) (vs : List ℤ) (f : Frame) (fs : List Frame) (to : Item)
-        (deeds : List Deed) → Holds known f → DD (it n (in_order at k ss rest) vs (f ∷ fs)) deeds to →
-        Al steps got (it n (in_order at k ss rest) vs (f ∷ fs)) deeds to
+      next_fits : (i j : Item) → item_next program launch i ≡ Goes j → Fits program i → Fits program j
+      next_fits i j e h = reached_fits i j [] (one_step program launch buffers i j e) h
 
-    -- the value that is there is kept in a helping variable, and then the others
-    keeping : (known : List Known) (got : Got) (steps : List Step) (ss : Statements) (x : ℕ) → helps x →
-        Fresh x known → (at : Point) (k n : ℕ) (us : List ℤ) (f : Frame) (fs : List Frame) (to : Item)
-        (deeds : List Deed) → Holds known f → Follows (knows x (last us) known) got steps ss →
-        DD (it n (Keep (At at k) x ∷ in_order at (suc k) ss rest) us (f ∷ fs)) deeds to →
-        Al steps got (it n (Keep (At at k) x ∷ in_order at (suc k) ss rest) us (f ∷ fs)) deeds to
-    keeping known got steps ss x help fresh at k n us f fs to deeds holds others h =
-        let i = it n (Keep (At at k) x ∷ in_order at (suc k) ss rest) us (f ∷ fs) in
-        let j = it n (in_order at (suc k) ss rest) (before us) (set_in f x (last us) ∷ fs) in
-        elim (peel program launch buffers i j to deeds refl h) [
-          | inl (q, z) ↦ stopped steps got i i to deeds refl refl q z
-          | inr g ↦ ahead (computes_set helps i j x (last us) help (set_variable helps n (Keep (At at k) x ∷
-              in_order at (suc k) ss rest) (in_order at (suc k) ss rest) us (before us) f fs x (last us)))
-              (others at (suc k) n (before us) (set_in f x (last us)) fs to deeds (
-                now_holds f x (last us),
-                still_holds known f x (last us) fresh holds,
-              ) g)
-        ]
+      once_fits : (i j : Item) (deed : Deed) → Acc (item_next program launch i) deed j → Fits program i → Fits program j
+      once_fits i j deed e h = reached_fits i j (deed ∷ []) (doing e nothing) h
 
-    -- an evaluation whose value a helping variable keeps
-    evaluated : (G : ℤ → Type 0) (known : List Known) (got : Got) (next : ℤ → Got) (step : Step) (steps : List Step)
-        (ss : Statements)
-        (x : ℕ) (e : Expression) → Spares known e → helps x → Fresh x known →
-        ((from start to : Item) (deeds : List Deed) → C from start →
-        StandsIn program launch buffers e start deeds to → Al (step ∷ steps) got from deeds to) →
-        ((from start mid to : Item) (deeds further : List Deed) (v : ℤ) → C from start →
-        Evaluates program launch buffers e start deeds mid v →
-        (G v → Al steps (next v) mid further to) → Al (step ∷ steps) got from (deeds ++ further) to) →
-        ((v : ℤ) → G v → Follows (knows x v known) (next v) steps ss) →
-        Follows known got (step ∷ steps) (also (Declare x (Some e)) ss)
-    evaluated G known got next step steps ss x e spares help fresh inside whole others at k n vs f fs to deeds holds h =
-        let T = in_order at (suc k) ss rest in
-        let i = it n (Run (At at k) (Declare x (Some e)) ∷ T) vs (f ∷ fs) in
-        let j = it n (Evaluate (At at k ++ Operand 0 ∷ []) e ∷ Keep (At at k) x ∷ T) vs (f ∷ fs) in
-        elim (peel program launch buffers i j to deeds refl h) [
-          | inl (q, z) ↦
-              stopped (step ∷ steps) got i i to deeds refl refl q z
-          | inr h1 ↦ elim (kept known e spares (At at k ++ Operand 0 ∷ []) n (Keep (At at k) x ∷ T) vs f fs to deeds
-              holds h1) [
-                | inl (t, ts, q) ↦ inside i j to deeds (computes_same helps i j refl refl) (record {
-                  at = At at k ++ Operand 0 ∷ [];
-                  rest = Keep (At at k) x ∷ T;
-                  begins = refl;
-                  does = h1;
-                  task = t;
-                  tasks = ts;
-                  stands = q;
-                })
-                | inr (g, us, front, further, a, holds', b, p) ↦
-                    subst (λ ds. Al (step ∷ steps) got i ds to) (sym p) (whole i j
-                    (it n (Keep (At at k) x ∷ T) us (g ∷ fs)) to front further (last us)
-                    (computes_same helps i j refl refl) (record {
-                      at = At at k ++ Operand 0 ∷ [];
-                      rest = Keep (At at k) x ∷ T;
-                      begins = refl;
-                      does = a;
-                      behind = refl;
-                      value = refl;
-                    }) (λ z. keeping known (next (last us)) steps ss x help fresh at k n us g fs to further holds'
-                    (others (last us) z) b))
-              ]
-        ]
+      value_kept : (n : ℕ) (p : Point) (x : ℕ) (tail : List Task) (us : List ℤ) (g : Frame) (fs : List Frame)
+          (of : IntType) → g.function ≡ function → IsDeclaredAs later x of →
+          Fits program (it n (Keep p x ∷ tail) us (g ∷ fs)) → IsValue of (last us)
+      value_kept n p x tail us g fs of fn there h =
+          kept_value program p x tail us g.function fs h.known h.base of
+          (subst (λ z. HasVariable (function_at program z) x of) (sym fn) (types x of there)) h.values h.tasks
 
-    -- a component of a variable
-    copied : (known : List Known) (got : Got) (steps : List Step) (ss : Statements) (of : IntType) (m : Named)
-        (c x y : ℕ) → IsComponent env m c of y → helps x → Fresh x known →
-        ((v : ℤ) → IsValue of v → Follows (knows x v known) (with_component got m.span.first c v) steps ss) →
-        Follows known got (Copy of m c ∷ steps) (also (Declare x (Some (Apply (Variable y) none))) ss)
-    copied known got steps ss of m c x y is_component help fresh others at k n vs f fs to deeds holds h =
-        let T = in_order at (suc k) ss rest in
-        let e = Apply (Variable y) none in
-        let i = it n (Run (At at k) (Declare x (Some e)) ∷ T) vs (f ∷ fs) in
-        let j = it n (Evaluate (At at k ++ Operand 0 ∷ []) e ∷ Keep (At at k) x ∷ T) vs (f ∷ fs) in
-        let o = it n (Keep (At at k) x ∷ T) (f.variables y ∷ vs) (f ∷ fs) in
-        elim (peel program launch buffers i j to deeds refl h) [
-          | inl (q, z) ↦
-              stopped (Copy of m c ∷ steps) got i i to deeds refl refl q z
-          | inr h1 ↦ elim (peel program launch buffers j o to deeds refl h1) [
-            | inl (q, z) ↦
-                stopped (Copy of m c ∷ steps) got i j to deeds refl refl q z
-            | inr h2 ↦ copy y is_component (computes_same helps i o refl refl) (λ g. keeping known
-                (with_component got m.span.first c (f.variables y)) steps ss x help fresh at k n (f.variables y ∷ vs) f
-                fs to deeds holds (others (f.variables y) g) h2)
+      abbrev At : Point → ℕ → Point
+      At at k = at ++ Nth k ∷ []
+
+      abbrev Follows : List Known → Got → List Step → Statements → Type 0
+      Follows known got steps ss = (at : Point) (k n : ℕ) (vs : List ℤ) (f : Frame) (fs : List Frame) (to : Item)
+          (deeds : List Deed) → Fits program (it n (in_order at k ss rest) vs (f ∷ fs)) → f.function ≡ function →
+          Holds known f → DD (it n (in_order at k ss rest) vs (f ∷ fs)) deeds to →
+          Al steps got (it n (in_order at k ss rest) vs (f ∷ fs)) deeds to
+
+      -- the value that is there is kept in a helping variable, and then the others
+      keeping : (known : List Known) (got : Got) (steps : List Step) (ss : Statements) (x : ℕ) → helps x →
+          Fresh x known → (at : Point) (k n : ℕ) (us : List ℤ) (f : Frame) (fs : List Frame) (to : Item)
+          (deeds : List Deed) → Fits program (it n (Keep (At at k) x ∷ in_order at (suc k) ss rest) us (f ∷ fs)) →
+          f.function ≡ function → Holds known f → Follows (knows x (last us) known) got steps ss →
+          DD (it n (Keep (At at k) x ∷ in_order at (suc k) ss rest) us (f ∷ fs)) deeds to →
+          Al steps got (it n (Keep (At at k) x ∷ in_order at (suc k) ss rest) us (f ∷ fs)) deeds to
+      keeping known got steps ss x help fresh at k n us f fs to deeds fit fn holds others h =
+          let i = it n (Keep (At at k) x ∷ in_order at (suc k) ss rest) us (f ∷ fs) in
+          let j = it n (in_order at (suc k) ss rest) (before us) (set_in f x (last us) ∷ fs) in
+          elim (peel program launch buffers i j to deeds refl h) [
+            | inl (q, z) ↦ stopped steps got i i to deeds refl refl q z
+            | inr g ↦ ahead (computes_set helps i j x (last us) help (set_variable helps n (Keep (At at k) x ∷
+                in_order at (suc k) ss rest) (in_order at (suc k) ss rest) us (before us) f fs x (last us)))
+                (others at (suc k) n (before us) (set_in f x (last us)) fs to deeds (next_fits i j refl fit) fn (
+                  now_holds f x (last us),
+                  still_holds known f x (last us) fresh holds,
+                ) g)
           ]
-        ]
 
-    -- one load
-    loaded : (known : List Known) (got : Got) (steps : List Step) (ss : Statements) (m : Mark) (c x site : ℕ)
-        (r : Root) (e index : Expression) → IsElement env m r e →
-        Own known index (index_of got m c) → helps x → Fresh x known →
-        ((v : ℤ) → IsValue (type_in (kind_at m)) v →
-        Follows (knows x v known) (with_component got (first_at m) c v) steps ss) →
-        Follows known got (LoadStep m c ∷ steps)
-        (also (Declare x (Some (Apply (Load site (type_in (kind_at m)) r) (single index)))) ss)
-    loaded known got steps ss m c x site r e index is_element own help fresh others at k n vs f fs to deeds
-        holds h =
-        let T = in_order at (suc k) ss rest in
-        let of = type_in (kind_at m) in
-        let E = Apply (Load site of r) (single index) in
-        let p = At at k ++ Operand 0 ∷ [] in
-        let i = it n (Run (At at k) (Declare x (Some E)) ∷ T) vs (f ∷ fs) in
-        let j = it n (Evaluate p E ∷ Keep (At at k) x ∷ T) vs (f ∷ fs) in
-        let L = Finish p (Load site of r) 1 ∷ Keep (At at k) x ∷ T in
-        let o = it n L (index_of got m c ∷ vs) (f ∷ fs) in
-        elim (peel program launch buffers i j to deeds refl h) [
-          | inl (q, z) ↦ stopped (LoadStep m c ∷ steps) got i i to deeds refl refl q z
-          | inr h1 ↦ elim (first program launch buffers n (f ∷ fs) (Evaluate p E ∷ Keep (At at k) x ∷ T)
-              (Evaluate (p ++ Operand 0 ∷ []) index ∷ L) vs vs to deeds refl h1) [
-                | inl s ↦ stop (LoadStep m c ∷ steps) got i to deeds s.0 s.1 s.2
-                | inr h2 ↦ elim (own_runs program launch buffers known index (index_of got m c) own
-                    (p ++ Operand 0 ∷ []) n L vs f fs to deeds holds h2) [
-                      | inl s ↦ stop (LoadStep m c ∷ steps) got i to deeds s.0 s.1 s.2
-                      | inr h3 ↦ elim (peel_loads o to deeds site (access_at program launch o of r (index_of got m c))
-                          (λ bytes. it n (Keep (At at k) x ∷ T) (value_of_bytes of bytes ∷ vs) (f ∷ fs)) refl h3) [
-                            | inl (q, z) ↦ stopped (LoadStep m c ∷ steps) got i o to deeds refl refl q z
-                            | inr (bytes, ds, once, h4, z) ↦ subst (λ d. Al (LoadStep m c ∷ steps) got i d to) (sym z)
-                                (load r e site bytes is_element (computes_same helps i o refl refl) once
-                                (keeping known (with_component got (first_at m) c (value_of_bytes of bytes)) steps ss
-                                x help fresh at k n (value_of_bytes of bytes ∷ vs) f fs to ds holds
-                                (others (value_of_bytes of bytes) (IsValue-value of (number_l 256 bytes))) h4))
-                          ]
-                    ]
-              ]
-        ]
+      -- an evaluation whose value a helping variable keeps
+      evaluated : (G : ℤ → Type 0) (known : List Known) (got : Got) (next : ℤ → Got) (step : Step) (steps : List Step)
+          (ss : Statements)
+          (x : ℕ) (e : Expression) → Spares known e → helps x → Fresh x known →
+          ((from start to : Item) (deeds : List Deed) → C from start →
+          StandsIn program launch buffers e start deeds to → Al (step ∷ steps) got from deeds to) →
+          ((from start mid to : Item) (deeds further : List Deed) (v : ℤ) → C from start →
+          Evaluates program launch buffers e start deeds mid v →
+          G v → Al steps (next v) mid further to → Al (step ∷ steps) got from (deeds ++ further) to) →
+          ((n : ℕ) (p : Point) (tail : List Task) (us : List ℤ) (g : Frame) (fs : List Frame) →
+          g.function ≡ function → Fits program (it n (Keep p x ∷ tail) us (g ∷ fs)) → G (last us)) →
+          ((v : ℤ) → G v → Follows (knows x v known) (next v) steps ss) →
+          Follows known got (step ∷ steps) (also (Declare x (Some e)) ss)
+      evaluated G known got next step steps ss x e spares help fresh inside whole gives others at k n vs f fs to deeds
+          fit fn holds h =
+          let T = in_order at (suc k) ss rest in
+          let i = it n (Run (At at k) (Declare x (Some e)) ∷ T) vs (f ∷ fs) in
+          let j = it n (Evaluate (At at k ++ Operand 0 ∷ []) e ∷ Keep (At at k) x ∷ T) vs (f ∷ fs) in
+          elim (peel program launch buffers i j to deeds refl h) [
+            | inl (q, z) ↦
+                stopped (step ∷ steps) got i i to deeds refl refl q z
+            | inr h1 ↦ elim (kept known e spares (At at k ++ Operand 0 ∷ []) n (Keep (At at k) x ∷ T) vs f fs to deeds
+                holds h1) [
+                  | inl (t, ts, q) ↦ inside i j to deeds (computes_same helps i j refl refl) (record {
+                    at = At at k ++ Operand 0 ∷ [];
+                    rest = Keep (At at k) x ∷ T;
+                    begins = refl;
+                    does = h1;
+                    task = t;
+                    tasks = ts;
+                    stands = q;
+                  })
+                  | inr (g, us, front, further, a, holds', b, p) ↦
+                      let o = it n (Keep (At at k) x ∷ T) us (g ∷ fs) in
+                      let there = reached_fits j o front a (next_fits i j refl fit) in
+                      let gf = holds'.1 ∙ fn in
+                      let good = gives n (At at k) T us g fs gf there in
+                      subst (λ ds. Al (step ∷ steps) got i ds to) (sym p) (whole i j
+                      (it n (Keep (At at k) x ∷ T) us (g ∷ fs)) to front further (last us)
+                      (computes_same helps i j refl refl) (record {
+                        at = At at k ++ Operand 0 ∷ [];
+                        rest = Keep (At at k) x ∷ T;
+                        begins = refl;
+                        does = a;
+                        behind = refl;
+                        value = refl;
+                      }) good (keeping known (next (last us)) steps ss x help fresh at k n us g fs to further there gf
+                      holds'.0 (others (last us) good) b))
+                ]
+          ]
 
-    -- one store
-    stored : (known : List Known) (got : Got) (steps : List Step) (ss : Statements) (m : Mark) (c y site : ℕ)
-        (r : Root) (e index value : Expression) → IsElement env m r e →
-        Own known index (index_of got m c) →
-        Own known value (result got.leaves y) → Follows known got steps ss →
-        Follows known got (StoreStep m c y ∷ steps)
-        (also (Do (Apply (Store site (type_in (kind_at m)) r) (pair index value))) ss)
-    stored known got steps ss m c y site r e index value is_element own_index own_value others at k n vs f fs to
-        deeds holds h =
-        let T = in_order at (suc k) ss rest in
-        let of = type_in (kind_at m) in
-        let E = Apply (Store site of r) (pair index value) in
-        let p = At at k ++ Operand 0 ∷ [] in
-        let K = Discard (At at k ++ OwnLeg 0 ∷ []) ∷ T in
-        let L = Finish p (Store site of r) 2 ∷ K in
-        let i = it n (Run (At at k) (Do E) ∷ T) vs (f ∷ fs) in
-        let u = index_of got m c in
-        let w = result got.leaves y in
-        let o = it n L (w ∷ u ∷ vs) (f ∷ fs) in
-        elim (first program launch buffers n (f ∷ fs) (Run (At at k) (Do E) ∷ T) (Evaluate p E ∷ K) vs vs to deeds refl
-        h) [
-          | inl s ↦ stop (StoreStep m c y ∷ steps) got i to deeds s.0 s.1 s.2
-          | inr h1 ↦ elim (first program launch buffers n (f ∷ fs) (Evaluate p E ∷ K) (Evaluate (p ++ Operand 0 ∷ [])
-              index ∷ Evaluate (p ++ Operand 1 ∷ []) value ∷ L) vs vs to deeds refl h1) [
-                | inl s ↦ stop (StoreStep m c y ∷ steps) got i to deeds s.0 s.1 s.2
-                | inr h2 ↦ elim (own_runs program launch buffers known index u own_index (p ++ Operand 0 ∷ []) n
-                    (Evaluate (p ++ Operand 1 ∷ []) value ∷ L) vs f fs to deeds holds h2) [
-                      | inl s ↦ stop (StoreStep m c y ∷ steps) got i to deeds s.0 s.1 s.2
-                      | inr h3 ↦ elim (own_runs program launch buffers known value w own_value (p ++ Operand 1 ∷ []) n L
-                          (u ∷ vs) f fs to deeds holds h3) [
-                            | inl s ↦ stop (StoreStep m c y ∷ steps) got i to deeds s.0 s.1 s.2
-                            | inr h4 ↦ elim (peel_stores o to deeds site (object_at program launch o r) u
-                                (bytes_of of w) (it n K (w ∷ vs) (f ∷ fs)) refl h4) [
-                                  | inl (q, z) ↦ stopped (StoreStep m c y ∷ steps) got i o to deeds refl refl q z
-                                  | inr (ds, once, h5, z) ↦
-                                      subst (λ d. Al (StoreStep m c y ∷ steps) got i d to) (sym z)
-                                      (store r e site is_element (computes_same helps i o refl refl) once
-                                      (elim (first program launch buffers n (f ∷ fs) K T (w ∷ vs) vs to ds refl h5) [
-                                        | inl s ↦ stop steps got (it n K (w ∷ vs) (f ∷ fs)) to ds s.0 s.1 s.2
-                                        | inr h6 ↦ ahead (computes_same helps (it n K (w ∷ vs) (f ∷ fs))
-                                            (it n T vs (f ∷ fs)) refl refl) (others at (suc k) n vs f fs to ds holds h6)
-                                      ]))
-                                ]
-                          ]
-                    ]
-              ]
-        ]
-
-    -- a component is set
-    assigned : (known : List Known) (got : Got) (steps : List Step) (ss : Statements) (m : Named) (c y x : ℕ)
-        (of : IntType) (value : Expression) → IsComponent later m c of x → Own known value (result got.leaves y) →
-        Fresh x known → Follows known got steps ss →
-        Follows known got (SetStep m c y ∷ steps) (also (Do (Apply (Set x) (single value))) ss)
-    assigned known got steps ss m c y x of value is_component own fresh others at k n vs f fs to deeds holds h =
-        let T = in_order at (suc k) ss rest in
-        let E = Apply (Set x) (single value) in
-        let p = At at k ++ Operand 0 ∷ [] in
-        let K = Discard (At at k ++ OwnLeg 0 ∷ []) ∷ T in
-        let L = Finish p (Set x) 1 ∷ K in
-        let i = it n (Run (At at k) (Do E) ∷ T) vs (f ∷ fs) in
-        let w = result got.leaves y in
-        let o = it n L (w ∷ vs) (f ∷ fs) in
-        let g = set_in f x w in
-        let a = it n K (w ∷ vs) (g ∷ fs) in
-        elim (first program launch buffers n (f ∷ fs) (Run (At at k) (Do E) ∷ T) (Evaluate p E ∷ K) vs vs to deeds refl
-        h) [
-          | inl s ↦ stop (SetStep m c y ∷ steps) got i to deeds s.0 s.1 s.2
-          | inr h1 ↦ elim (first program launch buffers n (f ∷ fs) (Evaluate p E ∷ K) (Evaluate (p ++ Operand 0 ∷ [])
-              value ∷ L) vs vs to deeds refl h1) [
-                | inl s ↦ stop (SetStep m c y ∷ steps) got i to deeds s.0 s.1 s.2
-                | inr h2 ↦ elim (own_runs program launch buffers known value w own (p ++ Operand 0 ∷ []) n L vs f fs to
-                    deeds holds h2) [
-                      | inl s ↦ stop (SetStep m c y ∷ steps) got i to deeds s.0 s.1 s.2
-                      | inr h3 ↦ elim (peel program launch buffers o a to deeds refl h3) [
-                        | inl (q, z) ↦ stopped (SetStep m c y ∷ steps) got i o to deeds refl refl q z
-                        | inr h4 ↦ set of x is_component (set_variable helps n (Run (At at k) (Do E) ∷ T) K vs (w ∷ vs)
-                            f fs x w) (elim (first program launch buffers n (g ∷ fs) K T (w ∷ vs) vs to deeds refl h4) [
-                              | inl s ↦ stop steps got a to deeds s.0 s.1 s.2
-                              | inr h5 ↦ ahead (computes_same helps a (it n T vs (g ∷ fs)) refl refl)
-                                  (others at (suc k) n vs g fs to deeds (still_holds known f x w fresh holds) h5)
-                            ])
-                      ]
-                    ]
-              ]
-        ]
-
-    -- a component is declared
-    declared : (known : List Known) (got : Got) (steps : List Step) (ss : Statements) (m : Named) (c y x : ℕ)
-        (of : IntType) (value : Expression) → IsComponent later m c of x → Own known value (result got.leaves y) →
-        Fresh x known → Follows known got steps ss →
-        Follows known got (SetStep m c y ∷ steps) (also (Declare x (Some value)) ss)
-    declared known got steps ss m c y x of value is_component own fresh others at k n vs f fs to deeds holds h =
-        let T = in_order at (suc k) ss rest in
-        let p = At at k ++ Operand 0 ∷ [] in
-        let K = Keep (At at k) x ∷ T in
-        let i = it n (Run (At at k) (Declare x (Some value)) ∷ T) vs (f ∷ fs) in
-        let w = result got.leaves y in
-        let o = it n K (w ∷ vs) (f ∷ fs) in
-        let a = it n T vs (set_in f x w ∷ fs) in
-        elim (first program launch buffers n (f ∷ fs) (Run (At at k) (Declare x (Some value)) ∷ T)
-        (Evaluate p value ∷ K) vs vs to deeds refl h) [
-          | inl s ↦ stop (SetStep m c y ∷ steps) got i to deeds s.0 s.1 s.2
-          | inr h1 ↦ elim (own_runs program launch buffers known value w own p n K vs f fs to deeds holds h1) [
-            | inl s ↦ stop (SetStep m c y ∷ steps) got i to deeds s.0 s.1 s.2
-            | inr h2 ↦ elim (peel program launch buffers o a to deeds refl h2) [
-              | inl (q, z) ↦ stopped (SetStep m c y ∷ steps) got i o to deeds refl refl q z
-              | inr h3 ↦ set of x is_component (set_variable helps n (Run (At at k) (Declare x (Some value)) ∷ T) T vs
-                  vs f fs x w)
-                  (others at (suc k) n vs (set_in f x w) fs to deeds (still_holds known f x w fresh holds) h3)
+      -- a component of a variable
+      copied : (known : List Known) (got : Got) (steps : List Step) (ss : Statements) (of : IntType) (m : Named)
+          (c x y : ℕ) → IsComponent env m c of y → helps x → Fresh x known → IsDeclaredAs later x of →
+          ((v : ℤ) → IsValue of v → Follows (knows x v known) (with_component got m.span.first c v) steps ss) →
+          Follows known got (Copy of m c ∷ steps) (also (Declare x (Some (Apply (Variable y) none))) ss)
+      copied known got steps ss of m c x y is_component help fresh there others at k n vs f fs to deeds fit fn holds h =
+          let T = in_order at (suc k) ss rest in
+          let e = Apply (Variable y) none in
+          let i = it n (Run (At at k) (Declare x (Some e)) ∷ T) vs (f ∷ fs) in
+          let j = it n (Evaluate (At at k ++ Operand 0 ∷ []) e ∷ Keep (At at k) x ∷ T) vs (f ∷ fs) in
+          let o = it n (Keep (At at k) x ∷ T) (f.variables y ∷ vs) (f ∷ fs) in
+          let fit' = next_fits j o refl (next_fits i j refl fit) in
+          let good = value_kept n (At at k) x T (f.variables y ∷ vs) f fs of fn there fit' in
+          elim (peel program launch buffers i j to deeds refl h) [
+            | inl (q, z) ↦
+                stopped (Copy of m c ∷ steps) got i i to deeds refl refl q z
+            | inr h1 ↦ elim (peel program launch buffers j o to deeds refl h1) [
+              | inl (q, z) ↦
+                  stopped (Copy of m c ∷ steps) got i j to deeds refl refl q z
+              | inr h2 ↦ copy y is_component (computes_same helps i o refl refl) good (keeping known
+                  (with_component got m.span.first c (f.variables y)) steps ss x help fresh at k n
+                  (f.variables y ∷ vs) f
+                  fs to deeds fit' fn holds (others (f.variables y) good) h2)
             ]
           ]
-        ]
 
-    -- Where statements stand for steps, an item that comes to them goes along the steps.
-    pub follows : {known : List Known} {got : Got} {steps : List Step} {ss : Statements} →
-        Emits env later helps result known got steps ss → Follows known got steps ss
-    follows (end known got) = λ at k n vs f fs to deeds holds h.
-        behind (computes_same helps (it n rest vs (f ∷ fs)) (it n rest vs (f ∷ fs)) refl refl) refl h
-    follows (offset_line known got steps ss m r e x is_element spares help fresh lines) =
-        evaluated (λ v. Unit {0}) known got (λ v. with_offset got (first_at m) v) (Offset m) steps ss x e spares help
-        fresh
-        (λ from start to deeds c s. in_offset r e is_element c s)
-        (λ from start mid to deeds further v c ev al. offset r e v is_element c ev (al tt))
-        (λ v g. follows (lines v))
-    follows (number_line known got steps ss of m e x is_number spares help fresh lines) =
-        evaluated (IsValue of) known got (λ v. with_number got (first_at m) v) (Number of m) steps ss x e spares help
-        fresh (λ from start to deeds c s. in_number e is_number c s)
-        (λ from start mid to deeds further v c ev al. number e v is_number c ev al)
-        (λ v g. follows (lines v g))
-    follows (copy_line known got steps ss of m c x y is_component help fresh lines) =
-        copied known got steps ss of m c x y is_component help fresh (λ v g. follows (lines v g))
-    follows (load_line known got steps ss m c x site r e index is_element own help fresh lines) =
-        loaded known got steps ss m c x site r e index is_element own help fresh (λ v g. follows (lines v g))
-    follows (store_line known got steps ss m c j site r e index value is_element own_index own_value lines) =
-        stored known got steps ss m c j site r e index value is_element own_index own_value (follows lines)
-    follows (set_line known got steps ss m c j x of value is_component own fresh lines) =
-        assigned known got steps ss m c j x of value is_component own fresh (follows lines)
-    follows (declare_line known got steps ss m c j x of value is_component own fresh lines) =
-        declared known got steps ss m c j x of value is_component own fresh (follows lines)
+      -- one load
+      loaded : (known : List Known) (got : Got) (steps : List Step) (ss : Statements) (m : Mark) (c x site : ℕ)
+          (r : Root) (e index : Expression) → IsElement env m r e →
+          Own known index (index_of got m c) → helps x → Fresh x known →
+          ((v : ℤ) → IsValue (type_in (kind_at m)) v →
+          Follows (knows x v known) (with_component got (first_at m) c v) steps ss) →
+          Follows known got (LoadStep m c ∷ steps)
+          (also (Declare x (Some (Apply (Load site (type_in (kind_at m)) r) (single index)))) ss)
+      loaded known got steps ss m c x site r e index is_element own help fresh others at k n vs f fs to deeds fit fn
+          holds h =
+          let T = in_order at (suc k) ss rest in
+          let of = type_in (kind_at m) in
+          let E = Apply (Load site of r) (single index) in
+          let p = At at k ++ Operand 0 ∷ [] in
+          let i = it n (Run (At at k) (Declare x (Some E)) ∷ T) vs (f ∷ fs) in
+          let j = it n (Evaluate p E ∷ Keep (At at k) x ∷ T) vs (f ∷ fs) in
+          let L = Finish p (Load site of r) 1 ∷ Keep (At at k) x ∷ T in
+          let o = it n L (index_of got m c ∷ vs) (f ∷ fs) in
+          let l = it n (Evaluate (p ++ Operand 0 ∷ []) index ∷ L) vs (f ∷ fs) in
+          let fit' = reached_fits l o [] (own_reaches program launch buffers known index (index_of got m c) own
+          (p ++ Operand 0 ∷ []) n L vs f fs holds) (next_fits j l refl (next_fits i j refl fit)) in
+          elim (peel program launch buffers i j to deeds refl h) [
+            | inl (q, z) ↦ stopped (LoadStep m c ∷ steps) got i i to deeds refl refl q z
+            | inr h1 ↦ elim (first program launch buffers n (f ∷ fs) (Evaluate p E ∷ Keep (At at k) x ∷ T)
+                (Evaluate (p ++ Operand 0 ∷ []) index ∷ L) vs vs to deeds refl h1) [
+                  | inl s ↦ stop (LoadStep m c ∷ steps) got i to deeds s.0 s.1 s.2
+                  | inr h2 ↦ elim (own_runs program launch buffers known index (index_of got m c) own
+                      (p ++ Operand 0 ∷ []) n L vs f fs to deeds holds h2) [
+                        | inl s ↦ stop (LoadStep m c ∷ steps) got i to deeds s.0 s.1 s.2
+                        | inr h3 ↦ elim (peel_loads o to deeds site (access_at program launch o of r (index_of got m c))
+                            (λ bytes. it n (Keep (At at k) x ∷ T) (value_of_bytes of bytes ∷ vs) (f ∷ fs)) refl h3) [
+                              | inl (q, z) ↦ stopped (LoadStep m c ∷ steps) got i o to deeds refl refl q z
+                              | inr (bytes, ds, once, h4, z) ↦ subst (λ d. Al (LoadStep m c ∷ steps) got i d to) (sym z)
+                                  (load r e site bytes is_element (computes_same helps i o refl refl) once
+                                  (keeping known (with_component got (first_at m) c (value_of_bytes of bytes)) steps ss
+                                  x help fresh at k n (value_of_bytes of bytes ∷ vs) f fs to ds
+                                  (once_fits o (it n (Keep (At at k) x ∷ T) (value_of_bytes of bytes ∷ vs) (f ∷ fs))
+                                  (Read site (access_at program launch o of r (index_of got m c)) bytes) once fit') fn
+                                  holds
+                                  (others (value_of_bytes of bytes) (IsValue-value of (number_l 256 bytes))) h4))
+                            ]
+                      ]
+                ]
+          ]
+
+      -- one store
+      stored : (known : List Known) (got : Got) (steps : List Step) (ss : Statements) (m : Mark) (c y site : ℕ)
+          (r : Root) (e index value : Expression) → IsElement env m r e →
+          Own known index (index_of got m c) →
+          Own known value (result got.leaves y) → Follows known got steps ss →
+          Follows known got (StoreStep m c y ∷ steps)
+          (also (Do (Apply (Store site (type_in (kind_at m)) r) (pair index value))) ss)
+      stored known got steps ss m c y site r e index value is_element own_index own_value others at k n vs f fs to
+          deeds fit fn holds h =
+          let T = in_order at (suc k) ss rest in
+          let of = type_in (kind_at m) in
+          let E = Apply (Store site of r) (pair index value) in
+          let p = At at k ++ Operand 0 ∷ [] in
+          let K = Discard (At at k ++ OwnLeg 0 ∷ []) ∷ T in
+          let L = Finish p (Store site of r) 2 ∷ K in
+          let i = it n (Run (At at k) (Do E) ∷ T) vs (f ∷ fs) in
+          let u = index_of got m c in
+          let w = result got.leaves y in
+          let o = it n L (w ∷ u ∷ vs) (f ∷ fs) in
+          let j = it n (Evaluate p E ∷ K) vs (f ∷ fs) in
+          let second = it n (Evaluate (p ++ Operand 1 ∷ []) value ∷ L) (u ∷ vs) (f ∷ fs) in
+          let l = it n (Evaluate (p ++ Operand 0 ∷ []) index ∷ Evaluate (p ++ Operand 1 ∷ []) value ∷ L) vs (f ∷ fs) in
+          let leads = then_further program launch buffers (own_reaches program launch buffers known index u own_index
+          (p ++ Operand 0 ∷ []) n (Evaluate (p ++ Operand 1 ∷ []) value ∷ L) vs f fs holds)
+          (own_reaches program launch buffers known value w own_value (p ++ Operand 1 ∷ []) n L (u ∷ vs) f fs holds) in
+          let fit' = reached_fits l o [] leads (next_fits j l refl (next_fits i j refl fit)) in
+          elim (first program launch buffers n (f ∷ fs) (Run (At at k) (Do E) ∷ T) (Evaluate p E ∷ K) vs vs to deeds
+          refl
+          h) [
+            | inl s ↦ stop (StoreStep m c y ∷ steps) got i to deeds s.0 s.1 s.2
+            | inr h1 ↦ elim (first program launch buffers n (f ∷ fs) (Evaluate p E ∷ K) (Evaluate (p ++ Operand 0 ∷ [])
+                index ∷ Evaluate (p ++ Operand 1 ∷ []) value ∷ L) vs vs to deeds refl h1) [
+                  | inl s ↦ stop (StoreStep m c y ∷ steps) got i to deeds s.0 s.1 s.2
+                  | inr h2 ↦ elim (own_runs program launch buffers known index u own_index (p ++ Operand 0 ∷ []) n
+                      (Evaluate (p ++ Operand 1 ∷ []) value ∷ L) vs f fs to deeds holds h2) [
+                        | inl s ↦ stop (StoreStep m c y ∷ steps) got i to deeds s.0 s.1 s.2
+                        | inr h3 ↦ elim (own_runs program launch buffers known value w own_value (p ++ Operand 1 ∷ [])
+                            n L
+                            (u ∷ vs) f fs to deeds holds h3) [
+                              | inl s ↦ stop (StoreStep m c y ∷ steps) got i to deeds s.0 s.1 s.2
+                              | inr h4 ↦ elim (peel_stores o to deeds site (object_at program launch o r) u
+                                  (bytes_of of w) (it n K (w ∷ vs) (f ∷ fs)) refl h4) [
+                                    | inl (q, z) ↦ stopped (StoreStep m c y ∷ steps) got i o to deeds refl refl q z
+                                    | inr (ds, once, h5, z) ↦
+                                        subst (λ d. Al (StoreStep m c y ∷ steps) got i d to) (sym z)
+                                        (store r e site is_element (computes_same helps i o refl refl) once
+                                        (elim (first program launch buffers n (f ∷ fs) K T (w ∷ vs) vs to ds refl h5) [
+                                          | inl s ↦ stop steps got (it n K (w ∷ vs) (f ∷ fs)) to ds s.0 s.1 s.2
+                                          | inr h6 ↦ ahead (computes_same helps (it n K (w ∷ vs) (f ∷ fs))
+                                              (it n T vs (f ∷ fs)) refl refl)
+                                              (others at (suc k) n vs f fs to ds (next_fits
+                                              (it n K (w ∷ vs) (f ∷ fs)) (it n T vs (f ∷ fs)) refl (once_fits o
+                                              (it n K (w ∷ vs) (f ∷ fs)) (Wrote site (object_at program launch o r) u
+                                              (bytes_of of w)) once fit')) fn holds h6)
+                                        ]))
+                                  ]
+                            ]
+                      ]
+                ]
+          ]
+
+      -- a component is set
+      assigned : (known : List Known) (got : Got) (steps : List Step) (ss : Statements) (m : Named) (c y x : ℕ)
+          (of : IntType) (value : Expression) → IsComponent later m c of x → Own known value (result got.leaves y) →
+          Fresh x known → Follows known got steps ss →
+          Follows known got (SetStep m c y ∷ steps) (also (Do (Apply (Set x) (single value))) ss)
+      assigned known got steps ss m c y x of value is_component own fresh others at k n vs f fs to deeds fit fn holds
+          h =
+          let T = in_order at (suc k) ss rest in
+          let E = Apply (Set x) (single value) in
+          let p = At at k ++ Operand 0 ∷ [] in
+          let K = Discard (At at k ++ OwnLeg 0 ∷ []) ∷ T in
+          let L = Finish p (Set x) 1 ∷ K in
+          let i = it n (Run (At at k) (Do E) ∷ T) vs (f ∷ fs) in
+          let w = result got.leaves y in
+          let o = it n L (w ∷ vs) (f ∷ fs) in
+          let g = set_in f x w in
+          let a = it n K (w ∷ vs) (g ∷ fs) in
+          let j = it n (Evaluate p E ∷ K) vs (f ∷ fs) in
+          let l = it n (Evaluate (p ++ Operand 0 ∷ []) value ∷ L) vs (f ∷ fs) in
+          let fit' = reached_fits l o [] (own_reaches program launch buffers known value w own (p ++ Operand 0 ∷ []) n L
+          vs
+          f fs holds) (next_fits j l refl (next_fits i j refl fit)) in
+          let fit'' = next_fits a (it n T vs (g ∷ fs)) refl (next_fits o a refl fit') in
+          elim (first program launch buffers n (f ∷ fs) (Run (At at k) (Do E) ∷ T) (Evaluate p E ∷ K) vs vs to deeds
+          refl
+          h) [
+            | inl s ↦ stop (SetStep m c y ∷ steps) got i to deeds s.0 s.1 s.2
+            | inr h1 ↦ elim (first program launch buffers n (f ∷ fs) (Evaluate p E ∷ K) (Evaluate (p ++ Operand 0 ∷ [])
+                value ∷ L) vs vs to deeds refl h1) [
+                  | inl s ↦ stop (SetStep m c y ∷ steps) got i to deeds s.0 s.1 s.2
+                  | inr h2 ↦ elim (own_runs program launch buffers known value w own (p ++ Operand 0 ∷ []) n L vs f fs
+                      to
+                      deeds holds h2) [
+                        | inl s ↦ stop (SetStep m c y ∷ steps) got i to deeds s.0 s.1 s.2
+                        | inr h3 ↦ elim (peel program launch buffers o a to deeds refl h3) [
+                          | inl (q, z) ↦ stopped (SetStep m c y ∷ steps) got i o to deeds refl refl q z
+                          | inr h4 ↦ set of x is_component (set_variable helps n (Run (At at k) (Do E) ∷ T) K vs
+                              (w ∷ vs)
+                              f fs x w) (elim (first program launch buffers n (g ∷ fs) K T (w ∷ vs) vs to deeds refl
+                              h4) [
+                                | inl s ↦ stop steps got a to deeds s.0 s.1 s.2
+                                | inr h5 ↦ ahead (computes_same helps a (it n T vs (g ∷ fs)) refl refl)
+                                    (others at (suc k) n vs g fs to deeds fit'' fn (still_holds known f x w fresh holds)
+                                    h5)
+                              ])
+                        ]
+                      ]
+                ]
+          ]
+
+      -- a component is declared
+      declared : (known : List Known) (got : Got) (steps : List Step) (ss : Statements) (m : Named) (c y x : ℕ)
+          (of : IntType) (value : Expression) → IsComponent later m c of x → Own known value (result got.leaves y) →
+          Fresh x known → Follows known got steps ss →
+          Follows known got (SetStep m c y ∷ steps) (also (Declare x (Some value)) ss)
+      declared known got steps ss m c y x of value is_component own fresh others at k n vs f fs to deeds fit fn holds
+          h =
+          let T = in_order at (suc k) ss rest in
+          let p = At at k ++ Operand 0 ∷ [] in
+          let K = Keep (At at k) x ∷ T in
+          let i = it n (Run (At at k) (Declare x (Some value)) ∷ T) vs (f ∷ fs) in
+          let w = result got.leaves y in
+          let o = it n K (w ∷ vs) (f ∷ fs) in
+          let a = it n T vs (set_in f x w ∷ fs) in
+          let j = it n (Evaluate p value ∷ K) vs (f ∷ fs) in
+          let fit' = reached_fits j o [] (own_reaches program launch buffers known value w own p n K vs f fs holds)
+          (next_fits i j refl fit) in
+          elim (first program launch buffers n (f ∷ fs) (Run (At at k) (Declare x (Some value)) ∷ T)
+          (Evaluate p value ∷ K) vs vs to deeds refl h) [
+            | inl s ↦ stop (SetStep m c y ∷ steps) got i to deeds s.0 s.1 s.2
+            | inr h1 ↦ elim (own_runs program launch buffers known value w own p n K vs f fs to deeds holds h1) [
+              | inl s ↦ stop (SetStep m c y ∷ steps) got i to deeds s.0 s.1 s.2
+              | inr h2 ↦ elim (peel program launch buffers o a to deeds refl h2) [
+                | inl (q, z) ↦ stopped (SetStep m c y ∷ steps) got i o to deeds refl refl q z
+                | inr h3 ↦ set of x is_component (set_variable helps n (Run (At at k) (Declare x (Some value)) ∷ T) T vs
+                    vs f fs x w)
+                    (others at (suc k) n vs (set_in f x w) fs to deeds (next_fits o a refl fit') fn
+                    (still_holds known f x w fresh holds) h3)
+              ]
+            ]
+          ]
+
+      -- Where statements stand for steps, an item that comes to them goes along the steps.
+      pub follows : {known : List Known} {got : Got} {steps : List Step} {ss : Statements} →
+          Emits env later helps result known got steps ss → Follows known got steps ss
+      follows (end known got) = λ at k n vs f fs to deeds fit fn holds h.
+          behind (computes_same helps (it n rest vs (f ∷ fs)) (it n rest vs (f ∷ fs)) refl refl) refl h
+      follows (offset_line known got steps ss m r e x is_element spares help fresh lines) =
+          evaluated (λ v. Unit {0}) known got (λ v. with_offset got (first_at m) v) (Offset m) steps ss x e spares help
+          fresh
+          (λ from start to deeds c s. in_offset r e is_element c s)
+          (λ from start mid to deeds further v c ev good al. offset r e v is_element c ev al)
+          (λ n p tail us g fs fn fit. tt) (λ v g. follows (lines v))
+      follows (number_line known got steps ss of m e x is_number spares help fresh there lines) =
+          evaluated (IsValue of) known got (λ v. with_number got (first_at m) v) (Number of m) steps ss x e spares help
+          fresh (λ from start to deeds c s. in_number e is_number c s)
+          (λ from start mid to deeds further v c ev good al. number e v is_number c ev good al)
+          (λ n p tail us g fs fn fit. value_kept n p x tail us g fs of fn there fit) (λ v g. follows (lines v g))
+      follows (copy_line known got steps ss of m c x y is_component help fresh there lines) =
+          copied known got steps ss of m c x y is_component help fresh there (λ v g. follows (lines v g))
+      follows (load_line known got steps ss m c x site r e index is_element own help fresh lines) =
+          loaded known got steps ss m c x site r e index is_element own help fresh (λ v g. follows (lines v g))
+      follows (store_line known got steps ss m c j site r e index value is_element own_index own_value lines) =
+          stored known got steps ss m c j site r e index value is_element own_index own_value (follows lines)
+      follows (set_line known got steps ss m c j x of value is_component own fresh lines) =
+          assigned known got steps ss m c j x of value is_component own fresh (follows lines)
+      follows (declare_line known got steps ss m c j x of value is_component own fresh lines) =
+          declared known got steps ss m c j x of value is_component own fresh (follows lines)

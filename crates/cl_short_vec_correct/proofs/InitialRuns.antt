@@ -17,6 +17,7 @@ use Rattle.cl_meaning.specs.Statements.{all_lines}
 use Rattle.cl_meaning.specs.Meant.{parts_meant}
 use Rattle.cl_check_sound.specs.Shape.{IsExpression}
 use Rattle.cl_check_sound.specs.Sound.{SoundTree}
+use Rattle.cl_check_sound.proofs.Grown.{extends_same}
 use Rattle.cl_check_sound.proofs.Facing.{Finals}
 use Rattle.cl_short_vec.specs.declared.types.Vector.{Vector}
 use Rattle.cl_short_vec.specs.Types.{numbers}
@@ -121,6 +122,7 @@ module _ (P : Program) (g : Function) (asked : Asked) (vars : List Variable) (ar
         leaves_reach P g asked vars arrs fin start behind_lines q.scope (Helps start steps) (set_worth a) limit
         facts.plain q.at.seen q.at.below helped (Some type) a value_part [] start [] nothing_got new_part
         facts.value_ordered facts.value_fits (starts start q.within.deep) q (omega arith)
+        (extends_same behind_lines.variables)
 
     -- the lines of the components, behind those of the leaves; what is visible there is what was reached
     new_run : (env : Env) (sites : List Position) (known : List Known) (got : Got) →
@@ -144,7 +146,7 @@ module _ (P : Program) (g : Function) (asked : Asked) (vars : List Variable) (ar
         leaves_run P g asked vars arrs fin start behind_lines q.scope (Helps start steps) (set_worth a) limit
         facts.plain
         q.at.seen q.at.below helped (Some type) a value_part [] start sites [] nothing_got new_part facts.value_ordered
-        facts.value_fits (starts start q.within.deep) q (omega arith)
+        facts.value_fits (starts start q.within.deep) q (omega arith) (extends_same behind_lines.variables)
         (λ env' sites' known' got' r' q' n' b'. new_run env' sites' known' got' r' q' b')
 
     -- what names of the source stand for behind the leaves was there at the statement

@@ -19,7 +19,7 @@ use Rattle.cl_model.specs.Steps.{iteration, behind_break, behind_continue, behin
 use Rattle.cl_model.specs.Steps.{entry_of, arm_tasks, entry_tasks, initial_tasks, action_next, evaluate_next, run_next}
 use Rattle.cl_model.specs.Steps.{task_next, item_next, set_in, set_first, frames_below, new_frame, nth, changed}
 use Rattle.cl_short_vec_correct.specs.Emits.{Known, Fresh, SparesAction, Spares, SparesAll}
-use Rattle.cl_short_vec_correct.proofs.Follows.{Holds, still_holds, it}
+use Rattle.cl_short_vec_correct.proofs.Evaluated.{Holds, still_holds, it}
 
 -- how many calls are under way
 abbrev pub calls : List Task → ℕ
@@ -56,7 +56,8 @@ Fine known (t ∷ ts) = Needs t (calls ts) × (calls ts ≡ 0 → SparesTask kno
 deep : (d : ℕ) → IsSuc d → d ≡ 0 → ⊥
 deep d h z = subst IsSuc z h
 
-module _ (known : List Known) where
+-- `own` is the number of the function whose variables help
+module _ (known : List Known) (own : ℕ) where
   -- a task in a call
   inner : (t : Task) (ts : List Task) → Needs t (calls ts) → IsSuc (calls ts) → Fine known ts → Fine known (t ∷ ts)
   inner t ts n h f = (n, λ z. absurd (deep (calls ts) h z), f)
@@ -244,7 +245,8 @@ module _ (known : List Known) where
 
   -- so many frames of calls, and below them the function's own, where the variables hold what they held
   abbrev pub Stack : List Frame → ℕ → List Frame → Type 0
-  Stack fs d all = (tops : List Frame) × (g : Frame) × (all ≡ tops ++ (g ∷ fs)) × (size tops ≡ d) × Holds known g
+  Stack fs d all = (tops : List Frame) × (g : Frame) × (all ≡ tops ++ (g ∷ fs)) × (size tops ≡ d) ×
+      (Holds known g × (g.function ≡ own))
 
   less : (a b : ℕ) → suc a ≡ suc b → a ≡ b
   less a b e = ap pred e
@@ -259,7 +261,7 @@ module _ (known : List Known) where
     set_in g x v,
     ap (λ z. set_first z x v) e,
     s,
-    still_holds known g x v (fresh (sym s)) h,
+    (still_holds known g x v (fresh (sym s)) h.0, h.1),
   )
   stack_set fs d all x v fresh (p ∷ ps, g, e, s, h) = (set_in p x v ∷ ps, g, ap (λ z. set_first z x v) e, s, h)
 
@@ -546,7 +548,8 @@ module _ (known : List Known) where
     Passes from deeds to =
         ((t : Task) × (ts : List Task) × (to.tasks ≡ t ∷ (ts ++ rest)))
         ⊎ ((g : Frame) × (us : List ℤ) × (front : List Deed) × (further : List Deed) ×
-        Does from front (it n rest us (g ∷ fs)) × Holds known g × Does (it n rest us (g ∷ fs)) further to ×
+        Does from front (it n rest us (g ∷ fs)) × (Holds known g × (g.function ≡ own)) ×
+        Does (it n rest us (g ∷ fs)) further to ×
         (deeds ≡ front ++ further))
 
     is_it : (i : Item) (us : List Task) (all : List Frame) → i.number ≡ n → i.tasks ≡ us → i.frames ≡ all →
@@ -619,7 +622,8 @@ module _ (known : List Known) where
 
     -- an evaluation that sets none of the variables
     pub evaluation : (at : Point) (e : Expression) (vs : List ℤ) (f : Frame) (to : Item) (deeds : List Deed) →
-        Spares known e → Holds known f → Does (it n (Evaluate at e ∷ rest) vs (f ∷ fs)) deeds to →
+        Spares known e → f.function ≡ own → Holds known f →
+        Does (it n (Evaluate at e ∷ rest) vs (f ∷ fs)) deeds to →
         Passes (it n (Evaluate at e ∷ rest) vs (f ∷ fs)) deeds to
-    evaluation at e vs f to deeds s h d =
-        passes d (refl, (Evaluate at e ∷ [], refl, (tt, λ z. s, tt), ([], f, refl, refl, h)))
+    evaluation at e vs f to deeds s fn h d =
+        passes d (refl, (Evaluate at e ∷ [], refl, (tt, λ z. s, tt), ([], f, refl, refl, (h, fn))))

@@ -1,6 +1,6 @@
 -- The line of a leaf declares its helping variable, and stands for the leaf's step.
 use Rattle.std.proofs.Common.{◌≡◌, ℕ, ◌≤◌, ◌<◌, ℤ, pos, nat_eq, List, [], ◌∷◌, length, Option, Some, None, Bool}
-use Rattle.std.proofs.Common.{true, false, refl, ap, sym, ◌∙◌, subst, inl, inr, arith}
+use Rattle.std.proofs.Common.{true, false, map, slice_get, refl, ap, sym, ◌∙◌, subst, inl, inr, arith}
 use Rattle.std.proofs.lemmas.Bool.Decides.{nat_tests}
 use Rattle.std.specs.Prelude.{codes, ◌-◌}
 use Rattle.wg_num.specs.declared.types.IntType.{IntType}
@@ -11,6 +11,7 @@ use Rattle.wg_num.specs.Wrap.{IsValue, wrap_of, modulus, half}
 use Rattle.wg_num.proofs.WrapLaws.{IsValue-wrap}
 use Rattle.cl_model.specs.declared.program.Root.{Root}
 use Rattle.cl_model.specs.declared.program.Space.{Space}
+use Rattle.cl_model.specs.declared.program.VarKind.TheVariants as var_kinds
 use Rattle.cl_model.specs.Tree as tree
 use Rattle.cl_model.specs.Tree.{Action, Expression, Expressions, Apply, Update, Choose, Call, Program, Function}
 use Rattle.cl_model.specs.Tree.{Statements, also}
@@ -30,8 +31,8 @@ use Rattle.cl_meaning.specs.declared.kind.Meaning.TheVariants as meanings
 use Rattle.cl_meaning.specs.declared.kind.Role.{Role}
 use Rattle.cl_meaning.specs.declared.kind.Role.TheVariants as roles
 use Rattle.cl_meaning.specs.Spelling.{declared_in}
-use Rattle.cl_meaning.specs.Environment.{Env, is_declared}
-use Rattle.cl_meaning.specs.Declarations.{root_of}
+use Rattle.cl_meaning.specs.Environment.{Env, Variable, is_declared}
+use Rattle.cl_meaning.specs.Declarations.{root_of, with_variable}
 use Rattle.cl_meaning.specs.Visible.{Node, Before, inside, later, behind, kind_of, is_front, role_of, in_order}
 use Rattle.cl_meaning.specs.Visible.{parts_in_order}
 use Rattle.cl_meaning.specs.Faults.{Asked, AllSound}
@@ -42,28 +43,32 @@ use Rattle.cl_meaning.specs.Meant.{meant}
 use Rattle.cl_check_sound.specs.Shape.{IsExpression}
 use Rattle.cl_check_sound.specs.Sound.{SoundTree, SoundParts}
 use Rattle.cl_check_sound.specs.Fits.{Fits}
+use Rattle.cl_check_sound.proofs.Grown.{Extends}
+use Rattle.cl_check_sound.proofs.Facing.{element_behind}
 use Rattle.cl_check_sound.proofs.Shapes.{of_expressions}
 use Rattle.cl_check_sound.proofs.Expressions.{fits_expression}
 use Rattle.cl_check_sound.proofs.Naming.{Scoped, expression_scoped, operand_scoped}
 use Rattle.cl_short_vec.specs.declared.nodes.Span.{Span}
 use Rattle.cl_short_vec.specs.Marks.{Mark, tree_at, kind_at}
-use Rattle.cl_short_vec.specs.Nodes.{span_of, helper, component_name, declared_at, star_at, constant_word, space_word}
+use Rattle.cl_short_vec.specs.Nodes.{span_of, helper, component_name, declared_at, star_at, type_word, constant_word}
+use Rattle.cl_short_vec.specs.Nodes.{space_word}
 use Rattle.cl_short_vec.specs.Order.{Named, Step, Offset, Number, Copy, Load, type_in}
 use Rattle.cl_short_vec.specs.Scalar.{scalar}
 use Rattle.cl_short_vec.specs.Unit.{pointed_at, address_at, number_line, offset_line, copy_line, load_line}
 use Rattle.cl_short_vec_correct.specs.Values.{Leaves, Worth}
-use Rattle.cl_short_vec_correct.specs.Doing.{Got, first_at, IsElement, IsPointing}
+use Rattle.cl_short_vec_correct.specs.Doing.{Got, first_at, IsElement, IsPointing, IsDeclaredAs}
 use Rattle.cl_short_vec_correct.specs.Emits as emits
 use Rattle.cl_short_vec_correct.specs.Emits.{Known, knows, IsIn, Fresh, Spares, SparesAction, SparesAll, Emits}
 use Rattle.cl_short_vec_correct.proofs.Adds.{Adds}
 use Rattle.cl_short_vec_correct.proofs.Alike.{alike}
 use Rattle.cl_short_vec_correct.proofs.Sourced.{Unpointed, SourcedMark, names_same, scalar_unpointed, address_unpointed}
-use Rattle.cl_short_vec_correct.proofs.LineWords.{declared_with}
+use Rattle.cl_short_vec_correct.proofs.LineWords.{declared_with, IsName, helper_name, component_is_name}
 use Rattle.cl_short_vec_correct.proofs.Declared.{behind_typed, IsTyped}
 use Rattle.cl_short_vec_correct.proofs.Initial.{expression_initial, address_expression}
-use Rattle.cl_short_vec_correct.proofs.Pieces.{meant_kind, index_of, star_behind}
-use Rattle.cl_short_vec_correct.proofs.Lines.{numbered, pointing, number_adds, number_is, offset_adds, offset_is}
-use Rattle.cl_short_vec_correct.proofs.Lines.{space_of, copy_adds, copy_is, load_adds, load_is}
+use Rattle.cl_short_vec_correct.proofs.Pieces.{meant_kind, index_of, star_behind, variable_behind}
+use Rattle.cl_short_vec_correct.proofs.Lines.{IsInitialAt, declared_behind, type_of, numbered, pointing, component_at}
+use Rattle.cl_short_vec_correct.proofs.Lines.{number_adds, number_is, offset_adds, offset_is, space_of}
+use Rattle.cl_short_vec_correct.proofs.Lines.{copy_adds, copy_is, load_adds, load_is}
 use Rattle.cl_short_vec_correct.proofs.Sound.{number_fresh, offset_fresh, offset_pointer, copy_fresh, load_fresh}
 use Rattle.cl_short_vec_correct.proofs.Slots.{Slot, Whole, Part, Start, slot_name, with_slot}
 use Rattle.cl_short_vec_correct.proofs.StepFits.{IsElementMark, ComponentFits}
@@ -174,6 +179,34 @@ zero_wraps types.Ulong = refl
 zero_value : (t : IntType) → IsValue t (pos 0)
 zero_value t = subst (IsValue t) (zero_wraps t) (IsValue-wrap t (pos 0))
 
+-- ---- the type with which a line declares its helping variable
+
+-- where the declarations of a function go on behind a scalar, it is declared with its type
+scalar_declared : (env later : Env) (name : List ℕ) (token : ℕ) (of : IntType) (m : Meaning) →
+    Extends (with_variable env name token (var_kinds.Scalar of) m).variables later.variables →
+    IsDeclaredAs later (length env.variables) of
+scalar_declared env later name token of m (others, e) = (
+  var_kinds.Scalar of,
+  ap (λ z. slice_get (map (λ (v : Variable). v.kind) z) (length env.variables)) e ∙
+      element_behind (λ (v : Variable). v.kind) env.variables _ others,
+  refl,
+)
+
+-- a line that declares a scalar of that type with an initialiser
+abbrev scalar_line : Span → IntType → List ℕ → Syntax → Syntax
+scalar_line s of name e =
+    declared_at s (node forms.TypeNode (type_word of) s.first s.last none) name (forest1 e)
+
+-- the same behind such a line
+line_declared : (env later : Env) (s : Span) (of : IntType) (name : List ℕ) (e : Syntax) → 2 ≤ length env.scopes →
+    IsName name → IsInitialAt (numbered env of) e →
+    Extends (behind env (scalar_line s of name e)).variables later.variables →
+    IsDeclaredAs later (length env.variables) of
+line_declared env later s of name e inner named i x =
+    scalar_declared env later name s.first of (meanings.Scalar of false (length env.variables))
+    (subst (λ (z : Env). Extends z.variables later.variables) (declared_behind env s (type_word of) s.first s.last none
+    (declared_with None false of) name e inner (type_of env of s) named tt i) x)
+
 -- ---- leaves
 
 module _ (asked : Asked) (start later' : Env) (scope : Scope) (helps : ℕ → Type 0) (result : Leaves → Worth)
@@ -214,8 +247,10 @@ module _ (asked : Asked) (start later' : Env) (scope : Scope) (helps : ℕ → T
     above = above_all (length start.variables) (length env.variables) known r.own
 
     pub number_leaf : (of : IntType) (m : Mark) → IsExpression (scalar m) → SourcedMark m →
-        SoundTree asked env role (number_line of m) → LeafLine env sites known got (Number of m) (number_line of m)
-    number_leaf of m h u s =
+        SoundTree asked env role (number_line of m) →
+        Extends (behind env (number_line of m)).variables later'.variables →
+        LeafLine env sites known got (Number of m) (number_line of m)
+    number_leaf of m h u s x =
         let d = numbered env of in
         let i = expression_initial d (scalar m) h in
         let e = operand of (meant d sites (scalar m)).piece in
@@ -236,14 +271,17 @@ module _ (asked : Asked) (start later' : Env) (scope : Scope) (helps : ℕ → T
           adds = a;
           new = f;
           emit = λ steps ss g. emits.number_line known got steps ss of m e (length env.variables) (sites, q) sp help
-              next g;
+              next (line_declared env later' (span_of (tree_at m)) of (helper (span_of (tree_at m))) (scalar m) r.inner
+              (helper_name (span_of (tree_at m))) i x) g;
           after = λ v k. held_new start env (behind env (number_line of m)) known got (Whole (first_at m))
               (scalar_meaning of) v a f (IsValue of) k;
         }
 
     pub copy_leaf : (of : IntType) (x : Named) (c : ℕ) → ComponentFits start x c of →
-        SoundTree asked env role (copy_line of x c) → LeafLine env sites known got (Copy of x c) (copy_line of x c)
-    copy_leaf of x c h s =
+        SoundTree asked env role (copy_line of x c) →
+        Extends (behind env (copy_line of x c)).variables later'.variables →
+        LeafLine env sites known got (Copy of x c) (copy_line of x c)
+    copy_leaf of x c h s b =
         let flags : env.flags ≡ false = r.like.flags ∙ plain in
         let visible = same_name r (component_name x.name c) h.sourced ∙ h.visible in
         let a = copy_adds env of x c r.inner in
@@ -258,7 +296,9 @@ module _ (asked : Asked) (start later' : Env) (scope : Scope) (helps : ℕ → T
           adds = a;
           new = f;
           emit = λ steps ss g. emits.copy_line known got steps ss of x c (length env.variables) h.variable
-              (h.constant, h.visible) help next g;
+              (h.constant, h.visible) help next (line_declared env later' x.span of (component_name (helper x.span) c)
+              (component_at x c) r.inner (component_is_name (helper x.span) c (helper_name x.span).0)
+              (refl, variable_behind (numbered env of) (component_name x.name c) x.span.first x.span.last) b) g;
           after = λ v k. held_new start env (behind env (copy_line of x c)) known got (Part x.span.first c)
               (scalar_meaning of) v a f (IsValue of) k;
         }

@@ -126,6 +126,12 @@ module _ (P : Program) (g : Function) (asked : Asked) (vars : List Variable) (ar
         arrays = arrays;
       }
 
+  -- lines of a block add variables behind those that are there
+  lines_extend : (env : Env) (ls : Forest) → Place env ls →
+      Extends env.variables (behind_parts env forms.BlockNode false ls).variables
+  lines_extend env ls q = (of_lines asked StatementGrows LinesGrow SwitchGrows (growing asked) env [] q.before ls
+      q.shaped q.sound q.within false).variables
+
   module _ (start later : Env) (scope : Scope) (helps : ℕ → Type 0) (result : Leaves → Worth) (limit : ℕ)
       (plain : start.flags ≡ false) (seen : Scoped scope start)
       (below : Each (λ x. x < length start.variables) scope)
@@ -139,26 +145,43 @@ module _ (P : Program) (g : Function) (asked : Asked) (vars : List Variable) (ar
     leaf_line : (s : Step) (done ss : List Step) (env : Env) (sites : List Position) (known : List Known) (got : Got)
         (ls : Forest) → Ordered done (s ∷ ss) → LeafFits start s → Running start env known got done →
         Place env (more (line_of type a s) ls) → length env.variables < limit →
+        Extends (behind env (line_of type a s)).variables later.variables →
         LeafLine asked start later scope helps result plain seen below env sites known got s (line_of type a s)
-    leaf_line (Offset m) done ss env sites known got ls o f r q l =
+    leaf_line (Offset m) done ss env sites known got ls o f r q l x =
         offset_leaf asked start later scope helps result plain seen below env sites known got done roles.Other r
         (help (length env.variables) r.more l) P g q.at.fits m f.0 f.1 f.2 q.sound.0
-    leaf_line (Number of m) done ss env sites known got ls o f r q l =
+    leaf_line (Number of m) done ss env sites known got ls o f r q l x =
         number_leaf asked start later scope helps result plain seen below env sites known got done roles.Other r
-        (help (length env.variables) r.more l) of m f.0 f.1 q.sound.0
-    leaf_line (Copy of x c) done ss env sites known got ls o f r q l =
+        (help (length env.variables) r.more l) of m f.0 f.1 q.sound.0 x
+    leaf_line (Copy of x c) done ss env sites known got ls o f r q l b =
         copy_leaf asked start later scope helps result plain seen below env sites known got done roles.Other r
-        (help (length env.variables) r.more l) of x c f q.sound.0
-    leaf_line (Load m c) done ss env sites known got ls o f r q l =
+        (help (length env.variables) r.more l) of x c f q.sound.0 b
+    leaf_line (Load m c) done ss env sites known got ls o f r q l x =
         load_leaf asked start later scope helps result plain seen below env sites known got done roles.Other r
         (help (length env.variables) r.more l) m c (pointed_of done m o.0 r.held) f.1 q.sound.0
-    leaf_line (Set x c j) done ss env sites known got ls o f r q l = absurd f
-    leaf_line (Store m c j) done ss env sites known got ls o f r q l = absurd f
+    leaf_line (Set x c j) done ss env sites known got ls o f r q l b = absurd f
+    leaf_line (Store m c j) done ss env sites known got ls o f r q l x = absurd f
+
+    -- what is declared up to the end of the lines is declared up to `later`
+    abbrev Ends : Env → Forest → Type 0
+    Ends env ls = Extends (behind_parts env forms.BlockNode false ls).variables later.variables
+
+    -- the same for the lines behind the first one
+    ends_next : (env : Env) (p : Syntax) (ps : Forest) → Ends env (more p ps) → Ends (behind env p) ps
+    ends_next env p ps x = subst (λ (z : Env). Extends z.variables later.variables) (line_behind env false p ps) x
+
+    -- and for what the first one declares
+    line_ends : (env : Env) (p : Syntax) (ps : Forest) → Place (behind env p) ps → Ends env (more p ps) →
+        Extends (behind env p).variables later.variables
+    line_ends env p ps q x = extends_then (behind env p).variables
+        (behind_parts (behind env p) forms.BlockNode false ps).variables later.variables
+        (lines_extend (behind env p) ps q) (ends_next env p ps x)
 
     -- the leaves' lines in front of other lines that stand for the steps behind them
     pub leaves_run : (ss done : List Step) (env : Env) (sites : List Position) (known : List Known) (got : Got)
         (rest : List Step) → Ordered done ss → Each (LeafFits start) ss → Running start env known got done →
         Place env (lines_of type a (ss ++ rest)) → length env.variables + length ss ≤ limit →
+        Ends env (lines_of type a (ss ++ rest)) →
         ((env' : Env) (sites' : List Position) (known' : List Known) (got' : Got) →
         Running start env' known' got' (all_done ss done) → Place env' (lines_of type a rest) →
         length env'.variables ≡ length env.variables + length ss →
@@ -166,13 +189,14 @@ module _ (P : Program) (g : Function) (asked : Asked) (vars : List Variable) (ar
         behind_parts env' forms.BlockNode false (lines_of type a rest) →
         Stands known' got' rest env' sites' (lines_of type a rest)) →
         Stands known got (ss ++ rest) env sites (lines_of type a (ss ++ rest))
-    leaves_run [] done env sites known got rest o f r q l k = k env sites known got r q
+    leaves_run [] done env sites known got rest o f r q l x k = k env sites known got r q
         (sym (none_more (length env.variables))) refl
-    leaves_run (s ∷ ss) done env sites known got rest o f r q l k =
+    leaves_run (s ∷ ss) done env sites known got rest o f r q l x k =
         let p = line_of type a s in
         let ps = lines_of type a (ss ++ rest) in
-        let line = leaf_line s done ss env sites known got ps o f.0 r q (omega arith) in
         let d = leaf_declares start type a s f.0 q.shaped.0 in
+        let next = next_place env p ps d q in
+        let line = leaf_line s done ss env sites known got ps o f.0 r q (omega arith) (line_ends env p ps next x) in
         let more_by = line.adds.variables in
         subst (λ z. Emits start later helps result known got (s ∷ (ss ++ rest)) z)
         (sym (in_front env sites p ps (tree.Declare (length env.variables) (Some line.place)) line.what))
@@ -181,7 +205,7 @@ module _ (P : Program) (g : Function) (asked : Asked) (vars : List Variable) (ar
         (λ v h. leaves_run ss (s ∷ done) (behind env p) (meant env sites p).sites
         (knows (length env.variables) v known) (with_slot got line.slot v) rest (ordered_next s done ss o) f.1
         (runs_on start env (behind env p) known got line.slot line.meaning v line.adds line.new s done r
-        (line.after v h)) (next_place env p ps d q) (omega arith)
+        (line.after v h)) next (omega arith) (ends_next env p ps x)
         (λ env' sites' known' got' r' q' e b. k env' sites' known' got' r' q'
         (counted (length env.variables) (length (behind env p).variables) (length ss) (length env'.variables) more_by
         e) (line_behind env false p ps ∙ b))))
@@ -200,8 +224,8 @@ module _ (P : Program) (g : Function) (asked : Asked) (vars : List Variable) (ar
     pub leaves_reach : (ss done : List Step) (env : Env) (known : List Known) (got : Got) (rest : List Step) →
         Ordered done ss → Each (LeafFits start) ss → Running start env known got done →
         Place env (lines_of type a (ss ++ rest)) → length env.variables + length ss ≤ limit →
-        Reached ss done env rest
-    leaves_reach [] done env known got rest o f r q l = record {
+        Ends env (lines_of type a (ss ++ rest)) → Reached ss done env rest
+    leaves_reach [] done env known got rest o f r q l x = record {
       env' = env;
       known = known;
       got = got;
@@ -210,16 +234,17 @@ module _ (P : Program) (g : Function) (asked : Asked) (vars : List Variable) (ar
       count = sym (none_more (length env.variables));
       behind' = refl;
     }
-    leaves_reach (s ∷ ss) done env known got rest o f r q l =
+    leaves_reach (s ∷ ss) done env known got rest o f r q l x =
         let p = line_of type a s in
         let ps = lines_of type a (ss ++ rest) in
-        let line = leaf_line s done ss env [] known got ps o f.0 r q (omega arith) in
         let d = leaf_declares start type a s f.0 q.shaped.0 in
+        let next = next_place env p ps d q in
+        let line = leaf_line s done ss env [] known got ps o f.0 r q (omega arith) (line_ends env p ps next x) in
         let more_by = line.adds.variables in
         let z = leaves_reach ss (s ∷ done) (behind env p) (knows (length env.variables) (pos 0) known)
         (with_slot got line.slot (pos 0)) rest (ordered_next s done ss o) f.1
         (runs_on start env (behind env p) known got line.slot line.meaning (pos 0) line.adds line.new s done r
-        (line.after (pos 0) line.zero)) (next_place env p ps d q) (omega arith) in record {
+        (line.after (pos 0) line.zero)) next (omega arith) (ends_next env p ps x) in record {
           env' = z.env';
           known = z.known;
           got = z.got;

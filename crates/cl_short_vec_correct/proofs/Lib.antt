@@ -1,4 +1,5 @@
 pub mod Numbers
+pub mod Evaluated
 pub mod Follows
 pub mod Kept
 pub mod Does

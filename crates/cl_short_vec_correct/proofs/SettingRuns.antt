@@ -15,17 +15,17 @@ use Rattle.cl_meaning.specs.declared.kind.Meaning.TheVariants as meanings
 use Rattle.cl_meaning.specs.declared.kind.Role.{Role}
 use Rattle.cl_meaning.specs.declared.kind.Role.TheVariants as roles
 use Rattle.cl_meaning.specs.Environment.{Env, Variable, Array, meaning_of, meaning_in, found_in}
-use Rattle.cl_meaning.specs.Visible.{Before, inside, later, behind, opened, apart}
+use Rattle.cl_meaning.specs.Visible.{Before, inside, later, behind, behind_parts, opened, apart}
 use Rattle.cl_meaning.specs.Faults.{Asked}
 use Rattle.cl_meaning.specs.Statements.{all_lines}
 use Rattle.cl_meaning.specs.Meant.{parts_meant}
 use Rattle.cl_check_sound.specs.Shape.{IsExpression, AreLines}
 use Rattle.cl_check_sound.specs.Sound.{SoundTree, SoundParts}
-use Rattle.cl_check_sound.proofs.Grown.{Extends, Within}
+use Rattle.cl_check_sound.proofs.Grown.{Extends, extends_same, Within}
 use Rattle.cl_check_sound.proofs.Growing.{StatementGrows, LinesGrow, SwitchGrows, growing}
 use Rattle.cl_check_sound.proofs.Facing.{Finals, At}
 use Rattle.cl_check_sound.proofs.Induction.{of_statement}
-use Rattle.cl_check_sound.proofs.Parts.{line_sound}
+use Rattle.cl_check_sound.proofs.Parts.{line_sound, block_behind}
 use Rattle.cl_check_sound.proofs.Shapes.{of_expressions}
 use Rattle.cl_check_sound.proofs.Neutral.{neutral}
 use Rattle.cl_short_vec.specs.declared.nodes.Span.{Span}
@@ -51,7 +51,7 @@ use Rattle.cl_short_vec_correct.proofs.Running.{Running, same_name}
 use Rattle.cl_short_vec_correct.proofs.LeafLines.{has_below, fresh_below, above_all}
 use Rattle.cl_short_vec_correct.proofs.LeafRuns.{Place, pointed_of, leaves_run}
 use Rattle.cl_short_vec_correct.proofs.SetRuns.{SetFits, sets_run, stores_run}
-use Rattle.cl_short_vec_correct.proofs.Blocks.{starts_inside, block_place, block_lines_meant}
+use Rattle.cl_short_vec_correct.proofs.Blocks.{front_behind, starts_inside, block_place, block_lines_meant}
 
 -- ---- the values are not at fault
 
@@ -284,34 +284,51 @@ module _ (P : Program) (g : Function) (asked : Asked) (vars : List Variable) (ar
         Emits start behind_block (Helps start steps) (set_worth a) known got (ss ++ rest)
         (all_lines (parts_meant env forms.BlockNode false sites (lines_of None a (ss ++ rest))).pieces)
 
+    -- what is declared up to the end of these lines is declared up to the end of the block
+    abbrev Ends : Env → List Step → Type 0
+    Ends env ss =
+        Extends (behind_parts env forms.BlockNode false (lines_of None a ss)).variables behind_block.variables
+
     value_runs : (env : Env) (sites : List Position) (known : List Known) (got : Got) →
         Running start env known got (all_done old_part (all_done target_part [])) →
         Place P g asked vars arrs fin env (lines_of None a (value_part ++ new_steps place cs)) →
         length env.variables ≡ (length start.variables + length target_part) + length old_part →
+        Ends env (value_part ++ new_steps place cs) →
         Emits start behind_block (Helps start steps) (set_worth a) known got (value_part ++ new_steps place cs)
         (all_lines (parts_meant env forms.BlockNode false sites
         (lines_of None a (value_part ++ new_steps place cs))).pieces)
-    value_runs env sites known got r q e =
+    value_runs env sites known got r q e x =
         let c = counted in
         leaves_run P g asked vars arrs fin start behind_block scope (Helps start steps) (set_worth a) limit facts.plain
         at.seen at.below helped None a value_part (all_done old_part (all_done target_part [])) env sites known got
-        (new_steps place cs) facts.value_ordered facts.value_fits r q (omega arith)
+        (new_steps place cs) facts.value_ordered facts.value_fits r q (omega arith) x
         (λ env' sites' known' got' r' q' e' b'. new_run env' sites' known' got' r' q')
 
     old_runs : (env : Env) (sites : List Position) (known : List Known) (got : Got) →
         Running start env known got (all_done target_part []) →
         Place P g asked vars arrs fin env (lines_of None a (old_part ++ (value_part ++ new_steps place cs))) →
         length env.variables ≡ length start.variables + length target_part →
+        Ends env (old_part ++ (value_part ++ new_steps place cs)) →
         Emits start behind_block (Helps start steps) (set_worth a) known got
         (old_part ++ (value_part ++ new_steps place cs))
         (all_lines (parts_meant env forms.BlockNode false sites
         (lines_of None a (old_part ++ (value_part ++ new_steps place cs)))).pieces)
-    old_runs env sites known got r q e =
+    old_runs env sites known got r q e x =
         let c = counted in
         leaves_run P g asked vars arrs fin start behind_block scope (Helps start steps) (set_worth a) limit facts.plain
         at.seen at.below helped None a old_part (all_done target_part []) env sites known got
-        (value_part ++ new_steps place cs) facts.old_ordered facts.old_fits r q (omega arith)
-        (λ env' sites' known' got' r' q' e' b'. value_runs env' sites' known' got' r' q' (omega arith))
+        (value_part ++ new_steps place cs) facts.old_ordered facts.old_fits r q (omega arith) x
+        (λ env' sites' known' got' r' q' e' b'. value_runs env' sites' known' got' r' q' (omega arith)
+        (subst (λ (z : Env). Extends z.variables behind_block.variables) b' x))
+
+    -- all of its lines: a block leaves the variables that its lines declare
+    block_ends : Ends (opened (apart start)) steps
+    block_ends =
+        let ls = lines_of None a steps in
+        let still = λ (z : Env). Extends z.variables behind_block.variables in
+        subst still (front_behind (opened (apart start)) ls)
+        (subst still (block_behind start (codes "{ }") s.first s.last ls within.in_block)
+        (extends_same behind_block.variables))
 
     setting_emits : (sites : List Position) → Emits start behind_block (Helps start steps) (set_worth a) [] nothing_got
         steps (all_lines (parts_meant (opened (apart start)) forms.BlockNode false sites
@@ -324,8 +341,9 @@ module _ (P : Program) (g : Function) (asked : Asked) (vars : List Variable) (ar
         (starts_inside start within.deep)
         (block_place P g asked vars arrs fin start scope role (codes "{ }") s.first s.last (lines_of None a steps) at
         within
-        sound shaped variables arrays) (omega arith)
-        (λ env' sites' known' got' r' q' e' b'. old_runs env' sites' known' got' r' q' e')
+        sound shaped variables arrays) (omega arith) block_ends
+        (λ env' sites' known' got' r' q' e' b'. old_runs env' sites' known' got' r' q' e'
+        (subst (λ (z : Env). Extends z.variables behind_block.variables) b' block_ends))
 
     aside : Aside start behind_block steps
     aside q t constant y h m help =

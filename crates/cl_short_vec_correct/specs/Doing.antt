@@ -1,7 +1,7 @@
 -- What an item does where a vector statement of the unit stands, as the unit without vectors does it.
 use Rattle.std.specs.Prelude.{◌≡◌, ℕ, suc, ◌+◌, ◌<◌, ◌≤◌, true, ℤ, pos, Bool, List, [], ◌∷◌, ◌++◌, length, Option}
 use Rattle.std.specs.Prelude.{Some, nat_eq, ◌&&◌}
-use Rattle.std.specs.Prelude.{if◌then◌else◌}
+use Rattle.std.specs.Prelude.{map, slice_get, if◌then◌else◌}
 use Rattle.work_items.specs.Histories.{Deed, Read, Wrote, History, DoesOnce}
 use Rattle.wg_num.specs.declared.types.IntType.{IntType}
 use Rattle.wg_num.specs.declared.types.IntType.TheVariants as types
@@ -11,15 +11,19 @@ use Rattle.wg_num.specs.Wrap.{IsValue}
 use Rattle.wg_num.specs.Bytes.{bytes_of, value_of_bytes}
 use Rattle.wg_num.specs.Operators.{binary_of}
 use Rattle.cl_model.specs.declared.program.Root.{Root}
+use Rattle.cl_model.specs.declared.program.VarKind.{VarKind}
 use Rattle.cl_model.specs.Tree.{Expression, Statements, Program}
 use Rattle.cl_model.specs.Sizes.{Launch}
 use Rattle.cl_model.specs.Task.{Point, Task, Evaluate, Frame, Item}
 use Rattle.cl_model.specs.Steps.{last, frame_of, frames_below, in_order, access_at, object_at, item_next}
-use Rattle.cl_model.specs.Meaning.{lengths_of, MayBeTold}
+use Rattle.cl_model.specs.Meaning.{lengths_of, MayBeTold, start_item}
+use Rattle.cl_model.specs.Calls.{function_at}
+use Rattle.cl_model.specs.Valid.{kind_type, HasVariable}
+use Rattle.cl_model_typed.specs.Law.{IsTyped}
 use Rattle.cl_meaning.specs.declared.kind.Meaning.TheVariants as meanings
 use Rattle.cl_meaning.specs.declared.kind.Kind as kind
 use Rattle.cl_meaning.specs.declared.kind.Kind.TheVariants as kinds
-use Rattle.cl_meaning.specs.Environment.{Env, meaning_of}
+use Rattle.cl_meaning.specs.Environment.{Env, Variable, meaning_of}
 use Rattle.cl_meaning.specs.Expressions.{operand, read}
 use Rattle.cl_meaning.specs.Meant.{meant}
 use Rattle.cl_short_vec.specs.Marks.{Mark, tree_at, kind_at}
@@ -156,8 +160,7 @@ module _ (program : Program) (launch : Launch) (buffers : List (List ℕ)) where
   module _ (env later : Env) (helps : ℕ → Type 0) where
     -- From one item to another with these deeds, the steps that are left are done in order, as far as the history goes:
     -- `result` gives the values by number from what the leaves give, and `rest` is left to do behind the statement.
-    -- What
-    -- is said behind a number or a component of a variable is said where that is a value of its type.
+    -- Each number and each component of a variable is a value of its type.
     pub data Along (result : Leaves → Worth) (rest : List Task) : List Step → Got → Item → List Deed → Item →
         Type 0 where
       -- the history ends between two steps
@@ -179,14 +182,14 @@ module _ (program : Program) (launch : Launch) (buffers : List (List ℕ)) where
           StandsIn e start deeds to → Along result rest (Number of m ∷ steps) got from deeds to
       number : {of : IntType} {m : Mark} {steps : List Step} {got : Got} {from start mid to : Item}
           {deeds more : List Deed} (e : Expression) (v : ℤ) → IsNumber env of m e → Computes helps from start →
-          Evaluates e start deeds mid v →
-          (IsValue of v → Along result rest steps (with_number got (first_at m) v) mid more to) →
+          Evaluates e start deeds mid v → IsValue of v →
+          Along result rest steps (with_number got (first_at m) v) mid more to →
           Along result rest (Number of m ∷ steps) got from (deeds ++ more) to
       -- a component of a variable
       copy : {of : IntType} {x : Named} {c : ℕ} {steps : List Step} {got : Got} {from mid to : Item}
           {deeds : List Deed} (y : ℕ) → IsComponent env x c of y → Computes helps from mid →
-          (IsValue of ((frame_of mid.frames).variables y) → Along result rest steps
-          (with_component got x.span.first c ((frame_of mid.frames).variables y)) mid deeds to) →
+          IsValue of ((frame_of mid.frames).variables y) → Along result rest steps
+          (with_component got x.span.first c ((frame_of mid.frames).variables y)) mid deeds to →
           Along result rest (Copy of x c ∷ steps) got from deeds to
       -- one access, at the index of the component
       load : {m : Mark} {c : ℕ} {steps : List Step} {got : Got} {from start mid to : Item} {deeds : List Deed}
@@ -209,11 +212,29 @@ module _ (program : Program) (launch : Launch) (buffers : List (List ℕ)) where
           (of : IntType) (y : ℕ) → IsComponent later x c of y → Sets helps (sets_one y (result got.leaves j)) from mid →
           Along result rest steps got mid deeds to → Along result rest (Set x c j ∷ steps) got from deeds to
 
+-- this variable is declared there, with that type
+abbrev pub IsDeclaredAs : Env → ℕ → IntType → Type 0
+IsDeclaredAs env x of =
+    (kind : VarKind) × (slice_get (map (λ (v : Variable). v.kind) env.variables) x ≡ Some kind) ×
+    (kind_type kind ≡ of)
+
+-- the item is one of a launch that fits the program, as a history leads to it, and stands in a function whose variables
+-- begin with those that are declared there
+pub record Comes (program : Program) (launch : Launch) (buffers : List (List ℕ)) (later : Env) (from : Item) :
+    Type 0 where
+  pub typed : IsTyped program launch
+  pub item : ℕ
+  pub before : List Deed
+  pub reached : Does program launch buffers (start_item program launch item) before from
+  pub declared : (x : ℕ) (of : IntType) → IsDeclaredAs later x of →
+      HasVariable (function_at program (frame_of from.frames).function) x of
+
 -- an item of the program that comes to these statements does the steps in order, with these results, whatever is left
 -- to do behind them
 abbrev pub DoSteps : Program → (env later : Env) → List Step → (Leaves → Worth) → Statements → Type 0
 DoSteps program env later steps result statements =
     (launch : Launch) (buffers : List (List ℕ)) (at : Point) (k : ℕ) (rest : List Task) (from to : Item) (frame : Frame)
-    (frames : List Frame) (deeds : List Deed) → from.frames ≡ frame ∷ frames →
-    from.tasks ≡ in_order at k statements rest → Does program launch buffers from deeds to →
-    Along program launch buffers env later (Helps env steps) result rest steps nothing_got from deeds to
+    (frames : List Frame) (deeds : List Deed) → Comes program launch buffers later from →
+    from.frames ≡ frame ∷ frames → from.tasks ≡ in_order at k statements rest →
+    Does program launch buffers from deeds to
+    → Along program launch buffers env later (Helps env steps) result rest steps nothing_got from deeds to

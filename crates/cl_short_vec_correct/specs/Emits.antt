@@ -17,7 +17,7 @@ use Rattle.cl_short_vec.specs.Order.{Named, Step, Offset, Number, Copy, Load as 
 use Rattle.cl_short_vec.specs.Order.{Store as StoreStep, type_in}
 use Rattle.cl_short_vec_correct.specs.Values.{Leaves, Worth}
 use Rattle.cl_short_vec_correct.specs.Doing.{Got, with_number, with_component, with_offset, first_at, index_of}
-use Rattle.cl_short_vec_correct.specs.Doing.{IsNumber, IsElement, IsComponent}
+use Rattle.cl_short_vec_correct.specs.Doing.{IsNumber, IsElement, IsComponent, IsDeclaredAs}
 
 -- ---- what helping variables hold
 
@@ -94,11 +94,12 @@ module _ (env later : Env) (helps : ℕ → Type 0) (result : Leaves → Worth) 
         Emits known got (Offset m ∷ steps) (also (Declare x (Some e)) ss)
     number_line : (known : List Known) (got : Got) (steps : List Step) (ss : Statements) (of : IntType) (m : Mark)
         (e : Expression) (x : ℕ) → IsNumber env of m e → Spares known e → helps x → Fresh x known →
+        IsDeclaredAs later x of →
         ((v : ℤ) → IsValue of v → Emits (knows x v known) (with_number got (first_at m) v) steps ss) →
         Emits known got (Number of m ∷ steps) (also (Declare x (Some e)) ss)
     -- a component of the variable `y`
     copy_line : (known : List Known) (got : Got) (steps : List Step) (ss : Statements) (of : IntType) (n : Named)
-        (c x y : ℕ) → IsComponent env n c of y → helps x → Fresh x known →
+        (c x y : ℕ) → IsComponent env n c of y → helps x → Fresh x known → IsDeclaredAs later x of →
         ((v : ℤ) → IsValue of v → Emits (knows x v known) (with_component got n.span.first c v) steps ss) →
         Emits known got (Copy of n c ∷ steps) (also (Declare x (Some (Apply (Variable y) none))) ss)
     load_line : (known : List Known) (got : Got) (steps : List Step) (ss : Statements) (m : Mark) (c x site : ℕ)

@@ -3,11 +3,11 @@
 
 ghost use Rattle.cl_short_vec_correct.specs.Law.{StatementsDo, StepsDone};
 
-/// Typed statements that stand for the steps of a vector statement do these steps, in order, in every launch, on all
-/// buffers, in all histories: they evaluate the numbers and where elements stand, load and store each component of an
-/// element by one access, and set variables, and what they set or store is the result for what the steps before gave.
-/// Nothing else of the item changes but helping variables. What is said behind a number, or behind a component of a
-/// variable, is said where that is a value of its type.
+/// Typed statements that stand for the steps of a vector statement do these steps, in order, in every launch that fits
+/// the program, on all buffers, in all histories: they evaluate the numbers and where elements stand, load and store
+/// each component of an element by one access, and set variables, and what they set or store is the result for what the
+/// steps before gave. Each number and each component of a variable is a value of its type. Nothing else of the item
+/// changes but helping variables.
 pub fn steps_law()
     ensures { StepsDone }
 {}
