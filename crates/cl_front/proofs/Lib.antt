@@ -1,3 +1,4 @@
 pub mod FrontLemmas
 pub mod CompileLemmas
 pub mod ValidLemmas
+pub mod DoesLemmas

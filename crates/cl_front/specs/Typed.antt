@@ -1,5 +1,5 @@
 -- What a source means for the name of a kernel: its typed unit, or the first fault of its unit.
-use Rattle.std.specs.Prelude.{◌≡◌, ◌⊎◌, ⊤, ℕ, List, map}
+use Rattle.std.specs.Prelude.{◌≡◌, ◌⊎◌, ⊤, ℕ, List, [], map}
 use Rattle.wg_num.specs.declared.types.Place.{Place}
 use Rattle.cl_token.specs.declared.token.Token.{Token}
 use Rattle.cl_token.specs.Places.{place_at}
@@ -7,10 +7,15 @@ use Rattle.cl_prep.specs.declared.prep.Define.{Define}
 use Rattle.cl_tree.specs.Syntax.{Syntax}
 use Rattle.cl_meaning.specs.declared.fault.Fault.{Fault}
 use Rattle.cl_meaning.specs.Typed.{Unit'}
-use Rattle.cl_meaning.specs.Meant.{unit_meant}
+use Rattle.cl_meaning.specs.Meant.{start_of, unit_meant}
 use Rattle.cl_limits.specs.Judged.{IsAccepted}
 use Rattle.cl_check.specs.Checked.{IsRefused}
+use Rattle.cl_check_sound.specs.Erased.{program_of}
+use Rattle.cl_check_sound.specs.Law.{DefinesFit}
+use Rattle.cl_short_vec.specs.Kinds.{no_names}
+use Rattle.cl_short_vec.specs.Marks.{marked}
 use Rattle.cl_short_vec.specs.Unit.{scalarised_of}
+use Rattle.cl_short_vec_correct.specs.Each.{EachDoes}
 use Rattle.cl_front.specs.declared.condition.Condition.{Condition}
 use Rattle.cl_front.specs.declared.condition.Condition.TheVariants as conditions
 use Rattle.cl_front.specs.declared.front.SourceError.{SourceError}
@@ -21,13 +26,16 @@ use Rattle.cl_front.specs.Front.{IsSource, StandsAt, place_of_token}
 abbrev pub places_of : List ℕ → List Token → List Place
 places_of source tokens = map (λ t. place_at source t.start) tokens
 
--- no node of the unit without vectors is at fault, the kernel is within the limits, and this is the typed unit
+-- No node of the unit without vectors is at fault, the kernel is within the limits, and this is the typed unit. In its
+-- program each vector statement of the unit does its steps, where each number that is given for a name fits a `long`.
 pub record HasTypedUnit (source : List ℕ) (defines : List Define) (kernel : List ℕ) (typed : Unit') : Type 0 where
   pub expanded : List Token
   pub unit : Syntax
   pub is_source : IsSource source defines expanded unit
   pub accepted : IsAccepted (places_of source expanded) kernel (scalarised_of unit)
   pub means : typed ≡ unit_meant (places_of source expanded) kernel (scalarised_of unit)
+  pub does : DefinesFit defines → EachDoes (program_of typed) (marked no_names unit)
+      (start_of (places_of source expanded) (scalarised_of unit)) []
 
 -- the condition is the first fault of the unit without vectors, and is reported at that place
 pub record IsFaulty (source : List ℕ) (defines : List Define) (kernel : List ℕ) (condition : Condition)

@@ -1,0 +1,48 @@
+-- A source whose unit without vectors is accepted has a typed unit, in whose program each vector statement does its
+-- steps.
+use Rattle.std.proofs.Common.{◌≡◌, ℕ, List, [], sym, subst}
+use Rattle.wg_num.specs.declared.types.Place.{Place}
+use Rattle.cl_token.specs.declared.token.Token.{Token}
+use Rattle.cl_prep.specs.declared.prep.Define.{Define}
+use Rattle.cl_tree.specs.Syntax.{Syntax}
+use Rattle.cl_meaning.specs.Typed.{Unit'}
+use Rattle.cl_meaning.specs.Meant.{start_of, unit_meant}
+use Rattle.cl_limits.specs.Judged.{IsAccepted}
+use Rattle.cl_check_sound.specs.Erased.{program_of}
+use Rattle.cl_check_sound.specs.Law.{DefinesFit}
+use Rattle.cl_short_vec.specs.Kinds.{no_names}
+use Rattle.cl_short_vec.specs.Marks.{marked}
+use Rattle.cl_short_vec.specs.Unit.{scalarised_of}
+use Rattle.cl_short_vec_correct.specs.Each.{EachDoes}
+use Rattle.cl_short_vec_correct.proofs.Statements.{statements_do}
+use Rattle.cl_front.specs.Front.{IsSource, IsScalarSource}
+use Rattle.cl_front.specs.Typed.{places_of, HasTypedUnit}
+
+source_does : (source : List ℕ) (defines : List Define) (kernel : List ℕ) (expanded : List Token) (unit : Syntax)
+    (typed : Unit') → IsSource source defines expanded unit →
+    IsAccepted (places_of source expanded) kernel (scalarised_of unit) →
+    typed ≡ unit_meant (places_of source expanded) kernel (scalarised_of unit) → DefinesFit defines →
+    EachDoes (program_of typed) (marked no_names unit) (start_of (places_of source expanded) (scalarised_of unit)) []
+source_does source defines kernel expanded unit typed s accepted means fit =
+    subst (λ (t : Unit'). EachDoes (program_of t) (marked no_names unit)
+    (start_of (places_of source expanded) (scalarised_of unit)) []) (sym means)
+    (statements_do source s.read.0 expanded defines unit (places_of source expanded) kernel s.read.1.cuts fit
+    s.read.1.expands s.spelled s.vectors accepted)
+
+pub has_typed : (source : List ℕ) (defines : List Define) (kernel : List ℕ) (expanded : List Token) (form : Syntax)
+    (places : List Place) (typed : Unit') → IsScalarSource source defines expanded form →
+    places ≡ places_of source expanded → IsAccepted places kernel form → typed ≡ unit_meant places kernel form →
+    HasTypedUnit source defines kernel typed
+has_typed source defines kernel expanded form places typed s p accepted means =
+    let accepted' = subst (λ (ps : List Place). IsAccepted ps kernel (scalarised_of s.unit)) p
+    (subst (IsAccepted places kernel) s.form_is accepted) in
+    let means' = subst (λ (ps : List Place). typed ≡ unit_meant ps kernel (scalarised_of s.unit)) p
+    (subst (λ (t : Syntax). typed ≡ unit_meant places kernel t) s.form_is means) in
+    record {
+      expanded = expanded;
+      unit = s.unit;
+      is_source = s.is_source;
+      accepted = accepted';
+      means = means';
+      does = source_does source defines kernel expanded s.unit typed s.is_source accepted' means';
+    }
