@@ -50,7 +50,7 @@ use Rattle.cl_check_sound.proofs.Parts.{built_of, typed_env, declare_built}
 
 -- ---- items
 
-unit_meant_next : (u : Env) (front : Bool) (sites : List Place) (p : Syntax) (ps : Forest) →
+pub unit_meant_next : (u : Env) (front : Bool) (sites : List Place) (p : Syntax) (ps : Forest) →
     parts_meant u forms.UnitNode front sites (more p ps) ≡ with_piece (meant u sites p).piece
     (parts_meant (behind u p) forms.UnitNode false (meant u sites p).sites ps)
 unfolding parts_meant later
@@ -90,7 +90,7 @@ pub fore_of : (asked : Asked) (u : Env) (sites : List Place) (w : List ℕ) (f l
 unfolding inside
 fore_of asked u sites w f l parts h s = prototype_fore asked (in_prototype u) sites None true parts h s.0
 
-prototype_built : (u : Env) (sites : List Place) (w : List ℕ) (f l : ℕ) (parts : Forest) →
+pub prototype_built : (u : Env) (sites : List Place) (w : List ℕ) (f l : ℕ) (parts : Forest) →
     built_of (meant u sites (node forms.PrototypeNode w f l parts)) ≡ record {
       what = nothing;
       sites = (parts_meant (in_prototype u) forms.PrototypeNode true sites parts).sites;
@@ -104,7 +104,7 @@ prototype_extra : (m : Weights) (k : ℕ) (u : Env) (w : List ℕ) (f l : ℕ) (
 unfolding inside
 prototype_extra m k u w f l parts = refl
 
-declaration_what : (u : Env) (sites : List Place) (t : Syntax) (fs : List typed_specs.Function) → IsDeclaration t →
+pub declaration_what : (u : Env) (sites : List Place) (t : Syntax) (fs : List typed_specs.Function) → IsDeclaration t →
     function_before (meant u sites t).piece.what fs ≡ fs
 unfolding meant make
 declaration_what u sites (node forms.DeclareNode w f l (more t ds)) fs h = refl
@@ -174,17 +174,17 @@ others u name (g ∷ done) n h = (by (bytes_eq g.name name) refl, others u name 
     by true e = absurd (false≢true (sym n ∙ (ap (is_declared u) (sym (same_bytes g.name name e)) ∙ h.0)))
     by false e = refl
 
-still_firm : (u later : Env) (done : List Signature) → UnitGrown u later → OneScope u →
+pub still_firm : (u later : Env) (done : List Signature) → UnitGrown u later → OneScope u →
     Each (λ (h : Signature). is_declared u h.name ≡ true) done →
     Each (λ (h : Signature). is_declared later h.name ≡ true) done
 still_firm u later [] g o h = tt
 still_firm u later (x ∷ done) g o h = (g.firm' x.name o h.0, still_firm u later done g o h.1)
 
-each_more : {A : Type 0} (P : A → Type 0) (xs : List A) (x : A) → Each P xs → P x → Each P (xs ++ x ∷ [])
+pub each_more : {A : Type 0} (P : A → Type 0) (xs : List A) (x : A) → Each P xs → P x → Each P (xs ++ x ∷ [])
 each_more P [] x h k = (k, tt)
 each_more P (y ∷ xs) x h k = (h.0, each_more P xs x h.1 k)
 
-length_more : {A : Type 0} (xs : List A) (x : A) → length (xs ++ x ∷ []) ≡ suc (length xs)
+pub length_more : {A : Type 0} (xs : List A) (x : A) → length (xs ++ x ∷ []) ≡ suc (length xs)
 length_more [] x = refl
 length_more (y ∷ xs) x = ap suc (length_more xs x)
 
@@ -282,7 +282,7 @@ prototype_sites asked s u sites w f l parts fo =
     omega arith
 
 -- the number of a function is its place
-definition_known : (u : Env) (w : List ℕ) (parts : Forest) (done rest : List Signature) →
+pub definition_known : (u : Env) (w : List ℕ) (parts : Forest) (done rest : List Signature) →
     is_declared u (name_in w) ≡ false → Each (λ (h : Signature). is_declared u h.name ≡ true) done →
     u.functions ≡ done ++ signature_in w parts ∷ rest →
     definition_of u (name_in w) ≡ Some (0 + length done, (signature_in w parts).kernel)

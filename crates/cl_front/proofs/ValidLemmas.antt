@@ -11,7 +11,7 @@ use Rattle.cl_check_sound.proofs.Spelled.{spelled_wide}
 use Rattle.cl_check_sound.proofs.ErasedPrograms.{program_same}
 use Rattle.cl_check_sound.proofs.Expanded.{expanded_read}
 use Rattle.cl_short_vec.specs.Unit.{scalarised_of}
-use Rattle.cl_short_vec_sound.proofs.Units.{forms_shaped}
+use Rattle.cl_short_vec_correct.proofs.FormUnits.{forms_shaped}
 use Rattle.cl_front.specs.Typed.{HasTypedUnit, places_of}
 use Rattle.cl_front.specs.Law.{ProgramsValid}
 

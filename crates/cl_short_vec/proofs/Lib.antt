@@ -1,5 +1,6 @@
 pub mod Views
 pub mod Words
+pub mod OwnNames
 pub mod Stacks
 pub mod Marking
 pub mod Growing
@@ -9,3 +10,5 @@ pub mod Refused
 pub mod Slices
 pub mod Units
 pub mod Plainness
+pub mod Rows
+pub mod Small

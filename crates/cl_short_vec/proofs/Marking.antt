@@ -1,5 +1,5 @@
 -- Marks of parts, one behind the other.
-use Rattle.std.proofs.Common.{ℕ, suc, List, [], ◌∷◌, ◌++◌, ◌+◌, ◌<◌, ◌≤◌, map, drop, length, get_or, Bool, true, false}
+use Rattle.std.proofs.Common.{ℕ, suc, List, [], ◌∷◌, ◌++◌, ◌+◌, ◌<◌, ◌≤◌, drop, length, get_or, Bool, true, false}
 use Rattle.std.proofs.Common.{Result, Ok, Err, IfOk, ◌≡◌, refl, ap, sym, ◌∙◌, arith, drop-cons}
 use Rattle.std.proofs.lemmas.List.{drop_all}
 use Rattle.cl_tree.specs.declared.tree.Form.{Form}
@@ -9,7 +9,7 @@ use Rattle.cl_tree.specs.Syntax.{Syntax, Forest, more, view, views}
 use Rattle.cl_meaning.proofs.Views.{view_out}
 use Rattle.cl_short_vec.specs.declared.marks.Marked.{Marked}
 use Rattle.cl_short_vec.specs.Kinds.{Names, later}
-use Rattle.cl_short_vec.specs.Marks.{Mark, Marks, unmarked, marking, marked, marked_parts, marked_node}
+use Rattle.cl_short_vec.specs.Marks.{Marks, unmarked, marking, marked, marked_parts, marked_node}
 use Rattle.cl_short_vec.specs.View.{mark_of, marks_of}
 
 -- marks that are done, in front of others

@@ -1,15 +1,15 @@
 -- Expressions without vectors, in order, and nodes of three parts and more.
-use Rattle.std.proofs.Common.{ℕ, suc, List, [], ◌∷◌, ◌++◌, ◌+◌, ◌<◌, ◌≤◌, length, drop, get_or, ◌≡◌, refl, sym, ap, ◌∙◌}
-use Rattle.std.proofs.Common.{arith, Option, None, false, subst}
+use Rattle.std.proofs.Common.{ℕ, List, [], ◌∷◌, ◌++◌, ◌+◌, ◌<◌, ◌≤◌, length, drop, get_or, ◌≡◌, refl, sym, ap, ◌∙◌}
+use Rattle.std.proofs.Common.{arith, None, false, subst}
 use Rattle.cl_tree.specs.declared.tree.Tree.{Tree}
-use Rattle.cl_tree.specs.Syntax.{Syntax, Forest, none, more, joined, view, views}
+use Rattle.cl_tree.specs.Syntax.{Syntax, Forest, joined, view, views}
 use Rattle.cl_short_vec.specs.declared.marks.Marked.{Marked}
 use Rattle.cl_short_vec.specs.declared.marks.Marked.TheViews.{out-Marked}
 use Rattle.cl_short_vec.specs.declared.nodes.Span.{Span}
 use Rattle.cl_short_vec.specs.declared.kinds.Kind.{Kind}
 use Rattle.cl_meaning.specs.Declarations.{form_of, word_of}
 use Rattle.cl_meaning.specs.Spelling.{prefix_in}
-use Rattle.cl_short_vec.specs.Marks.{Mark, mark, Marks, unmarked, marking, kind_at}
+use Rattle.cl_short_vec.specs.Marks.{Mark, mark, unmarked, marking, kind_at}
 use Rattle.cl_short_vec.specs.Nodes as nodes
 use Rattle.cl_short_vec.specs.Order.{is_through}
 use Rattle.cl_short_vec.specs.Scalar.{scalar, scalars, component_at, one_by, two_by, one_component, element_component}

@@ -1,5 +1,5 @@
 -- Names that are declared one behind the other.
-use Rattle.std.proofs.Common.{ℕ, zero, suc, List, [], ◌∷◌, ◌++◌, take, length, min, get_or, ◌<◌, ◌+◌, ◌≤◌, ◌≡◌, refl}
+use Rattle.std.proofs.Common.{ℕ, List, [], ◌∷◌, ◌++◌, take, length, min, get_or, ◌<◌, ◌+◌, ◌≤◌, ◌≡◌, refl}
 use Rattle.std.proofs.Common.{◌-◌, true, false, if◌then◌else◌, ap, sym, ◌∙◌, arith}
 use Rattle.std.specs.Str.{bytes_eq}
 use Rattle.std.proofs.lemmas.List.{take_more, take-take, length-take}

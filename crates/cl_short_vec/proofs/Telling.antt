@@ -6,7 +6,7 @@ use Rattle.std.proofs.lemmas.List.{drop_all, length-drop}
 use Rattle.cl_short_vec.specs.declared.marks.Marked.{Marked}
 use Rattle.cl_short_vec.specs.declared.refuse.VectorRefusal.{VectorRefusal}
 use Rattle.cl_short_vec.specs.declared.roles.Role.{Role}
-use Rattle.cl_short_vec.specs.Marks.{Mark, Marks, marking}
+use Rattle.cl_short_vec.specs.Marks.{Mark, marking}
 use Rattle.cl_short_vec.specs.Roles.{role_of}
 use Rattle.cl_short_vec.specs.Faults.{told, is_end, refusals, refusals_in}
 use Rattle.cl_short_vec.specs.View.{mark_of, marks_of}

@@ -1,7 +1,6 @@
 -- The view of a marked tree.
-use Rattle.std.proofs.Common.{ℕ, List, [], ◌∷◌, ◌<◌, ◌≤◌, length, drop, get_or, map, ◌≡◌, refl, sym, ap, ◌∙◌, arith}
-use Rattle.std.proofs.Common.{Option, Some, suc, zero}
-use Rattle.std.proofs.lemmas.List.{drop_more}
+use Rattle.std.proofs.Common.{ℕ, List, [], ◌∷◌, ◌<◌, ◌≤◌, length, drop, get_or, ◌≡◌, sym, ap, ◌∙◌, arith}
+use Rattle.std.proofs.Common.{Some, suc, zero}
 use Rattle.cl_tree.specs.Syntax.{view}
 use Rattle.cl_meaning.proofs.Views.{view_out}
 use Rattle.cl_short_vec.specs.declared.marks.Marked.{Marked}

@@ -7,15 +7,15 @@ use Rattle.cl_model.specs.declared.program.Space.TheVariants as spaces
 use Rattle.cl_tree.specs.declared.tree.Form.{Form}
 use Rattle.cl_tree.specs.declared.tree.Form.TheVariants as forms
 use Rattle.cl_tree.specs.Syntax.{Syntax, node, Forest, first_of}
-use Rattle.cl_meaning.specs.Spelling.{setting_in, binary_in, is_set, dimensions_in}
+use Rattle.cl_meaning.specs.Spelling.{setting_in, is_set, dimensions_in}
 use Rattle.cl_meaning.specs.declared.operators.Setting.{Setting}
 use Rattle.cl_meaning.specs.declared.operators.Setting.TheVariants as settings
-use Rattle.cl_meaning.specs.Declarations.{form_of, word_of, parts_of, star_in}
+use Rattle.cl_meaning.specs.Declarations.{form_of, word_of, star_in}
 use Rattle.cl_meaning.specs.Kinds.{is_some}
 use Rattle.cl_short_vec.specs.declared.types.Vector.{Vector}
 use Rattle.cl_short_vec.specs.declared.kinds.Reach.TheVariants.{Value}
 use Rattle.cl_short_vec.specs.declared.kinds.Kind.{Kind}
-use Rattle.cl_short_vec.specs.declared.kinds.Kind.TheVariants.{Vectors, Pointer, Other}
+use Rattle.cl_short_vec.specs.declared.kinds.Kind.TheVariants.{Vectors}
 use Rattle.cl_short_vec.specs.declared.roles.Around.{Around}
 use Rattle.cl_short_vec.specs.declared.roles.Around.TheVariants as around
 use Rattle.cl_short_vec.specs.declared.roles.Role.{Role}

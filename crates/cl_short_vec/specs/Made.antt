@@ -3,7 +3,7 @@ use Rattle.std.specs.Prelude.{ℕ, List, Option, None, Some, if◌then◌else◌
 use Rattle.wg_num.specs.declared.types.Bin.{Bin}
 use Rattle.cl_tree.specs.declared.tree.Form.{Form}
 use Rattle.cl_tree.specs.declared.tree.Form.TheVariants as forms
-use Rattle.cl_tree.specs.Syntax.{Syntax, node}
+use Rattle.cl_tree.specs.Syntax.{Syntax}
 use Rattle.cl_meaning.specs.Spelling.{binary_in, prefix_in}
 use Rattle.cl_meaning.specs.Declarations.{form_of, word_of}
 use Rattle.cl_meaning.specs.declared.operators.Prefix.{Prefix}

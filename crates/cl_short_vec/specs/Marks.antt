@@ -6,7 +6,7 @@ use Rattle.cl_tree.specs.Syntax.{Syntax, node, Forest, none, more}
 use Rattle.cl_meaning.specs.Spelling.{name_in, binary_in, prefix_in, postfix_in, intrinsic_in}
 use Rattle.cl_short_vec.specs.declared.types.Vector.{Vector}
 use Rattle.cl_short_vec.specs.declared.kinds.Kind.{Kind}
-use Rattle.cl_short_vec.specs.declared.kinds.Kind.TheVariants.{Vectors, Pointer, Other}
+use Rattle.cl_short_vec.specs.declared.kinds.Kind.TheVariants.{Other}
 use Rattle.cl_short_vec.specs.Types.{vector_type, selection_in}
 use Rattle.cl_short_vec.specs.Kinds.{Names, later, is_vector, value_of, pointer_alone, joined_kind, prefix_kind}
 use Rattle.cl_short_vec.specs.Kinds.{postfix_kind, called_kind, cast_kind, is_operator}

@@ -12,8 +12,8 @@ use Rattle.cl_model.specs.declared.program.Space.{Space}
 use Rattle.cl_model.specs.declared.program.Space.TheVariants as spaces
 use Rattle.cl_tree.specs.declared.tree.Form.{Form}
 use Rattle.cl_tree.specs.declared.tree.Form.TheVariants as forms
-use Rattle.cl_tree.specs.Syntax.{Syntax, node, Forest, none, more, joined}
-use Rattle.cl_tree.specs.Nodes.{forest1, forest2, forest3}
+use Rattle.cl_tree.specs.Syntax.{Syntax, node, Forest, none}
+use Rattle.cl_tree.specs.Nodes.{forest1, forest2}
 use Rattle.cl_meaning.specs.Conversions.{is_comparison}
 use Rattle.cl_short_vec.specs.declared.nodes.Span.{Span}
 use Rattle.cl_short_vec.specs.declared.types.Vector.{Vector}

@@ -5,7 +5,6 @@ use Rattle.std.specs.Prelude.{Bool, true, false}
 use Rattle.wg_num.specs.declared.types.IntType.{IntType}
 use Rattle.wg_num.specs.declared.types.IntType.TheVariants.{Int}
 use Rattle.wg_num.specs.declared.types.Bin.{Bin}
-use Rattle.cl_tree.specs.declared.tree.Form.{Form}
 use Rattle.cl_tree.specs.declared.tree.Form.TheVariants as forms
 use Rattle.cl_tree.specs.Syntax.{Syntax, node}
 use Rattle.cl_meaning.specs.Spelling.{name_in}

@@ -1,29 +1,27 @@
 -- Where the nodes of a unit stand: whether a vector may stand there.
-use Rattle.std.specs.Prelude.{ℕ, List, Option, None, Some, nat_eq}
-use Rattle.std.specs.Prelude.{Bool, true, false, not, ◌&&◌, ◌||◌, if◌then◌else◌}
+use Rattle.std.specs.Prelude.{ℕ, List, Option, None, Some}
+use Rattle.std.specs.Prelude.{Bool, true, false, not, ◌&&◌, if◌then◌else◌}
 use Rattle.cl_model.specs.declared.program.Space.{Space}
 use Rattle.cl_tree.specs.declared.tree.Form.{Form}
 use Rattle.cl_tree.specs.declared.tree.Form.TheVariants as forms
-use Rattle.cl_tree.specs.Syntax.{Syntax, node}
 use Rattle.cl_meaning.specs.Spelling.{prefix_in, is_set}
 use Rattle.cl_meaning.specs.declared.operators.Prefix.{Prefix}
 use Rattle.cl_meaning.specs.declared.operators.Prefix.TheVariants as prefixes
 use Rattle.cl_meaning.specs.Types.{space_among}
 use Rattle.cl_meaning.specs.Declarations.{form_of, word_of, parts_of}
 use Rattle.cl_meaning.specs.Kinds.{is_some}
-use Rattle.cl_short_vec.specs.declared.types.Vector.{Vector}
-use Rattle.cl_short_vec.specs.declared.kinds.Reach.TheVariants.{Value, Variable, Element}
+use Rattle.cl_short_vec.specs.declared.kinds.Reach.TheVariants.{Value, Element}
 use Rattle.cl_short_vec.specs.declared.kinds.Kind.{Kind}
-use Rattle.cl_short_vec.specs.declared.kinds.Kind.TheVariants.{Vectors, Pointer, Other}
+use Rattle.cl_short_vec.specs.declared.kinds.Kind.TheVariants.{Vectors}
 use Rattle.cl_short_vec.specs.declared.roles.Around.{Around}
 use Rattle.cl_short_vec.specs.declared.roles.Around.TheVariants as around
 use Rattle.cl_short_vec.specs.declared.roles.Declaration.{Declaration}
 use Rattle.cl_short_vec.specs.declared.roles.Role.{Role}
 use Rattle.cl_short_vec.specs.declared.roles.Role.TheVariants.{Free, Used, Target, Base, Whole, Listed, Items, Head}
 use Rattle.cl_short_vec.specs.declared.roles.Role.TheVariants.{Barred, Outer, Typed, Declared}
-use Rattle.cl_short_vec.specs.Types.{vector_type, selection_in}
+use Rattle.cl_short_vec.specs.Types.{selection_in}
 use Rattle.cl_short_vec.specs.Kinds.{is_vector, is_variable}
-use Rattle.cl_short_vec.specs.Marks.{Mark, mark, Marks, unmarked, marking, tree_at, kind_at, back, front_kind}
+use Rattle.cl_short_vec.specs.Marks.{Mark, mark, Marks, unmarked, marking, tree_at, back, front_kind}
 use Rattle.cl_short_vec.specs.Marks.{front_type}
 
 -- ---- places

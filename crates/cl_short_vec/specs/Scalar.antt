@@ -1,7 +1,6 @@
 -- Expressions and types without vectors: a component is a variable or an element of its own, and what is added to a
 -- pointer to vectors is counted in components.
-use Rattle.std.specs.Prelude.{ℕ, List, [], ◌∷◌, ◌++◌, codes, Option, None, Some, if◌then◌else◌, Bool, true, false}
-use Rattle.wg_num.specs.declared.types.IntType.TheVariants as types
+use Rattle.std.specs.Prelude.{ℕ, List, [], ◌∷◌, Option, None, Some, if◌then◌else◌}
 use Rattle.wg_num.specs.declared.types.Bin.{Bin}
 use Rattle.wg_num.specs.declared.types.Bin.TheVariants as bins
 use Rattle.cl_tree.specs.declared.tree.Form.{Form}
@@ -19,7 +18,7 @@ use Rattle.cl_meaning.specs.declared.operators.Setting.TheVariants as settings
 use Rattle.cl_short_vec.specs.declared.nodes.Span.{Span}
 use Rattle.cl_short_vec.specs.declared.types.Vector.{Vector}
 use Rattle.cl_short_vec.specs.declared.kinds.Kind.{Kind}
-use Rattle.cl_short_vec.specs.declared.kinds.Kind.TheVariants.{Vectors, Pointer, Other}
+use Rattle.cl_short_vec.specs.declared.kinds.Kind.TheVariants.{Pointer, Other}
 use Rattle.cl_short_vec.specs.Types.{vector_in, selection_in}
 use Rattle.cl_short_vec.specs.Plain.{is_pointed}
 use Rattle.cl_short_vec.specs.Marks.{Mark, mark, Marks, unmarked, marking, kind_at}

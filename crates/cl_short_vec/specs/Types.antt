@@ -3,7 +3,7 @@ use Rattle.std.specs.Prelude.{ℕ, zero, suc, ◌+◌, ◌/◌, nat_le, nat_lt, 
 use Rattle.std.specs.Prelude.{List, [], ◌∷◌, ◌++◌, map, length, take, drop, slice_index, Option, None, Some, codes}
 use Rattle.std.specs.Prelude.{Bool as Test, true, false, ◌==◌}
 use Rattle.wg_num.specs.declared.types.IntType.{IntType}
-use Rattle.wg_num.specs.declared.types.IntType.TheVariants.{Bool, Char, Uchar, Short, Ushort, Int, Uint, Long, Ulong}
+use Rattle.wg_num.specs.declared.types.IntType.TheVariants.{Char, Uchar, Short, Ushort, Int, Uint, Long, Ulong}
 use Rattle.wg_num.specs.Types.{same_type}
 use Rattle.cl_token.specs.Bytes.{is_hexadecimal_digit}
 use Rattle.cl_token.specs.Number.{digit_value}

@@ -1,6 +1,6 @@
 -- The unit without vectors that stands for a unit with vectors: a vector statement becomes a line for each of its
 -- steps, and a vector variable one variable for each component.
-use Rattle.std.specs.Prelude.{ℕ, ◌∷◌, ◌++◌, List, [], codes, nat_eq, Option, None, Some, if◌then◌else◌}
+use Rattle.std.specs.Prelude.{ℕ, ◌∷◌, List, [], codes, nat_eq, Option, None, Some, if◌then◌else◌}
 use Rattle.std.specs.Prelude.{Bool, true, false}
 use Rattle.wg_num.specs.declared.types.IntType.{IntType}
 use Rattle.wg_num.specs.declared.types.IntType.TheVariants as types
@@ -11,7 +11,7 @@ use Rattle.cl_tree.specs.declared.tree.Form.TheVariants as forms
 use Rattle.cl_tree.specs.Syntax.{Syntax, node, Forest, none, more, joined}
 use Rattle.cl_tree.specs.Nodes.{forest1, forest2, forest3}
 use Rattle.cl_meaning.specs.Spelling.{name_in, setting_in, dimensions_in, is_set}
-use Rattle.cl_meaning.specs.Declarations.{form_of, word_of, parts_of, name_token}
+use Rattle.cl_meaning.specs.Declarations.{form_of, word_of, name_token}
 use Rattle.cl_short_vec.specs.declared.nodes.Span.{Span}
 use Rattle.cl_short_vec.specs.declared.types.Vector.{Vector}
 use Rattle.cl_short_vec.specs.declared.kinds.Reach.TheVariants.{Element}
@@ -20,7 +20,7 @@ use Rattle.cl_short_vec.specs.declared.kinds.Kind.TheVariants.{Vectors}
 use Rattle.cl_short_vec.specs.Types.{numbers, vector_type}
 use Rattle.cl_short_vec.specs.Kinds.{no_names, is_vector}
 use Rattle.cl_short_vec.specs.Plain.{has_vectors}
-use Rattle.cl_short_vec.specs.Marks.{Mark, mark, Marks, unmarked, marking, tree_at, kind_at, front_type, back, marked}
+use Rattle.cl_short_vec.specs.Marks.{Mark, mark, Marks, unmarked, marking, tree_at, kind_at, back, marked}
 use Rattle.cl_short_vec.specs.Faults.{components_of}
 use Rattle.cl_short_vec.specs.Order.{Named, Step, Offset, Number, Copy, Load, Set, Store, type_in, under, operator_in}
 use Rattle.cl_short_vec.specs.Order.{setting_steps, initial_steps}

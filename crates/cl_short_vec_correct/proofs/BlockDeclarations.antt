@@ -33,12 +33,12 @@ use Rattle.cl_short_vec.specs.Scalar.{scalar, scalars}
 use Rattle.cl_short_vec.specs.Unit.{declared_name, name_span, declarators_by, initialiser, declarator_lines}
 use Rattle.cl_short_vec.specs.Unit.{vector_lines, lines_by}
 use Rattle.cl_short_vec.specs.Unit.{declaration_lines}
-use Rattle.cl_short_vec_sound.proofs.Small.{SmallMarks, SmallNames, marked_small, later_small, behind_small, type_small}
-use Rattle.cl_short_vec_sound.proofs.Small.{behind_declarator_small, SmallVector}
-use Rattle.cl_short_vec_sound.proofs.Scalars.{type_is}
-use Rattle.cl_short_vec_sound.proofs.Steps.{IsValue, initial_are}
-use Rattle.cl_short_vec_sound.proofs.Declarations.{vector_declarator, declarator_lines_are, vector_lines_are}
-use Rattle.cl_short_vec_sound.proofs.Declarations.{declaration_lines_are}
+use Rattle.cl_short_vec.proofs.Small.{SmallMarks, SmallNames, marked_small, later_small, behind_small, type_small}
+use Rattle.cl_short_vec.proofs.Small.{behind_declarator_small, SmallVector}
+use Rattle.cl_short_vec_correct.proofs.Scalars.{type_is}
+use Rattle.cl_short_vec_correct.proofs.Steps.{IsValue, initial_are}
+use Rattle.cl_short_vec_correct.proofs.FormDeclarations.{vector_declarator, declarator_lines_are, vector_lines_are}
+use Rattle.cl_short_vec_correct.proofs.FormDeclarations.{declaration_lines_are}
 use Rattle.cl_short_vec_correct.specs.Each.{DeclaratorDoes, DeclaratorsDo, TypedDo, DeclarationDoes}
 use Rattle.cl_short_vec_correct.proofs.Says.{IsOwn, Own, AllOwn, Says}
 use Rattle.cl_short_vec_correct.proofs.Whole.{behind_whole, behind_declarator_whole}

@@ -1,5 +1,6 @@
 -- Lines of a block behind each other: what is in hand behind some of them, and what each of them is sound for.
 use Rattle.std.proofs.Common.{◌≡◌, List, [], Some, Bool, false, refl, ap, sym, ◌∙◌, subst, inl, inr}
+use Rattle.cl_model.specs.Calls.{function_at}
 use Rattle.cl_model.specs.Tree.{Function, Program}
 use Rattle.cl_model.specs.Valid.{Scope}
 use Rattle.cl_tree.specs.declared.tree.Form.TheVariants as forms
@@ -19,7 +20,7 @@ use Rattle.cl_check_sound.proofs.Induction.{of_statement, of_lines}
 use Rattle.cl_check_sound.proofs.Parts.{line_behind, line_sound}
 use Rattle.cl_check_sound.proofs.Stating.{Here, here_later, here_line}
 use Rattle.cl_short_vec.specs.Kinds.{Names}
-use Rattle.cl_short_vec_sound.proofs.Small.{SmallNames}
+use Rattle.cl_short_vec.proofs.Small.{SmallNames}
 use Rattle.cl_short_vec_correct.proofs.Says.{Says, OwnNames}
 use Rattle.cl_short_vec_correct.proofs.Stands.{Stands, Ends}
 use Rattle.cl_short_vec_correct.proofs.Moves.{ends_before}
@@ -134,4 +135,5 @@ module _ (P : Program) (f : Function) (asked : Asked) (vars : List Variable) (ar
         named = named;
         known = lines_known ps env b front h s st.here.within st.known;
         flags = ap (λ z. z.flags) g.frame ∙ st.flags;
+        owned = ap (λ z. (function_at P z.owner.number).variables) g.frame ∙ st.owned;
       }

@@ -2,6 +2,7 @@
 use Rattle.std.proofs.Common.{◌≡◌, ℕ, ◌≤◌, List, [], ◌∷◌, ◌++◌, length, None, true, false}
 use Rattle.std.proofs.Common.{refl, ap, sym, ◌∙◌, subst, arith}
 use Rattle.std.proofs.lemmas.Bool.{false≢true}
+use Rattle.std.specs.Prelude.{codes}
 use Rattle.wg_num.specs.declared.types.Place.{Place as Position}
 use Rattle.cl_model.specs.Tree as tree
 use Rattle.cl_model.specs.Tree.{Program, Function, empty, also}
@@ -9,7 +10,7 @@ use Rattle.cl_tree.specs.declared.tree.Form.TheVariants as forms
 use Rattle.cl_tree.specs.Syntax.{node, Forest, none, more, joined}
 use Rattle.cl_meaning.specs.declared.kind.Role.{Role}
 use Rattle.cl_meaning.specs.Environment.{Env, Scope, Variable, Array, empty_scope, meaning_in}
-use Rattle.cl_meaning.specs.Visible.{Before, behind, behind_parts, opened, apart}
+use Rattle.cl_meaning.specs.Visible.{Before, behind, behind_parts, opened, apart, left, restored}
 use Rattle.cl_meaning.specs.Faults.{Asked}
 use Rattle.cl_meaning.specs.Statements.{all_lines, lines_of as lines_in}
 use Rattle.cl_meaning.specs.Meant.{meant, parts_meant}
@@ -18,6 +19,8 @@ use Rattle.cl_check_sound.specs.Sound.{SoundTree, SoundParts}
 use Rattle.cl_check_sound.proofs.Grown.{Extends, Within, is_deep, deep_opened}
 use Rattle.cl_check_sound.proofs.Facing.{Finals, At, at_opened, found_opened}
 use Rattle.cl_check_sound.proofs.Parts.{block_behind, block_sound, block_built, line_behind, line_meant}
+use Rattle.cl_short_vec.specs.declared.nodes.Span.{Span}
+use Rattle.cl_short_vec.specs.Nodes.{at}
 use Rattle.cl_short_vec_correct.specs.Doing.{nothing_got}
 use Rattle.cl_short_vec_correct.proofs.Running.{Running}
 use Rattle.cl_short_vec_correct.proofs.LeafRuns.{Place}
@@ -61,6 +64,12 @@ starts_inside start d = record {
   own = tt;
   held = tt;
 }
+
+-- a block leaves the function in which it stands
+pub block_owner : (env : Env) (s : Span) (ls : Forest) →
+    (behind env (at forms.BlockNode (codes "{ }") s ls)).owner ≡ env.owner
+unfolding behind restored left
+block_owner env s ls = refl
 
 module _ (P : Program) (g : Function) (asked : Asked) (vars : List Variable) (arrs : List Array)
     (fin : Finals g vars arrs) where

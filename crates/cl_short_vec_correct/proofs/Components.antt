@@ -37,7 +37,7 @@ use Rattle.cl_short_vec_correct.specs.Values.{Leaves, worth_by, worth_in, items_
 use Rattle.cl_short_vec_correct.specs.Values.{all_worth, list_worth, inside_worth, filled_worth, called_value}
 use Rattle.cl_short_vec_correct.specs.Doing.{first_at}
 use Rattle.cl_short_vec_correct.proofs.Ready.{Ready, Helping}
-use Rattle.cl_short_vec_correct.proofs.LineWords.{helper_name, component_is_name, alone_name}
+use Rattle.cl_short_vec.proofs.OwnNames.{helper_name, component_is_name, alone_name}
 use Rattle.cl_short_vec_correct.proofs.Trees.{Typed, worth_is, type_is, variable_typed, component_typed, prefixed_typed}
 use Rattle.cl_short_vec_correct.proofs.Calls.{AllTyped, call_typed}
 use Rattle.cl_short_vec_correct.proofs.Seen.{many_parts, Seen, AllSeen, cast_seen, signed_seen, joined_seen}

@@ -22,9 +22,9 @@ use Rattle.cl_short_vec.specs.Kinds as kinds
 use Rattle.cl_short_vec.specs.Marks.{kind_at, marked, marked_parts}
 use Rattle.cl_short_vec.specs.Nodes.{component_name}
 use Rattle.cl_short_vec.specs.Scalar.{scalar, scalars}
-use Rattle.cl_short_vec_sound.proofs.Small.{SmallMarks}
-use Rattle.cl_short_vec_sound.proofs.Scalars.{type_is}
-use Rattle.cl_short_vec_sound.proofs.Declarations.{kept, declarators_are}
+use Rattle.cl_short_vec.proofs.Small.{SmallMarks}
+use Rattle.cl_short_vec_correct.proofs.Scalars.{type_is}
+use Rattle.cl_short_vec_correct.proofs.FormDeclarations.{kept, declarators_are}
 use Rattle.cl_short_vec_correct.proofs.Says.{AllOwn, Says, OwnNames, plain_apart}
 use Rattle.cl_short_vec_correct.proofs.Behind.{EachApart, declaration_other}
 use Rattle.cl_short_vec_correct.proofs.Spoken.{says_kept, owns_named}

@@ -43,7 +43,8 @@ use Rattle.cl_short_vec_correct.specs.Sources.{is_sourced}
 use Rattle.cl_short_vec_correct.specs.Emits as emits
 use Rattle.cl_short_vec_correct.specs.Emits.{Known, Emits}
 use Rattle.cl_short_vec_correct.proofs.Adds.{Adds, IsOwn}
-use Rattle.cl_short_vec_correct.proofs.LineWords.{HasNoBlank, has_point, component_point}
+use Rattle.cl_short_vec.proofs.OwnNames.{HasNoBlank}
+use Rattle.cl_short_vec_correct.proofs.LineWords.{has_point, component_point}
 use Rattle.cl_short_vec_correct.proofs.Declared.{behind_typed, IsTyped}
 use Rattle.cl_short_vec_correct.proofs.Initial.{expression_initial}
 use Rattle.cl_short_vec_correct.proofs.Lines.{initial_adds, initial_is}

@@ -4,18 +4,14 @@
 use Rattle.std.proofs.Common.{◌≡◌, ℕ, zero, suc, ◌+◌, ◌≤◌, ◌<◌, nat_eq, List, [], ◌∷◌, ◌++◌, Option, None, Some}
 use Rattle.std.proofs.Common.{Bool, true, false, if◌then◌else◌, refl, ap, sym, ◌∙◌, subst, inl, inr, ◌⊎◌, arith}
 use Rattle.std.proofs.lemmas.Bool.Decides.{nat_tests}
-use Rattle.std.proofs.lemmas.List.Splits.{slice_split-cons_no}
 use Rattle.std.specs.Prelude.{codes, decimal}
 use Rattle.std.specs.Str.{bytes_eq}
-use Rattle.std.specs.List.{filter, slice_split, onto_first, count_by}
-use lib.Pointwise.{pointwise}
 use Rattle.wg_num.specs.declared.types.IntType.{IntType}
 use Rattle.cl_model.specs.Lists.{Each}
 use Rattle.cl_tree.specs.declared.tree.Form.TheVariants as forms
 use Rattle.cl_tree.specs.Syntax.{Syntax, node, Forest, none, more, joined}
 use Rattle.cl_tree.specs.Nodes.{forest1}
-use Rattle.cl_meaning.specs.OwnWords.{is_blank, has_bytes}
-use Rattle.cl_meaning.specs.Spelling.{name_in, declared_in, dimensions_in, is_const}
+use Rattle.cl_meaning.specs.Spelling.{name_in, declared_in, is_const}
 use Rattle.cl_meaning.specs.declared.types.Declared.{Declared}
 use Rattle.cl_meaning.specs.Environment.{Env}
 use Rattle.cl_meaning.specs.Declarations.{form_of, word_of, is_star}
@@ -39,12 +35,13 @@ use Rattle.cl_short_vec.specs.Order.{list_steps, inside_steps, sets}
 use Rattle.cl_short_vec.specs.Parts.{Assigned, assigned_part}
 use Rattle.cl_short_vec.specs.Scalar.{scalar}
 use Rattle.cl_short_vec.specs.Unit.{line_of, lines_of, component_declarators}
-use Rattle.cl_short_vec_sound.proofs.Nodes.{initial_is}
-use Rattle.cl_short_vec_sound.proofs.Parts.{assigned_is}
-use Rattle.cl_short_vec_sound.proofs.Steps.{StepIs, StepsAre, lines_are}
+use Rattle.cl_short_vec_correct.proofs.Nodes.{initial_is}
+use Rattle.cl_short_vec_correct.proofs.Parts.{assigned_is}
+use Rattle.cl_short_vec_correct.proofs.Steps.{StepIs, StepsAre, lines_are}
 use Rattle.cl_short_vec_correct.specs.Sources.{is_sourced}
-use Rattle.cl_short_vec_correct.proofs.LineWords.{HasNoBlank, IsName, has_point, helper_name, component_is_name}
-use Rattle.cl_short_vec_correct.proofs.LineWords.{alone_name, set_name, set_dimensions}
+use Rattle.cl_short_vec.proofs.OwnNames.{HasNoBlank, IsName, helper_name, component_is_name, alone_name, set_name}
+use Rattle.cl_short_vec.proofs.OwnNames.{set_dimensions, alone_dimensions}
+use Rattle.cl_short_vec_correct.proofs.LineWords.{has_point}
 use Rattle.cl_short_vec_correct.proofs.Says.{Tells, pointed_apart, components_apart}
 use Rattle.cl_short_vec_correct.proofs.Behind.{EachApart, Leaves, leaves_same, leaves_then, declaration_other}
 use Rattle.cl_short_vec_correct.proofs.Behind.{declaration_outer, IsPlain, ArePlain, IsAmong, declaration_tells}
@@ -316,21 +313,6 @@ sets_tell type dd a x (c ∷ cs) j env q t e p b d k =
     by R g (inr k) = g (inr (set_tells type dd a x c j env q t e p b d (inr k)).0)
 
 -- ---- components without an initialiser
-
--- a word without blanks has no dimensions but for the bracket alone
-alone_split : (n : List ℕ) → HasNoBlank n → slice_split is_blank n ≡ n ∷ []
-alone_split [] h = refl
-alone_split (b ∷ n) h = slice_split-cons_no is_blank b n h.0 ∙ ap (onto_first b) (alone_split n h.1)
-
-alone_count : (n : List ℕ) → pointwise nat_eq n (codes "[") ≡ false →
-    count_by (λ p. pointwise nat_eq p (codes "[")) (filter has_bytes (n ∷ [])) ≡ 0
-alone_count [] h = refl
-alone_count (b ∷ n) h = rw h (refl)
-
-alone_dimensions : (n : List ℕ) → IsName n → dimensions_in n ≡ 0
-alone_dimensions n h =
-    ap (λ ps. count_by (λ p. pointwise nat_eq p (codes "[")) (filter has_bytes ps)) (alone_split n h.0) ∙
-    alone_count n h.1
 
 pub components_plain : (x : Named) (cs : List ℕ) → HasNoBlank x.name → ArePlain (component_declarators x cs)
 components_plain x [] b = tt

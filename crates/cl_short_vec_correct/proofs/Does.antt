@@ -13,7 +13,7 @@ use Rattle.cl_model_typed.proofs.Histories.{stays, start_fits}
 use Rattle.cl_meaning.specs.Environment.{Env}
 use Rattle.cl_short_vec.specs.Order.{Step}
 use Rattle.cl_short_vec_correct.specs.Values.{Leaves, Worth}
-use Rattle.cl_short_vec_correct.specs.Doing.{nothing_got, Helps, IsDeclaredAs, DoSteps, Along}
+use Rattle.cl_short_vec_correct.specs.Doing.{nothing_got, Helps, IsDeclaredAs, HasDeclared, DoSteps, Along}
 use Rattle.cl_short_vec_correct.specs.Emits.{Emits}
 use Rattle.cl_short_vec_correct.specs.Law.{StepsDone}
 use Rattle.cl_short_vec_correct.proofs.Evaluated.{D, it, peel, then_further, one_step}
@@ -29,19 +29,19 @@ module _ (program : Program) (env later : Env) where
       at e vs f to deeds s refl h d
 
   -- Statements of which each stands for a step do these steps, in order, with these results.
-  pub does : (steps : List Step) (result : Leaves → Worth) (ss : Statements) →
+  pub does : (steps : List Step) (result : Leaves → Worth) (ss : Statements) → HasDeclared program later →
       Emits env later (Helps env steps) result [] nothing_got steps ss →
       DoSteps program env later steps result ss
-  does steps result ss lines launch buffers at k rest from to frame frames deeds comes fr ts d =
+  does steps result ss declared lines launch buffers at k rest from to frame frames deeds comes fr ts d =
       let H = Helps env steps in
       let q : from ≡ it from.number (in_order at k ss rest) from.values (frame ∷ frames) =
       ap (λ u. it from.number u from.values from.frames) ts ∙
       ap (λ z. it from.number (in_order at k ss rest) from.values z) fr in
       let fits = stays program launch comes.typed comes.reached (start_fits program launch comes.typed comes.item) in
+      let there : later.owner.number ≡ frame.function = sym comes.function ∙ ap (λ fs. (frame_of fs).function) fr in
       let types : (x : ℕ) (of : IntType) → IsDeclaredAs later x of →
-      HasVariable (function_at program frame.function) x of = λ x of there. subst
-      (λ fs. HasVariable (function_at program (frame_of fs).function) x of) fr
-      (comes.declared x of there) in
+      HasVariable (function_at program frame.function) x of =
+      λ x of h. subst (λ z. HasVariable (function_at program z) x of) there (declared x of h) in
       subst (λ i. Along program launch buffers env later H result rest steps nothing_got i deeds to) (sym q)
       (follows program launch buffers env later H result rest (held launch buffers H result rest) comes.typed
       frame.function types lines at k from.number from.values frame frames to deeds (subst (Fits program) q fits) refl
@@ -70,12 +70,11 @@ module _ (program : Program) (env later : Env) where
               before = comes.before ++ [];
               reached = then_further program launch buffers comes.reached
                   (subst (λ a. D program launch buffers a [] j) (sym q) (one_step program launch buffers i j refl));
-              declared = λ x of there. subst (λ fs. HasVariable (function_at program (frame_of fs).function) x of) fr
-                  (comes.declared x of there);
+              function = sym (ap (λ fs. (frame_of fs).function) fr) ∙ comes.function;
             }) refl refl g)
       ])
 
 -- Statements that stand for steps do them, by themselves and as one block.
 pub steps_done : StepsDone
-steps_done program env later steps result ss lines =
-    let d = does program env later steps result ss lines in (d, does_block program env later steps result ss d)
+steps_done program env later steps result ss declared lines =
+    let d = does program env later steps result ss declared lines in (d, does_block program env later steps result ss d)

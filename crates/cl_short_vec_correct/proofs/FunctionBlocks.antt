@@ -1,7 +1,8 @@
 -- Each vector statement of a function of the unit does its steps, where those of the lines of a block do.
-use Rattle.std.proofs.Common.{◌≡◌, ℕ, List, [], length, None, true, false, refl, ap, sym, ◌∙◌, subst}
+use Rattle.std.proofs.Common.{◌≡◌, ℕ, List, [], length, map, None, true, false, refl, ap, sym, ◌∙◌, subst}
 use Rattle.std.specs.Str.{bytes_eq}
 use Rattle.cl_model.specs.Tree.{Program, Function}
+use Rattle.cl_model.specs.Calls.{function_at}
 use Rattle.cl_model.specs.Valid.{numbers_below}
 use Rattle.cl_tree.specs.declared.tree.Form.TheVariants as forms
 use Rattle.cl_tree.specs.Syntax.{node, Forest}
@@ -29,6 +30,7 @@ use Rattle.cl_short_vec_correct.specs.Each.{EachDoes}
 use Rattle.cl_short_vec_correct.proofs.Says.{AllOwn, says_nothing, owns_nothing}
 use Rattle.cl_short_vec_correct.proofs.Seen.{Intrinsics}
 use Rattle.cl_short_vec_correct.proofs.KnownNames.{known_same}
+use Rattle.cl_short_vec_correct.proofs.Numbered.{IsStored, typed_variables}
 use Rattle.cl_short_vec_correct.proofs.Stands.{Stands, Ends}
 use Rattle.cl_short_vec_correct.proofs.Forms.{AllStay, Does, PartsDoes, parts_stay, block_stays}
 use Rattle.cl_short_vec_correct.proofs.UnitNames.{UnitNames}
@@ -115,8 +117,9 @@ module _ (P : Program) (asked : Asked) (each : LinesDo P asked) where
     block_does : (us : OneScope u) (fits : (g : Function) → Fits P g asked.missing u) (seen : Scoped [] u)
         (named : (g : Function) (q : List ℕ) → bytes_eq (name_in w) q ≡ true →
         MeaningFits P g asked.missing u.functions q (defined_meaning (definition_of u (name_in w)))) →
-        Intrinsics u → u.flags ≡ false → Does P names u (node forms.FunctionNode w f l parts)
-    block_does us fits seen named known flags =
+        Intrinsics u → u.flags ≡ false → IsStored P (in_definition u (name_in w)).owner.number u w made →
+        Does P names u (node forms.FunctionNode w f l parts)
+    block_does us fits seen named known flags stored =
         let n = x.inner in
         let kn = x.known (known_same u (in_definition u (name_in w)) refl refl known) in
         let st : Stands P plain asked vars arrs n env = record {
@@ -129,6 +132,8 @@ module _ (P : Program) (asked : Asked) (each : LinesDo P asked) where
           named = x.unit_names.named;
           known = kn;
           flags = ap (λ (z : Env). z.flags) x.fr.entered.frame ∙ flags;
+          owned = ap (λ z. (function_at P z).variables) x.fr.entered.number ∙ stored ∙
+              ap (λ z. map (λ (v : Variable). v.kind) z) (sym (typed_variables asked u [] w f l made x.fr));
         } in
         let so = subst (SoundParts asked env forms.BlockNode None) same_lines
         (functions.sound asked u [] w f l made x.fr).1 in
@@ -149,10 +154,13 @@ module _ (P : Program) (asked : Asked) (each : LinesDo P asked) where
       ((g : Function) → Fits P g asked.missing u) → Scoped [] u → ((g : Function) (q : List ℕ) →
       bytes_eq (name_in w) q ≡ true →
       MeaningFits P g asked.missing u.functions q (defined_meaning (definition_of u (name_in w)))) →
-      Intrinsics u → u.flags ≡ false → Does P names u (node forms.FunctionNode w f l parts)
-  function_does u names w f l parts h wo r un s us fits seen named known flags =
+      Intrinsics u → u.flags ≡ false → IsStored P (in_definition u (name_in w)).owner.number u w
+      (all_scalarised (marked_parts forms.FunctionNode parts names true parts)) →
+      Does P names u (node forms.FunctionNode w f l parts)
+  function_does u names w f l parts h wo r un s us fits seen named known flags stored =
       let made = all_scalarised (marked_parts forms.FunctionNode parts names true parts) in
       let s' = subst (SoundTree asked u roles.Other) (function_made names w f l parts) s in
       block_does u names w f l parts
       (blocked P asked (in_definition u (name_in w)) [] None true (bare w) names parts parts h wo
       (function_stays names w f l parts r) un (function_parts asked u w f l made s')) us fits seen named known flags
+      stored

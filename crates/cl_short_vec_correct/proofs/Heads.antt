@@ -38,12 +38,13 @@ use Rattle.cl_short_vec.specs.Nodes.{component_name}
 use Rattle.cl_short_vec.specs.Scalar.{scalar, scalars}
 use Rattle.cl_short_vec.specs.Unit.{declared_name, component_declarators, declarators_by}
 use Rattle.cl_short_vec.specs.Unit.{all_declarators, declaration_by, scalarised}
-use Rattle.cl_short_vec_sound.proofs.Small.{SmallNames, SmallVector, marked_small, behind_small, type_small}
-use Rattle.cl_short_vec_sound.proofs.Small.{behind_declarator_small}
-use Rattle.cl_short_vec_sound.proofs.Scalars.{type_is}
-use Rattle.cl_short_vec_sound.proofs.Declarations.{vector_declarator, vector_declarators}
-use Rattle.cl_short_vec_sound.proofs.Units.{whole_declaration, simple_is}
-use Rattle.cl_short_vec_correct.proofs.LineWords.{declared_with, front_blank}
+use Rattle.cl_short_vec.proofs.Small.{SmallNames, SmallVector, marked_small, behind_small, type_small}
+use Rattle.cl_short_vec.proofs.Small.{behind_declarator_small}
+use Rattle.cl_short_vec_correct.proofs.Scalars.{type_is}
+use Rattle.cl_short_vec_correct.proofs.FormDeclarations.{vector_declarator, vector_declarators}
+use Rattle.cl_short_vec_correct.proofs.FormUnits.{whole_declaration, simple_is}
+use Rattle.cl_short_vec.proofs.OwnNames.{front_blank}
+use Rattle.cl_short_vec_correct.proofs.LineWords.{declared_with}
 use Rattle.cl_short_vec_correct.proofs.Says.{Own, AllOwn, Says, OwnNames, Tells, says_same}
 use Rattle.cl_short_vec_correct.proofs.Whole.{behind_whole}
 use Rattle.cl_short_vec_correct.proofs.Reaches.{behind_named}

@@ -27,12 +27,13 @@ use Rattle.cl_short_vec.specs.Order.{Named, Step, sets, steps_of, initial_steps}
 use Rattle.cl_short_vec.specs.Parts.{Assigned, assigned_part}
 use Rattle.cl_short_vec.specs.Unit.{lines_of, declared_name, declarator_lines}
 use Rattle.cl_short_vec_correct.specs.Values.{set_worth}
-use Rattle.cl_short_vec_correct.specs.Doing.{Got, nothing_got, leaves_among, Helps, Aside}
+use Rattle.cl_short_vec_correct.specs.Doing.{Got, nothing_got, leaves_among, Helps, Aside, HasDeclared}
 use Rattle.cl_short_vec_correct.specs.Emits.{Known, Emits}
 use Rattle.cl_short_vec_correct.specs.Each.{initial_of, DeclaratorDoes}
 use Rattle.cl_short_vec_correct.proofs.Does.{steps_done}
 use Rattle.cl_short_vec_correct.proofs.Adds.{IsOwn}
-use Rattle.cl_short_vec_correct.proofs.LineWords.{HasNoBlank, has_point}
+use Rattle.cl_short_vec.proofs.OwnNames.{HasNoBlank}
+use Rattle.cl_short_vec_correct.proofs.LineWords.{has_point}
 use Rattle.cl_short_vec_correct.proofs.Declared.{behind_typed}
 use Rattle.cl_short_vec_correct.proofs.Trees.{Typed}
 use Rattle.cl_short_vec_correct.proofs.StepFits.{LeafFits, Ordered, all_done}
@@ -170,9 +171,10 @@ module _ (P : Program) (g : Function) (asked : Asked) (vars : List Variable) (ar
         by (inr l) = let b = help.1 in absurd (omega arith)
 
     -- the declarator does its steps
-    pub declarator_does : (sites : List Position) → DeclaratorDoes P start sites v type d (Some e)
-    declarator_does sites = (
+    pub declarator_does : HasDeclared P behind_lines → (sites : List Position) →
+        DeclaratorDoes P start sites v type d (Some e)
+    declarator_does declared sites = (
       aside,
       (steps_done P start behind_lines steps (set_worth a) (all_lines (parts_meant start forms.BlockNode false sites
-          (declarator_lines v type d (Some e))).pieces) (initial_emits sites)).0,
+          (declarator_lines v type d (Some e))).pieces) declared (initial_emits sites)).0,
     )

@@ -62,7 +62,8 @@ use Rattle.cl_short_vec_correct.specs.Emits.{Known, knows, IsIn, Fresh, Spares, 
 use Rattle.cl_short_vec_correct.proofs.Adds.{Adds}
 use Rattle.cl_short_vec_correct.proofs.Alike.{alike}
 use Rattle.cl_short_vec_correct.proofs.Sourced.{Unpointed, SourcedMark, names_same, scalar_unpointed, address_unpointed}
-use Rattle.cl_short_vec_correct.proofs.LineWords.{declared_with, IsName, helper_name, component_is_name}
+use Rattle.cl_short_vec.proofs.OwnNames.{IsName, helper_name, component_is_name}
+use Rattle.cl_short_vec_correct.proofs.LineWords.{declared_with}
 use Rattle.cl_short_vec_correct.proofs.Declared.{behind_typed, IsTyped}
 use Rattle.cl_short_vec_correct.proofs.Initial.{expression_initial, address_expression}
 use Rattle.cl_short_vec_correct.proofs.Pieces.{meant_kind, index_of, star_behind, variable_behind}

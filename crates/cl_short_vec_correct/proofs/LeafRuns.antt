@@ -132,6 +132,12 @@ module _ (P : Program) (g : Function) (asked : Asked) (vars : List Variable) (ar
   lines_extend env ls q = (of_lines asked StatementGrows LinesGrow SwitchGrows (growing asked) env [] q.before ls
       q.shaped q.sound q.within false).variables
 
+  -- and leave the function in which they stand
+  pub lines_owner : (env : Env) (ls : Forest) → Place env ls →
+      (behind_parts env forms.BlockNode false ls).owner ≡ env.owner
+  lines_owner env ls q = ap (λ z. z.owner) (of_lines asked StatementGrows LinesGrow SwitchGrows (growing asked) env []
+      q.before ls q.shaped q.sound q.within false).frame
+
   module _ (start later : Env) (scope : Scope) (helps : ℕ → Type 0) (result : Leaves → Worth) (limit : ℕ)
       (plain : start.flags ≡ false) (seen : Scoped scope start)
       (below : Each (λ x. x < length start.variables) scope)

@@ -27,10 +27,10 @@ use Rattle.cl_short_vec.specs.Order.{Named, Step, Copy, Load, type_in, count_in,
 use Rattle.cl_short_vec.specs.Order.{element_steps, steps_by, steps_in, all_steps, list_steps}
 use Rattle.cl_short_vec.specs.Order.{inside_steps, is_element_in}
 use Rattle.cl_short_vec.specs.Scalar.{scalar}
-use Rattle.cl_short_vec_sound.proofs.Small.{SmallKind, SmallMark, SmallMarks}
-use Rattle.cl_short_vec_sound.proofs.Scalars.{expression_is}
+use Rattle.cl_short_vec.proofs.Small.{SmallKind, SmallMark, SmallMarks}
+use Rattle.cl_short_vec_correct.proofs.Scalars.{expression_is}
 use Rattle.cl_short_vec_correct.specs.Sources.{is_sourced, Sourced, AllSourced}
-use Rattle.cl_short_vec_correct.proofs.LineWords.{front_blank}
+use Rattle.cl_short_vec.proofs.OwnNames.{front_blank}
 use Rattle.cl_short_vec_correct.proofs.Sourced.{SourcedMark, marked_sourced}
 use Rattle.cl_short_vec_correct.proofs.StepFits.{IsElementMark, ComponentFits, LeafFits}
 use Rattle.cl_short_vec_correct.proofs.Says.{Says}

@@ -1,3 +1,10 @@
+pub mod Words
+pub mod Nodes
+pub mod Parts
+pub mod Scalars
+pub mod Steps
+pub mod FormDeclarations
+pub mod FormUnits
 pub mod Numbers
 pub mod Evaluated
 pub mod Follows
@@ -34,6 +41,7 @@ pub mod Values
 pub mod Fits
 pub mod FittingTrees
 pub mod Says
+pub mod Numbered
 pub mod Stands
 pub mod Moves
 pub mod Forms

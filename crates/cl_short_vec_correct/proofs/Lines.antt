@@ -39,8 +39,9 @@ use Rattle.cl_short_vec.specs.Scalar.{scalar}
 use Rattle.cl_short_vec.specs.Unit.{pointed_at, address_at, offset_line, number_line, copy_line, helped_element}
 use Rattle.cl_short_vec.specs.Unit.{load_line, set_line, store_line}
 use Rattle.cl_short_vec_correct.proofs.Adds.{Adds, variable_adds, inner_scope, IsOwn, kept_own}
-use Rattle.cl_short_vec_correct.proofs.LineWords.{HasNoBlank, IsName, helper_name, component_is_name, alone_name}
-use Rattle.cl_short_vec_correct.proofs.LineWords.{set_name, set_is_set, set_dimensions, declared_with, typed_declared}
+use Rattle.cl_short_vec.proofs.OwnNames.{HasNoBlank, IsName, helper_name, component_is_name, alone_name, set_name}
+use Rattle.cl_short_vec.proofs.OwnNames.{set_is_set, set_dimensions}
+use Rattle.cl_short_vec_correct.proofs.LineWords.{declared_with, typed_declared}
 use Rattle.cl_short_vec_correct.proofs.LineWords.{spaced_declared, plain_setting, index_postfix, long_literal}
 use Rattle.cl_short_vec_correct.proofs.Pieces.{made_as, operand_same, variable_behind, number_behind, variable_meant}
 use Rattle.cl_short_vec_correct.proofs.Pieces.{number_meant, index_behind, index_of, element_meant, assign_behind}

@@ -34,15 +34,18 @@ use Rattle.cl_short_vec.specs.Order.{Step, Offset, Number, Copy, Load, Set, Stor
 use Rattle.cl_short_vec.specs.Parts.{assigned_part}
 use Rattle.cl_short_vec.specs.Scalar.{component_words, scalar}
 use Rattle.cl_short_vec.specs.Unit.{declared_name, declarator_lines}
-use Rattle.cl_short_vec_sound.proofs.Small.{marked_small}
-use Rattle.cl_short_vec_sound.proofs.Parts.{assigned_is}
-use Rattle.cl_short_vec_sound.proofs.Scalars.{type_is}
-use Rattle.cl_short_vec_sound.proofs.Steps.{initial_are, lines_are, IsValue}
+use Rattle.cl_short_vec.proofs.Small.{marked_small}
+use Rattle.cl_short_vec_correct.proofs.Parts.{assigned_is}
+use Rattle.cl_short_vec_correct.proofs.Scalars.{type_is}
+use Rattle.cl_short_vec_correct.proofs.Steps.{initial_are, lines_are, IsValue}
 use Rattle.cl_short_vec_correct.specs.Doing.{Got}
 use Rattle.cl_short_vec_correct.specs.Emits.{Known}
+use Rattle.cl_meaning.specs.Visible.{behind_parts}
 use Rattle.cl_short_vec_correct.specs.Each.{initial_of, DeclaratorDoes}
+use Rattle.cl_short_vec_correct.proofs.Numbered.{has_declared}
 use Rattle.cl_short_vec_correct.proofs.Adds.{IsOwn}
-use Rattle.cl_short_vec_correct.proofs.LineWords.{has_point, point_no_intrinsic, front_blank, declared_with}
+use Rattle.cl_short_vec.proofs.OwnNames.{front_blank}
+use Rattle.cl_short_vec_correct.proofs.LineWords.{has_point, point_no_intrinsic, declared_with}
 use Rattle.cl_short_vec_correct.proofs.LineWords.{base_word, const_word}
 use Rattle.cl_short_vec_correct.proofs.Declared.{behind_typed}
 use Rattle.cl_short_vec_correct.proofs.Initial.{type_typed}
@@ -52,7 +55,7 @@ use Rattle.cl_short_vec_correct.proofs.Values.{initial_worth}
 use Rattle.cl_short_vec_correct.proofs.Orders.{initial_ordered}
 use Rattle.cl_short_vec_correct.proofs.LeavesFit.{NamesFit, leaves_fit}
 use Rattle.cl_short_vec_correct.proofs.Running.{Done}
-use Rattle.cl_short_vec_correct.proofs.LeafRuns.{Place}
+use Rattle.cl_short_vec_correct.proofs.LeafRuns.{Place, lines_owner}
 use Rattle.cl_short_vec_correct.proofs.DeclareRuns.{Around, TypeFits}
 use Rattle.cl_short_vec_correct.proofs.Blocks.{sound_front}
 use Rattle.cl_short_vec_correct.proofs.InitialRuns.{InitialFacts, declarator_does}
@@ -176,7 +179,11 @@ module _ (P : Program) (g : Function) (asked : Asked) (vars : List Variable) (ar
 
     -- the declarator does its steps
     pub declarator_local : (sites : List Position) → DeclaratorDoes P env sites v t m (Some e)
-    declarator_local sites = declarator_does P g asked vars arrs fin env v t m e facts place sites
+    declarator_local sites =
+        declarator_does P g asked vars arrs fin env v t m e facts place (has_declared P g vars arrs fin env
+        (behind_parts env forms.BlockNode false (declarator_lines v t m (Some e)))
+        (lines_owner P g asked vars arrs fin env (declarator_lines v t m (Some e)) place) h.stands.owned h.ends.0)
+        sites
 
   -- each statement that sets a vector, and each declarator that initialises one, does its steps
   pub locals : Locals P g asked vars arrs

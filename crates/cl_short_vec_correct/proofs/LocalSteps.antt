@@ -27,14 +27,18 @@ use Rattle.cl_short_vec.specs.Order.{Step, Offset, Number, Copy, Load, Set, Stor
 use Rattle.cl_short_vec.specs.Order.{operator_in}
 use Rattle.cl_short_vec.specs.Order.{is_element_in, target_steps, old_steps, steps_of, setting_steps}
 use Rattle.cl_short_vec.specs.Parts.{assigned_part}
-use Rattle.cl_short_vec.specs.Unit.{assigned_of}
-use Rattle.cl_short_vec_sound.proofs.Small.{AllSmall, marked_small}
-use Rattle.cl_short_vec_sound.proofs.Parts.{assigned_is}
-use Rattle.cl_short_vec_sound.proofs.Steps.{setting_are, lines_are}
+use Rattle.cl_short_vec.specs.Unit.{assigned_of, lines_of, set_block}
+use Rattle.cl_short_vec.proofs.Small.{AllSmall, marked_small}
+use Rattle.cl_short_vec_correct.proofs.Parts.{assigned_is}
+use Rattle.cl_short_vec_correct.proofs.Steps.{setting_are, lines_are}
 use Rattle.cl_short_vec_correct.specs.Doing.{Got}
 use Rattle.cl_short_vec_correct.specs.Emits.{Known}
+use Rattle.cl_meaning.specs.Visible.{behind}
 use Rattle.cl_short_vec_correct.specs.Each.{SettingDoes}
-use Rattle.cl_short_vec_correct.proofs.LineWords.{HasNoBlank, has_point, front_blank, point_no_intrinsic}
+use Rattle.cl_short_vec.proofs.OwnNames.{HasNoBlank, front_blank}
+use Rattle.cl_short_vec_correct.proofs.Numbered.{has_declared}
+use Rattle.cl_short_vec_correct.proofs.Blocks.{block_owner}
+use Rattle.cl_short_vec_correct.proofs.LineWords.{has_point, point_no_intrinsic}
 use Rattle.cl_short_vec_correct.proofs.Ready.{Ready}
 use Rattle.cl_short_vec_correct.proofs.Fitting.{IsGiven}
 use Rattle.cl_short_vec_correct.proofs.Components as components
@@ -186,4 +190,6 @@ module _ (P : Program) (g : Function) (asked : Asked) (vars : List Variable) (ar
         setting_does P g asked vars arrs fin env o a b h.stands.scope h.stands.here.at h.stands.here.within h.role s
         facts h.sound (lines_are None (assigned_of o a b) (setting_steps o a b) tt
         (setting_are o ta tb names names (marked_small ta names h.stands.small)
-        (marked_small tb names h.stands.small) h.target h.value)) h.ends.0 h.ends.1 sites
+        (marked_small tb names h.stands.small) h.target h.value)) h.ends.0 h.ends.1
+        (has_declared P g vars arrs fin env (behind env (set_block s o a b))
+        (block_owner env s (lines_of None (assigned_of o a b) (setting_steps o a b))) h.stands.owned h.ends.0) sites

@@ -24,7 +24,7 @@ use Rattle.cl_short_vec.specs.Kinds.{joined_kind, prefix_kind, postfix_kind, is_
 use Rattle.cl_short_vec.specs.Marks.{Marks, front_kind, back_kind, kind_by}
 use Rattle.cl_short_vec.specs.Made.{made_by_prefix, made_by_selection, made_by_operator, made_in, is_comma, made_of}
 use Rattle.cl_short_vec.specs.Order.{is_element_in}
-use Rattle.cl_short_vec_sound.proofs.Scalars.{postfix_part}
+use Rattle.cl_short_vec_correct.proofs.Scalars.{postfix_part}
 
 -- ---- what it is made of
 

@@ -1,5 +1,6 @@
 -- Where parts of statements stand: what is in hand there, from what is in hand where the statement stands.
 use Rattle.std.proofs.Common.{◌≡◌, List, refl, ap, sym, ◌∙◌, subst, Option}
+use Rattle.cl_model.specs.Calls.{function_at}
 use Rattle.cl_model.specs.Tree.{Function, Program, Statements}
 use Rattle.cl_meaning.specs.Environment.{Env, Variable, Array, Labels}
 use Rattle.cl_meaning.specs.Visible.{opened, apart, in_loop, in_switch}
@@ -8,7 +9,7 @@ use Rattle.cl_check_sound.proofs.Grown.{extends_then, Grown, Kept}
 use Rattle.cl_check_sound.proofs.Lining.{Line}
 use Rattle.cl_check_sound.proofs.Stating.{here_later, here_marked, here_for, here_block, here_line}
 use Rattle.cl_short_vec.specs.Kinds.{Names}
-use Rattle.cl_short_vec_sound.proofs.Small.{SmallNames}
+use Rattle.cl_short_vec.proofs.Small.{SmallNames}
 use Rattle.cl_short_vec_correct.proofs.Says.{Says, OwnNames, says_same, says_opened}
 use Rattle.cl_short_vec_correct.proofs.Whole.{WholeNames}
 use Rattle.cl_short_vec_correct.proofs.Reaches.{AreNamed}
@@ -46,6 +47,7 @@ module _ (P : Program) (f : Function) (asked : Asked) (vars : List Variable) (ar
     named = t.named;
     known = known_same env i g s t.known;
     flags = fl ∙ t.flags;
+    owned = ap (λ z. (function_at P z.number).variables) o ∙ t.owned;
   }
 
   pub stands_apart : (names : Names) (env : Env) → There names env → There names (apart env)
@@ -74,6 +76,7 @@ module _ (P : Program) (f : Function) (asked : Asked) (vars : List Variable) (ar
     named = t.named;
     known = known_opened env (opened (in_loop env)) refl refl t.known;
     flags = t.flags;
+    owned = t.owned;
   }
 
   pub stands_block : (names : Names) (env : Env) → There names env → There names (opened (apart env))
@@ -87,6 +90,7 @@ module _ (P : Program) (f : Function) (asked : Asked) (vars : List Variable) (ar
     named = t.named;
     known = known_opened env (opened (apart env)) refl refl t.known;
     flags = t.flags;
+    owned = t.owned;
   }
 
   -- behind a statement
@@ -101,6 +105,7 @@ module _ (P : Program) (f : Function) (asked : Asked) (vars : List Variable) (ar
     named = t.named;
     known = known_same env later (ap (λ z. z.functions) k.grown.frame) k.same t.known;
     flags = ap (λ z. z.flags) k.grown.frame ∙ t.flags;
+    owned = ap (λ z. (function_at P z.owner.number).variables) k.grown.frame ∙ t.owned;
   }
 
   -- behind a line that declares
@@ -117,4 +122,5 @@ module _ (P : Program) (f : Function) (asked : Asked) (vars : List Variable) (ar
     named = nm;
     known = kn;
     flags = ap (λ z. z.flags) g.frame ∙ t.flags;
+    owned = ap (λ z. (function_at P z.owner.number).variables) g.frame ∙ t.owned;
   }

@@ -20,7 +20,7 @@ use Rattle.cl_meaning.specs.OwnWords.{name_in}
 use Rattle.cl_check_sound.specs.Shape.{IsType, IsExpressionOf}
 use Rattle.cl_check_sound.proofs.Grown.{each_append}
 use Rattle.cl_short_vec_correct.specs.Sources.{is_sourced, NamedBy, Sourced, AllSourced}
-use Rattle.cl_short_vec_correct.proofs.LineWords.{HasNoBlank, alone_name}
+use Rattle.cl_short_vec.proofs.OwnNames.{HasNoBlank, alone_name}
 use Rattle.cl_short_vec_correct.proofs.Sourced.{name_more}
 use Rattle.cl_short_vec_correct.proofs.Says.{IsOwn, DeclaredBy, Own, AllOwn}
 use Rattle.cl_short_vec_correct.proofs.Making.{AreTypesOr, operands_are}

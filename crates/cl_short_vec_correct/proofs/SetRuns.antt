@@ -27,7 +27,7 @@ use Rattle.cl_short_vec_correct.specs.Values.{set_worth}
 use Rattle.cl_short_vec_correct.specs.Doing.{Got, first_at}
 use Rattle.cl_short_vec_correct.specs.Emits as emits
 use Rattle.cl_short_vec_correct.specs.Emits.{Known, Fresh, Emits}
-use Rattle.cl_short_vec_correct.proofs.LineWords.{HasNoBlank}
+use Rattle.cl_short_vec.proofs.OwnNames.{HasNoBlank}
 use Rattle.cl_short_vec_correct.proofs.Pieces.{index_of}
 use Rattle.cl_short_vec_correct.proofs.Lines.{set_behind, set_is, store_behind, store_is}
 use Rattle.cl_short_vec_correct.proofs.Trees.{Typed}

@@ -38,11 +38,11 @@ use Rattle.cl_short_vec.specs.Order.{setting_steps}
 use Rattle.cl_short_vec.specs.Parts.{Assigned, assigned_part}
 use Rattle.cl_short_vec.specs.Unit.{set_line, store_line, lines_of, assigned_of, set_block}
 use Rattle.cl_short_vec_correct.specs.Values.{set_worth}
-use Rattle.cl_short_vec_correct.specs.Doing.{Got, nothing_got, leaves_among, Helps, Aside, DoSteps}
+use Rattle.cl_short_vec_correct.specs.Doing.{Got, nothing_got, leaves_among, Helps, Aside, HasDeclared, DoSteps}
 use Rattle.cl_short_vec_correct.specs.Emits.{Known, Emits}
 use Rattle.cl_short_vec_correct.specs.Each.{SettingDoes}
 use Rattle.cl_short_vec_correct.proofs.Does.{steps_done}
-use Rattle.cl_short_vec_correct.proofs.LineWords.{HasNoBlank}
+use Rattle.cl_short_vec.proofs.OwnNames.{HasNoBlank}
 use Rattle.cl_short_vec_correct.proofs.Pieces.{variable_behind}
 use Rattle.cl_short_vec_correct.proofs.Lines.{set_behind, store_behind, helped_behind}
 use Rattle.cl_short_vec_correct.proofs.Trees.{Typed}
@@ -352,11 +352,12 @@ module _ (P : Program) (g : Function) (asked : Asked) (vars : List Variable) (ar
         let b = help.0 in absurd (omega arith)
 
     -- an assignment to a vector does its steps
-    pub setting_does : (sites : List Position) → SettingDoes P start sites s o target value
-    setting_does sites = (
+    pub setting_does : HasDeclared P behind_block → (sites : List Position) →
+        SettingDoes P start sites s o target value
+    setting_does declared sites = (
       aside,
       subst (λ z. DoSteps P start behind_block steps (set_worth a) z)
           (sym (block_lines_meant start sites (codes "{ }") s.first s.last (lines_of None a steps) within.in_block))
           (steps_done P start behind_block steps (set_worth a) (all_lines (parts_meant (opened (apart start))
-          forms.BlockNode false sites (lines_of None a steps)).pieces) (setting_emits sites)).1,
+          forms.BlockNode false sites (lines_of None a steps)).pieces) declared (setting_emits sites)).1,
     )

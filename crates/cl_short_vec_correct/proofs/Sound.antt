@@ -41,8 +41,9 @@ use Rattle.cl_short_vec.specs.Nodes.{helper, component_name}
 use Rattle.cl_short_vec.specs.Scalar.{scalar}
 use Rattle.cl_short_vec.specs.Unit.{pointed_at, address_at, offset_line, number_line, copy_line, helped_element}
 use Rattle.cl_short_vec.specs.Unit.{load_line, set_line}
-use Rattle.cl_short_vec_correct.proofs.LineWords.{HasNoBlank, IsName, set_name, set_is_set, set_dimensions}
-use Rattle.cl_short_vec_correct.proofs.LineWords.{declared_with, helper_name, component_is_name}
+use Rattle.cl_short_vec.proofs.OwnNames.{HasNoBlank, IsName, set_name, set_is_set, set_dimensions, helper_name}
+use Rattle.cl_short_vec.proofs.OwnNames.{component_is_name}
+use Rattle.cl_short_vec_correct.proofs.LineWords.{declared_with}
 use Rattle.cl_short_vec_correct.proofs.Pieces.{closed_same, star_behind, variable_behind}
 use Rattle.cl_short_vec_correct.proofs.Lines.{IsInitialAt, numbered, pointing, type_of, space_of, component_at}
 use Rattle.cl_short_vec_correct.proofs.Lines.{helped_behind}

@@ -36,8 +36,9 @@ use Rattle.cl_short_vec.specs.Parts.{Assigned}
 use Rattle.cl_short_vec.specs.Scalar.{component_words, scalar}
 use Rattle.cl_short_vec.specs.Unit.{declared_name, component_declarators, lengths_at, declarators_by}
 use Rattle.cl_short_vec.specs.Unit.{lines_of}
-use Rattle.cl_short_vec_sound.proofs.Steps.{StepsAre}
-use Rattle.cl_short_vec_correct.proofs.LineWords.{front_blank, base_word, const_word, declared_with}
+use Rattle.cl_short_vec_correct.proofs.Steps.{StepsAre}
+use Rattle.cl_short_vec.proofs.OwnNames.{front_blank}
+use Rattle.cl_short_vec_correct.proofs.LineWords.{base_word, const_word, declared_with}
 use Rattle.cl_short_vec_correct.proofs.Slots.{bytes_are}
 use Rattle.cl_short_vec_correct.proofs.Says.{IsOwn, Tells, Says, OwnNames, plain_apart}
 use Rattle.cl_short_vec_correct.proofs.Behind.{EachApart, declaration_other, declaration_tells}

@@ -3,6 +3,7 @@
 use Rattle.std.proofs.Common.{◌≡◌, List, [], Some, true, false, ℕ}
 use Rattle.wg_num.specs.declared.types.Place.{Place}
 use Rattle.cl_model.specs.Tree.{Function, Program}
+use Rattle.cl_model.specs.Calls.{function_at}
 use Rattle.cl_model.specs.Valid.{Scope}
 use Rattle.cl_tree.specs.declared.tree.Form.TheVariants as forms
 use Rattle.cl_tree.specs.Syntax.{Syntax, Forest, joined}
@@ -30,7 +31,7 @@ use Rattle.cl_short_vec.specs.Marks.{kind_at, marked}
 use Rattle.cl_short_vec.specs.Order.{operator_in}
 use Rattle.cl_short_vec.specs.Faults.{is_private_at, right_fits, is_same, refusals}
 use Rattle.cl_short_vec.specs.Unit.{set_block, declarator_lines}
-use Rattle.cl_short_vec_sound.proofs.Small.{SmallNames}
+use Rattle.cl_short_vec.proofs.Small.{SmallNames}
 use Rattle.cl_short_vec_correct.specs.Sources.{Sourced}
 use Rattle.cl_short_vec_correct.specs.Each.{SettingDoes, DeclaratorDoes}
 use Rattle.cl_short_vec_correct.proofs.Says.{IsOwn, Says, OwnNames}
@@ -54,6 +55,8 @@ module _ (P : Program) (f : Function) (asked : Asked) (vars : List Variable) (ar
     pub named : AreNamed names
     pub known : Intrinsics env
     pub flags : env.flags ≡ false
+    -- this function is the one in which it stands
+    pub owned : (function_at P env.owner.number).variables ≡ f.variables
 
   -- `a OP= b` with these own words, as a statement of its own that sets a vector, which stands for a block
   pub record SettingHere (names : Names) (env : Env) (s : Span) (w : List ℕ) (a b : Syntax) : Type 0 where

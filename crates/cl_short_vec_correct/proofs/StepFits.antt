@@ -15,7 +15,7 @@ use Rattle.cl_short_vec.specs.Nodes.{component_name}
 use Rattle.cl_short_vec.specs.Order.{Named, Step, Offset, Number, Copy, Load, Set, Store}
 use Rattle.cl_short_vec.specs.Scalar.{scalar}
 use Rattle.cl_short_vec_correct.specs.Sources.{is_sourced}
-use Rattle.cl_short_vec_correct.proofs.LineWords.{HasNoBlank}
+use Rattle.cl_short_vec.proofs.OwnNames.{HasNoBlank}
 use Rattle.cl_short_vec_correct.proofs.Sourced.{SourcedMark}
 
 -- an element of a vector type

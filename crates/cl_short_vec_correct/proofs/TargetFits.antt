@@ -24,8 +24,8 @@ use Rattle.cl_short_vec.specs.Made.{made_in}
 use Rattle.cl_short_vec.specs.Order.{Named, Offset, type_in, count_in, named_by, loads, copies}
 use Rattle.cl_short_vec.specs.Order.{is_through, under, is_element_in, target_steps, old_steps, steps_of}
 use Rattle.cl_short_vec.specs.Scalar.{scalar}
-use Rattle.cl_short_vec_sound.proofs.Small.{SmallMark, AllSmall, components_small}
-use Rattle.cl_short_vec_sound.proofs.Scalars.{expression_is, postfix_part}
+use Rattle.cl_short_vec.proofs.Small.{SmallMark, AllSmall, components_small}
+use Rattle.cl_short_vec_correct.proofs.Scalars.{expression_is, postfix_part}
 use Rattle.cl_short_vec_correct.specs.Sources.{Sourced}
 use Rattle.cl_short_vec_correct.proofs.Sourced.{SourcedMark, marked_sourced}
 use Rattle.cl_short_vec_correct.proofs.StepFits.{IsElementMark, ComponentFits, LeafFits}

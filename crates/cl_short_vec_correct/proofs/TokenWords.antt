@@ -16,7 +16,8 @@ use Rattle.cl_tree.specs.Words.{Row, is_among, looked_up, assignments, assignmen
 use Rattle.cl_tree.specs.Words.{bracket_of, terminal_of}
 use Rattle.cl_meaning.specs.OwnWords.{name_in}
 use Rattle.cl_short_vec_correct.specs.Sources.{is_sourced}
-use Rattle.cl_short_vec_correct.proofs.LineWords.{HasNoBlank, alone_name, has_point}
+use Rattle.cl_short_vec.proofs.OwnNames.{HasNoBlank, alone_name}
+use Rattle.cl_short_vec_correct.proofs.LineWords.{has_point}
 use Rattle.cl_short_vec_correct.proofs.Sourced.{name_more}
 
 -- bytes, and no blank and no point among them

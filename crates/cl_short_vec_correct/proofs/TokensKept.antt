@@ -35,7 +35,7 @@ use Rattle.cl_prep.specs.Expands.{Expands, placed, State, Step, Leads, Ends, sta
 use Rattle.cl_meaning.specs.OwnWords as words
 use Rattle.cl_check_sound.proofs.Grown.{each_append}
 use Rattle.cl_short_vec_correct.specs.Sources.{is_sourced}
-use Rattle.cl_short_vec_correct.proofs.LineWords.{decimal_blank, alone_name}
+use Rattle.cl_short_vec.proofs.OwnNames.{decimal_blank, alone_name}
 use Rattle.cl_short_vec_correct.proofs.TokenWords.{IsWord, spelled_word, TokensPlain}
 
 -- ---- cutting

@@ -29,7 +29,7 @@ use Rattle.cl_short_vec.specs.Roles.{role_of, front_space}
 use Rattle.cl_short_vec.specs.Faults.{is_end, is_placed, is_private_at, misplaced, no_component, types_differ}
 use Rattle.cl_short_vec.specs.Faults.{refusal_at}
 use Rattle.cl_short_vec.specs.Faults.{refusals, refusals_in}
-use Rattle.cl_short_vec_sound.proofs.Small.{SmallNames, nothing_small, behind_small}
+use Rattle.cl_short_vec.proofs.Small.{SmallNames, nothing_small, behind_small}
 use Rattle.cl_short_vec_correct.proofs.Whole.{WholeNames, nothing_whole, behind_whole}
 use Rattle.cl_short_vec_correct.proofs.Reaches.{AreNamed, nothing_named, behind_named}
 use Rattle.cl_short_vec_correct.proofs.Says.{NoVectors, no_vectors}

@@ -33,7 +33,7 @@ use Rattle.cl_short_vec.specs.Faults.{refusals}
 use Rattle.cl_short_vec.specs.Order.{type_in, count_in, under, operator_in, old_steps, steps_of}
 use Rattle.cl_short_vec.specs.Parts.{assigned_part}
 use Rattle.cl_short_vec.specs.Unit.{assigned_of}
-use Rattle.cl_short_vec_sound.proofs.Words.{found}
+use Rattle.cl_short_vec.proofs.Rows.{found}
 use Rattle.cl_short_vec_correct.specs.Emits.{Known}
 use Rattle.cl_short_vec_correct.specs.Values.{Leaves, set_worth}
 use Rattle.cl_short_vec_correct.specs.Each.{initial_of}

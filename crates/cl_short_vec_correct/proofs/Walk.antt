@@ -31,9 +31,9 @@ use Rattle.cl_short_vec.specs.Kinds as kinds
 use Rattle.cl_short_vec.specs.Marks.{marked, marked_parts}
 use Rattle.cl_short_vec.specs.Faults.{refusals}
 use Rattle.cl_short_vec.specs.Unit.{declaration_lines, scalarised, all_scalarised, block_lines, loop_parts}
-use Rattle.cl_short_vec_sound.proofs.Small.{SmallNames, marked_small, behind_small}
-use Rattle.cl_short_vec_sound.proofs.Units.{whole_expression, start_is, statement_is, statements_are, lines_is}
-use Rattle.cl_short_vec_sound.proofs.Declarations.{declaration_lines_are}
+use Rattle.cl_short_vec.proofs.Small.{SmallNames, marked_small, behind_small}
+use Rattle.cl_short_vec_correct.proofs.FormUnits.{whole_expression, start_is, statement_is, statements_are, lines_is}
+use Rattle.cl_short_vec_correct.proofs.FormDeclarations.{declaration_lines_are}
 use Rattle.cl_short_vec_correct.proofs.Says.{Own, AllOwn}
 use Rattle.cl_short_vec_correct.proofs.Stands.{Stands, Ends, Locals}
 use Rattle.cl_short_vec_correct.proofs.Moves.{ends_before, stands_names, stands_apart, stands_loop, stands_switch}

@@ -42,7 +42,7 @@ use Rattle.cl_short_vec.specs.Kinds.{selection_of, compared, pointer_moved, join
 use Rattle.cl_short_vec.specs.Kinds.{called_kind, cast_kind, is_operator}
 use Rattle.cl_short_vec.specs.Marks.{Mark, mark, Marks, unmarked, marking, tree_at, kind_at, front_kind, back_kind}
 use Rattle.cl_short_vec.specs.Marks.{vector_among, front_type, kind_by, marked, marked_parts}
-use Rattle.cl_short_vec_sound.proofs.Words.{found, rows_pass}
+use Rattle.cl_short_vec.proofs.Rows.{found, rows_pass}
 
 abbrev pub WholeVector : Option Vector → Type 0
 WholeVector None = Unit {0}

@@ -218,16 +218,20 @@ IsDeclaredAs env x of =
     (kind : VarKind) × (slice_get (map (λ (v : Variable). v.kind) env.variables) x ≡ Some kind) ×
     (kind_type kind ≡ of)
 
--- the item is one of a launch that fits the program, as a history leads to it, and stands in a function whose variables
--- begin with those that are declared there
+-- the function in which they are declared has the variables that are declared there
+abbrev pub HasDeclared : Program → Env → Type 0
+HasDeclared program env =
+    (x : ℕ) (of : IntType) → IsDeclaredAs env x of → HasVariable (function_at program env.owner.number) x of
+
+-- the item is one of a launch that fits the program, as a history leads to it, and stands in the function of what is
+-- declared there
 pub record Comes (program : Program) (launch : Launch) (buffers : List (List ℕ)) (later : Env) (from : Item) :
     Type 0 where
   pub typed : IsTyped program launch
   pub item : ℕ
   pub before : List Deed
   pub reached : Does program launch buffers (start_item program launch item) before from
-  pub declared : (x : ℕ) (of : IntType) → IsDeclaredAs later x of →
-      HasVariable (function_at program (frame_of from.frames).function) x of
+  pub function : (frame_of from.frames).function ≡ later.owner.number
 
 -- an item of the program that comes to these statements does the steps in order, with these results, whatever is left
 -- to do behind them

@@ -1,7 +1,15 @@
-//! What the unit without vectors does for each vector statement.
+//! The unit without vectors that stands for a unit with vectors has the shape of units, and does for each vector
+//! statement what that says.
 #![tactic(auto)]
 
-ghost use Rattle.cl_short_vec_correct.specs.Law.{StatementsDo, StepsDone};
+ghost use Rattle.cl_short_vec_correct.specs.Law.{FormsShaped, StatementsDo, StepsDone};
+
+/// A unit of the wide shape, in which vectors and selections of their components stand, becomes a unit of the narrow
+/// shape, in which no selection stands, whether or not it is refused (OpenCL 1.2, sections 6.1.2 and 6.1.7; C99,
+/// sections 6.5 to 6.9).
+pub fn form_law()
+    ensures { FormsShaped }
+{}
 
 /// Typed statements that stand for the steps of a vector statement do these steps, in order, in every launch that fits
 /// the program, on all buffers, in all histories: they evaluate the numbers and where elements stand, load and store

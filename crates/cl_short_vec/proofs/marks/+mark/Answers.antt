@@ -1,4 +1,4 @@
-use Rattle.std.proofs.Common.{◌≡◌, ◌∙◌, ap, sym, arith, length, take, true}
+use Rattle.std.proofs.Common.{◌≡◌, ◌∙◌, ap, arith, length, take, true}
 use Rattle.cl_tree.specs.declared.tree.Tree.TheViews.{out-Tree}
 use Rattle.cl_tree.specs.Syntax.{view, views}
 use Rattle.cl_short_vec.specs.Kinds.{later}

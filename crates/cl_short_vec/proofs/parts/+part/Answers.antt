@@ -1,4 +1,4 @@
-use Rattle.std.proofs.Common.{◌≡◌, ◌∙◌, ap, sym, arith, length}
+use Rattle.std.proofs.Common.{◌∙◌, ap, sym, arith}
 use Rattle.cl_tree.specs.Syntax.{view}
 use Rattle.cl_short_vec.specs.Parts.{front_part, second_part, all_parts}
 use Rattle.cl_short_vec.specs.declared.marks.Marked.TheViews.{out-Marked}

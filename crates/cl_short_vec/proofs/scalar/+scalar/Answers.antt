@@ -1,4 +1,4 @@
-use Rattle.std.proofs.Common.{◌≡◌, ◌∙◌, sym, arith}
+use Rattle.std.proofs.Common.{◌∙◌, sym, arith}
 use Rattle.cl_tree.specs.Syntax.{view, views}
 use Rattle.cl_short_vec.specs.Scalar.{scalars}
 use Rattle.cl_short_vec.specs.View.{marks_of}

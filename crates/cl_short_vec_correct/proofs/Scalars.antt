@@ -33,10 +33,10 @@ use Rattle.cl_short_vec.specs.Nodes.{long_at, paren_at, scaled, further}
 use Rattle.cl_short_vec.specs.Scalar.{component_words, counted, opposite, counted_behind, prefixed, postfixed, one_by}
 use Rattle.cl_short_vec.specs.Scalar.{moved_by, two_by, alone_in, one_selected, element_component}
 use Rattle.cl_short_vec.specs.Scalar.{content_component, chosen_or, scalar, scalars, component_at}
-use Rattle.cl_short_vec_sound.proofs.Words.{typed_word, long_word, Counts, CountsBefore, CountsBehind, prefix_counts}
-use Rattle.cl_short_vec_sound.proofs.Words.{postfix_counts}
-use Rattle.cl_short_vec_sound.proofs.Small.{SmallKind, SmallMark, SmallMarks, AllSmall, mark_small, components_small}
-use Rattle.cl_short_vec_sound.proofs.Nodes.{joined_is, element_is, scaled_is, further_is}
+use Rattle.cl_short_vec_correct.proofs.Words.{typed_word, long_word, Counts, CountsBefore, CountsBehind, prefix_counts}
+use Rattle.cl_short_vec_correct.proofs.Words.{postfix_counts}
+use Rattle.cl_short_vec.proofs.Small.{SmallKind, SmallMark, SmallMarks, AllSmall, mark_small, components_small}
+use Rattle.cl_short_vec_correct.proofs.Nodes.{joined_is, element_is, scaled_is, further_is}
 
 -- ---- types
 

@@ -16,7 +16,7 @@ use Rattle.cl_short_vec.specs.Nodes.{span_of, signed_at, helping_component}
 use Rattle.cl_short_vec.specs.Parts.{Given, part_by, part_in, item_part, front_part, second_part, all_parts, list_part}
 use Rattle.cl_short_vec.specs.Parts.{inside_part, filled_part, width_of, filled_at, selected_at, part_of, Assigned}
 use Rattle.cl_short_vec.specs.Parts.{assigned_by, assigned_part}
-use Rattle.cl_short_vec_sound.proofs.Nodes.{cast_is, signed_is, component_is}
+use Rattle.cl_short_vec_correct.proofs.Nodes.{cast_is, signed_is, component_is}
 
 -- what the parts of a node give is expressions
 record GivenIs (g : Given) : Type 0 where

@@ -26,11 +26,11 @@ use Rattle.cl_short_vec.specs.Order.{operator_in, setting_steps}
 use Rattle.cl_short_vec.specs.Scalar.{scalar, scalars}
 use Rattle.cl_short_vec.specs.Unit.{assigned_of, set_block, whole_by, is_declaration, block_line, scalarised}
 use Rattle.cl_short_vec.specs.Unit.{all_scalarised, block_lines, loop_parts}
-use Rattle.cl_short_vec_sound.specs.Law.{FormsShaped}
-use Rattle.cl_short_vec_sound.proofs.Small.{SmallMark, SmallMarks, marked_small, nothing_small}
-use Rattle.cl_short_vec_sound.proofs.Scalars.{type_is, expression_is, expressions_are}
-use Rattle.cl_short_vec_sound.proofs.Steps.{setting_are, lines_are}
-use Rattle.cl_short_vec_sound.proofs.Declarations.{joined_lines, declaration_is, declaration_lines_are}
+use Rattle.cl_short_vec_correct.specs.Law.{FormsShaped}
+use Rattle.cl_short_vec.proofs.Small.{SmallMark, SmallMarks, marked_small, nothing_small}
+use Rattle.cl_short_vec_correct.proofs.Scalars.{type_is, expression_is, expressions_are}
+use Rattle.cl_short_vec_correct.proofs.Steps.{setting_are, lines_are}
+use Rattle.cl_short_vec_correct.proofs.FormDeclarations.{joined_lines, declaration_is, declaration_lines_are}
 
 -- ---- expressions and declarations among statements
 

@@ -1,10 +1,9 @@
 -- The words of new nodes say something.
-use Rattle.std.proofs.Common.{◌≡◌, ℕ, zero, suc, ◌≤◌, ◌<◌, ◌^◌, nat_eq, List, [], ◌∷◌, ◌++◌, Option, Some, None}
-use Rattle.std.proofs.Common.{Bool, true, false, ◌&&◌, if◌then◌else◌, refl, ap, ◌∙◌, arith}
+use Rattle.std.proofs.Common.{◌≡◌, ℕ, zero, suc, ◌≤◌, ◌<◌, ◌^◌, nat_eq, List, ◌++◌, Option, Some}
+use Rattle.std.proofs.Common.{Bool, true, false, ◌&&◌, refl, ap, ◌∙◌, arith}
 use Rattle.std.proofs.lemmas.Bool.Decides.{nat_tests}
 use Rattle.std.specs.Prelude.{codes, decimal, ◌-◌}
 use Rattle.std.specs.Fmt.{digits}
-use Rattle.std.specs.List.{list_all}
 use lib.Pointwise.{pointwise}
 use Rattle.wg_num.specs.declared.types.IntType.{IntType}
 use Rattle.wg_num.specs.declared.types.IntType.TheVariants as types
@@ -12,12 +11,10 @@ use Rattle.wg_num.specs.declared.types.Bin.{Bin}
 use Rattle.wg_num.specs.declared.types.Bin.TheVariants as bins
 use Rattle.wg_num.specs.Wrap.{width_bits, modulus, half}
 use Rattle.cl_token.specs.NumberReading.{outcome_of, parts_of}
-use Rattle.cl_model.specs.Lists.{Each}
 use Rattle.cl_meaning.specs.declared.operators.Prefix.{Prefix}
 use Rattle.cl_meaning.specs.declared.operators.Prefix.TheVariants as prefixes
 use Rattle.cl_meaning.specs.declared.operators.Postfix.{Postfix}
 use Rattle.cl_meaning.specs.declared.operators.Postfix.TheVariants as postfixes
-use Rattle.cl_meaning.specs.OwnWords.{Row, first_row}
 use Rattle.cl_meaning.specs.Types.{base_in, names_outside}
 use Rattle.cl_meaning.specs.Operators.{binary_in, setting_in, prefix_in, postfix_in}
 use Rattle.cl_meaning.specs.Operators as operators
@@ -26,6 +23,7 @@ use Rattle.cl_meaning.specs.Kinds.{is_some}
 use Rattle.cl_meaning.proofs.Numbers.{literal_is}
 use Rattle.cl_check_sound.proofs.Assigning.{both_true}
 use Rattle.cl_check_sound.proofs.Decimals.{decimal_read}
+use Rattle.cl_short_vec.proofs.Rows.{found}
 use Rattle.cl_short_vec.specs.Nodes.{constant_word, operator_word, setting_word}
 
 -- ---- types and operators
@@ -69,24 +67,6 @@ joined_word bins.Lt = refl
 joined_word bins.Le = refl
 joined_word bins.Gt = refl
 joined_word bins.Ge = refl
-
--- what a table gives a word is of one of its rows, or nothing
-pub found : {A : Type 0} (P : Option A → Type 0) (test : List ℕ → Bool) (rows : List (Row A)) → P None →
-    Each (λ (r : Row A). P (Some r.value)) rows → P (first_row test rows)
-found P test [] z h = z
-found P test (r ∷ rows) z h = by (test r.word) (found P test rows z h.1)
-  where
-    by : (b : Bool) → P (first_row test rows) → P (if b then Some r.value else first_row test rows)
-    by true k = h.0
-    by false k = k
-
--- each row passes a test that all pass
-pub rows_pass : {A : Type 0} (test : A → Bool) (rows : List (Row A)) →
-    list_all (λ (r : Row A). test r.value) rows ≡ true → Each (λ (r : Row A). test r.value ≡ true) rows
-rows_pass test [] h = tt
-rows_pass test (r ∷ rows) h =
-    let p = both_true (test r.value) (list_all (λ (r : Row _). test r.value) rows) h in
-    (p.0, rows_pass test rows p.1)
 
 -- an operator that counts up or down also assigns
 abbrev pub Counts : Bin → Type 0

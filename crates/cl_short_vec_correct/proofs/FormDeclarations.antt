@@ -26,11 +26,11 @@ use Rattle.cl_short_vec.specs.Unit.{declared_name, name_span, component_declarat
 use Rattle.cl_short_vec.specs.Unit.{length_or_part, lengths_at, declarators_of, all_declarators, declaration_by}
 use Rattle.cl_short_vec.specs.Unit.{declaration, initialiser_by, initialiser, declarator_lines, vector_lines, lines_by}
 use Rattle.cl_short_vec.specs.Unit.{declaration_lines}
-use Rattle.cl_short_vec_sound.proofs.Words.{int_word}
-use Rattle.cl_short_vec_sound.proofs.Small.{SmallVector, SmallMark, SmallMarks, type_small}
-use Rattle.cl_short_vec_sound.proofs.Nodes.{joined_is}
-use Rattle.cl_short_vec_sound.proofs.Scalars.{type_is, expression_is, list_is}
-use Rattle.cl_short_vec_sound.proofs.Steps.{StepsAre, IsValue, initial_are, lines_are}
+use Rattle.cl_short_vec_correct.proofs.Words.{int_word}
+use Rattle.cl_short_vec.proofs.Small.{SmallVector, SmallMark, SmallMarks, type_small}
+use Rattle.cl_short_vec_correct.proofs.Nodes.{joined_is}
+use Rattle.cl_short_vec_correct.proofs.Scalars.{type_is, expression_is, list_is}
+use Rattle.cl_short_vec_correct.proofs.Steps.{StepsAre, IsValue, initial_are, lines_are}
 
 -- ---- declarators
 

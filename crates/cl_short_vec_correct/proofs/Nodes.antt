@@ -22,7 +22,7 @@ use Rattle.cl_short_vec.specs.declared.types.Vector.{Vector}
 use Rattle.cl_short_vec.specs.Nodes.{long_at, int_at, paren_at, typed_at, spaced_at, cast_at, joined_at}
 use Rattle.cl_short_vec.specs.Nodes.{signed_at, amount_at, component_joined, element_at, scaled, further}
 use Rattle.cl_short_vec.specs.Nodes.{statement_at, declared_at, span_of}
-use Rattle.cl_short_vec_sound.proofs.Words.{typed_word, joined_word, long_word, bits_word}
+use Rattle.cl_short_vec_correct.proofs.Words.{typed_word, joined_word, long_word, bits_word}
 
 pub typed_is : (of : IntType) (s : Span) → IsType (typed_at of s)
 typed_is of s = typed_word false of

@@ -40,12 +40,12 @@ use Rattle.cl_short_vec.specs.Parts.{Assigned, assigned_part}
 use Rattle.cl_short_vec.specs.Nodes.{span_of, variable_at, long_at, typed_at, helper, component_name}
 use Rattle.cl_short_vec.specs.Scalar.{scalar}
 use Rattle.cl_short_vec.specs.Unit.{pointed_at, helped_element, set_line, line_of, lines_of}
-use Rattle.cl_short_vec_sound.proofs.Words.{long_word}
-use Rattle.cl_short_vec_sound.proofs.Small.{SmallKind, SmallMark, SmallMarks, AllSmall, numbers_small}
-use Rattle.cl_short_vec_sound.proofs.Small.{components_small}
-use Rattle.cl_short_vec_sound.proofs.Nodes.{typed_is, spaced_is, element_is, statement_is, initial_is, declared_is}
-use Rattle.cl_short_vec_sound.proofs.Parts.{assigned_is}
-use Rattle.cl_short_vec_sound.proofs.Scalars.{expression_is, list_is, postfix_part}
+use Rattle.cl_short_vec_correct.proofs.Words.{long_word}
+use Rattle.cl_short_vec.proofs.Small.{SmallKind, SmallMark, SmallMarks, AllSmall, numbers_small}
+use Rattle.cl_short_vec.proofs.Small.{components_small}
+use Rattle.cl_short_vec_correct.proofs.Nodes.{typed_is, spaced_is, element_is, statement_is, initial_is, declared_is}
+use Rattle.cl_short_vec_correct.proofs.Parts.{assigned_is}
+use Rattle.cl_short_vec_correct.proofs.Scalars.{expression_is, list_is, postfix_part}
 
 -- what may stand behind the `=` of a declarator
 abbrev pub IsInitial : Syntax → Type 0
