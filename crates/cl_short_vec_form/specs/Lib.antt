@@ -1,0 +1,4 @@
+pub mod Sizes
+pub mod Stored
+pub mod Form
+pub mod Law
