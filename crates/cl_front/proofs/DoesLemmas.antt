@@ -1,5 +1,5 @@
--- A source whose unit without vectors is accepted has a typed unit, in whose program each vector statement does its
--- steps.
+-- A source whose unit without vectors is accepted has a typed unit; the unit without vectors is what it should be, and
+-- in its program each vector statement does its steps.
 use Rattle.std.proofs.Common.{◌≡◌, ℕ, List, [], sym, subst}
 use Rattle.wg_num.specs.declared.types.Place.{Place}
 use Rattle.cl_token.specs.declared.token.Token.{Token}
@@ -10,9 +10,13 @@ use Rattle.cl_meaning.specs.Meant.{start_of, unit_meant}
 use Rattle.cl_limits.specs.Judged.{IsAccepted}
 use Rattle.cl_check_sound.specs.Erased.{program_of}
 use Rattle.cl_check_sound.specs.Law.{DefinesFit}
+use Rattle.cl_check_sound.proofs.Spelled.{spelled_wide}
+use Rattle.cl_check_sound.proofs.Expanded.{expanded_read}
 use Rattle.cl_short_vec.specs.Kinds.{no_names}
 use Rattle.cl_short_vec.specs.Marks.{marked}
 use Rattle.cl_short_vec.specs.Unit.{scalarised_of}
+use Rattle.cl_short_vec_form.specs.Form.{IsScalarForm}
+use Rattle.cl_short_vec_form.proofs.Forms.{forms_are}
 use Rattle.cl_short_vec_correct.specs.Each.{EachDoes}
 use Rattle.cl_short_vec_correct.proofs.Statements.{statements_do}
 use Rattle.cl_front.specs.Front.{IsSource, IsScalarSource}
@@ -29,6 +33,11 @@ source_does source defines kernel expanded unit typed s accepted means fit =
     (statements_do source s.read.0 expanded defines unit (places_of source expanded) kernel s.read.1.cuts fit
     s.read.1.expands s.spelled s.vectors accepted)
 
+source_form : (source : List ℕ) (defines : List Define) (expanded : List Token) (unit : Syntax) →
+    IsSource source defines expanded unit → DefinesFit defines → IsScalarForm unit (scalarised_of unit)
+source_form source defines expanded unit s fit = forms_are unit (spelled_wide unit expanded s.spelled
+    (expanded_read source s.read.0 expanded defines s.read.1.cuts fit s.read.1.expands)) s.vectors
+
 pub has_typed : (source : List ℕ) (defines : List Define) (kernel : List ℕ) (expanded : List Token) (form : Syntax)
     (places : List Place) (typed : Unit') → IsScalarSource source defines expanded form →
     places ≡ places_of source expanded → IsAccepted places kernel form → typed ≡ unit_meant places kernel form →
@@ -44,5 +53,6 @@ has_typed source defines kernel expanded form places typed s p accepted means =
       is_source = s.is_source;
       accepted = accepted';
       means = means';
+      form = source_form source defines expanded s.unit s.is_source;
       does = source_does source defines kernel expanded s.unit typed s.is_source accepted' means';
     }

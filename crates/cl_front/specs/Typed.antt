@@ -15,6 +15,7 @@ use Rattle.cl_check_sound.specs.Law.{DefinesFit}
 use Rattle.cl_short_vec.specs.Kinds.{no_names}
 use Rattle.cl_short_vec.specs.Marks.{marked}
 use Rattle.cl_short_vec.specs.Unit.{scalarised_of}
+use Rattle.cl_short_vec_form.specs.Form.{IsScalarForm}
 use Rattle.cl_short_vec_correct.specs.Each.{EachDoes}
 use Rattle.cl_front.specs.declared.condition.Condition.{Condition}
 use Rattle.cl_front.specs.declared.condition.Condition.TheVariants as conditions
@@ -26,14 +27,16 @@ use Rattle.cl_front.specs.Front.{IsSource, StandsAt, place_of_token}
 abbrev pub places_of : List ℕ → List Token → List Place
 places_of source tokens = map (λ t. place_at source t.start) tokens
 
--- No node of the unit without vectors is at fault, the kernel is within the limits, and this is the typed unit. In its
--- program each vector statement of the unit does its steps, where each number that is given for a name fits a `long`.
+-- No node of the unit without vectors is at fault, the kernel is within the limits, and this is the typed unit. Where each
+-- number that is given for a name fits a `long`, the unit without vectors is what it should be, and in its program each
+-- vector statement of the unit does its steps.
 pub record HasTypedUnit (source : List ℕ) (defines : List Define) (kernel : List ℕ) (typed : Unit') : Type 0 where
   pub expanded : List Token
   pub unit : Syntax
   pub is_source : IsSource source defines expanded unit
   pub accepted : IsAccepted (places_of source expanded) kernel (scalarised_of unit)
   pub means : typed ≡ unit_meant (places_of source expanded) kernel (scalarised_of unit)
+  pub form : DefinesFit defines → IsScalarForm unit (scalarised_of unit)
   pub does : DefinesFit defines → EachDoes (program_of typed) (marked no_names unit)
       (start_of (places_of source expanded) (scalarised_of unit)) []
 
