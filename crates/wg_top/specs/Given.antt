@@ -34,6 +34,16 @@ pub record IsGiven (given : Given) : Type 0 where
   pub valid : All (λ c. IsValid (program_of (unit_of c.program))) given.kernels.items
   pub names : map (λ c. c.group.kernel) given.kernels.items ≡ map (λ p. p.kernel) (text_of given.text).list
 
+-- what holds of the bytes and of the numbers for names from which a source was read; and why there is a refusal
+abbrev pub FromSource : Source → (List ℕ → List Define → Type 0) → Type 0
+FromSource source Holds = (bytes : List ℕ) (defines : List Define) →
+    IsScalarSource bytes defines source.tokens.items (view source.unit) →
+    source.places.items ≡ places_of bytes source.tokens.items → Holds bytes defines
+
+abbrev pub RefusedFrom : Source → (List ℕ → List Define → Type 0) → Type 0
+RefusedFrom source Cause =
+    FromSource source (λ bytes defines. source.end ≡ place_at bytes (length bytes) → Cause bytes defines)
+
 -- a source that was read from these bytes, with these numbers for names
 pub record IsReadFrom (bytes : List ℕ) (defines : List Define) (source : Source) : Type 0 where
   pub is : IsScalarSource bytes defines source.tokens.items (view source.unit)

@@ -1,11 +1,10 @@
 // Object files: `build` saves one, and `exec` runs one.
-ghost use Rattle.std.specs.Prelude.{◌≡◌, ◌≤◌, ℕ, List, Bool, false, true, All, IsTrue, ◌↔◌, IfOk, IfErr, length};
+ghost use Rattle.std.specs.Prelude.{◌≡◌, ◌≤◌, ℕ, List, Bool, false, true, All, IsTrue, ◌↔◌, IfOk, IfErr};
 ghost use Rattle.std.specs.Prelude.{map, sum};
 ghost use Rattle.wg_num.specs.Operators.{lanes_of};
 ghost use Rattle.wg_outside.specs.Files.{KeepsOthers};
 ghost use Rattle.cl_tree.specs.Selections.{has_selection};
 ghost use Rattle.cl_tree.specs.Syntax.{view};
-ghost use Rattle.cl_token.specs.Places.{place_at};
 ghost use Rattle.cl_prep.specs.declared.prep.Define.{Define};
 ghost use Rattle.cl_meaning.specs.View.{unit_of};
 ghost use Rattle.cl_front.specs.Front.{IsScalarSource};
@@ -17,7 +16,7 @@ ghost use Rattle.launch_file.specs.Values.{HasNumber};
 ghost use Rattle.wg_object.specs.View.{object_of};
 ghost use Rattle.wg_top.specs.declared.RunError.TheVariants as refusals;
 ghost use Rattle.wg_top.specs.Causes.{standing, HasNoFewer};
-ghost use Rattle.wg_top.specs.Given.{IsText};
+ghost use Rattle.wg_top.specs.Given.{IsText, RefusedFrom};
 ghost use Rattle.wg_top.specs.Stages.{KernelCause};
 ghost use Rattle.wg_top.specs.Units.{needs_in};
 ghost use Rattle.wg_top.specs.Programs.{AreRun, HasKinds, RunsCause, RunsLeave, runs_of};
@@ -88,10 +87,7 @@ pub(crate) fn object_of_kernel(
         IsScalarSource bytes defines source.now.tokens.items (view source.now.unit) →
         source.now.places.items ≡ places_of bytes source.now.tokens.items →
         CompilesTo bytes defines kernel.now (lanes_of width) (object_of o)) }
-    ensures err { IfErr result (λ e. (bytes : List ℕ) (defines : List Define) →
-        IsScalarSource bytes defines source.now.tokens.items (view source.now.unit) →
-        source.now.places.items ≡ places_of bytes source.now.tokens.items →
-        source.now.end ≡ place_at bytes (length bytes) → KernelCause bytes defines kernel.now e) }
+    ensures err { IfErr result (λ e. RefusedFrom source.now (λ bytes defines. KernelCause bytes defines kernel.now e)) }
 {
     let compiled = match compile_alone(alloc, source, kernel, width) {
         Ok(compiled) => compiled,
@@ -115,10 +111,7 @@ fn kernel_text(
         IsScalarSource bytes defines source.now.tokens.items (view source.now.unit) →
         source.now.places.items ≡ places_of bytes source.now.tokens.items →
         IsTextFrom bytes defines kernel.now (lanes_of width) v.items) }
-    ensures err { IfErr result (λ e. (bytes : List ℕ) (defines : List Define) →
-        IsScalarSource bytes defines source.now.tokens.items (view source.now.unit) →
-        source.now.places.items ≡ places_of bytes source.now.tokens.items →
-        source.now.end ≡ place_at bytes (length bytes) → KernelCause bytes defines kernel.now e) }
+    ensures err { IfErr result (λ e. RefusedFrom source.now (λ bytes defines. KernelCause bytes defines kernel.now e)) }
 {
     match object_of_kernel(alloc, source, kernel, width) {
         Ok(object) => match encode(alloc, &object) {

@@ -1,15 +1,15 @@
 // The kernels of a source, one for each launch; each name is compiled once.
-ghost use Rattle.std.specs.Prelude.{◌≡◌, ℕ, false, List, All, IfOk, IfErr, length, map};
+ghost use Rattle.std.specs.Prelude.{◌≡◌, ℕ, false, List, All, IfOk, IfErr, map};
 ghost use Rattle.wg_num.specs.Operators.{lanes_of};
 ghost use Rattle.cl_tree.specs.Selections.{has_selection};
 ghost use Rattle.cl_tree.specs.Syntax.{view};
-ghost use Rattle.cl_token.specs.Places.{place_at};
 ghost use Rattle.cl_prep.specs.declared.prep.Define.{Define};
 ghost use Rattle.launch_file.specs.Texts.{Text, text_of, part_of};
-ghost use Rattle.cl_front.specs.Front.{HasUnit, IsRefusal, IsScalarSource};
-ghost use Rattle.cl_front.specs.Typed.{HasTypedUnit, IsUnitRefusal, places_of};
+ghost use Rattle.cl_front.specs.Front.{HasUnit, IsRefusal};
+ghost use Rattle.cl_front.specs.Typed.{HasTypedUnit, IsUnitRefusal};
 ghost use Rattle.wg_compile.specs.Correct.{IsCompilation};
 ghost use Rattle.wg_top.specs.Units.{HaveTypedUnits};
+ghost use Rattle.wg_top.specs.Given.{FromSource, RefusedFrom};
 ghost use Rattle.wg_top.specs.Stages.{ProgramCause, KernelCause, KernelsCause};
 ghost use Rattle.cl_meaning.specs.View.{unit_of};
 
@@ -42,16 +42,11 @@ pub(crate) fn compile_alone(
     width: Width,
 ) -> Result<Compiled, RunError>
     requires selections { has_selection (view source.now.unit) ≡ false }
-    ensures compiled { IfOk result (λ c. (bytes : List ℕ) (defines : List Define) →
-        IsScalarSource bytes defines source.now.tokens.items (view source.now.unit) →
-        source.now.places.items ≡ places_of bytes source.now.tokens.items →
-        HasTypedUnit bytes defines kernel.now (unit_of c.program)) }
+    ensures compiled { IfOk result (λ c. FromSource source.now (λ bytes defines.
+        HasTypedUnit bytes defines kernel.now (unit_of c.program))) }
     ensures passes { IfOk result (λ c. IsCompilation (lanes_of width) c) }
     ensures name { IfOk result (λ c. c.group.kernel ≡ kernel.now) }
-    ensures err { IfErr result (λ e. (bytes : List ℕ) (defines : List Define) →
-        IsScalarSource bytes defines source.now.tokens.items (view source.now.unit) →
-        source.now.places.items ≡ places_of bytes source.now.tokens.items →
-        source.now.end ≡ place_at bytes (length bytes) → KernelCause bytes defines kernel.now e) }
+    ensures err { IfErr result (λ e. RefusedFrom source.now (λ bytes defines. KernelCause bytes defines kernel.now e)) }
 {
     match compile_kernel(alloc, source, kernel.bytes()) {
         Ok(program) => match compile_program(alloc, program, kernel, width) {
@@ -70,16 +65,11 @@ fn compile_one(
     width: Width,
 ) -> Result<SharedKernel, RunError>
     requires selections { has_selection (view source.now.unit) ≡ false }
-    ensures compiled { IfOk result (λ c. (bytes : List ℕ) (defines : List Define) →
-        IsScalarSource bytes defines source.now.tokens.items (view source.now.unit) →
-        source.now.places.items ≡ places_of bytes source.now.tokens.items →
-        HasTypedUnit bytes defines kernel.now (unit_of c.program)) }
+    ensures compiled { IfOk result (λ c. FromSource source.now (λ bytes defines.
+        HasTypedUnit bytes defines kernel.now (unit_of c.program))) }
     ensures passes { IfOk result (λ c. IsCompilation (lanes_of width) c) }
     ensures name { IfOk result (λ c. c.group.kernel ≡ kernel.now) }
-    ensures err { IfErr result (λ e. (bytes : List ℕ) (defines : List Define) →
-        IsScalarSource bytes defines source.now.tokens.items (view source.now.unit) →
-        source.now.places.items ≡ places_of bytes source.now.tokens.items →
-        source.now.end ≡ place_at bytes (length bytes) → KernelCause bytes defines kernel.now e) }
+    ensures err { IfErr result (λ e. RefusedFrom source.now (λ bytes defines. KernelCause bytes defines kernel.now e)) }
 {
     match compile_alone(alloc, source, kernel, width) {
         Ok(compiled) => match SharedKernel::new(alloc, compiled) {
@@ -100,21 +90,14 @@ fn kernel_for(
     earlier: &[SharedKernel],
 ) -> Result<SharedKernel, RunError>
     requires selections { has_selection (view source.now.unit) ≡ false }
-    requires compiled { (bytes : List ℕ) (defines : List Define) →
-        IsScalarSource bytes defines source.now.tokens.items (view source.now.unit) →
-        source.now.places.items ≡ places_of bytes source.now.tokens.items →
-        All (λ c. HasTypedUnit bytes defines c.group.kernel (unit_of c.program)) earlier.now }
+    requires compiled { FromSource source.now (λ bytes defines.
+        All (λ c. HasTypedUnit bytes defines c.group.kernel (unit_of c.program)) earlier.now) }
     requires passes { All (IsCompilation (lanes_of width)) earlier.now }
-    ensures compiled { IfOk result (λ c. (bytes : List ℕ) (defines : List Define) →
-        IsScalarSource bytes defines source.now.tokens.items (view source.now.unit) →
-        source.now.places.items ≡ places_of bytes source.now.tokens.items →
-        HasTypedUnit bytes defines kernel.now (unit_of c.program)) }
+    ensures compiled { IfOk result (λ c. FromSource source.now (λ bytes defines.
+        HasTypedUnit bytes defines kernel.now (unit_of c.program))) }
     ensures passes { IfOk result (λ c. IsCompilation (lanes_of width) c) }
     ensures name { IfOk result (λ c. c.group.kernel ≡ kernel.now) }
-    ensures err { IfErr result (λ e. (bytes : List ℕ) (defines : List Define) →
-        IsScalarSource bytes defines source.now.tokens.items (view source.now.unit) →
-        source.now.places.items ≡ places_of bytes source.now.tokens.items →
-        source.now.end ≡ place_at bytes (length bytes) → KernelCause bytes defines kernel.now e) }
+    ensures err { IfErr result (λ e. RefusedFrom source.now (λ bytes defines. KernelCause bytes defines kernel.now e)) }
 {
     for other in earlier {
         if other.compiled().group.kernel.bytes() == kernel.bytes() {
@@ -135,16 +118,12 @@ fn compile_each(
     width: Width,
 ) -> Result<Vec<SharedKernel>, RunError>
     requires selections { has_selection (view source.now.unit) ≡ false }
-    ensures compiled { IfOk result (λ v. (bytes : List ℕ) (defines : List Define) →
-        IsScalarSource bytes defines source.now.tokens.items (view source.now.unit) →
-        source.now.places.items ≡ places_of bytes source.now.tokens.items →
-        HaveTypedUnits bytes defines (map part_of list.now) (map (λ c. unit_of c.program) v.items)) }
+    ensures compiled { IfOk result (λ v. FromSource source.now (λ bytes defines.
+        HaveTypedUnits bytes defines (map part_of list.now) (map (λ c. unit_of c.program) v.items))) }
     ensures passes { IfOk result (λ v. All (IsCompilation (lanes_of width)) v.items) }
     ensures names { IfOk result (λ v. map (λ c. c.group.kernel) v.items ≡ map (λ p. p.kernel) list.now) }
-    ensures err { IfErr result (λ e. (bytes : List ℕ) (defines : List Define) →
-        IsScalarSource bytes defines source.now.tokens.items (view source.now.unit) →
-        source.now.places.items ≡ places_of bytes source.now.tokens.items →
-        source.now.end ≡ place_at bytes (length bytes) → KernelsCause bytes defines (map part_of list.now) e) }
+    ensures err { IfErr result (λ e. RefusedFrom source.now (λ bytes defines.
+        KernelsCause bytes defines (map part_of list.now) e)) }
 {
     let mut kernels = Vec::new(alloc);
     for which in 0..list.len() {
