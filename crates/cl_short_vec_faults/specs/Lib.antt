@@ -1,0 +1,9 @@
+pub mod PlainForm
+pub mod Plainly
+pub mod Law
+pub mod Parts
+pub mod SoundBut
+pub mod Beside
+pub mod Leaves
+pub mod UnitLaw
+pub mod Lines

@@ -1,0 +1,55 @@
+-- The law on units.
+use Rattle.std.specs.Prelude.{◌≡◌, ℕ, ◌<◌, ◌^◌, List, None, true, false}
+use Rattle.wg_num.specs.declared.types.Place.{Place}
+use Rattle.cl_token.specs.declared.token.Token.{Token}
+use Rattle.cl_model.specs.Lists.{IsOneOf}
+use Rattle.cl_tree.specs.Syntax.{Syntax, node, Forest, none, more, last_of}
+use Rattle.cl_tree.specs.declared.tree.Form.{Form}
+use Rattle.cl_tree.specs.declared.tree.Form.TheVariants as forms
+use Rattle.cl_tree.specs.Grammar.{SpellsUnit}
+use Rattle.cl_limits.specs.Judged.{nodes_of, asked_in, IsSound}
+use Rattle.cl_meaning.specs.Spelling.{name_in, flag_in}
+use Rattle.cl_meaning.specs.declared.fault.Fault.{Fault}
+use Rattle.cl_meaning.specs.Faults.{at_fault, looked}
+use Rattle.cl_meaning.specs.Visible.{Node}
+use Rattle.cl_meaning.specs.Meant.{start_of}
+use Rattle.cl_check_sound.specs.Shape.{IsUnitOf}
+use Rattle.cl_short_vec.specs.Kinds.{no_names}
+use Rattle.cl_short_vec.specs.Marks.{marked}
+use Rattle.cl_short_vec.specs.Faults.{refusal_of}
+use Rattle.cl_short_vec.specs.Unit.{scalarised_of}
+use Rattle.cl_short_vec_faults.specs.PlainForm.{plain_of}
+use Rattle.cl_short_vec_faults.specs.Plainly.{NoPoint}
+use Rattle.cl_short_vec_faults.specs.Beside.{IsName}
+use Rattle.cl_short_vec_faults.specs.SoundBut.{is_of_size}
+use Rattle.cl_short_vec_faults.specs.Leaves.{LeavesFit}
+
+-- what is declared has a name of a source, and not that of a memory fence
+pub record IsDeclaredName (q : List ℕ) : Type 0 where
+  pub is : IsName q
+  pub no_flag : flag_in q ≡ None
+
+abbrev pub DeclaredNameBy : Form → List ℕ → Type 0
+DeclaredNameBy forms.DeclaratorNode w = IsDeclaredName (name_in w)
+DeclaredNameBy forms.ParamNode w = IsDeclaredName (name_in w)
+DeclaredNameBy forms.FunctionNode w = IsName (name_in w)
+DeclaredNameBy forms.PrototypeNode w = IsName (name_in w)
+DeclaredNameBy form w = Unit {0}
+
+abbrev mutual
+  pub DeclaredNames : Syntax → Type 0
+  DeclaredNames (node form w f l parts) = DeclaredNameBy form w × AllDeclaredNames parts
+
+  pub AllDeclaredNames : Forest → Type 0
+  AllDeclaredNames none = Unit {0}
+  AllDeclaredNames (more p ps) = DeclaredNames p × AllDeclaredNames ps
+
+-- Where no node of the plain form of a unit is at fault, and each leaf of a vector statement that should be a number is
+-- one, no node of the unit without vectors is at fault, but perhaps by the length of an array. The unit has fewer
+-- tokens than 2 ^ 64, so that the helping variables of each have a name of their own.
+abbrev pub UnitsFollow : Type 0
+UnitsFollow = (places : List Place) (kernel : List ℕ) (tokens : List Token) (unit : Syntax) → SpellsUnit unit tokens →
+    last_of unit < 2 ^ 64 → IsUnitOf true unit → NoPoint unit → DeclaredNames unit → refusal_of unit ≡ None →
+    IsSound places kernel (plain_of unit) → LeavesFit (start_of places (plain_of unit)) (marked no_names unit) →
+    (n : Node) → IsOneOf (nodes_of places (scalarised_of unit)) n → (k : Fault) → is_of_size k ≡ false →
+    at_fault (asked_in places kernel (scalarised_of unit)) (looked n) k ≡ false
