@@ -1,8 +1,22 @@
 -- What is to be shown of declarations, statements and functions: where no node of the plain form is at fault, no node
 -- of what stands for them is, but perhaps by the length of an array; and what is visible behind them goes on side by
 -- side.
-use Rattle.std.proofs.Common.{◌≡◌, ℕ, suc, ◌≤◌, ◌<◌, ◌^◌, List, [], Some, true, false, slice_get, length}
+use Rattle.std.proofs.Common.{None, ◌≡◌, ℕ, suc, ◌≤◌, ◌<◌, ◌^◌, List, [], Some, true, false, slice_get, length}
+use Rattle.wg_num.specs.declared.types.Place.{Place}
+use Rattle.cl_token.specs.declared.token.Token.{Token}
+use Rattle.cl_model.specs.Lists.{IsOneOf}
 use Rattle.cl_tree.specs.declared.tree.Form.TheVariants as forms
+use Rattle.cl_tree.specs.Grammar.{SpellsUnit}
+use Rattle.cl_limits.specs.Judged.{nodes_of, asked_in, IsSound}
+use Rattle.cl_meaning.specs.declared.fault.Fault.{Fault}
+use Rattle.cl_meaning.specs.Faults.{at_fault, looked}
+use Rattle.cl_meaning.specs.Visible.{Node}
+use Rattle.cl_meaning.specs.Meant.{start_of}
+use Rattle.cl_check_sound.specs.Shape.{IsUnitOf}
+use Rattle.cl_short_vec.specs.Kinds.{no_names}
+use Rattle.cl_short_vec.specs.Faults.{refusal_of}
+use Rattle.cl_short_vec.specs.Unit.{scalarised_of}
+use Rattle.cl_short_vec_faults.specs.SoundBut.{is_of_size}
 use Rattle.cl_tree.specs.Syntax.{Syntax, node, first_of, last_of}
 use Rattle.cl_meaning.specs.Spelling.{name_in}
 use Rattle.cl_meaning.specs.declared.kind.Role.{Role}
@@ -95,3 +109,11 @@ PrototypesFollow = (asked : Asked) (names : Names) (bound : ℕ) (plain form : E
     IsPrototypeOf true t → InUnit names plain → Stands asked names bound plain form Outer roles.Other t →
     SoundBut asked form roles.Other (scalarised (marked names t)) ×
     Goes asked (kinds.behind names t) t plain (behind form (scalarised (marked names t)))
+
+-- the nodes of a unit
+abbrev pub NodesFollow : Type 0
+NodesFollow = (places : List Place) (kernel : List ℕ) (tokens : List Token) (unit : Syntax) → SpellsUnit unit tokens →
+    last_of unit < 2 ^ 64 → IsUnitOf true unit → NoPoint unit → DeclaredNames unit → refusal_of unit ≡ None →
+    IsSound places kernel (plain_of unit) → LeavesFit (start_of places (plain_of unit)) (marked no_names unit) →
+    (n : Node) → IsOneOf (nodes_of places (scalarised_of unit)) n → (k : Fault) → is_of_size k ≡ false →
+    at_fault (asked_in places kernel (scalarised_of unit)) (looked n) k ≡ false

@@ -78,6 +78,14 @@ pub mod Vectorless
 pub mod UnitDefinitions
 pub mod UnitItems
 pub mod UnitsFollowing
+pub mod HeightsNodes
+pub mod HeightsParts
+pub mod HeightsScalars
+pub mod HeightsSteps
+pub mod HeightsForms
+pub mod HeightsPlain
+pub mod Heights
+pub mod UnitsStand
 pub mod Operands
 pub mod PlacedParts
 pub mod Expressions

@@ -119,7 +119,7 @@ first_in_within : (ts : Forest) (n m z : ℕ) → OrderedIn n ts m → n ≤ z �
 first_in_within none n m z h l = l
 first_in_within (more p ps) n m z h l = h.0
 
-last_in_within : (ts : Forest) (n m z : ℕ) → OrderedIn n ts m → z < m → last_in ts z < m
+pub last_in_within : (ts : Forest) (n m z : ℕ) → OrderedIn n ts m → z < m → last_in ts z < m
 last_in_within none n m z h l = l
 last_in_within (more p ps) n m z h l = last_in_within ps (suc (last_of p)) m (last_of p) h.2
     (let q = ordered_in_le ps (suc (last_of p)) m h.2 in omega arith)

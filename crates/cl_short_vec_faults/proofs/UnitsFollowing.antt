@@ -35,12 +35,12 @@ use Rattle.cl_short_vec_faults.specs.SoundBut.{is_of_size, SoundBut}
 use Rattle.cl_short_vec_faults.specs.Plainly.{NoPoints}
 use Rattle.cl_short_vec_faults.specs.Beside.{Beside}
 use Rattle.cl_short_vec_faults.specs.Leaves.{LeavesFit, AllLeavesFit}
-use Rattle.cl_short_vec_faults.specs.UnitLaw.{AllDeclaredNames, UnitsFollow}
+use Rattle.cl_short_vec_faults.specs.UnitLaw.{AllDeclaredNames}
 use Rattle.cl_short_vec_faults.proofs.Ordered.{OrderedIn, unit_ordered}
 use Rattle.cl_short_vec_faults.proofs.TokenFacts.{AllFacts, unit_facts}
 use Rattle.cl_short_vec_faults.proofs.SameFunctions.{parts_functions}
 use Rattle.cl_short_vec_faults.proofs.Expressions.{expressions_follow}
-use Rattle.cl_short_vec_faults.proofs.Following.{DeclarationsFollow, HeadsFollow, StatementsFollow}
+use Rattle.cl_short_vec_faults.proofs.Following.{NodesFollow, DeclarationsFollow, HeadsFollow, StatementsFollow}
 use Rattle.cl_short_vec_faults.proofs.FrontTrees.{items_define}
 use Rattle.cl_short_vec_faults.proofs.FrontFaults.{sound_frame, frame_but}
 use Rattle.cl_short_vec_faults.proofs.PlainUnits.{plain_same}
@@ -221,12 +221,12 @@ module _ (expressions : ExpressionsFollow) (declarations : DeclarationsFollow) (
       (told_none (refusals Free (marked no_names unit)) rf) (subst (IsSound places kernel) x.1 so)
       (subst (λ z. LeavesFit (start_of places z) (marked no_names unit)) x.1 lv))
 
-  pub units_follow : UnitsFollow
+  pub units_follow : NodesFollow
   units_follow places kernel tokens (node forms.UnitNode w f l items) sp few h np dn rf so lv =
       units_by places kernel tokens w f l items sp few h np.1 dn.1 (has_vectors (node forms.UnitNode w f l items)) refl
       rf so lv
   units_follow places kernel tokens t sp few h np dn rf so lv = absurd h
 
 -- what is to be shown of expressions is shown
-pub units_from : DeclarationsFollow → HeadsFollow Outer → StatementsFollow → UnitsFollow
-units_from declarations constants statements = units_follow expressions_follow declarations constants statements
+pub nodes_from : DeclarationsFollow → HeadsFollow Outer → StatementsFollow → NodesFollow
+nodes_from declarations constants statements = units_follow expressions_follow declarations constants statements

@@ -7,9 +7,11 @@ use Rattle.cl_tree.specs.Syntax.{Syntax, node, Forest, none, more, last_of}
 use Rattle.cl_tree.specs.declared.tree.Form.{Form}
 use Rattle.cl_tree.specs.declared.tree.Form.TheVariants as forms
 use Rattle.cl_tree.specs.Grammar.{SpellsUnit}
-use Rattle.cl_limits.specs.Judged.{nodes_of, asked_in, IsSound}
+use Rattle.cl_limits.specs.Kernel.{at_limit}
+use Rattle.cl_limits.specs.Judged.{nodes_of, asked_in, sized_in, IsSound}
 use Rattle.cl_meaning.specs.Spelling.{name_in, flag_in}
 use Rattle.cl_meaning.specs.declared.fault.Fault.{Fault}
+use Rattle.cl_meaning.specs.declared.fault.Fault.TheVariants as faults
 use Rattle.cl_meaning.specs.Faults.{at_fault, looked}
 use Rattle.cl_meaning.specs.Visible.{Node}
 use Rattle.cl_meaning.specs.Meant.{start_of}
@@ -44,12 +46,36 @@ abbrev mutual
   AllDeclaredNames none = Unit {0}
   AllDeclaredNames (more p ps) = DeclaredNames p × AllDeclaredNames ps
 
--- Where no node of the plain form of a unit is at fault, and each leaf of a vector statement that should be a number is
--- one, no node of the unit without vectors is at fault, but perhaps by the length of an array. The unit has fewer
--- tokens than 2 ^ 64, so that the helping variables of each have a name of their own.
+abbrev pub NoFlagBy : Form → List ℕ → Type 0
+NoFlagBy forms.DeclaratorNode w = flag_in (name_in w) ≡ None
+NoFlagBy forms.ParamNode w = flag_in (name_in w) ≡ None
+NoFlagBy form w = Unit {0}
+
+-- no variable, parameter or array has the name of a memory fence
+abbrev mutual
+  pub NoFlags : Syntax → Type 0
+  NoFlags (node form w f l parts) = NoFlagBy form w × AllNoFlags parts
+
+  pub AllNoFlags : Forest → Type 0
+  AllNoFlags none = Unit {0}
+  AllNoFlags (more p ps) = NoFlags p × AllNoFlags ps
+
+-- Nothing is to be said against the plain form of a unit: no node of it is at fault, barriers do not stand too deep in
+-- its kernel, and each leaf of a vector statement that should be a number is one.
+pub record PlainStands (places : List Place) (kernel : List ℕ) (unit : Syntax) : Type 0 where
+  pub sound : IsSound places kernel (plain_of unit)
+  pub shallow : at_limit (sized_in places kernel (plain_of unit)) faults.BarriersTooDeep ≡ false
+  pub leaves : LeavesFit (start_of places (plain_of unit)) (marked no_names unit)
+
+-- Then no node of the unit without vectors is at fault, but perhaps by the length of an array, and barriers do not
+-- stand too deep in the kernel.
+pub record FormStands (places : List Place) (kernel : List ℕ) (unit : Syntax) : Type 0 where
+  pub sound : (n : Node) → IsOneOf (nodes_of places (scalarised_of unit)) n → (k : Fault) → is_of_size k ≡ false →
+      at_fault (asked_in places kernel (scalarised_of unit)) (looked n) k ≡ false
+  pub shallow : at_limit (sized_in places kernel (scalarised_of unit)) faults.BarriersTooDeep ≡ false
+
+-- The unit has fewer tokens than 2 ^ 64, so that the helping variables of each have a name of their own.
 abbrev pub UnitsFollow : Type 0
 UnitsFollow = (places : List Place) (kernel : List ℕ) (tokens : List Token) (unit : Syntax) → SpellsUnit unit tokens →
     last_of unit < 2 ^ 64 → IsUnitOf true unit → NoPoint unit → DeclaredNames unit → refusal_of unit ≡ None →
-    IsSound places kernel (plain_of unit) → LeavesFit (start_of places (plain_of unit)) (marked no_names unit) →
-    (n : Node) → IsOneOf (nodes_of places (scalarised_of unit)) n → (k : Fault) → is_of_size k ≡ false →
-    at_fault (asked_in places kernel (scalarised_of unit)) (looked n) k ≡ false
+    PlainStands places kernel unit → FormStands places kernel unit
