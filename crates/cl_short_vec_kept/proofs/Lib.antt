@@ -1,0 +1,5 @@
+pub mod Counted
+pub mod Expressions
+pub mod Statements
+pub mod Nodes
+pub mod Units

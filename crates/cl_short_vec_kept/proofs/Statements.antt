@@ -1,0 +1,89 @@
+-- Simple statements, declarations and lines stay, but for declarations of vectors and vector statements.
+use Rattle.std.proofs.Common.{◌≡◌, Option, None, Some, Bool, true, false, if◌then◌else◌, refl, ap, ◌∙◌}
+use Rattle.std.proofs.Common.{◌⊎◌, inl, inr}
+use Rattle.cl_tree.specs.declared.tree.Form.{Form}
+use Rattle.cl_tree.specs.declared.tree.Form.TheVariants as forms
+use Rattle.cl_tree.specs.Syntax.{Syntax, node, Forest}
+use Rattle.cl_tree.specs.Nodes.{forest1}
+use Rattle.cl_meaning.specs.Spelling.{setting_in}
+use Rattle.cl_meaning.specs.Declarations.{form_of, word_of}
+use Rattle.cl_meaning.specs.Kinds.{is_some}
+use Rattle.cl_short_vec.specs.declared.types.Vector.{Vector}
+use Rattle.cl_short_vec.specs.declared.kinds.Kind.{Kind}
+use Rattle.cl_short_vec.specs.Types.{vector_type}
+use Rattle.cl_short_vec.specs.Kinds.{is_vector}
+use Rattle.cl_short_vec.specs.Marks.{Mark, mark, Marks, unmarked, marking, tree_at, kind_at}
+use Rattle.cl_short_vec.specs.Order.{operator_in, setting_steps}
+use Rattle.cl_short_vec.specs.Nodes.{span_of, with_parts}
+use Rattle.cl_short_vec.specs.Scalar.{scalar, scalars}
+use Rattle.cl_short_vec.specs.Unit.{lines_of, assigned_of, set_block, whole_by, simple_at, all_declarators}
+use Rattle.cl_short_vec.specs.Unit.{declaration, declaration_lines, block_line, scalarised}
+use Rattle.cl_short_vec.specs.Unit.{lines_by, declaration_by}
+use Rattle.cl_short_vec_kept.specs.Kept.{Stays, AllStay, sets_by, sets_whole, SimpleStays, DeclarationStays, StaysTree}
+use Rattle.cl_short_vec_kept.specs.Kept.{typed_vectors, declares_vectors}
+
+-- ---- simple statements
+
+whole_stays : (form : Form) (t s : Syntax) (k j : Kind) (parts : Marks) (e : Syntax) →
+    (sets_by form parts ≡ false → Stays (mark t k (marking (mark s j parts) unmarked)) e) → form_of s ≡ form →
+    SimpleStays t k (marking (mark s j parts) unmarked) (whole_by form (span_of t) (mark s j parts) e)
+whole_stays forms.AssignNode t s k j (marking a (marking b unmarked)) e h f = by (is_vector (kind_at a)) refl
+  where
+    lines : Forest
+    lines = lines_of None (assigned_of (operator_in (setting_in (word_of s))) a b)
+        (setting_steps (operator_in (setting_in (word_of s))) a b)
+
+    by : (z : Bool) → is_vector (kind_at a) ≡ z →
+        SimpleStays t k (marking (mark s j (marking a (marking b unmarked))) unmarked)
+        (if z then set_block (span_of t) (operator_in (setting_in (word_of s))) a b else e)
+    by true q = inl (ap (λ x. sets_by x (marking a (marking b unmarked))) f ∙ q, (lines, refl))
+    by false q = inr (ap (λ x. sets_by x (marking a (marking b unmarked))) f ∙ q, h q)
+whole_stays form t s k j parts e h f = inr (ap (λ x. sets_by x parts) f, h refl)
+
+pub simple_stays : (t : Syntax) (k : Kind) (ms : Marks) (e : Syntax) →
+    (sets_whole ms ≡ false → Stays (mark t k ms) e) →
+    SimpleStays t k ms (simple_at t ms e)
+simple_stays t k unmarked e h = inr (refl, h refl)
+simple_stays t k (marking (mark s j parts) unmarked) e h = whole_stays (form_of s) t s k j parts e h refl
+simple_stays t k (marking (mark s j parts) (marking n ms)) e h = inr (refl, h refl)
+
+-- ---- declarations
+
+pub declaration_stays : (t : Syntax) (type : Mark) (ms : Marks) → Stays type (scalar type) →
+    (vector_type (tree_at type) ≡ None → AllStay (marking type ms) (scalars (marking type ms))) →
+    DeclarationStays t (marking type ms) (with_parts t (declaration (marking type ms)))
+declaration_stays t type ms h g = by (vector_type (tree_at type)) refl
+  where
+    by : (o : Option Vector) → vector_type (tree_at type) ≡ o →
+        DeclarationStays t (marking type ms) (with_parts t (declaration_by o type ms))
+    by (Some v) e = inl (ap is_some e, (scalar type, all_declarators v ms, refl, h))
+    by None e = inr (ap is_some e, (scalars (marking type ms), refl, g e))
+
+-- ---- lines
+
+-- a declaration of no vectors is one line
+declared_line : (t : Syntax) (k : Kind) (ms : Marks) → (typed_vectors ms ≡ true) ⊎
+    (declaration_lines (mark t k ms) ≡ forest1 (with_parts t (declaration ms)))
+declared_line t k unmarked = inr refl
+declared_line t k (marking type ms) = by (vector_type (tree_at type)) refl
+  where
+    by : (o : Option Vector) → vector_type (tree_at type) ≡ o → (typed_vectors (marking type ms) ≡ true) ⊎
+        (lines_by o t type ms ≡ forest1 (with_parts t (declaration_by o type ms)))
+    by (Some v) e = inl (ap is_some e)
+    by None e = inr refl
+
+abbrev pub LineStays : Mark → Forest → Type 0
+LineStays m xs = (declares_vectors m ≡ true) ⊎ ((u : Syntax) × (xs ≡ forest1 u) × StaysTree m u)
+
+pub line_stays : (m : Mark) → StaysTree m (scalarised m) → LineStays m (block_line m (scalarised m))
+unfolding scalarised
+line_stays (mark (node forms.DeclareNode w f l ps) k ms) h = by (declared_line (node forms.DeclareNode w f l ps) k ms)
+  where
+    t : Syntax
+    t = node forms.DeclareNode w f l ps
+
+    by : (typed_vectors ms ≡ true) ⊎ (declaration_lines (mark t k ms) ≡ forest1 (with_parts t (declaration ms))) →
+        LineStays (mark t k ms) (declaration_lines (mark t k ms))
+    by (inl e) = inl e
+    by (inr e) = inr (with_parts t (declaration ms), e, h)
+line_stays (mark (node form w f l ps) k ms) h = inr (scalarised (mark (node form w f l ps) k ms), refl, h)
