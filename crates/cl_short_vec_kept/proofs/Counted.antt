@@ -1,5 +1,5 @@
 -- What stands for a node is that node with other parts, or what is counted in components.
-use Rattle.std.proofs.Common.{◌≡◌, ℕ, List, Option, None, Some, Bool, true, false, if◌then◌else◌, refl, sym}
+use Rattle.std.proofs.Common.{◌≡◌, ℕ, List, Option, None, Some, Bool, true, false, if◌then◌else◌, refl, ap, sym, ◌∙◌}
 use Rattle.std.proofs.Common.{◌⊎◌, inl, inr}
 use Rattle.cl_tree.specs.declared.tree.Form.{Form}
 use Rattle.cl_tree.specs.declared.tree.Form.TheVariants as forms
@@ -20,8 +20,8 @@ use Rattle.cl_short_vec.specs.Plain.{is_pointed}
 use Rattle.cl_short_vec.specs.Marks.{Mark, mark, Marks, unmarked, marking, kind_at}
 use Rattle.cl_short_vec.specs.Nodes.{with_parts}
 use Rattle.cl_short_vec.specs.Scalar.{prefixed, postfixed, one_by, moved_by, two_by}
-use Rattle.cl_short_vec_kept.specs.Kept.{renewed, CountedPrefix, CountedPostfix, CountedOne, CountedSetting, CountedTwo}
-use Rattle.cl_short_vec_kept.specs.Kept.{counts_prefix, counts_postfix, counts_one, counts_setting, counts_two, counts}
+use Rattle.cl_short_vec_kept.specs.Kept.{renewed, counted_prefix, counted_postfix, counted_one, counted_setting}
+use Rattle.cl_short_vec_kept.specs.Kept.{counted_two, counted_parts, counted_or}
 use Rattle.std.proofs.lemmas.Bool.{false≢true}
 use Rattle.cl_short_vec.specs.Types.{selection_in}
 use Rattle.cl_short_vec.specs.Faults.{components_of}
@@ -36,60 +36,50 @@ is_selecting forms.PostfixNode w = is_pointed w
 is_selecting form w = false
 
 prefixed_kept : (o : Option Prefix) (k : Kind) (t p : Syntax) →
-    ((counts_prefix o k ≡ false) × (prefixed o k t p ≡ with_parts t (forest1 p))) ⊎
-    CountedPrefix o k t p (prefixed o k t p)
-prefixed_kept (Some prefixes.Content) (Pointer s c v) t p = inr refl
-prefixed_kept (Some (prefixes.Step op)) (Pointer s c v) t p = inr refl
-prefixed_kept o k t p = inl (refl, refl)
+    prefixed o k t p ≡ counted_or (counted_prefix o k t p) (with_parts t (forest1 p))
+prefixed_kept (Some prefixes.Content) (Pointer s c v) t p = refl
+prefixed_kept (Some (prefixes.Step op)) (Pointer s c v) t p = refl
+prefixed_kept o k t p = refl
 
 postfixed_kept : (o : Option Postfix) (k : Kind) (t p : Syntax) →
-    ((counts_postfix o k ≡ false) × (postfixed o k t p ≡ with_parts t (forest1 p))) ⊎
-    CountedPostfix o k t p (postfixed o k t p)
-postfixed_kept (Some (postfixes.Step op)) (Pointer s c v) t p = inr refl
-postfixed_kept o k t p = inl (refl, refl)
+    postfixed o k t p ≡ counted_or (counted_postfix o k t p) (with_parts t (forest1 p))
+postfixed_kept (Some (postfixes.Step op)) (Pointer s c v) t p = refl
+postfixed_kept o k t p = refl
 
 -- what stands for a node of one part, of which no component is selected
 abbrev pub OneKept : Form → Kind → Syntax → Syntax → Syntax → Type 0
-OneKept form k t p u = ((counts_one form t k ≡ false) × (u ≡ renewed form t (forest1 p))) ⊎
-    (((is_selecting form (word_of t) ≡ true) × (u ≡ p)) ⊎ CountedOne form k t p u)
-
-in_three : {A B C : Type 0} → A ⊎ C → A ⊎ (B ⊎ C)
-in_three (inl a) = inl a
-in_three (inr c) = inr (inr c)
+OneKept form k t p u = (u ≡ counted_or (counted_one form k t p) (renewed form t (forest1 p))) ⊎
+    ((is_selecting form (word_of t) ≡ true) × (u ≡ p))
 
 pub one_kept : (form : Form) (k : Kind) (t p : Syntax) → OneKept form k t p (one_by form k t p)
-one_kept forms.TypeNode k t p = inl (refl, refl)
-one_kept forms.UnaryNode k t p = in_three (prefixed_kept (prefix_in (word_of t)) k t p)
+one_kept forms.TypeNode k t p = inl refl
+one_kept forms.UnaryNode k t p = inl (prefixed_kept (prefix_in (word_of t)) k t p)
 one_kept forms.PostfixNode k t p = by (is_pointed (word_of t)) refl
   where
     by : (b : Bool) → is_pointed (word_of t) ≡ b →
         OneKept forms.PostfixNode k t p (if b then p else postfixed (postfix_in (word_of t)) k t p)
-    by true e = inr (inl (e, refl))
-    by false e = in_three (postfixed_kept (postfix_in (word_of t)) k t p)
-one_kept form k t p = inl (refl, refl)
+    by true e = inr (e, refl)
+    by false e = inl (postfixed_kept (postfix_in (word_of t)) k t p)
+one_kept form k t p = inl refl
 
 setting_kept : (o : Option Setting) (v : Vector) (t a b : Syntax) →
-    ((counts_setting o ≡ false) × (with_parts t (forest2 a (moved_by o v b)) ≡ with_parts t (forest2 a b))) ⊎
-    CountedSetting o v t a b (with_parts t (forest2 a (moved_by o v b)))
-setting_kept (Some (settings.With op)) v t a b = inr refl
-setting_kept o v t a b = inl (refl, refl)
+    with_parts t (forest2 a (moved_by o v b)) ≡ counted_or (counted_setting o v t a b) (with_parts t (forest2 a b))
+setting_kept (Some (settings.With op)) v t a b = refl
+setting_kept o v t a b = refl
 
 pub two_kept : (form : Form) (j k : Kind) (t a b : Syntax) →
-    ((counts_two form t j k ≡ false) × (two_by form j k t a b ≡ renewed form t (forest2 a b))) ⊎
-    CountedTwo form j k t a b (two_by form j k t a b)
-two_kept forms.PostfixNode (Pointer s c v) k t a b = inr refl
+    two_by form j k t a b ≡ counted_or (counted_two form j k t a b) (renewed form t (forest2 a b))
+two_kept forms.PostfixNode (Pointer s c v) k t a b = refl
 two_kept forms.AssignNode (Pointer s c v) Other t a b = setting_kept (setting_in (word_of t)) v t a b
-two_kept forms.SumNode (Pointer s c v) Other t a b = inr refl
-two_kept forms.SumNode Other (Pointer s c v) t a b = inr refl
-two_kept form j k t a b = inl (refl, refl)
+two_kept forms.SumNode (Pointer s c v) Other t a b = refl
+two_kept forms.SumNode Other (Pointer s c v) t a b = refl
+two_kept form j k t a b = refl
 
 pub two_stays : (t : Syntax) (k : Kind) (a b : Mark) (p q u : Syntax) →
     one_component (mark t k (marking a (marking b unmarked))) ≡ None →
-    ((counts_two (form_of t) t (kind_at a) (kind_at b) ≡ false) × (u ≡ renewed (form_of t) t (forest2 p q))) ⊎
-    CountedTwo (form_of t) (kind_at a) (kind_at b) t p q u →
+    u ≡ counted_or (counted_two (form_of t) (kind_at a) (kind_at b) t p q) (renewed (form_of t) t (forest2 p q)) →
     Stays a p → Stays b q → Stays (mark t k (marking a (marking b unmarked))) u
-two_stays t k a b p q u e (inl h) x y = inl (e, h.0, (forest2 p q, h.1, (x, (y, tt))))
-two_stays t k a b p q u e (inr h) x y = inr (inr (p, q, x, y, h))
+two_stays t k a b p q u e h x y = inl (e, (forest2 p q, h, (x, (y, tt))))
 
 -- ---- nodes whose parts are not counted
 
@@ -120,23 +110,28 @@ none_selected : (form : Form) (o : Option (List ℕ)) (cs : List ℕ) → is_cou
 none_selected forms.PostfixNode o cs e = absurd (false≢true (sym e))
 none_selected form o cs e = refl
 
-none_counts : (form : Form) (w : List ℕ) (f l : ℕ) (ps : Forest) (ms : Marks) → is_counting form ≡ false →
-    counts (node form w f l ps) ms ≡ false
-none_counts forms.UnaryNode w f l ps ms e = absurd (false≢true (sym e))
-none_counts forms.PostfixNode w f l ps ms e = absurd (false≢true (sym e))
-none_counts forms.AssignNode w f l ps ms e = absurd (false≢true (sym e))
-none_counts forms.SumNode w f l ps ms e = absurd (false≢true (sym e))
-none_counts form w f l ps unmarked e = refl
-none_counts form w f l ps (marking a unmarked) e = refl
-none_counts form w f l ps (marking a (marking b unmarked)) e = refl
-none_counts form w f l ps (marking a (marking b (marking c ms))) e = refl
+none_counted : (form : Form) (w : List ℕ) (f l : ℕ) (ps : Forest) (ms : Marks) → is_counting form ≡ false →
+    counted_parts (node form w f l ps) ms (scalars ms) ≡ None
+unfolding scalar scalars
+none_counted forms.UnaryNode w f l ps ms e = absurd (false≢true (sym e))
+none_counted forms.PostfixNode w f l ps ms e = absurd (false≢true (sym e))
+none_counted forms.AssignNode w f l ps ms e = absurd (false≢true (sym e))
+none_counted forms.SumNode w f l ps ms e = absurd (false≢true (sym e))
+none_counted form w f l ps unmarked e = refl
+none_counted form w f l ps (marking a unmarked) e = refl
+none_counted form w f l ps (marking a (marking b unmarked)) e = refl
+none_counted form w f l ps (marking a (marking b (marking c ms))) e = refl
 
 pub node_stays : (form : Form) (w : List ℕ) (f l : ℕ) (ps : Forest) (k : Kind) (ms : Marks) →
     is_counting form ≡ false → AllStay ms (scalars ms) →
     Stays (mark (node form w f l ps) k ms) (scalar (mark (node form w f l ps) k ms))
-node_stays form w f l ps k ms e h = inl (
-  none_selected form (selection_in w) (components_of (mark
-      (node form w f l ps) k ms)) e,
-  none_counts form w f l ps ms e,
-  (scalars ms, scalar_renewed form w f l ps k ms e, h),
-)
+node_stays form w f l ps k ms e h =
+    let t = node form w f l ps in inl (
+      none_selected form (selection_in w) (components_of (mark t k ms)) e,
+      (
+        scalars ms,
+        scalar_renewed form w f l ps k ms e ∙
+            sym (ap (λ o. counted_or o (renewed form t (scalars ms))) (none_counted form w f l ps ms e)),
+        h,
+      ),
+    )

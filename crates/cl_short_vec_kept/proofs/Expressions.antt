@@ -46,9 +46,9 @@ use Rattle.cl_short_vec_kept.proofs.Counted.{is_selecting, OneKept, one_kept, tw
 
 pub type_stays : (t : Syntax) (names : Names) → IsType t → Stays (marked names t) (scalar (marked names t))
 unfolding marked marked_parts scalar
-type_stays (node forms.TypeNode w f l none) names h = inl (refl, refl, (none, refl, tt))
+type_stays (node forms.TypeNode w f l none) names h = inl (refl, (none, refl, tt))
 type_stays (node forms.TypeNode w f l (more (node forms.SpaceNode w' f' l' none) none)) names h =
-    inl (refl, refl, (forest1 (node forms.SpaceNode w' f' l' none), refl, (inl (refl, refl, (none, refl, tt)), tt)))
+    inl (refl, (forest1 (node forms.SpaceNode w' f' l' none), refl, (inl (refl, (none, refl, tt)), tt)))
 type_stays t names h = absurd h
 
 -- ---- one node
@@ -57,9 +57,8 @@ type_stays t names h = absurd h
 one_stays : (t : Syntax) (k : Kind) (a : Mark) (p u : Syntax) → one_component (mark t k (marking a unmarked)) ≡ None →
     is_selecting (form_of t) (word_of t) ≡ false → OneKept (form_of t) (kind_at a) t p u → Stays a p →
     Stays (mark t k (marking a unmarked)) u
-one_stays t k a p u e n (inl h) x = inl (e, h.0, (forest1 p, h.1, (x, tt)))
-one_stays t k a p u e n (inr (inl h)) x = absurd (false≢true (sym n ∙ h.0))
-one_stays t k a p u e n (inr (inr h)) x = inr (inr (p, x, h))
+one_stays t k a p u e n (inl h) x = inl (e, (forest1 p, h, (x, tt)))
+one_stays t k a p u e n (inr h) x = absurd (false≢true (sym n ∙ h.0))
 
 indexes_some : (o : Option Postfix) → indexes o ≡ true → is_some o ≡ true
 indexes_some None h = absurd (false≢true h)
@@ -93,7 +92,7 @@ selection_stays : (t : Syntax) (k : Kind) (a : Mark) (g : ℕ → Syntax) (u : S
     one_component (mark t k (marking a unmarked)) ≡ Some c → ComponentStays c (span_of t) a (g c) →
     Stays (mark t k (marking a unmarked)) (chosen_or (one_component (mark t k (marking a unmarked))) g u)
 selection_stays t k a g u c e h =
-    subst (λ o. Stays (mark t k (marking a unmarked)) (chosen_or o g u)) (sym e) (inr (inl (c, e, h)))
+    subst (λ o. Stays (mark t k (marking a unmarked)) (chosen_or o g u)) (sym e) (inr (c, e, h))
 
 -- a node of which none is selected
 whole_stays : (t : Syntax) (k : Kind) (a : Mark) (g : ℕ → Syntax) (u : Syntax) →
@@ -162,16 +161,15 @@ mutual
   pub expression_stays : (names : Names) (role : Role) (t : Syntax) → IsExpressionOf true t →
       refusals role (marked names t) ≡ [] → is_of_vectors role (marked names t) ≡ false →
       Stays (marked names t) (scalar (marked names t))
-  expression_stays names role (node forms.NumberNode w f l none) h r v = inl (refl, refl, (none, refl, tt))
-  expression_stays names role (node forms.TruthNode w f l none) h r v = inl (refl, refl, (none, refl, tt))
-  expression_stays names role (node forms.VariableNode w f l none) h r v = inl (refl, refl, (none, refl, tt))
+  expression_stays names role (node forms.NumberNode w f l none) h r v = inl (refl, (none, refl, tt))
+  expression_stays names role (node forms.TruthNode w f l none) h r v = inl (refl, (none, refl, tt))
+  expression_stays names role (node forms.VariableNode w f l none) h r v = inl (refl, (none, refl, tt))
   expression_stays names role (node forms.ParenNode w f l (more a none)) h r v =
       let t = node forms.ParenNode w f l (more a none) in
       let m = marked names a in
       let d = apart role t (kind_at m) (marking m unmarked) v in
       let q = paren_role role (kind_at m) in
       inl (
-        refl,
         refl,
         (
           forest1 (scalar m),
@@ -379,7 +377,6 @@ mutual
       let stay = parts_stay role t Other ms (λ x y q. refl) r in
       inl (
         refl,
-        refl,
         (
           forest3 (scalar i) (scalar m) (scalar m'),
           refl,
@@ -476,7 +473,7 @@ mutual
       let m = marked names a in
       let x = place_stays names (paren_role role (kind_at m)) a h (part_none role t (kind_at m) m r) e in record {
         component = λ c s. inl (refl, x.component c s);
-        element = λ i. inl (refl, refl, (forest1 (scalar m), refl, (x.element i, tt)));
+        element = λ i. inl (refl, (forest1 (scalar m), refl, (x.element i, tt)));
       }
   place_stays names role (node forms.ParenNode w f l (more a (more b bs))) h r e = absurd h
   place_stays names role (node forms.UnaryNode w f l none) h r e = absurd h

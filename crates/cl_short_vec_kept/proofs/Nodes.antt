@@ -103,7 +103,6 @@ unfolding marked_parts scalars marked scalar
 declarator_parts w f l names all (more (node forms.StarNode w' f' l' none) ps) h st = (
   inl (
     refl,
-    refl,
     (
       none,
       refl,
@@ -164,7 +163,7 @@ declaration_tree names role t h r = absurd h
 star_stays : (names : Names) (w : List ℕ) (f l : ℕ) →
     Stays (marked names (node forms.StarNode w f l none)) (scalar (marked names (node forms.StarNode w f l none)))
 unfolding marked marked_parts scalar
-star_stays names w f l = inl (refl, refl, (none, refl, tt))
+star_stays names w f l = inl (refl, (none, refl, tt))
 
 pub result_stays : (names : Names) (t : Syntax) → IsResult t → Stays (marked names t) (scalar (marked names t))
 unfolding marked marked_parts kind_by scalars
@@ -179,7 +178,6 @@ unfolding marked_parts kind_by scalars marked scalar
 param_stays names (node forms.ParamNode w f l (more t none)) h =
     inl (
       refl,
-      refl,
       (
         more (scalar (marked names t)) none,
         refl,
@@ -189,11 +187,10 @@ param_stays names (node forms.ParamNode w f l (more t none)) h =
 param_stays names (node forms.ParamNode w f l (more t (more (node forms.StarNode w' f' l' none) none))) h =
     inl (
       refl,
-      refl,
       (
         more (scalar (marked names t)) (more (node forms.StarNode w' f' l' none) none),
         refl,
-        (type_stays t names h, (inl (refl, refl, (none, refl, tt)), tt)),
+        (type_stays t names h, (inl (refl, (none, refl, tt)), tt)),
       ),
     )
 param_stays names t h = absurd h

@@ -40,74 +40,46 @@ renewed form t parts = with_parts t parts
 -- ---- a number beside a pointer to vectors
 
 -- in front of a pointer: what is there, and a step
-abbrev pub CountedPrefix : Option Prefix → Kind → Syntax → (operand : Syntax) → Syntax → Type 0
-CountedPrefix (Some prefixes.Content) (Pointer space c v) t p u =
-    u ≡ element_at (span_of t) (paren_at (span_of t) p) (long_at 0 (span_of t))
-CountedPrefix (Some (prefixes.Step op)) (Pointer space c v) t p u = u ≡ counted op v (span_of t) p
-CountedPrefix o k t p u = ⊥
+abbrev pub counted_prefix : Option Prefix → Kind → Syntax → (operand : Syntax) → Option Syntax
+counted_prefix (Some prefixes.Content) (Pointer space c v) t p =
+    Some (element_at (span_of t) (paren_at (span_of t) p) (long_at 0 (span_of t)))
+counted_prefix (Some (prefixes.Step op)) (Pointer space c v) t p = Some (counted op v (span_of t) p)
+counted_prefix o k t p = None
 
 -- a step behind a pointer
-abbrev pub CountedPostfix : Option Postfix → Kind → Syntax → (operand : Syntax) → Syntax → Type 0
-CountedPostfix (Some (postfixes.Step op)) (Pointer space c v) t p u = u ≡ counted_behind op v (span_of t) p
-CountedPostfix o k t p u = ⊥
+abbrev pub counted_postfix : Option Postfix → Kind → Syntax → (operand : Syntax) → Option Syntax
+counted_postfix (Some (postfixes.Step op)) (Pointer space c v) t p = Some (counted_behind op v (span_of t) p)
+counted_postfix o k t p = None
 
 -- of one operand, a pointer
-abbrev pub CountedOne : Form → Kind → Syntax → (operand : Syntax) → Syntax → Type 0
-CountedOne forms.UnaryNode k t p u = CountedPrefix (prefix_in (word_of t)) k t p u
-CountedOne forms.PostfixNode k t p u = CountedPostfix (postfix_in (word_of t)) k t p u
-CountedOne form k t p u = ⊥
+abbrev pub counted_one : Form → Kind → Syntax → (operand : Syntax) → Option Syntax
+counted_one forms.UnaryNode k t p = counted_prefix (prefix_in (word_of t)) k t p
+counted_one forms.PostfixNode k t p = counted_postfix (postfix_in (word_of t)) k t p
+counted_one form k t p = None
 
 -- behind `+=` and `-=`
-abbrev pub CountedSetting : Option Setting → Vector → Syntax → (target value : Syntax) → Syntax → Type 0
-CountedSetting (Some (settings.With op)) v t a b u = u ≡ with_parts t (forest2 a (scaled v b))
-CountedSetting o v t a b u = ⊥
+abbrev pub counted_setting : Option Setting → Vector → Syntax → (target value : Syntax) → Option Syntax
+counted_setting (Some (settings.With op)) v t a b = Some (with_parts t (forest2 a (scaled v b)))
+counted_setting o v t a b = None
 
 -- of two operands, of which one is a pointer and the other one is counted in components
-abbrev pub CountedTwo : Form → (front back : Kind) → Syntax → (a b : Syntax) → Syntax → Type 0
-CountedTwo forms.PostfixNode (Pointer space c v) k t a b u = u ≡ element_at (span_of t) a (scaled v b)
-CountedTwo forms.AssignNode (Pointer space c v) Other t a b u = CountedSetting (setting_in (word_of t)) v t a b u
-CountedTwo forms.SumNode (Pointer space c v) Other t a b u = u ≡ with_parts t (forest2 a (scaled v b))
-CountedTwo forms.SumNode Other (Pointer space c v) t a b u = u ≡ with_parts t (forest2 (scaled v a) b)
-CountedTwo form j k t a b u = ⊥
+abbrev pub counted_two : Form → (front back : Kind) → Syntax → (a b : Syntax) → Option Syntax
+counted_two forms.PostfixNode (Pointer space c v) k t a b = Some (element_at (span_of t) a (scaled v b))
+counted_two forms.AssignNode (Pointer space c v) Other t a b = counted_setting (setting_in (word_of t)) v t a b
+counted_two forms.SumNode (Pointer space c v) Other t a b = Some (with_parts t (forest2 a (scaled v b)))
+counted_two forms.SumNode Other (Pointer space c v) t a b = Some (with_parts t (forest2 (scaled v a) b))
+counted_two form j k t a b = None
 
--- ---- whether something is counted
+-- what stands for a pointer to vectors with what is counted beside it, where these stand for its parts
+abbrev pub counted_parts : Syntax → Marks → (parts : Forest) → Option Syntax
+counted_parts t (marking a unmarked) (more p none) = counted_one (form_of t) (kind_at a) t p
+counted_parts t (marking a (marking b unmarked)) (more p (more q none)) =
+    counted_two (form_of t) (kind_at a) (kind_at b) t p q
+counted_parts t ms parts = None
 
--- in front of a pointer: what is there, and a step
-abbrev pub counts_prefix : Option Prefix → Kind → Bool
-counts_prefix (Some prefixes.Content) (Pointer space c v) = true
-counts_prefix (Some (prefixes.Step op)) (Pointer space c v) = true
-counts_prefix o k = false
-
--- a step behind a pointer
-abbrev pub counts_postfix : Option Postfix → Kind → Bool
-counts_postfix (Some (postfixes.Step op)) (Pointer space c v) = true
-counts_postfix o k = false
-
--- of one operand, a pointer
-abbrev pub counts_one : Form → Syntax → Kind → Bool
-counts_one forms.UnaryNode t k = counts_prefix (prefix_in (word_of t)) k
-counts_one forms.PostfixNode t k = counts_postfix (postfix_in (word_of t)) k
-counts_one form t k = false
-
--- `+=` and `-=`
-abbrev pub counts_setting : Option Setting → Bool
-counts_setting (Some (settings.With op)) = true
-counts_setting o = false
-
--- of two operands, of which one is a pointer
-abbrev pub counts_two : Form → Syntax → (front back : Kind) → Bool
-counts_two forms.PostfixNode t (Pointer space c v) k = true
-counts_two forms.AssignNode t (Pointer space c v) Other = counts_setting (setting_in (word_of t))
-counts_two forms.SumNode t (Pointer space c v) Other = true
-counts_two forms.SumNode t Other (Pointer space c v) = true
-counts_two form t j k = false
-
--- a pointer to vectors has something beside it that is counted in components
-abbrev pub counts : Syntax → Marks → Bool
-counts t unmarked = false
-counts t (marking a unmarked) = counts_one (form_of t) t (kind_at a)
-counts t (marking a (marking b unmarked)) = counts_two (form_of t) t (kind_at a) (kind_at b)
-counts t (marking a (marking b (marking c ms))) = false
+abbrev pub counted_or : Option Syntax → (itself : Syntax) → Syntax
+counted_or (Some u) t = u
+counted_or None t = t
 
 -- ---- components
 
@@ -125,12 +97,12 @@ ElementOf form k c s t a b u = ⊥
 -- ---- expressions
 
 abbrev mutual
-  -- what stands for an expression or a type: what a selection selects, or a number counted in components; and where it
-  -- is no such selection and nothing is counted, itself
+  -- what stands for an expression or a type: what a selection of one component selects; and else what is counted in
+  -- components, or where nothing is, itself
   pub Stays : Mark → Syntax → Type 0
-  Stays (mark t k ms) u = ((one_component (mark t k ms) ≡ None) × (counts t ms ≡ false) ×
-      ((parts : Forest) × (u ≡ renewed (form_of t) t parts) × AllStay ms parts)) ⊎
-      (Selects t k ms u ⊎ Counts t ms u)
+  Stays (mark t k ms) u = ((one_component (mark t k ms) ≡ None) × ((parts : Forest) ×
+      (u ≡ counted_or (counted_parts t ms parts) (renewed (form_of t) t parts)) × AllStay ms parts)) ⊎
+      Selects t k ms u
 
   pub AllStay : Marks → Forest → Type 0
   AllStay unmarked none = Unit {0}
@@ -154,14 +126,6 @@ abbrev mutual
   ComponentStays c s (mark t k (marking a (marking b unmarked))) u = (p : Syntax) × (q : Syntax) × Stays a p ×
       Stays b q × ElementOf (form_of t) (kind_at a) c s t p q u
   ComponentStays c s (mark t k (marking a (marking b (marking d ms)))) u = ⊥
-
-  -- a pointer to vectors with what is counted beside it
-  pub Counts : Syntax → Marks → Syntax → Type 0
-  Counts t unmarked u = ⊥
-  Counts t (marking a unmarked) u = (p : Syntax) × Stays a p × CountedOne (form_of t) (kind_at a) t p u
-  Counts t (marking a (marking b unmarked)) u = (p : Syntax) × (q : Syntax) × Stays a p × Stays b q ×
-      CountedTwo (form_of t) (kind_at a) (kind_at b) t p q u
-  Counts t (marking a (marking b (marking c ms))) u = ⊥
 
 -- ---- statements and declarations
 
