@@ -4,6 +4,7 @@ use Rattle.std.proofs.Common.{◌≡◌, ℕ, suc, nat_eq, length, List, [], ◌
 use Rattle.std.proofs.Common.{if◌then◌else◌, refl, ap, sym, ◌∙◌, inl, inr, subst, arith, ◌&&◌}
 use Rattle.std.proofs.lemmas.Bool.{false≢true}
 use Rattle.std.proofs.lemmas.Bool.Decides.{nat_tests}
+use Rattle.cl_tree.specs.declared.tree.Form.{Form}
 use Rattle.cl_tree.specs.declared.tree.Form.TheVariants as forms
 use Rattle.cl_tree.specs.Syntax.{Syntax, node, Forest, none, more}
 use Rattle.cl_tree.specs.Nodes.{forest1, forest3}
@@ -24,7 +25,7 @@ use Rattle.cl_short_vec.specs.Types.{picked, selection_in}
 use Rattle.cl_short_vec.specs.Kinds.{Names, is_vector, later, prefix_kind, postfix_kind}
 use Rattle.cl_short_vec.specs.Marks.{Mark, mark, unmarked, marking, kind_at, kind_by, marked, marked_parts}
 use Rattle.cl_short_vec.specs.Marks.{front_type}
-use Rattle.cl_short_vec.specs.Roles.{is_place, is_element, role_of, paren_role, selected_role, operand_role, back_form}
+use Rattle.cl_short_vec.specs.Roles.{used_in, is_place, is_element, role_of, paren_role, selected_role, operand_role, back_form}
 use Rattle.cl_short_vec.specs.Roles.{is_paren, element_by}
 use Rattle.cl_short_vec.specs.Faults.{refusals, components_of, picked_by, selected_in, chosen}
 use Rattle.cl_short_vec.specs.Order.{is_through}
@@ -155,6 +156,32 @@ operand_stays names a (Some prefixes.Address) h r v x y = by (is_element (marked
     by false e q = x h q
 operand_stays names a (Some (prefixes.Step op)) h r v x y = x h r
 
+-- a node of two operands, which stand where a vector may if it is one
+operator_stays : (form : Form) (names : Names) (role : Role) (w : List ℕ) (f l : ℕ) (a b : Syntax) →
+    let t = node form w f l (more a (more b none)) in
+    let m = marked names a in
+    let m' = marked (later form (more a (more b none)) names true a) b in
+    let k = kind_at (marked names t) in
+    let ms = marking m (marking m' unmarked) in one_component (mark t k ms) ≡ None →
+    ((x y : Bool) (p : Mark) → role_of role (mark t k ms) x y p ≡ used_in k) → IsExpressionOf true a →
+    IsExpressionOf true b → refusals role (marked names t) ≡ [] → is_of_vectors role (marked names t) ≡ false →
+    (refusals Free m ≡ [] → is_of_vectors Free m ≡ false → Stays m (scalar m)) →
+    (refusals Free m' ≡ [] → is_of_vectors Free m' ≡ false → Stays m' (scalar m')) →
+    Stays (marked names t) (scalar (marked names t))
+unfolding scalar marked marked_parts
+operator_stays form names role w f l a b one used ha hb r v x y =
+    let t = node form w f l (more a (more b none)) in
+    let names' = later form (more a (more b none)) names true a in
+    let m = marked names a in
+    let m' = marked names' b in
+    let k = kind_at (marked names t) in
+    let ms = marking m (marking m' unmarked) in
+    let d = apart role t k ms v in
+    let stay = parts_stay role t k ms (λ i j p. used i j p ∙ used_free k d.0) r in
+    two_stays t k m m' (scalar m) (scalar m') (two_by form (kind_at m) (kind_at m') t (scalar m) (scalar m')) one
+    (two_kept form (kind_at m) (kind_at m') t (scalar m) (scalar m')) (x stay.0 (free_apart a names ha stay.0))
+    (y stay.1.0 (free_apart b names' hb stay.1.0))
+
 mutual
   unfolding scalar scalars component_at marked marked_parts kind_by role_of is_element
 
@@ -210,145 +237,45 @@ mutual
       (expression_stays names Free a h.1 stay.0 (free_apart a names h.1 stay.0))
       (expression_stays names' Free b h.2 stay.1.0 (free_apart b names' h.2 stay.1.0))
   expression_stays names role (node forms.OrNode w f l (more a (more b none))) h r v =
-      let t = node forms.OrNode w f l (more a (more b none)) in
-      let names' = later forms.OrNode (more a (more b none)) names true a in
-      let m = marked names a in
-      let m' = marked names' b in
-      let k = kind_at (marked names t) in
-      let ms = marking m (marking m' unmarked) in
-      let d = apart role t k ms v in
-      let stay = parts_stay role t k ms (λ x y q. used_free k d.0) r in
-      two_stays t k m m' (scalar m) (scalar m') (two_by forms.OrNode (kind_at m) (kind_at m') t (scalar m)
-      (scalar m')) refl
-      (two_kept forms.OrNode (kind_at m) (kind_at m') t (scalar m) (scalar m'))
-      (expression_stays names Free a h.0 stay.0 (free_apart a names h.0 stay.0))
-      (expression_stays names' Free b h.1 stay.1.0 (free_apart b names' h.1 stay.1.0))
+      operator_stays forms.OrNode names role w f l a b refl (λ x y q. refl) h.0 h.1 r v
+      (λ s e. expression_stays names Free a h.0 s e)
+      (λ s e. expression_stays (later forms.OrNode (more a (more b none)) names true a) Free b h.1 s e)
   expression_stays names role (node forms.AndNode w f l (more a (more b none))) h r v =
-      let t = node forms.AndNode w f l (more a (more b none)) in
-      let names' = later forms.AndNode (more a (more b none)) names true a in
-      let m = marked names a in
-      let m' = marked names' b in
-      let k = kind_at (marked names t) in
-      let ms = marking m (marking m' unmarked) in
-      let d = apart role t k ms v in
-      let stay = parts_stay role t k ms (λ x y q. used_free k d.0) r in
-      two_stays t k m m' (scalar m) (scalar m') (two_by forms.AndNode (kind_at m) (kind_at m') t (scalar m)
-      (scalar m')) refl
-      (two_kept forms.AndNode (kind_at m) (kind_at m') t (scalar m) (scalar m'))
-      (expression_stays names Free a h.0 stay.0 (free_apart a names h.0 stay.0))
-      (expression_stays names' Free b h.1 stay.1.0 (free_apart b names' h.1 stay.1.0))
+      operator_stays forms.AndNode names role w f l a b refl (λ x y q. refl) h.0 h.1 r v
+      (λ s e. expression_stays names Free a h.0 s e)
+      (λ s e. expression_stays (later forms.AndNode (more a (more b none)) names true a) Free b h.1 s e)
   expression_stays names role (node forms.BorNode w f l (more a (more b none))) h r v =
-      let t = node forms.BorNode w f l (more a (more b none)) in
-      let names' = later forms.BorNode (more a (more b none)) names true a in
-      let m = marked names a in
-      let m' = marked names' b in
-      let k = kind_at (marked names t) in
-      let ms = marking m (marking m' unmarked) in
-      let d = apart role t k ms v in
-      let stay = parts_stay role t k ms (λ x y q. used_free k d.0) r in
-      two_stays t k m m' (scalar m) (scalar m') (two_by forms.BorNode (kind_at m) (kind_at m') t (scalar m)
-      (scalar m')) refl
-      (two_kept forms.BorNode (kind_at m) (kind_at m') t (scalar m) (scalar m'))
-      (expression_stays names Free a h.1 stay.0 (free_apart a names h.1 stay.0))
-      (expression_stays names' Free b h.2 stay.1.0 (free_apart b names' h.2 stay.1.0))
+      operator_stays forms.BorNode names role w f l a b refl (λ x y q. refl) h.1 h.2 r v
+      (λ s e. expression_stays names Free a h.1 s e)
+      (λ s e. expression_stays (later forms.BorNode (more a (more b none)) names true a) Free b h.2 s e)
   expression_stays names role (node forms.BxorNode w f l (more a (more b none))) h r v =
-      let t = node forms.BxorNode w f l (more a (more b none)) in
-      let names' = later forms.BxorNode (more a (more b none)) names true a in
-      let m = marked names a in
-      let m' = marked names' b in
-      let k = kind_at (marked names t) in
-      let ms = marking m (marking m' unmarked) in
-      let d = apart role t k ms v in
-      let stay = parts_stay role t k ms (λ x y q. used_free k d.0) r in
-      two_stays t k m m' (scalar m) (scalar m') (two_by forms.BxorNode (kind_at m) (kind_at m') t (scalar m)
-      (scalar m')) refl
-      (two_kept forms.BxorNode (kind_at m) (kind_at m') t (scalar m) (scalar m'))
-      (expression_stays names Free a h.1 stay.0 (free_apart a names h.1 stay.0))
-      (expression_stays names' Free b h.2 stay.1.0 (free_apart b names' h.2 stay.1.0))
+      operator_stays forms.BxorNode names role w f l a b refl (λ x y q. refl) h.1 h.2 r v
+      (λ s e. expression_stays names Free a h.1 s e)
+      (λ s e. expression_stays (later forms.BxorNode (more a (more b none)) names true a) Free b h.2 s e)
   expression_stays names role (node forms.BandNode w f l (more a (more b none))) h r v =
-      let t = node forms.BandNode w f l (more a (more b none)) in
-      let names' = later forms.BandNode (more a (more b none)) names true a in
-      let m = marked names a in
-      let m' = marked names' b in
-      let k = kind_at (marked names t) in
-      let ms = marking m (marking m' unmarked) in
-      let d = apart role t k ms v in
-      let stay = parts_stay role t k ms (λ x y q. used_free k d.0) r in
-      two_stays t k m m' (scalar m) (scalar m') (two_by forms.BandNode (kind_at m) (kind_at m') t (scalar m)
-      (scalar m')) refl
-      (two_kept forms.BandNode (kind_at m) (kind_at m') t (scalar m) (scalar m'))
-      (expression_stays names Free a h.1 stay.0 (free_apart a names h.1 stay.0))
-      (expression_stays names' Free b h.2 stay.1.0 (free_apart b names' h.2 stay.1.0))
+      operator_stays forms.BandNode names role w f l a b refl (λ x y q. refl) h.1 h.2 r v
+      (λ s e. expression_stays names Free a h.1 s e)
+      (λ s e. expression_stays (later forms.BandNode (more a (more b none)) names true a) Free b h.2 s e)
   expression_stays names role (node forms.EqualNode w f l (more a (more b none))) h r v =
-      let t = node forms.EqualNode w f l (more a (more b none)) in
-      let names' = later forms.EqualNode (more a (more b none)) names true a in
-      let m = marked names a in
-      let m' = marked names' b in
-      let k = kind_at (marked names t) in
-      let ms = marking m (marking m' unmarked) in
-      let d = apart role t k ms v in
-      let stay = parts_stay role t k ms (λ x y q. used_free k d.0) r in
-      two_stays t k m m' (scalar m) (scalar m') (two_by forms.EqualNode (kind_at m) (kind_at m') t (scalar m)
-      (scalar m')) refl
-      (two_kept forms.EqualNode (kind_at m) (kind_at m') t (scalar m) (scalar m'))
-      (expression_stays names Free a h.1 stay.0 (free_apart a names h.1 stay.0))
-      (expression_stays names' Free b h.2 stay.1.0 (free_apart b names' h.2 stay.1.0))
+      operator_stays forms.EqualNode names role w f l a b refl (λ x y q. refl) h.1 h.2 r v
+      (λ s e. expression_stays names Free a h.1 s e)
+      (λ s e. expression_stays (later forms.EqualNode (more a (more b none)) names true a) Free b h.2 s e)
   expression_stays names role (node forms.OrderNode w f l (more a (more b none))) h r v =
-      let t = node forms.OrderNode w f l (more a (more b none)) in
-      let names' = later forms.OrderNode (more a (more b none)) names true a in
-      let m = marked names a in
-      let m' = marked names' b in
-      let k = kind_at (marked names t) in
-      let ms = marking m (marking m' unmarked) in
-      let d = apart role t k ms v in
-      let stay = parts_stay role t k ms (λ x y q. used_free k d.0) r in
-      two_stays t k m m' (scalar m) (scalar m') (two_by forms.OrderNode (kind_at m) (kind_at m') t (scalar m)
-      (scalar m')) refl
-      (two_kept forms.OrderNode (kind_at m) (kind_at m') t (scalar m) (scalar m'))
-      (expression_stays names Free a h.1 stay.0 (free_apart a names h.1 stay.0))
-      (expression_stays names' Free b h.2 stay.1.0 (free_apart b names' h.2 stay.1.0))
+      operator_stays forms.OrderNode names role w f l a b refl (λ x y q. refl) h.1 h.2 r v
+      (λ s e. expression_stays names Free a h.1 s e)
+      (λ s e. expression_stays (later forms.OrderNode (more a (more b none)) names true a) Free b h.2 s e)
   expression_stays names role (node forms.ShiftNode w f l (more a (more b none))) h r v =
-      let t = node forms.ShiftNode w f l (more a (more b none)) in
-      let names' = later forms.ShiftNode (more a (more b none)) names true a in
-      let m = marked names a in
-      let m' = marked names' b in
-      let k = kind_at (marked names t) in
-      let ms = marking m (marking m' unmarked) in
-      let d = apart role t k ms v in
-      let stay = parts_stay role t k ms (λ x y q. used_free k d.0) r in
-      two_stays t k m m' (scalar m) (scalar m') (two_by forms.ShiftNode (kind_at m) (kind_at m') t (scalar m)
-      (scalar m')) refl
-      (two_kept forms.ShiftNode (kind_at m) (kind_at m') t (scalar m) (scalar m'))
-      (expression_stays names Free a h.1 stay.0 (free_apart a names h.1 stay.0))
-      (expression_stays names' Free b h.2 stay.1.0 (free_apart b names' h.2 stay.1.0))
+      operator_stays forms.ShiftNode names role w f l a b refl (λ x y q. refl) h.1 h.2 r v
+      (λ s e. expression_stays names Free a h.1 s e)
+      (λ s e. expression_stays (later forms.ShiftNode (more a (more b none)) names true a) Free b h.2 s e)
   expression_stays names role (node forms.TermNode w f l (more a (more b none))) h r v =
-      let t = node forms.TermNode w f l (more a (more b none)) in
-      let names' = later forms.TermNode (more a (more b none)) names true a in
-      let m = marked names a in
-      let m' = marked names' b in
-      let k = kind_at (marked names t) in
-      let ms = marking m (marking m' unmarked) in
-      let d = apart role t k ms v in
-      let stay = parts_stay role t k ms (λ x y q. used_free k d.0) r in
-      two_stays t k m m' (scalar m) (scalar m') (two_by forms.TermNode (kind_at m) (kind_at m') t (scalar m)
-      (scalar m')) refl
-      (two_kept forms.TermNode (kind_at m) (kind_at m') t (scalar m) (scalar m'))
-      (expression_stays names Free a h.1 stay.0 (free_apart a names h.1 stay.0))
-      (expression_stays names' Free b h.2 stay.1.0 (free_apart b names' h.2 stay.1.0))
+      operator_stays forms.TermNode names role w f l a b refl (λ x y q. refl) h.1 h.2 r v
+      (λ s e. expression_stays names Free a h.1 s e)
+      (λ s e. expression_stays (later forms.TermNode (more a (more b none)) names true a) Free b h.2 s e)
   expression_stays names role (node forms.SumNode w f l (more a (more b none))) h r v =
-      let t = node forms.SumNode w f l (more a (more b none)) in
-      let names' = later forms.SumNode (more a (more b none)) names true a in
-      let m = marked names a in
-      let m' = marked names' b in
-      let k = kind_at (marked names t) in
-      let ms = marking m (marking m' unmarked) in
-      let d = apart role t k ms v in
-      let stay = parts_stay role t k ms (λ x y q. used_free k d.0) r in
-      two_stays t k m m' (scalar m) (scalar m') (two_by forms.SumNode (kind_at m) (kind_at m') t (scalar m)
-      (scalar m')) refl
-      (two_kept forms.SumNode (kind_at m) (kind_at m') t (scalar m) (scalar m'))
-      (expression_stays names Free a h.1 stay.0 (free_apart a names h.1 stay.0))
-      (expression_stays names' Free b h.2 stay.1.0 (free_apart b names' h.2 stay.1.0))
+      operator_stays forms.SumNode names role w f l a b refl (λ x y q. refl) h.1 h.2 r v
+      (λ s e. expression_stays names Free a h.1 s e)
+      (λ s e. expression_stays (later forms.SumNode (more a (more b none)) names true a) Free b h.2 s e)
   expression_stays names role (node forms.PostfixNode w f l (more a (more b none))) h r v =
       let t = node forms.PostfixNode w f l (more a (more b none)) in
       let names' = later forms.PostfixNode (more a (more b none)) names true a in
