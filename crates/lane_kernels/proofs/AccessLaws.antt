@@ -4,6 +4,10 @@ use Rattle.std.proofs.Common.{arith, Bool, false, List, [], ◌∷◌, length, t
 use Rattle.std.proofs.Common.{add-zero, ℤ, map, true}
 use Rattle.std.specs.Simd.Lanes.{chunk, put_chunk, number_l, digits_l}
 use Rattle.std.specs.Simd.Lanes.{zip2}
+use Rattle.std.specs.List.{list_all}
+use Rattle.std.proofs.Common.{true≢false}
+use Rattle.std.proofs.lemmas.Bool.{true_from_ne_false}
+use Rattle.std.proofs.lemmas.List.Folds.{list_all_at}
 use Rattle.wg_num.specs.declared.types.IntType.{IntType}
 use Rattle.wg_num.specs.Wrap.{bits_of}
 use Rattle.wg_num.proofs.WrapLaws.{congruent_trans, congruent_divides, bits_congruent}
@@ -13,6 +17,14 @@ use Rattle.lane_values.specs.Access.{lane_from, lane_put, gathered, scattered}
 use Rattle.lane_kernels.specs.Vectors.{number_from}
 use Rattle.lane_kernels.proofs.ListLaws.{map_of_zip2, zip2_same}
 use Rattle.lane_kernels.proofs.LaneLaws as K
+
+-- ---- lanes that are all active and within the object
+
+-- what holds of all entries of a list holds of each
+pub all_at : {X : Type 0} (p : X → Bool) (xs : List X) (i : ℕ) (d : X) → i < length xs → list_all p xs ≡ true →
+    p (get_or xs i d) ≡ true
+all_at p xs i d h e =
+    true_from_ne_false (p (get_or xs i d)) (λ f. true≢false (sym e ∙ list_all_at p xs i d h f))
 
 -- ---- loads
 

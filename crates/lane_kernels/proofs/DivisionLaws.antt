@@ -235,3 +235,31 @@ module _ (W H : ℕ) (twice : 2 ^ W ≡ H + H) (high : H ≡ 2 ^ (W - 1)) (big :
       (chosen-lt _ p _ (lane-lt t p l) (signed-lt bias p _ few))
       (rest_congruent t p q n l r)
       (λ x y u v. chosen_small (int_eq (pos y) (pos 0)) x (x % y) u (omega (arith, mod-le x y)))
+
+-- ---- numbers without a sign
+
+never_below : (x : ℕ) → nat_lt x 0 ≡ false
+never_below x = by (nat_lt x 0) refl
+  where
+    by : (b : Bool) → nat_lt x 0 ≡ b → nat_lt x 0 ≡ false
+    by true e = let h = ltb-true x 0 e in absurd (omega arith)
+    by false e = e
+
+not_zero : (q : ℕ) → 0 < q → nat_eq q 0 ≡ false
+not_zero q h = by (nat_eq q 0) refl
+  where
+    by : (b : Bool) → nat_eq q 0 ≡ b → nat_eq q 0 ≡ false
+    by true e = let z = eqb-true q 0 e in absurd (omega arith)
+    by false e = e
+
+plain : (W s x : ℕ) → signed_by W 0 s x ≡ x
+plain W s x = ap (λ t. cond t ((0 + (2 ^ W - x)) % 2 ^ W) x) (never_below (raised W 0 s))
+
+plain_divisor : (W q : ℕ) → 0 < q → divisor_of W 0 q ≡ q
+plain_divisor W q h = ap (λ y. cond (nat_eq y 0) 1 y) (plain W q q) ∙ ap (λ t. cond t 1 q) (not_zero q h)
+
+pub plain_quotient : (W p q : ℕ) → 0 < q → p / q ≡ quotient_lane W 0 p q
+plain_quotient W p q h =
+    let size = signed_by W 0 p p / divisor_of W 0 q in
+    sym (ap (λ t. cond t 0 (signed_by W 0 q (signed_by W 0 p size))) (not_zero q h) ∙
+    plain W q (signed_by W 0 p size) ∙ plain W p size ∙ ap₂ (λ x y. x / y) (plain W p p) (plain_divisor W q h))

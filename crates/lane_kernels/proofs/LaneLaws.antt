@@ -34,7 +34,7 @@ use Rattle.wg_num.specs.declared.types.Fun.TheVariants.{Min, Max}
 use Rattle.wg_num.specs.Builtins.{builtin_of}
 use Rattle.lane_values.specs.Lanes.{builtin_lane, FitsLane, IsLane, lane, right_value, binary_value, extended}
 use Rattle.lane_values.specs.Lanes.{unary_value, convert_lane}
-use Rattle.lane_kernels.specs.Vectors.{lesser_lane, greater_lane, bias_of, raised, shl_lane, shr_lane}
+use Rattle.lane_kernels.specs.Vectors.{lesser_lane, greater_lane, bias_of, raised, shl_lane, shr_lane, moved_lane}
 
 module _ (W H : ℕ) (twice : 2 ^ W ≡ H + H) (high : H ≡ 2 ^ (W - 1)) (big : 128 ≤ H) (most : W ≤ 64) where
   pub some_width : (t : IntType) → 0 < width_bits t
@@ -374,11 +374,12 @@ module _ (W H : ℕ) (twice : 2 ^ W ≡ H + H) (high : H ≡ 2 ^ (W - 1)) (big :
       by true h = h ∙ sym (grind (arith, ints))
       by false h = h ∙ sym (grind (arith, ints))
 
-  eq_raised : (x y b : ℕ) (v w : ℤ) → pos x ≡ v +ℤ pos b → pos y ≡ w +ℤ pos b → nat_eq x y ≡ int_eq v w
-  eq_raised x y b v w e f = one_answer _ _ (
-    (λ h. let i = eqb-true x y h in omega (arith, ints, i, e, f)),
-    (λ h. eq-eqb x y (omega (arith, ints, h, e, f))),
-  ) (Decides-int_eq v w)
+  -- lanes that hold values are equal exactly where the values are
+  same_lane : (t : IntType) (p q : ℕ) → IsLane W t p → IsLane W t q → nat_eq p q ≡ int_eq (value_of t p) (value_of t q)
+  same_lane t p q l r = one_answer _ _ (
+    (λ h. ap (value_of t) (eqb-true p q h)),
+    (λ h. eq-eqb p q (sym l.same ∙ ap (lane W) h ∙ r.same)),
+  ) (Decides-int_eq (value_of t p) (value_of t q))
 
   -- a test, as 1 or 0
   lane_test : (op : Bin) (t : IntType) (b : Bool) (p q : ℕ) → is_shift op ≡ false →
@@ -388,15 +389,11 @@ module _ (W H : ℕ) (twice : 2 ^ W ≡ H + H) (high : H ≡ 2 ^ (W - 1)) (big :
       (sym (right_is_value op t q s))
 
   module _ (t : IntType) (n : FitsLane W t) (p q : ℕ) (l : IsLane W t p) (r : IsLane W t q) where
-    pub lane_eq : value_of t (from_bool (nat_eq (raised W (bias_of W t) p) (raised W (bias_of W t) q))) ≡
-        binary_value Eq t p q
-    lane_eq = lane_test Eq t _ p q refl (ap number_of
-        (eq_raised _ _ (bias_of W t) (value_of t p) (value_of t q) (raise_is t p n l) (raise_is t q n r)))
+    pub lane_eq : value_of t (from_bool (nat_eq p q)) ≡ binary_value Eq t p q
+    lane_eq = lane_test Eq t _ p q refl (ap number_of (same_lane t p q l r))
 
-    pub lane_ne : value_of t (from_bool (not (nat_eq (raised W (bias_of W t) p) (raised W (bias_of W t) q)))) ≡
-        binary_value Ne t p q
-    lane_ne = lane_test Ne t _ p q refl (ap (λ b. number_of (not b))
-        (eq_raised _ _ (bias_of W t) (value_of t p) (value_of t q) (raise_is t p n l) (raise_is t q n r)))
+    pub lane_ne : value_of t (from_bool (not (nat_eq p q))) ≡ binary_value Ne t p q
+    lane_ne = lane_test Ne t _ p q refl (ap (λ b. number_of (not b)) (same_lane t p q l r))
 
     pub lane_lt : value_of t (from_bool (nat_lt (raised W (bias_of W t) p) (raised W (bias_of W t) q))) ≡
         binary_value Lt t p q
@@ -431,7 +428,7 @@ module _ (W H : ℕ) (twice : 2 ^ W ≡ H + H) (high : H ≡ 2 ^ (W - 1)) (big :
   bias_bool Long e = cc
   bias_bool Ulong e = cc
 
-  amount_below : (t : IntType) (q : ℕ) → FitsLane W t → q % width_bits t < W
+  pub amount_below : (t : IntType) (q : ℕ) → FitsLane W t → q % width_bits t < W
   amount_below t q n = omega (arith, mod-lt q (some_width t), n)
 
   pub lane_shl : (t : IntType) → FitsLane W t → (p q : ℕ) → IsLane W t p → value_of t (shl_lane W (width_bits t) p q) ≡
@@ -527,6 +524,17 @@ module _ (W H : ℕ) (twice : 2 ^ W ≡ H + H) (high : H ≡ 2 ^ (W - 1)) (big :
       let s = shr_small (value_of t p) (2 ^ k) b.0 b.1 in
       ap truth_of (small_same (shr_lane W (bias_of W t) (width_bits t) p q) (int_shr (value_of t p) k)
       (mod-lt _ (omega arith)) c s.0 s.1))
+
+  -- with no bias a shifted number is only divided
+  pub moved_plain : (p k : ℕ) → p < 2 ^ W → p / 2 ^ k ≡ moved_lane W 0 p k
+  moved_plain p k h =
+      let bare : p + 0 ≡ p = omega arith in
+      let same : (p + 0) % 2 ^ W ≡ p = ap (λ x. x % 2 ^ W) bare ∙ mod-eq_of_lt h in
+      let none : 0 / 2 ^ k ≡ 0 = omega (arith, div-le_self 0 (2 ^ k)) in
+      let few = div-le_self p (2 ^ k) in
+      sym (ap₂ (λ x y. (x / 2 ^ k + (2 ^ W - y)) % 2 ^ W) same none
+      ∙ residue_unique (p / 2 ^ k) (pos (p / 2 ^ k + (2 ^ W - 0))) (2 ^ W) (omega (arith, few))
+      (record { more = 1; less = 0; same = omega (arith, ints) }))
 
   -- ---- zero
 
@@ -667,6 +675,21 @@ module _ (W H : ℕ) (twice : 2 ^ W ≡ H + H) (high : H ≡ 2 ^ (W - 1)) (big :
   unfolding value_of modulus
   extend_full t p n b h = sym (lane_unique p (value_of t p) h
       (congruent_sym (subst (λ w. IsCongruent (2 ^ w) (value_of t p) (pos p)) n (wrap_congruent t (pos p) b))))
+
+  -- in such a type every lane is that of a value
+  pub whole_lane : (t : IntType) (p : ℕ) → width_bits t ≡ W → 8 < W → p < 2 ^ W → IsLane W t p
+  whole_lane t p n wide h = record { same = sym (extend_full t p n (no_bool t n) h) }
+    where
+      no_bool : (t : IntType) → width_bits t ≡ W → is_bool t ≡ false
+      no_bool BoolType e = absurd (omega arith)
+      no_bool Char e = refl
+      no_bool Uchar e = refl
+      no_bool Short e = refl
+      no_bool Ushort e = refl
+      no_bool Int e = refl
+      no_bool Uint e = refl
+      no_bool Long e = refl
+      no_bool Ulong e = refl
 
   pub extended_zero : (t : IntType) → extended W t 0 ≡ 0
   unfolding lane

@@ -1,12 +1,14 @@
 -- Laws of vectors as lists of lanes.
 use Rattle.std.proofs.Common.{◌≡◌, ℕ, zero, suc, ◌+◌, ◌-◌, ◌/◌, ◌%◌, ◌^◌, ◌<◌, ◌≤◌, refl, sym, ap, ap₂, ◌∙◌, arith}
-use Rattle.std.proofs.Common.{Bool, true, false, cond, List, [], ◌∷◌, length, replicate, map, subst, ltb, eqb, eq-eqb}
+use Rattle.std.proofs.Common.{Bool, true, false, cond, List, [], ◌∷◌, length, replicate, map, subst, ltb, eqb}
+use Rattle.std.proofs.Common.{eqb-true, eq-eqb}
 use Rattle.std.proofs.Common.{true≢false, pos_of_ne-zero, ltb-true, ltb-false, mod-lt, take, set, get_or, ◌++◌, not}
 use Rattle.std.proofs.lemmas.Grind.{take-set_at, take_at_read}
 use Rattle.std.proofs.lemmas.List.{take_all, get_or_past}
 use Rattle.lane_kernels.specs.Vectors.{lesser_lane, greater_lane, signed_by, divisor_of, quotient_lane, rest_lane}
-use Rattle.lane_kernels.specs.Vectors.{shr_lane}
-use Rattle.std.specs.Simd.Lanes.{zip2, Each1, sel_l, top}
+use Rattle.lane_kernels.specs.Vectors.{moved_lane}
+use Rattle.std.specs.Simd.Lanes.{zip2, Each1, sel_l, top, mask_l}
+use Rattle.std.proofs.lemmas.Simd.{mask_l-mod}
 use Rattle.std.specs.Int.{from_bool}
 use Rattle.std.specs.List.{list_all}
 use Rattle.lane_values.specs.Lanes.{zip3}
@@ -68,6 +70,20 @@ module _ (W high ones : ℕ) (on : top high ones ≡ true) (off : top high 0 ≡
   compared t add k (suc n) (p ∷ a) [] e h = absurd (omega arith)
   compared t add k (suc n) (p ∷ a) (q ∷ b) e h =
       ap₂ (λ v vs. v ∷ vs) (one (t (add p k) (add q k))) (compared t add k n a b (omega arith) (omega arith))
+    where
+      one : (b : Bool) → cond (top high (cond b ones 0)) 1 0 ≡ from_bool b
+      one true = ap (λ t. cond t 1 0) on
+      one false = ap (λ t. cond t 1 0) off
+
+  -- a comparison of two vectors as they are
+  pub told : (t : ℕ → ℕ → Bool) (n : ℕ) (a b : List ℕ) → length a ≡ n → length b ≡ n
+      → sel_l (map (top high) (zip2 (λ u v. cond (t u v) ones 0) a b)) (replicate n 1) (replicate n 0)
+      ≡ zip2 (λ u v. from_bool (t u v)) a b
+  told t zero [] b e h = refl
+  told t zero (p ∷ a) b e h = absurd (omega arith)
+  told t (suc n) [] b e h = absurd (omega arith)
+  told t (suc n) (p ∷ a) [] e h = absurd (omega arith)
+  told t (suc n) (p ∷ a) (q ∷ b) e h = ap₂ (λ v vs. v ∷ vs) (one (t p q)) (told t n a b (omega arith) (omega arith))
     where
       one : (b : Bool) → cond (top high (cond b ones 0)) 1 0 ≡ from_bool b
       one true = ap (λ t. cond t 1 0) on
@@ -171,15 +187,50 @@ module _ (W high ones : ℕ) (on : top high ones ≡ true) (off : top high 0 ≡
   amount_lanes w [] h l = tt
   amount_lanes w (q ∷ b) h l = (omega (arith, mod-lt q h), amount_lanes w b h l)
 
-  pub shr_lanes : (bias w n : ℕ) (a b : List ℕ) → length a ≡ n → length b ≡ n
-      → zip2 (sub_in W) (zip2 (λ x k. x / 2 ^ k) (zip2 (add_in W) a (replicate n bias)) (map (λ q. q % w) b))
-      (zip2 (λ x k. x / 2 ^ k) (replicate n bias) (map (λ q. q % w) b)) ≡ zip2 (shr_lane W bias w) a b
-  shr_lanes bias w zero [] b e h = refl
-  shr_lanes bias w zero (p ∷ a) b e h = absurd (omega arith)
-  shr_lanes bias w (suc n) [] b e h = absurd (omega arith)
-  shr_lanes bias w (suc n) (p ∷ a) [] e h = absurd (omega arith)
-  shr_lanes bias w (suc n) (p ∷ a) (q ∷ b) e h =
-      ap (λ vs. shr_lane W bias w p q ∷ vs) (shr_lanes bias w n a b (omega arith) (omega arith))
+  -- a shift of raised lanes
+  pub moved_lanes : (bias n : ℕ) (a ks : List ℕ) → length a ≡ n → length ks ≡ n
+      → zip2 (sub_in W) (zip2 (λ x k. x / 2 ^ k) (zip2 (add_in W) a (replicate n bias)) ks)
+      (zip2 (λ x k. x / 2 ^ k) (replicate n bias) ks) ≡ zip2 (moved_lane W bias) a ks
+  moved_lanes bias zero [] ks e h = refl
+  moved_lanes bias zero (p ∷ a) ks e h = absurd (omega arith)
+  moved_lanes bias (suc n) [] ks e h = absurd (omega arith)
+  moved_lanes bias (suc n) (p ∷ a) [] e h = absurd (omega arith)
+  moved_lanes bias (suc n) (p ∷ a) (k ∷ ks) e h =
+      ap (λ vs. moved_lane W bias p k ∷ vs) (moved_lanes bias n a ks (omega arith) (omega arith))
+
+  -- ---- one amount for all lanes
+
+  alike_long : (k n : ℕ) (b : List ℕ) → length b ≡ n
+      → length (map (top high) (map (λ x. ones - x) (zip2 (all_if ones eqb) b (replicate n k)))) ≡ n
+  alike_long k zero [] e = refl
+  alike_long k zero (p ∷ b) e = absurd (omega arith)
+  alike_long k (suc n) [] e = absurd (omega arith)
+  alike_long k (suc n) (p ∷ b) e = ap suc (alike_long k n b (omega arith))
+
+  alike : (k n : ℕ) (b : List ℕ) → length b ≡ n
+      → mask_l (map (top high) (map (λ x. ones - x) (zip2 (all_if ones eqb) b (replicate n k)))) ≡ 0
+      → b ≡ replicate n k
+  alike k zero [] e h = refl
+  alike k zero (p ∷ b) e h = absurd (omega arith)
+  alike k (suc n) [] e h = absurd (omega arith)
+  alike k (suc n) (p ∷ b) e h = by (eqb p k) refl (λ z. alike k n b (omega arith) z)
+    where
+      by : (t : Bool) → eqb p k ≡ t →
+          (mask_l (map (top high) (map (λ x. ones - x) (zip2 (all_if ones eqb) b (replicate n k)))) ≡ 0 →
+          b ≡ replicate n k) → p ∷ b ≡ k ∷ replicate n k
+      by true i more = ap₂ (λ v vs. v ∷ vs) (eqb-true p k i) (more (omega (arith, h)))
+      by false i more =
+          let all : ones - 0 ≡ ones = omega arith in
+          let one : ℕ = 1 in
+          let set : cond (top high (ones - cond (eqb p k) ones 0)) 1 0 ≡ one =
+          ap (λ t. cond (top high (ones - cond t ones 0)) 1 0) i ∙ ap (λ t. cond t 1 0) (ap (top high) all ∙ on) in
+          absurd (omega (arith, h, set))
+
+  -- where no lane of the comparison with a splat fails, the vector is that splat
+  pub all_alike : (k n : ℕ) (b : List ℕ) → length b ≡ n → n ≤ 64
+      → mask_l (map (top high) (map (λ x. ones - x) (zip2 (all_if ones eqb) b (replicate n k)))) % 2 ^ 64 ≡ 0
+      → b ≡ replicate n k
+  all_alike k n b e le h = alike k n b e (sym (mask_l-mod _ 64 (omega (arith, alike_long k n b e))) ∙ h)
 
   -- ---- the lesser and the greater
 
@@ -226,6 +277,27 @@ module _ (W high ones : ℕ) (on : top high ones ≡ true) (off : top high 0 ≡
       one : (b : Bool) → top high (cond (not (eqb (from_bool b) 0)) ones 0) ≡ b
       one true = on
       one false = off
+
+-- two vectors with a splat each, lane by lane
+pub splat_same : (P : ℕ → Type 0) (f g : ℕ → ℕ → ℕ) (x y : ℕ) → ((p : ℕ) → P p → f p x ≡ g p y) → (n : ℕ) (a : List ℕ) →
+    Each1 P a → zip2 f a (replicate n x) ≡ zip2 g a (replicate n y)
+splat_same P f g x y e n [] u = refl
+splat_same P f g x y e zero (p ∷ a) u = refl
+splat_same P f g x y e (suc n) (p ∷ a) u = ap₂ (λ v vs. v ∷ vs) (e p u.0) (splat_same P f g x y e n a u.1)
+
+pub zip2_each : (P : ℕ → Type 0) (f g : ℕ → ℕ → ℕ) → ((p q : ℕ) → P p → f p q ≡ g p q) → (a b : List ℕ) → Each1 P a →
+    zip2 f a b ≡ zip2 g a b
+zip2_each P f g e [] b u = refl
+zip2_each P f g e (p ∷ a) [] u = refl
+zip2_each P f g e (p ∷ a) (q ∷ b) u = ap₂ (λ v vs. v ∷ vs) (e p q u.0) (zip2_each P f g e a b u.1)
+
+pub each_replicate : (P : ℕ → Type 0) (n x : ℕ) → P x → Each1 P (replicate n x)
+each_replicate P zero x h = tt
+each_replicate P (suc n) x h = (h, each_replicate P n x h)
+
+pub each_then : (P Q : ℕ → Type 0) → ((x : ℕ) → P x → Q x) → (a : List ℕ) → Each1 P a → Each1 Q a
+each_then P Q f [] u = tt
+each_then P Q f (x ∷ a) u = (f x u.0, each_then P Q f a u.1)
 
 pub map_each : {U V : Type 0} (P : U → Type 0) (f g : U → V) → ((x : U) → P x → f x ≡ g x) → (a : List U) →
     Each1 P a → map f a ≡ map g a

@@ -1,5 +1,7 @@
 -- What the vector operations do in a lane of W bits, as the code writes them.
-use Rattle.std.specs.Prelude.{ℕ, ◌+◌, ◌-◌, ◌*◌, ◌/◌, ◌%◌, ◌^◌, ◌≡◌, ◌⊎◌, if◌then◌else◌, nat_lt, nat_eq, Bool, List}
+use Rattle.std.specs.Prelude.{ℕ, ◌+◌, ◌-◌, ◌*◌, ◌/◌, ◌%◌, ◌^◌, ◌≡◌, ◌⊎◌, if◌then◌else◌, nat_lt, nat_le, nat_eq}
+use Rattle.std.specs.Prelude.{Bool, List}
+use Rattle.std.specs.Int.{from_bool}
 use Rattle.std.specs.Simd.Lanes.{number_l, chunk}
 use Rattle.wg_num.specs.declared.types.IntType.{IntType}
 use Rattle.wg_num.specs.Wrap.{is_signed}
@@ -29,8 +31,17 @@ rest_lane W bias p q = if nat_eq q 0 then p else signed_by W bias p (signed_by W
 abbrev pub shl_lane : ℕ → ℕ → ℕ → ℕ → ℕ
 shl_lane W width p q = p * 2 ^ (q % width) % 2 ^ W
 
+abbrev pub moved_lane : ℕ → ℕ → ℕ → ℕ → ℕ
+moved_lane W bias p k = (raised W bias p / 2 ^ k + (2 ^ W - bias / 2 ^ k)) % 2 ^ W
+
 abbrev pub shr_lane : ℕ → ℕ → ℕ → ℕ → ℕ → ℕ
-shr_lane W bias width p q = (raised W bias p / 2 ^ (q % width) + (2 ^ W - bias / 2 ^ (q % width))) % 2 ^ W
+shr_lane W bias width p q = moved_lane W bias p (q % width)
+
+abbrev pub less_lane : ℕ → ℕ → ℕ → ℕ → ℕ
+less_lane W bias p q = from_bool (nat_lt (raised W bias p) (raised W bias q))
+
+abbrev pub at_most_lane : ℕ → ℕ → ℕ → ℕ → ℕ
+at_most_lane W bias p q = from_bool (nat_le (raised W bias p) (raised W bias q))
 
 -- how many bytes a value may have
 pub record IsSize (size : ℕ) : Type 0 where

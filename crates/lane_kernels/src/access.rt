@@ -2,6 +2,7 @@
 ghost use Rattle.std.specs.Prelude.{◌≡◌, ◌+◌, ◌*◌, ◌<◌, ◌≤◌};
 ghost use Rattle.std.specs.Prelude.{length, take, nat_lt, ℕ, MatchResult, MatchOption, IfErr, OnOk, not, true, false};
 ghost use Rattle.std.specs.Bool.{OnTrue, OnFalse};
+ghost use Rattle.std.specs.List.{list_all};
 ghost use Rattle.std.specs.Simd.Lanes.{number_l, digits_l, chunk, put_chunk, zip2};
 ghost use Rattle.wg_num.specs.Bytes.{size_of};
 ghost use Rattle.lane_values.specs.Lanes.{FitsLane};
@@ -9,6 +10,7 @@ ghost use Rattle.lane_values.specs.Masks.{IsEmpty, IsLowest};
 ghost use Rattle.lane_values.specs.Access.{is_within, is_fault, faults, put_element, lane_put, scattered};
 ghost use Rattle.lane_kernels.specs.Vectors.{IsSize, IsNarrowSize, number_from};
 
+use crate::masks::is_full;
 use wg_num::IntType;
 
 /// How many bytes a value of the type has.
@@ -218,6 +220,54 @@ fn narrow_for(bytes: &[u8], size: usize, count: u64, on: bool, at: u64) -> Optio
     Some(0)
 }
 
+/// Whether every place is below the count.
+#[inline(always)]
+fn are_below<const W: usize>(places: [u64; W], count: u64) -> bool
+    ensures { result ≡ list_all (λ at. nat_lt at count) places.entry }
+{
+    let mut below = true;
+    for i in 0..W {
+        below &= is_below(places[i], count);
+    }
+    below
+}
+
+/// The number of at most four bytes at one of the first `count` elements, which are those in range.
+#[inline(always)]
+fn narrow_below(bytes: &[u8], size: usize, count: u64, at: u64) -> u32
+    requires size { IsNarrowSize size }
+    requires count { (k : ℕ) → nat_lt k count ≡ is_within size (length bytes.now) k }
+    requires below { nat_lt at count ≡ true }
+    ensures clear { is_fault size (length bytes.now) true at ≡ false }
+    ensures value { result ≡ number_from size bytes.now true at }
+{
+    narrow_at(bytes, size, at as usize)
+}
+
+/// What `narrow_of` answers where every lane is active and its element is one of the first `count`:
+/// no lane is tested by itself.
+#[inline(always)]
+fn narrow_each<const W: usize, const S: usize>(
+    bytes: &[u8],
+    count: u64,
+    places: [u64; W],
+    mask: [bool; W],
+) -> [u32; W]
+    requires size { IsNarrowSize S }
+    requires lanes { W ≤ 64 }
+    requires count { (k : ℕ) → nat_lt k count ≡ is_within S (length bytes.now) k }
+    requires full { list_all (λ on. on) mask ≡ true }
+    requires below { list_all (λ at. nat_lt at count) places ≡ true }
+    ensures clear { IsEmpty (faults S (length bytes.now) mask.entry places.entry) }
+    ensures values { result ≡ zip2 (number_from S bytes.now) mask.entry places.entry }
+{
+    let mut lanes = [0u32; W];
+    for i in 0..W {
+        lanes[i] = narrow_below(bytes, S, count, places[i]);
+    }
+    lanes
+}
+
 /// What `gather_of` answers, of elements of at most four bytes.
 fn narrow_of<const W: usize, const S: usize>(
     bytes: &[u8],
@@ -232,6 +282,9 @@ fn narrow_of<const W: usize, const S: usize>(
         (IsLowest (faults S (length bytes.now) mask.entry places.entry)) }
 {
     let count = elements_in(S, bytes.len());
+    if is_full(mask) && are_below(places, count) {
+        return Ok(narrow_each::<W, S>(bytes, count, places, mask));
+    }
     let mut lanes = [0u32; W];
     for i in 0..W {
         match narrow_for(bytes, S, count, mask[i], places[i]) {

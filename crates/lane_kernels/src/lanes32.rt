@@ -1,5 +1,5 @@
 //! Narrow lanes: values of types up to 32 bits, extended to 32 bits.
-ghost use Rattle.std.specs.Prelude.{◌≡◌, ◌≤◌, ◌+◌, ◌-◌, ◌%◌, ◌^◌, min, map, false};
+ghost use Rattle.std.specs.Prelude.{◌≡◌, ◌<◌, ◌≤◌, ◌+◌, ◌-◌, ◌%◌, ◌^◌, min, map, false, replicate, IfSome};
 ghost use Rattle.std.specs.Bool.{OnTrue};
 ghost use Rattle.std.specs.Simd.Lanes.{zip2, Each1};
 ghost use Rattle.wg_num.specs.Wrap.{half, modulus, width_bits, value_of};
@@ -7,7 +7,7 @@ ghost use Rattle.wg_num.specs.Operators.{is_shift};
 ghost use Rattle.lane_values.specs.Lanes.{FitsLane, IsLane, binary_value, binary_lane, unary_value, unary_lane};
 ghost use Rattle.lane_values.specs.Lanes.{extended};
 ghost use Rattle.lane_kernels.specs.Vectors.{bias_of, signed_by, divisor_of, quotient_lane, rest_lane, shl_lane};
-ghost use Rattle.lane_kernels.specs.Vectors.{shr_lane};
+ghost use Rattle.lane_kernels.specs.Vectors.{shr_lane, moved_lane, less_lane, at_most_lane};
 
 use crate::tally::Tally;
 use std::simd::prelude::*;
@@ -93,10 +93,29 @@ fn divisors<const W: usize>(bias: u32, b: Simd<u32, W>) -> Simd<u32, W>
     size.simd_eq(Simd::splat(0)).select(Simd::splat(1), size)
 }
 
+/// The power of two that a number is, by its exponent.
+fn exponent_of(d: u32) -> Option<u32>
+    ensures { IfSome result (λ k. (2 ^ k ≡ d) × (k < 32)) }
+{
+    let k = d.trailing_zeros();
+    if k < 32 && 1u32 << k == d {
+        Some(k)
+    } else {
+        None
+    }
+}
+
 #[inline(never)]
 fn quotients<const W: usize>(bias: u32, a: Simd<u32, W>, b: Simd<u32, W>) -> Simd<u32, W>
     ensures { result ≡ zip2 (quotient_lane 32 bias) a.entry b.entry }
 {
+    if bias == 0 {
+        if let Some(d) = shared_lane(b) {
+            if let Some(k) = exponent_of(d) {
+                return a >> Simd::splat(k);
+            }
+        }
+    }
     let size = signed_as(bias, a, a) / divisors(bias, b);
     let quotient = signed_as(bias, b, signed_as(bias, a, size));
     b.simd_eq(Simd::splat(0)).select(Simd::splat(0), quotient)
@@ -129,20 +148,73 @@ fn amounts<const W: usize>(t: IntType, b: Simd<u32, W>) -> Simd<u32, W>
     b & Simd::splat(amount_bits(t))
 }
 
+/// The entry that all lanes have, if they have one; with more than 64 lanes they are not compared.
+#[inline(always)]
+fn shared_lane<const W: usize>(b: Simd<u32, W>) -> Option<u32>
+    ensures { IfSome result (λ d. b.entry ≡ replicate W d) }
+{
+    let first = match b.to_array().first() {
+        Some(first) => *first,
+        None => 0,
+    };
+    if W <= 64 && b.simd_eq(Simd::splat(first)).all() {
+        Some(first)
+    } else {
+        None
+    }
+}
+
 fn shifted_left<const W: usize>(t: IntType, a: Simd<u32, W>, b: Simd<u32, W>) -> Simd<u32, W>
     requires { FitsLane 32 t }
     ensures { result ≡ zip2 (shl_lane 32 (width_bits t)) a.entry b.entry }
 {
+    if let Some(amount) = shared_lane(b) {
+        return a * Simd::splat(1u32 << (amount & amount_bits(t)));
+    }
     a << amounts(t, b)
+}
+
+/// Each lane, as the number that it stands for, shifted right by the amount beside it.
+#[inline(always)]
+fn moved_right<const W: usize>(bias: u32, a: Simd<u32, W>, amount: Simd<u32, W>) -> Simd<u32, W>
+    requires { Each1 (λ k. k < 32) amount }
+    ensures { result ≡ zip2 (moved_lane 32 bias) a.entry amount.entry }
+{
+    if bias == 0 {
+        return a >> amount;
+    }
+    let raise = Simd::splat(bias);
+    ((a + raise) >> amount) - (raise >> amount)
 }
 
 fn shifted_right<const W: usize>(t: IntType, a: Simd<u32, W>, b: Simd<u32, W>) -> Simd<u32, W>
     requires { FitsLane 32 t }
     ensures { result ≡ zip2 (shr_lane 32 (bias_of 32 t) (width_bits t)) a.entry b.entry }
 {
-    let raise = Simd::splat(bias(t));
-    let amount = amounts(t, b);
-    ((a + raise) >> amount) - (raise >> amount)
+    if let Some(amount) = shared_lane(b) {
+        return moved_right(bias(t), a, Simd::splat(amount & amount_bits(t)));
+    }
+    moved_right(bias(t), a, amounts(t, b))
+}
+
+/// 1 where the number of `a` is less than that of `b`, and else 0.
+fn are_less<const W: usize>(bias: u32, a: Simd<u32, W>, b: Simd<u32, W>) -> Simd<u32, W>
+    ensures { result ≡ zip2 (less_lane 32 bias) a.entry b.entry }
+{
+    let raise = Simd::splat(bias);
+    (a + raise)
+        .simd_lt(b + raise)
+        .select(Simd::splat(1), Simd::splat(0))
+}
+
+/// 1 where the number of `a` is at most that of `b`, and else 0.
+fn are_at_most<const W: usize>(bias: u32, a: Simd<u32, W>, b: Simd<u32, W>) -> Simd<u32, W>
+    ensures { result ≡ zip2 (at_most_lane 32 bias) a.entry b.entry }
+{
+    let raise = Simd::splat(bias);
+    (a + raise)
+        .simd_le(b + raise)
+        .select(Simd::splat(1), Simd::splat(0))
 }
 
 /// Numbers whose low bits have the values that the operator gives.
@@ -153,27 +225,23 @@ fn numbers32<const W: usize>(op: Bin, t: IntType, a: Simd<u32, W>, b: Simd<u32, 
     requires right { is_shift op ≡ false → Each1 (IsLane 32 t) b }
     ensures { map (value_of t) result ≡ zip2 (binary_value op t) a.entry b.entry }
 {
-    let lift = bias(t);
-    let raise = Simd::splat(lift);
-    let one = Simd::splat(1);
-    let zero = Simd::splat(0);
     match op {
         Bin::Add => a + b,
         Bin::Sub => a - b,
         Bin::Mul => a * b,
-        Bin::Div => quotients(lift, a, b),
-        Bin::Rem => rests(lift, a, b),
+        Bin::Div => quotients(bias(t), a, b),
+        Bin::Rem => rests(bias(t), a, b),
         Bin::Shl => shifted_left(t, a, b),
         Bin::Shr => shifted_right(t, a, b),
         Bin::And => a & b,
         Bin::Or => a | b,
         Bin::Xor => a ^ b,
-        Bin::Eq => (a + raise).simd_eq(b + raise).select(one, zero),
-        Bin::Ne => (a + raise).simd_ne(b + raise).select(one, zero),
-        Bin::Lt => (a + raise).simd_lt(b + raise).select(one, zero),
-        Bin::Le => (a + raise).simd_le(b + raise).select(one, zero),
-        Bin::Gt => (a + raise).simd_gt(b + raise).select(one, zero),
-        Bin::Ge => (a + raise).simd_ge(b + raise).select(one, zero),
+        Bin::Eq => a.simd_eq(b).select(Simd::splat(1), Simd::splat(0)),
+        Bin::Ne => a.simd_ne(b).select(Simd::splat(1), Simd::splat(0)),
+        Bin::Lt => are_less(bias(t), a, b),
+        Bin::Le => are_at_most(bias(t), a, b),
+        Bin::Gt => are_less(bias(t), b, a),
+        Bin::Ge => are_at_most(bias(t), b, a),
     }
 }
 
@@ -203,6 +271,9 @@ pub fn binary32<const W: usize>(
     ensures counted { tally.new ≡ min (tally.old + 1) (2 ^ 64 - 1) }
 {
     tally.raise();
+    if is_whole(t) {
+        return values32(op, t, a, b);
+    }
     let left = extend32(t, a);
     match op {
         Bin::Shl | Bin::Shr => values32(op, t, left, b),

@@ -9,7 +9,7 @@ use std::simd::prelude::*;
 
 /// Whether every lane is set.
 #[inline(always)]
-fn is_full<const W: usize>(mask: [bool; W]) -> bool
+pub(crate) fn is_full<const W: usize>(mask: [bool; W]) -> bool
     ensures { result ≡ list_all (λ on. on) mask.entry }
 {
     let mut full = true;

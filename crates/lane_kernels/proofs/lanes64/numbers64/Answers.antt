@@ -1,5 +1,5 @@
 use Rattle.std.proofs.Common.{refl, arith}
-use Rattle.std.proofs.Common.{◌*◌, ◌^◌, ◌%◌, ap, ◌∙◌, sym, map, not, nat_eq, nat_lt, nat_le, bit_and, bit_or, bit_xor}
+use Rattle.std.proofs.Common.{◌*◌, ◌^◌, ◌%◌, ap, ◌∙◌, sym, map, not, nat_eq, bit_and, bit_or, bit_xor}
 use Rattle.std.specs.Int.{from_bool}
 use Rattle.std.specs.Simd.Lanes.{zip2}
 use Rattle.wg_num.specs.declared.types.Bin.TheVariants.{Add, Sub, Mul, Div, Rem, Shl, Shr, And, Or, Xor, Eq, Ne, Lt}
@@ -7,7 +7,8 @@ use Rattle.wg_num.specs.declared.types.Bin.TheVariants.{Le, Gt, Ge}
 use Rattle.wg_num.specs.Wrap.{value_of, width_bits}
 use Rattle.wg_num.specs.Operators.{is_shift}
 use Rattle.lane_values.specs.Lanes.{FitsLane, IsLane, binary_value}
-use Rattle.lane_kernels.specs.Vectors.{bias_of, raised, quotient_lane, rest_lane, shl_lane, shr_lane}
+use Rattle.lane_kernels.specs.Vectors.{bias_of, quotient_lane, rest_lane, shl_lane, shr_lane, less_lane}
+use Rattle.lane_kernels.specs.Vectors.{at_most_lane}
 use Rattle.lane_kernels.proofs.DivisionLaws.{lane_div, lane_rem}
 use Rattle.lane_kernels.proofs.LaneLaws as K
 use Rattle.lane_kernels.proofs.ListLaws as L
@@ -24,7 +25,6 @@ returns g c =
     let b = c.args.b in
     let n : FitsLane 64 c.args.t = c.requires.narrow in
     let left = c.requires.left in
-    let k = c.bias-lift.result in
     elim c.match-op.branch [
       | in-Add w ↦ ap (map (value_of t)) w.result-is ∙
           L.lanes_same 64 63 18446744073709551615 refl refl (IsLane 64 t) (IsLane 64 t) (value_of t) (add_in 64)
@@ -35,17 +35,18 @@ returns g c =
           (binary_value Sub t) (K.lane_sub 64 (2 ^ 63) refl refl (omega arith) (omega arith) t n) a b left
           (c.requires.right (ap is_shift w.in-Sub.is)) ∙ ap (λ o. zip2 (binary_value o t) a b) (sym w.in-Sub.is)
       | in-Mul w ↦ ap (map (value_of t)) w.result-is ∙
-          L.lanes_same 64 63 18446744073709551615 refl refl (IsLane 64 t) (IsLane 64 t) (value_of t) (λ x y. x * y %
-          2 ^ 64) (binary_value Mul t) (K.lane_mul 64 (2 ^ 63) refl refl (omega arith) (omega arith) t n) a b left
+          L.lanes_same 64 63 18446744073709551615 refl refl (IsLane 64 t) (IsLane 64 t) (value_of t)
+          (λ x y. x * y % 2 ^ 64)
+          (binary_value Mul t) (K.lane_mul 64 (2 ^ 63) refl refl (omega arith) (omega arith) t n) a b left
           (c.requires.right (ap is_shift w.in-Mul.is)) ∙ ap (λ o. zip2 (binary_value o t) a b) (sym w.in-Mul.is)
       | in-Div w ↦ ap (map (value_of t)) (w.result-is ∙ w.quotients.ensures ∙
-          ap (λ m. zip2 ((quotient_lane 64) m) a b) c.bias-lift.ensures) ∙
+          ap (λ m. zip2 ((quotient_lane 64) m) a b) w.bias.ensures) ∙
           L.lanes_same 64 63 18446744073709551615 refl refl (IsLane 64 t) (IsLane 64 t) (value_of t)
           ((quotient_lane 64) ((bias_of 64) t)) (binary_value Div t) (lane_div 64 (2 ^ 63) refl refl (omega arith)
           (omega arith) t n) a b left (c.requires.right (ap is_shift w.in-Div.is)) ∙
           ap (λ o. zip2 (binary_value o t) a b) (sym w.in-Div.is)
       | in-Rem w ↦ ap (map (value_of t)) (w.result-is ∙ w.rests.ensures ∙
-          ap (λ m. zip2 ((rest_lane 64) m) a b) c.bias-lift.ensures) ∙
+          ap (λ m. zip2 ((rest_lane 64) m) a b) w.bias-in-Rem.ensures) ∙
           L.lanes_same 64 63 18446744073709551615 refl refl (IsLane 64 t) (IsLane 64 t) (value_of t)
           ((rest_lane 64) ((bias_of 64) t)) (binary_value Rem t) (lane_rem 64 (2 ^ 63) refl refl (omega arith)
           (omega arith) t n) a b left (c.requires.right (ap is_shift w.in-Rem.is)) ∙
@@ -66,57 +67,49 @@ returns g c =
           (c.requires.right (ap is_shift w.in-And.is)) ∙ ap (λ o. zip2 (binary_value o t) a b) (sym w.in-And.is)
       | in-Or w ↦ ap (map (value_of t)) w.result-is ∙
           L.lanes_same 64 63 18446744073709551615 refl refl (IsLane 64 t) (IsLane 64 t) (value_of t) bit_or
-          (binary_value Or t) (K.lane_or 64 (2 ^ 63) refl refl (omega arith) (omega arith) t n) a b left
+          (binary_value Or t)
+          (K.lane_or 64 (2 ^ 63) refl refl (omega arith) (omega arith) t n) a b left
           (c.requires.right (ap is_shift w.in-Or.is)) ∙ ap (λ o. zip2 (binary_value o t) a b) (sym w.in-Or.is)
       | in-Xor w ↦ ap (map (value_of t)) w.result-is ∙
           L.lanes_same 64 63 18446744073709551615 refl refl (IsLane 64 t) (IsLane 64 t) (value_of t) bit_xor
           (binary_value Xor t) (K.lane_xor 64 (2 ^ 63) refl refl (omega arith) (omega arith) t n) a b left
           (c.requires.right (ap is_shift w.in-Xor.is)) ∙ ap (λ o. zip2 (binary_value o t) a b) (sym w.in-Xor.is)
       | in-Eq w ↦ ap (map (value_of t)) (w.result-is ∙
-          L.compared 64 63 18446744073709551615 refl refl (λ x y. nat_eq x y) (add_in 64) k g.row.W a b c.fits-a.0
-          c.fits-b.0 ∙ ap (λ m. zip2 (λ u v. from_bool (nat_eq ((add_in 64) u m) ((add_in 64) v m))) a b)
-          c.bias-lift.ensures) ∙ L.lanes_same 64 63 18446744073709551615 refl refl (IsLane 64 t) (IsLane 64 t)
-          (value_of t) (λ x y. from_bool (nat_eq ((raised 64) ((bias_of 64) t) x) ((raised 64) ((bias_of 64) t) y)))
-          (binary_value Eq t) (K.lane_eq 64 (2 ^ 63) refl refl (omega arith) (omega arith) t n) a b left
+          L.told 64 63 18446744073709551615 refl refl (λ x y. nat_eq x y) g.row.W a b c.fits-a.0 c.fits-b.0) ∙
+          L.lanes_same 64 63 18446744073709551615 refl refl (IsLane 64 t) (IsLane 64 t) (value_of t)
+          (λ x y. from_bool (nat_eq x y)) (binary_value Eq t)
+          (K.lane_eq 64 (2 ^ 63) refl refl (omega arith) (omega arith) t n) a b left
           (c.requires.right (ap is_shift w.in-Eq.is)) ∙ ap (λ o. zip2 (binary_value o t) a b) (sym w.in-Eq.is)
       | in-Ne w ↦ ap (map (value_of t)) (w.result-is ∙
-          L.compared 64 63 18446744073709551615 refl refl (λ x y. not (nat_eq x y)) (add_in 64) k g.row.W a b
-          c.fits-a.0 c.fits-b.0 ∙ ap (λ m.
-          zip2 (λ u v. from_bool (not (nat_eq ((add_in 64) u m) ((add_in 64) v m)))) a b) c.bias-lift.ensures) ∙
+          L.told 64 63 18446744073709551615 refl refl (λ x y. not (nat_eq x y)) g.row.W a b c.fits-a.0 c.fits-b.0) ∙
           L.lanes_same 64 63 18446744073709551615 refl refl (IsLane 64 t) (IsLane 64 t) (value_of t)
-          (λ x y. from_bool (not (nat_eq ((raised 64) ((bias_of 64) t) x) ((raised 64) ((bias_of 64) t) y))))
-          (binary_value Ne t) (K.lane_ne 64 (2 ^ 63) refl refl (omega arith) (omega arith) t n) a b left
+          (λ x y. from_bool (not (nat_eq x y))) (binary_value Ne t)
+          (K.lane_ne 64 (2 ^ 63) refl refl (omega arith) (omega arith) t n) a b left
           (c.requires.right (ap is_shift w.in-Ne.is)) ∙ ap (λ o. zip2 (binary_value o t) a b) (sym w.in-Ne.is)
-      | in-Lt w ↦ ap (map (value_of t)) (w.result-is ∙
-          L.compared 64 63 18446744073709551615 refl refl (λ x y. nat_lt x y) (add_in 64) k g.row.W a b c.fits-a.0
-          c.fits-b.0 ∙ ap (λ m. zip2 (λ u v. from_bool (nat_lt ((add_in 64) u m) ((add_in 64) v m))) a b)
-          c.bias-lift.ensures) ∙ L.lanes_same 64 63 18446744073709551615 refl refl (IsLane 64 t) (IsLane 64 t)
-          (value_of t) (λ x y. from_bool (nat_lt ((raised 64) ((bias_of 64) t) x) ((raised 64) ((bias_of 64) t) y)))
-          (binary_value Lt t) (K.lane_lt 64 (2 ^ 63) refl refl (omega arith) (omega arith) t n) a b left
+      | in-Lt w ↦ ap (map (value_of t)) (w.result-is ∙ w.are_less.ensures ∙
+          ap (λ m. zip2 (less_lane 64 m) a b) w.bias-in-Lt.ensures) ∙
+          L.lanes_same 64 63 18446744073709551615 refl refl (IsLane 64 t) (IsLane 64 t) (value_of t)
+          (less_lane 64 (bias_of 64 t)) (binary_value Lt t)
+          (K.lane_lt 64 (2 ^ 63) refl refl (omega arith) (omega arith) t n) a b left
           (c.requires.right (ap is_shift w.in-Lt.is)) ∙ ap (λ o. zip2 (binary_value o t) a b) (sym w.in-Lt.is)
-      | in-Le w ↦ ap (map (value_of t)) (w.result-is ∙
-          L.compared 64 63 18446744073709551615 refl refl (λ x y. nat_le x y) (add_in 64) k g.row.W a b c.fits-a.0
-          c.fits-b.0 ∙ ap (λ m. zip2 (λ u v. from_bool (nat_le ((add_in 64) u m) ((add_in 64) v m))) a b)
-          c.bias-lift.ensures) ∙ L.lanes_same 64 63 18446744073709551615 refl refl (IsLane 64 t) (IsLane 64 t)
-          (value_of t) (λ x y. from_bool (nat_le ((raised 64) ((bias_of 64) t) x) ((raised 64) ((bias_of 64) t) y)))
-          (binary_value Le t) (K.lane_le 64 (2 ^ 63) refl refl (omega arith) (omega arith) t n) a b left
+      | in-Le w ↦ ap (map (value_of t)) (w.result-is ∙ w.are_at_most.ensures ∙
+          ap (λ m. zip2 (at_most_lane 64 m) a b) w.bias-in-Le.ensures) ∙
+          L.lanes_same 64 63 18446744073709551615 refl refl (IsLane 64 t) (IsLane 64 t) (value_of t)
+          (at_most_lane 64 (bias_of 64 t)) (binary_value Le t)
+          (K.lane_le 64 (2 ^ 63) refl refl (omega arith) (omega arith) t n) a b left
           (c.requires.right (ap is_shift w.in-Le.is)) ∙ ap (λ o. zip2 (binary_value o t) a b) (sym w.in-Le.is)
-      | in-Gt w ↦ ap (map (value_of t)) (w.result-is ∙
-          L.compared 64 63 18446744073709551615 refl refl nat_lt (add_in 64) k g.row.W b a c.fits-b.0 c.fits-a.0 ∙
-          L.zip2_swap 64 63 18446744073709551615 refl refl
-          (λ u v. from_bool (nat_lt ((add_in 64) u k) ((add_in 64) v k))) b a ∙
-          ap (λ m. zip2 (λ u v. from_bool (nat_lt ((add_in 64) v m) ((add_in 64) u m))) a b) c.bias-lift.ensures) ∙
+      | in-Gt w ↦ ap (map (value_of t)) (w.result-is ∙ w.are_less-in-Gt.ensures ∙
+          ap (λ m. zip2 (less_lane 64 m) b a) w.bias-in-Gt.ensures ∙
+          L.zip2_swap 64 63 18446744073709551615 refl refl (less_lane 64 (bias_of 64 t)) b a) ∙
           L.lanes_same 64 63 18446744073709551615 refl refl (IsLane 64 t) (IsLane 64 t) (value_of t)
-          (λ x y. from_bool (nat_lt ((raised 64) ((bias_of 64) t) y) ((raised 64) ((bias_of 64) t) x)))
-          (binary_value Gt t) (K.lane_gt 64 (2 ^ 63) refl refl (omega arith) (omega arith) t n) a b left
+          (λ x y. less_lane 64 (bias_of 64 t) y x) (binary_value Gt t)
+          (K.lane_gt 64 (2 ^ 63) refl refl (omega arith) (omega arith) t n) a b left
           (c.requires.right (ap is_shift w.in-Gt.is)) ∙ ap (λ o. zip2 (binary_value o t) a b) (sym w.in-Gt.is)
-      | in-Ge w ↦ ap (map (value_of t)) (w.result-is ∙
-          L.compared 64 63 18446744073709551615 refl refl nat_le (add_in 64) k g.row.W b a c.fits-b.0 c.fits-a.0 ∙
-          L.zip2_swap 64 63 18446744073709551615 refl refl
-          (λ u v. from_bool (nat_le ((add_in 64) u k) ((add_in 64) v k))) b a ∙
-          ap (λ m. zip2 (λ u v. from_bool (nat_le ((add_in 64) v m) ((add_in 64) u m))) a b) c.bias-lift.ensures) ∙
+      | in-Ge w ↦ ap (map (value_of t)) (w.result-is ∙ w.are_at_most-in-Ge.ensures ∙
+          ap (λ m. zip2 (at_most_lane 64 m) b a) w.bias-in-Ge.ensures ∙
+          L.zip2_swap 64 63 18446744073709551615 refl refl (at_most_lane 64 (bias_of 64 t)) b a) ∙
           L.lanes_same 64 63 18446744073709551615 refl refl (IsLane 64 t) (IsLane 64 t) (value_of t)
-          (λ x y. from_bool (nat_le ((raised 64) ((bias_of 64) t) y) ((raised 64) ((bias_of 64) t) x)))
-          (binary_value Ge t) (K.lane_ge 64 (2 ^ 63) refl refl (omega arith) (omega arith) t n) a b left
+          (λ x y. at_most_lane 64 (bias_of 64 t) y x) (binary_value Ge t)
+          (K.lane_ge 64 (2 ^ 63) refl refl (omega arith) (omega arith) t n) a b left
           (c.requires.right (ap is_shift w.in-Ge.is)) ∙ ap (λ o. zip2 (binary_value o t) a b) (sym w.in-Ge.is)
     ]
