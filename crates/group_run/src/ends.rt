@@ -11,15 +11,20 @@ ghost use Rattle.group_run.specs.Ends.{is_done};
 use crate::sizes::items_in_group;
 use cl_model::Launch;
 use lane_code::{GroupProgram, RegionEnd, RunEnd};
-use wg_num::lanes_of;
+use wg_num::{Width, lanes_of};
 
 /// How many chunks a group has.
 pub(crate) fn chunks_in_group(program: &GroupProgram, launch: &Launch) -> u32
     requires { HasSizes (launch_of launch.now) }
     ensures { result ≡ chunk_count (plain_of program.now) (launch_of launch.now) }
 {
-    let lanes = lanes_of(program.width);
-    (items_in_group(launch) as u32 + (lanes - 1)) / lanes
+    let items = items_in_group(launch) as u32;
+    match program.width {
+        Width::W1 => items,
+        Width::W4 => (items + 3) / 4,
+        Width::W8 => (items + 7) / 8,
+        Width::W16 => (items + 15) / 16,
+    }
 }
 
 /// The number in the launch of the item in a lane of a chunk.

@@ -1,6 +1,7 @@
 //! Work-item functions and kernel arguments, in lanes.
 ghost use Rattle.std.specs.Prelude.{◌≡◌, ◌≢◌, ◌<◌, ◌≤◌, ◌+◌, ◌^◌, length, replicate};
-ghost use Rattle.std.specs.Prelude.{slice_get, IfSome, if◌then◌else◌};
+ghost use Rattle.std.specs.Prelude.{ℕ, List, true, false, slice_get, slice_index_or, IfSome, if◌then◌else◌};
+ghost use Rattle.std.specs.Simd.Lanes.{sel_l};
 ghost use Rattle.wg_num.specs.declared.types.IntType.TheVariants.{Uint};
 ghost use Rattle.wg_num.specs.Wrap.{value_of};
 ghost use Rattle.cl_model.specs.Sizes.{answer_of, local_id, size_at};
@@ -71,18 +72,35 @@ fn shared_dim<const W: usize>(places: [u32; W]) -> Option<u32>
     Some(d)
 }
 
+/// One more than the number of the highest active lane, and 0 where none is active.
+fn reach<const W: usize>(mask: [bool; W]) -> u64
+    ensures within { result ≤ W }
+    ensures off { (k : ℕ) → result ≤ k → slice_index_or mask.entry k false ≡ false }
+    ensures highest { (k : ℕ) → result ≡ k + 1 → slice_index_or mask.entry k false ≡ true }
+{
+    let mut count = 0;
+    for i in 0..W {
+        if mask[i] {
+            count = i as u64 + 1;
+        }
+    }
+    count
+}
+
 fn ahead(growing: bool, i: u64) -> u64
     ensures { result ≡ (if growing then i else 0) }
 {
     if growing { i } else { 0 }
 }
 
-/// What a work-item function gives the items of a row for one argument: counted on from the first.
+/// What a work-item function gives the items of a vector for one argument, counted on from the first: right in the
+/// lanes whose items stand in the first one's row.
 fn counted64<const W: usize>(launch: &Launch, item: u64, what: Query, d: u32) -> Simd<u64, W>
     requires lanes { W ≤ 64 }
     requires sizes { HasSizes (launch_of launch.now) }
-    requires row { local_id (launch_of launch.now) item 0 + W ≤ size_at (launch_of launch.now).local 0 }
-    ensures { result ≡ answers 64 (launch_of launch.now) item what (replicate W d) }
+    ensures { (k : ℕ) → k < W → local_id (launch_of launch.now) item 0 + k < size_at (launch_of launch.now).local 0 →
+        slice_index_or result k 0 ≡
+        slice_index_or (answers 64 (launch_of launch.now) item what (replicate W d)) k 0 }
 {
     let first = answer(launch, item, what, d);
     let growing = grows(what, d);
@@ -107,19 +125,22 @@ fn each64<const W: usize>(launch: &Launch, item: u64, what: Query, places: [u32;
     Simd::from_array(lanes)
 }
 
+/// What it gives the items of a vector for an argument each, right in the active lanes.
 fn answers64<const W: usize>(
     launch: &Launch,
     item: u64,
     what: Query,
     dims: Simd<u32, W>,
+    mask: [bool; W],
 ) -> Simd<u64, W>
     requires lanes { W ≤ 64 }
     requires sizes { HasSizes (launch_of launch.now) }
     requires item { item < 2 ^ 32 }
-    ensures { result ≡ answers 64 (launch_of launch.now) item what dims.entry }
+    ensures { (old : List ℕ) → sel_l mask.entry result old ≡
+        sel_l mask.entry (answers 64 (launch_of launch.now) item what dims.entry) old }
 {
     let places = dims.to_array();
-    if is_row(launch, item, W as u64) {
+    if is_row(launch, item, reach(mask)) {
         if let Some(d) = shared_dim(places) {
             return counted64(launch, item, what, d);
         }
@@ -128,6 +149,7 @@ fn answers64<const W: usize>(
 }
 
 /// A work-item function in lanes or in a scalar.
+#[inline(never)]
 pub(crate) fn ask_step<const W: usize>(
     r: &mut Registers<W>,
     what: Query,
@@ -156,7 +178,13 @@ pub(crate) fn ask_step<const W: usize>(
             r.narrow[to.number as usize] = blend32(r.masks[mask.number as usize], new, old);
         }
         Bank::Wide => {
-            let new = answers64(launch, item, what, r.narrow[dim.number as usize]);
+            let new = answers64(
+                launch,
+                item,
+                what,
+                r.narrow[dim.number as usize],
+                r.masks[mask.number as usize],
+            );
             let old = r.wide[to.number as usize];
             r.wide[to.number as usize] = blend64(r.masks[mask.number as usize], new, old);
         }
@@ -179,6 +207,7 @@ fn value_bound(args: &Vec<Bound>, number: u32) -> i128
 }
 
 /// The value of a kernel parameter in lanes or in a scalar.
+#[inline(never)]
 pub(crate) fn argument_step<const W: usize>(
     r: &mut Registers<W>,
     number: u32,

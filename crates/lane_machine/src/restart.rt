@@ -24,6 +24,9 @@ fn existing_lanes<const W: usize>(size: usize, first: usize) -> [bool; W]
     requires first { first < 2 ^ 32 }
     ensures { result ≡ existing size W first }
 {
+    if first + W <= size {
+        return [true; W];
+    }
     let mut lanes = [false; W];
     for i in 0..W {
         lanes[i] = first + i < size;

@@ -48,6 +48,12 @@ pub(crate) fn numbers_at<const W: usize>(list: &[u64], first: usize) -> [u64; W]
     ensures { result ≡ window 0 list.now first W }
 {
     let mut lanes = [0u64; W];
+    if first + W <= list.len() {
+        for k in 0..W {
+            lanes[k] = list[first + k];
+        }
+        return lanes;
+    }
     for i in 0..W {
         lanes[i] = number_at(list, first + i);
     }
@@ -61,6 +67,12 @@ pub(crate) fn truths_at<const W: usize>(list: &[bool], first: usize) -> [bool; W
     ensures { result ≡ window false list.now first W }
 {
     let mut lanes = [false; W];
+    if first + W <= list.len() {
+        for k in 0..W {
+            lanes[k] = list[first + k];
+        }
+        return lanes;
+    }
     for i in 0..W {
         lanes[i] = truth_at(list, first + i);
     }
@@ -73,6 +85,12 @@ pub(crate) fn put_numbers<const W: usize>(list: &mut [u64], first: usize, lanes:
     requires first { first < 2 ^ 32 }
     ensures { list.new ≡ with_window list.old first lanes.entry }
 {
+    if first + W <= list.len() {
+        for k in 0..W {
+            list[first + k] = lanes[k];
+        }
+        return;
+    }
     for i in 0..W {
         set_number(list, first + i, lanes[i]);
     }
@@ -83,6 +101,12 @@ pub(crate) fn put_truths<const W: usize>(list: &mut [bool], first: usize, lanes:
     requires first { first < 2 ^ 32 }
     ensures { list.new ≡ with_window list.old first lanes.entry }
 {
+    if first + W <= list.len() {
+        for k in 0..W {
+            list[first + k] = lanes[k];
+        }
+        return;
+    }
     for i in 0..W {
         set_truth(list, first + i, lanes[i]);
     }

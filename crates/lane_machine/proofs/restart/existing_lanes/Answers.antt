@@ -2,7 +2,7 @@ use Rattle.std.proofs.Common.{◌∙◌, ◌≤◌, sym, false, arith, rules}
 use Rattle.std.proofs.lemmas.List.{length-set}
 use Rattle.lane_code.specs.Registers.{existing}
 use Rattle.lane_kernels.proofs.ListLaws.{written_next, written_all}
-use Rattle.lane_machine.proofs.MaskLaws.{length-existing, get_or-existing}
+use Rattle.lane_machine.proofs.MaskLaws.{length-existing, get_or-existing, all_existing}
 use Rattle.lane_machine.proofs.restart.existing_lanes.Goals as goal
 
 pub loop-i-preserved : goal.loop-i-preserved
@@ -29,3 +29,6 @@ returns g c =
       c.loop-i.invariant.long,
       past,
     )) (omega (arith, length-existing a.size g.row.W a.first, past))
+
+pub returns-then-first-size : goal.returns-then-first-size
+returns-then-first-size g c = all_existing c.args.size g.row.W c.args.first c.if-first-size.true

@@ -7,3 +7,9 @@ invariant-loop-i g l = record {
   long : length l.lanes ≡ g.row.W;
   written : take l.i l.lanes ≡ take l.i (window 0 l.list l.first g.row.W);
 }
+
+abbrev pub invariant-loop-k : goal.invariant-loop-k
+invariant-loop-k g l = record {
+  long : length l.lanes ≡ g.row.W;
+  written : take l.k l.lanes ≡ take l.k (window 0 l.list l.first g.row.W);
+}

@@ -16,3 +16,16 @@ returns g c =
     let ys = c.args.lanes in
     let long : length ys ≡ g.row.W = search rules in
     sym (window_done c.loop-i.list ys c.args.first c.loop-i.i (omega (arith, long))) ∙ c.loop-i.invariant
+
+pub loop-k-preserved : goal.loop-k-preserved
+loop-k-preserved g c =
+    let ys = c.args.lanes in
+    let long : length ys ≡ g.row.W = search rules in
+    let k = c.loop-k.k in
+    sym (window_step 0 c.loop-k.list ys c.args.first k (omega (arith, long))) ∙ c.loop-k.invariant
+
+pub returns-then-first-list : goal.returns-then-first-list
+returns-then-first-list g c =
+    let ys = c.args.lanes in
+    let long : length ys ≡ g.row.W = search rules in
+    sym (window_done c.loop-k.list ys c.args.first c.loop-k.k (omega (arith, long))) ∙ c.loop-k.invariant

@@ -24,3 +24,23 @@ returns g c =
     written_all c.loop-i.lanes (window false list c.args.first g.row.W) c.loop-i.i c.loop-i.invariant.written
     (omega (arith, c.loop-i.invariant.long))
     (omega (arith, length-window false list c.args.first g.row.W))
+
+pub loop-k-preserved : goal.loop-k-preserved
+loop-k-preserved g c =
+    let list = c.args.list.now in
+    let all = window false list c.args.first g.row.W in
+    let k = c.loop-k.k in
+    let inv = c.loop-k.invariant in
+    record {
+      long = length-set _ _ _ ∙ inv.long;
+      written = written_next c.loop-k.lanes all k _ false inv.written (omega (arith, inv.long))
+          (omega (arith, length-window false list c.args.first g.row.W))
+          (sym (get_or-window false list c.args.first g.row.W k c.loop-k-test.true));
+    }
+
+pub returns-then-first-list : goal.returns-then-first-list
+returns-then-first-list g c =
+    let list = c.args.list.now in
+    written_all c.loop-k.lanes (window false list c.args.first g.row.W) c.loop-k.k c.loop-k.invariant.written
+    (omega (arith, c.loop-k.invariant.long))
+    (omega (arith, length-window false list c.args.first g.row.W))
