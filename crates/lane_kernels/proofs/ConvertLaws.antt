@@ -1,6 +1,6 @@
 -- Lanes from one width to the other.
 use Rattle.std.proofs.Common.{◌≡◌, ℕ, ◌+◌, ◌-◌, ◌%◌, ◌^◌, refl, sym, ap, subst, ◌∙◌, arith, Bool, true, false, cond}
-use Rattle.std.proofs.Common.{mod-lt, not, nat_eq, eqb-true, eq-eqb, true≢false}
+use Rattle.std.proofs.Common.{◌<◌, mod-lt, not, nat_eq, eqb-true, eq-eqb, true≢false}
 use Rattle.std.proofs.Common.{ℤ, pos}
 use Rattle.std.proofs.lemmas.Int.{ints}
 use Rattle.std.specs.Int.{from_bool}
@@ -83,6 +83,17 @@ widen_extended to from w n p =
     lane_widen to from w n (extended 32 from p) (K.IsLane-extended 32 (2 ^ 31) refl refl (omega arith) (omega arith)
     from p n)
     ∙ ap (λ v. lane 64 (wrap_of to v)) (K.value-extended 32 (2 ^ 31) refl refl (omega arith) (omega arith) from p n)
+
+-- with no bias a lane, extended, is that of the wide type
+pub widen_plain : (to from : IntType) → width_bits to ≡ 64 → FitsLane 32 from → bias_of 32 from ≡ 0 → (p : ℕ)
+    → extended 32 from p ≡ convert_lane 64 to from p
+widen_plain to from w n none p =
+    same (extended 32 from p) (K.lane_bound 32 (2 ^ 31) refl refl (omega arith) (omega arith) (value_of from p))
+    ∙ ap (λ b. (raised 32 b (extended 32 from p) + (2 ^ 64 - b)) % 2 ^ 64) (sym none)
+    ∙ widen_extended to from w n p
+  where
+    same : (x : ℕ) → x < 2 ^ 32 → x ≡ (raised 32 0 x + (2 ^ 64 - 0)) % 2 ^ 64
+    same x h = omega arith
 
 pub narrow_extended : (to from : IntType) → FitsLane 32 to → FitsLane 64 from → (p : ℕ)
     → extended 32 to (cond (is_bool to) (from_bool (not (nat_eq (extended 64 from p) 0))) (extended 64 from p % 2 ^

@@ -245,17 +245,17 @@ never_below x = by (nat_lt x 0) refl
     by true e = let h = ltb-true x 0 e in absurd (omega arith)
     by false e = e
 
-not_zero : (q : ℕ) → 0 < q → nat_eq q 0 ≡ false
+pub not_zero : (q : ℕ) → 0 < q → nat_eq q 0 ≡ false
 not_zero q h = by (nat_eq q 0) refl
   where
     by : (b : Bool) → nat_eq q 0 ≡ b → nat_eq q 0 ≡ false
     by true e = let z = eqb-true q 0 e in absurd (omega arith)
     by false e = e
 
-plain : (W s x : ℕ) → signed_by W 0 s x ≡ x
+pub plain : (W s x : ℕ) → signed_by W 0 s x ≡ x
 plain W s x = ap (λ t. cond t ((0 + (2 ^ W - x)) % 2 ^ W) x) (never_below (raised W 0 s))
 
-plain_divisor : (W q : ℕ) → 0 < q → divisor_of W 0 q ≡ q
+pub plain_divisor : (W q : ℕ) → 0 < q → divisor_of W 0 q ≡ q
 plain_divisor W q h = ap (λ y. cond (nat_eq y 0) 1 y) (plain W q q) ∙ ap (λ t. cond t 1 q) (not_zero q h)
 
 pub plain_quotient : (W p q : ℕ) → 0 < q → p / q ≡ quotient_lane W 0 p q

@@ -3,3 +3,4 @@ pub mod ConvertLaws
 pub mod DivisionLaws
 pub mod LaneLaws
 pub mod ListLaws
+pub mod ShiftLaws

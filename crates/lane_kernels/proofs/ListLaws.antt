@@ -1,15 +1,16 @@
 -- Laws of vectors as lists of lanes.
 use Rattle.std.proofs.Common.{◌≡◌, ℕ, zero, suc, ◌+◌, ◌-◌, ◌/◌, ◌%◌, ◌^◌, ◌<◌, ◌≤◌, refl, sym, ap, ap₂, ◌∙◌, arith}
 use Rattle.std.proofs.Common.{Bool, true, false, cond, List, [], ◌∷◌, length, replicate, map, subst, ltb, eqb}
-use Rattle.std.proofs.Common.{eqb-true, eq-eqb}
+use Rattle.std.proofs.Common.{eqb-true, eq-eqb, Fits, ◌*◌, mod-eq_of_lt}
 use Rattle.std.proofs.Common.{true≢false, pos_of_ne-zero, ltb-true, ltb-false, mod-lt, take, set, get_or, ◌++◌, not}
 use Rattle.std.proofs.lemmas.Grind.{take-set_at, take_at_read}
-use Rattle.std.proofs.lemmas.List.{take_all, get_or_past}
+use Rattle.std.proofs.lemmas.List.{take_all, get_or_past, length-map}
+use Rattle.std.proofs.lemmas.Bool.Decides.{nat_tests}
 use Rattle.lane_kernels.specs.Vectors.{lesser_lane, greater_lane, signed_by, divisor_of, quotient_lane, rest_lane}
 use Rattle.lane_kernels.specs.Vectors.{moved_lane}
 use Rattle.std.specs.Simd.Lanes.{zip2, Each1, sel_l, top, mask_l}
-use Rattle.std.proofs.lemmas.Simd.{mask_l-mod}
-use Rattle.std.specs.Int.{from_bool}
+use Rattle.std.proofs.lemmas.Simd.{mask_l-mod, zip2_splat, length-replicate}
+use Rattle.std.specs.Int.{from_bool, Width}
 use Rattle.std.specs.List.{list_all}
 use Rattle.lane_values.specs.Lanes.{zip3}
 
@@ -88,6 +89,13 @@ module _ (W high ones : ℕ) (on : top high ones ≡ true) (off : top high 0 ≡
       one : (b : Bool) → cond (top high (cond b ones 0)) 1 0 ≡ from_bool b
       one true = ap (λ t. cond t 1 0) on
       one false = ap (λ t. cond t 1 0) off
+
+  -- which lanes are not 0, as 1 or 0
+  pub ones_of : (n : ℕ) (a : List ℕ) → length a ≡ n
+      → sel_l (map (top high) (zip2 (λ u v. cond (not (eqb u v)) ones 0) a (replicate n 0))) (replicate n 1)
+      (replicate n 0) ≡ map (λ x. from_bool (not (eqb x 0))) a
+  ones_of n a e = told (λ u v. not (eqb u v)) n a (replicate n 0) e (length-replicate n 0) ∙
+      zip2_splat (λ u v. from_bool (not (eqb u v))) a n 0 e
 
   -- three operations in a row, each with a splat
   pub three_splats : (f g h : ℕ → ℕ → ℕ) (x y z n : ℕ) (a : List ℕ) → length a ≡ n
@@ -198,6 +206,19 @@ module _ (W high ones : ℕ) (on : top high ones ≡ true) (off : top high 0 ≡
   moved_lanes bias (suc n) (p ∷ a) (k ∷ ks) e h =
       ap (λ vs. moved_lane W bias p k ∷ vs) (moved_lanes bias n a ks (omega arith) (omega arith))
 
+  -- a shift of lanes that are first raised by m where they stand for negative numbers
+  pub raised_lanes : (bias m k n : ℕ) (a : List ℕ) → length a ≡ n
+      → zip2 (moved_lane W bias) (zip2 (add_in W) a (sel_l (map (top high) (zip2 (all_if ones ltb)
+      (zip2 (add_in W) a (replicate n bias)) (replicate n bias))) (replicate n m) (replicate n 0))) (replicate n k)
+      ≡ map (λ p. moved_lane W bias (add_in W p (cond (ltb (add_in W p bias) bias) m 0)) k) a
+  raised_lanes bias m k zero [] e = refl
+  raised_lanes bias m k zero (p ∷ a) e = absurd (omega arith)
+  raised_lanes bias m k (suc n) [] e = absurd (omega arith)
+  raised_lanes bias m k (suc n) (p ∷ a) e =
+      ap₂ (λ v vs. v ∷ vs)
+      (ap (λ y. moved_lane W bias (add_in W p y) k) (picked (ltb (add_in W p bias) bias) m 0))
+      (raised_lanes bias m k n a (omega arith))
+
   -- ---- one amount for all lanes
 
   alike_long : (k n : ℕ) (b : List ℕ) → length b ≡ n
@@ -231,6 +252,43 @@ module _ (W high ones : ℕ) (on : top high ones ≡ true) (off : top high 0 ≡
       → mask_l (map (top high) (map (λ x. ones - x) (zip2 (all_if ones eqb) b (replicate n k)))) % 2 ^ 64 ≡ 0
       → b ≡ replicate n k
   all_alike k n b e le h = alike k n b e (sym (mask_l-mod _ 64 (omega (arith, alike_long k n b e))) ∙ h)
+
+  -- ---- masks whose lanes are all set
+
+  full_long : (n : ℕ) (m : List Bool) → length m ≡ n
+      → length (map (top high) (map (λ x. ones - x) (zip2 (all_if ones eqb) (map from_bool m) (replicate n 1)))) ≡ n
+  full_long n m e = alike_long 1 n (map from_bool m) (length-map m from_bool ∙ e)
+
+  full_mask : (n : ℕ) (m : List Bool) → length m ≡ n
+      → eqb (mask_l (map (top high) (map (λ x. ones - x) (zip2 (all_if ones eqb) (map from_bool m) (replicate n 1)))))
+      0 ≡ list_all (λ on. on) m
+  full_mask zero [] e = refl
+  full_mask zero (b ∷ m) e = absurd (omega arith)
+  full_mask (suc n) [] e = absurd (omega arith)
+  full_mask (suc n) (true ∷ m) e =
+      let none : ones - ones ≡ 0 = omega arith in
+      ap (λ x. eqb (cond x 1 0 + 2 * rest) 0) (ap (top high) none ∙ off) ∙ twice rest ∙ full_mask n m (omega arith)
+    where
+      rest : ℕ
+      rest = mask_l (map (top high) (map (λ x. ones - x) (zip2 (all_if ones eqb) (map from_bool m) (replicate n 1))))
+
+      twice : (r : ℕ) → eqb (0 + 2 * r) 0 ≡ eqb r 0
+      twice r = grind (arith, nat_tests)
+  full_mask (suc n) (false ∷ m) e =
+      let all : ones - 0 ≡ ones = omega arith in
+      ap (λ x. eqb (cond x 1 0 + 2 * rest) 0) (ap (top high) all ∙ on) ∙ some rest
+    where
+      rest : ℕ
+      rest = mask_l (map (top high) (map (λ x. ones - x) (zip2 (all_if ones eqb) (map from_bool m) (replicate n 1))))
+
+      some : (r : ℕ) → eqb (1 + 2 * r) 0 ≡ false
+      some r = grind (arith, nat_tests)
+
+  -- no lane of a mask, as bytes, differs from 1 exactly where all lanes are set
+  pub full_told : (n : ℕ) (m : List Bool) → length m ≡ n → n ≤ 64
+      → eqb (mask_l (map (top high) (map (λ x. ones - x) (zip2 (all_if ones eqb) (map from_bool m) (replicate n 1)))) %
+      2 ^ 64) 0 ≡ list_all (λ on. on) m
+  full_told n m e le = ap (λ x. eqb x 0) (mask_l-mod _ 64 (omega (arith, full_long n m e))) ∙ full_mask n m e
 
   -- ---- the lesser and the greater
 
@@ -290,6 +348,30 @@ pub zip2_each : (P : ℕ → Type 0) (f g : ℕ → ℕ → ℕ) → ((p q : ℕ
 zip2_each P f g e [] b u = refl
 zip2_each P f g e (p ∷ a) [] u = refl
 zip2_each P f g e (p ∷ a) (q ∷ b) u = ap₂ (λ v vs. v ∷ vs) (e p q u.0) (zip2_each P f g e a b u.1)
+
+pub zip2_both : {V : Type 0} (P Q : ℕ → Type 0) (f g : ℕ → ℕ → V) →
+    ((p q : ℕ) → P p → Q q → f p q ≡ g p q) → (a b : List ℕ) → Each1 P a → Each1 Q b → zip2 f a b ≡ zip2 g a b
+zip2_both P Q f g e [] b u w = refl
+zip2_both P Q f g e (p ∷ a) [] u w = refl
+zip2_both P Q f g e (p ∷ a) (q ∷ b) u w = ap₂ (λ v vs. v ∷ vs) (e p q u.0 w.0) (zip2_both P Q f g e a b u.1 w.1)
+
+-- a test of lanes that fit is that of the lanes raised by nothing
+pub told_plain : (W : ℕ) (t : ℕ → ℕ → Bool) (a b : List ℕ) → Each1 (λ x. x < 2 ^ W) a → Each1 (λ x. x < 2 ^ W) b →
+    zip2 (λ u v. from_bool (t u v)) a b ≡ zip2 (λ u v. from_bool (t (add_in W u 0) (add_in W v 0))) a b
+told_plain W t a b k l = zip2_both (λ x. x < 2 ^ W) (λ x. x < 2 ^ W) (λ u v. from_bool (t u v))
+    (λ u v. from_bool (t (add_in W u 0) (add_in W v 0)))
+    (λ p q h i. sym (ap₂ (λ u v. from_bool (t u v)) (same p h) (same q i))) a b k l
+  where
+    same : (x : ℕ) → x < 2 ^ W → add_in W x 0 ≡ x
+    same x h = let bare : x + 0 ≡ x = omega arith in ap (λ y. y % 2 ^ W) bare ∙ mod-eq_of_lt h
+
+-- what the products of a splat leave of each lane
+pub left_splat : (W : ℕ) (P : ℕ → Type 0) (f : ℕ → ℕ) (g : ℕ → ℕ → ℕ) (d : ℕ) →
+    ((p : ℕ) → P p → sub_in W p (f p * d % 2 ^ W) ≡ g p d) → (n : ℕ) (a : List ℕ) → Each1 P a
+    → zip2 (sub_in W) a (zip2 (λ x y. x * y % 2 ^ W) (map f a) (replicate n d)) ≡ zip2 g a (replicate n d)
+left_splat W P f g d e n [] u = refl
+left_splat W P f g d e zero (p ∷ a) u = refl
+left_splat W P f g d e (suc n) (p ∷ a) u = ap₂ (λ v vs. v ∷ vs) (e p u.0) (left_splat W P f g d e n a u.1)
 
 pub each_replicate : (P : ℕ → Type 0) (n x : ℕ) → P x → Each1 P (replicate n x)
 each_replicate P zero x h = tt
@@ -423,3 +505,19 @@ zip2_as_zip3 f h e n (p ∷ a) (q ∷ b) [] i j k = absurd (omega arith)
 zip2_as_zip3 f h e zero (p ∷ a) (q ∷ b) (r ∷ c) i j k = absurd (omega arith)
 zip2_as_zip3 f h e (suc n) (p ∷ a) (q ∷ b) (r ∷ c) i j k =
     ap₂ (λ v vs. v ∷ vs) (e p q r) (zip2_as_zip3 f h e n a b c (omega arith) (omega arith) (omega arith))
+
+-- ---- truths as 1 and 0
+
+pub bit_fits : (w : Width) (b : Bool) → Fits w (from_bool b)
+bit_fits w true = grind arith
+bit_fits w false = grind arith
+
+pub bit_read : (b : Bool) → not (eqb (from_bool b) 0) ≡ b
+bit_read true = refl
+bit_read false = refl
+
+-- what a test gives, written as 1 or 0 and read again
+pub bits_read : {U : Type 0} (t : U → Bool) (a : List U) →
+    map (λ x. not (eqb x 0)) (map (λ x. from_bool (t x)) a) ≡ map t a
+bits_read t a = map_of_map (λ x. not (eqb x 0)) (λ x. from_bool (t x)) a ∙
+    same_map (λ x. not (eqb (from_bool (t x)) 0)) t (λ x. bit_read (t x)) a

@@ -26,15 +26,6 @@ fn size_in_bytes(t: IntType) -> usize
     }
 }
 
-/// Whether element `at` lies within `len` bytes.
-#[inline(always)]
-fn is_in_range(size: usize, len: usize, at: u64) -> bool
-    requires { 0 < size }
-    ensures { result ≡ is_within size len at }
-{
-    at < 1 << 63 && at < (len / size) as u64
-}
-
 /// The number of the four bytes from a place on, lowest first.
 #[inline(always)]
 fn four_bytes(bytes: &[u8], from: usize) -> u32
@@ -319,8 +310,9 @@ pub(crate) fn gather_narrow<const W: usize>(
 /// Stores the lane if it is active; `false`, with the bytes as they were, exactly where it is
 /// active and its place is out of range.
 #[inline(always)]
-fn put_lane(bytes: &mut [u8], size: usize, on: bool, at: u64, x: u64) -> bool
-    requires { IsSize size }
+fn put_lane(bytes: &mut [u8], size: usize, count: u64, on: bool, at: u64, x: u64) -> bool
+    requires size { IsSize size }
+    requires count { (k : ℕ) → nat_lt k count ≡ is_within size (length bytes.old) k }
     ensures done { result ≡ not (is_fault size (length bytes.old) on at) }
     ensures stored { OnTrue result (bytes.new ≡ lane_put size bytes.old on at x) }
     ensures kept { OnFalse result (bytes.new ≡ bytes.old) }
@@ -329,7 +321,7 @@ fn put_lane(bytes: &mut [u8], size: usize, on: bool, at: u64, x: u64) -> bool
     if is_off {
         return true;
     }
-    if !is_in_range(size, bytes.len(), at) {
+    if !is_below(at, count) {
         return false;
     }
     put_number(bytes, size, at as usize, x);
@@ -353,8 +345,9 @@ fn scatter_of<const W: usize, const S: usize>(
     ensures below { IfErr result (λ k. bytes.new ≡ scattered S bytes.old (take k mask.entry) (take k places.entry)
         (take k lanes.entry)) }
 {
+    let count = elements_in(S, bytes.len());
     for i in 0..W {
-        if !put_lane(bytes, S, mask[i], places[i], lanes[i]) {
+        if !put_lane(bytes, S, count, mask[i], places[i], lanes[i]) {
             return Err(i as u32);
         }
     }

@@ -61,6 +61,9 @@ pub fn widen<const W: usize>(
     tally.raise();
     let held = extend32(from, a);
     let lift = bias(from);
+    if lift == 0 {
+        return held.cast::<u64>();
+    }
     let raised = held + Simd::splat(lift);
     raised.cast::<u64>() - Simd::splat(lift as u64)
 }

@@ -1,5 +1,5 @@
 //! Narrow lanes: values of types up to 32 bits, extended to 32 bits.
-ghost use Rattle.std.specs.Prelude.{◌≡◌, ◌<◌, ◌≤◌, ◌+◌, ◌-◌, ◌%◌, ◌^◌, min, map, false, replicate, IfSome};
+ghost use Rattle.std.specs.Prelude.{◌≡◌, ◌≢◌, ◌<◌, ◌≤◌, ◌+◌, ◌-◌, ◌%◌, ◌^◌, min, map, false, replicate, IfSome};
 ghost use Rattle.std.specs.Bool.{OnTrue};
 ghost use Rattle.std.specs.Simd.Lanes.{zip2, Each1};
 ghost use Rattle.wg_num.specs.Wrap.{half, modulus, width_bits, value_of};
@@ -105,28 +105,60 @@ fn exponent_of(d: u32) -> Option<u32>
     }
 }
 
-#[inline(never)]
-fn quotients<const W: usize>(bias: u32, a: Simd<u32, W>, b: Simd<u32, W>) -> Simd<u32, W>
-    ensures { result ≡ zip2 (quotient_lane 32 bias) a.entry b.entry }
+/// The exponent of the power of two that all divisors are, as numbers that are not negative.
+#[inline(always)]
+fn shared_exponent<const W: usize>(bias: u32, b: Simd<u32, W>) -> Option<u32>
+    ensures { IfSome result (λ k. (b.entry ≡ replicate W (2 ^ k)) × (k < 32) × (bias ≢ 0 → k < 31)) }
+{
+    let d = shared_lane(b)?;
+    let k = exponent_of(d)?;
+    if bias == 0 || k < 31 { Some(k) } else { None }
+}
+
+/// Quotients by a power of two, by its exponent: shifts, for which a negative number is first raised by one less than
+/// the divisor.
+#[inline(always)]
+fn halved<const W: usize>(bias: u32, a: Simd<u32, W>, k: u32) -> Simd<u32, W>
+    requires top { bias ≢ 0 → bias ≡ 2 ^ 31 }
+    requires exponent { k < 32 }
+    requires signed { bias ≢ 0 → k < 31 }
+    ensures { result ≡ map (λ x. quotient_lane 32 bias x (2 ^ k)) a.entry }
 {
     if bias == 0 {
-        if let Some(d) = shared_lane(b) {
-            if let Some(k) = exponent_of(d) {
-                return a >> Simd::splat(k);
-            }
-        }
+        return a >> Simd::splat(k);
     }
-    let size = signed_as(bias, a, a) / divisors(bias, b);
-    let quotient = signed_as(bias, b, signed_as(bias, a, size));
-    b.simd_eq(Simd::splat(0)).select(Simd::splat(0), quotient)
+    let raise = Simd::splat(bias);
+    let more = (a + raise)
+        .simd_lt(raise)
+        .select(Simd::splat((1 << k) - 1), Simd::splat(0));
+    moved_right(bias, a + more, Simd::splat(k))
 }
 
 #[inline(never)]
-fn rests<const W: usize>(bias: u32, a: Simd<u32, W>, b: Simd<u32, W>) -> Simd<u32, W>
+fn quotients<const W: usize>(bias: u32, a: Simd<u32, W>, b: Simd<u32, W>) -> [u32; W]
+    requires { bias ≢ 0 → bias ≡ 2 ^ 31 }
+    ensures { result ≡ zip2 (quotient_lane 32 bias) a.entry b.entry }
+{
+    if let Some(k) = shared_exponent(bias, b) {
+        return halved(bias, a, k).to_array();
+    }
+    let size = signed_as(bias, a, a) / divisors(bias, b);
+    let quotient = signed_as(bias, b, signed_as(bias, a, size));
+    b.simd_eq(Simd::splat(0))
+        .select(Simd::splat(0), quotient)
+        .to_array()
+}
+
+#[inline(never)]
+fn rests<const W: usize>(bias: u32, a: Simd<u32, W>, b: Simd<u32, W>) -> [u32; W]
+    requires { bias ≢ 0 → bias ≡ 2 ^ 31 }
     ensures { result ≡ zip2 (rest_lane 32 bias) a.entry b.entry }
 {
+    if let Some(k) = shared_exponent(bias, b) {
+        return (a - halved(bias, a, k) * b).to_array();
+    }
     let rest = signed_as(bias, a, signed_as(bias, a, a) % divisors(bias, b));
-    b.simd_eq(Simd::splat(0)).select(a, rest)
+    b.simd_eq(Simd::splat(0)).select(a, rest).to_array()
 }
 
 /// The bits of a shift's amount.
@@ -150,7 +182,7 @@ fn amounts<const W: usize>(t: IntType, b: Simd<u32, W>) -> Simd<u32, W>
 
 /// The entry that all lanes have, if they have one; with more than 64 lanes they are not compared.
 #[inline(always)]
-fn shared_lane<const W: usize>(b: Simd<u32, W>) -> Option<u32>
+pub fn shared_lane<const W: usize>(b: Simd<u32, W>) -> Option<u32>
     ensures { IfSome result (λ d. b.entry ≡ replicate W d) }
 {
     let first = match b.to_array().first() {
@@ -199,9 +231,13 @@ fn shifted_right<const W: usize>(t: IntType, a: Simd<u32, W>, b: Simd<u32, W>) -
 
 /// 1 where the number of `a` is less than that of `b`, and else 0.
 fn are_less<const W: usize>(bias: u32, a: Simd<u32, W>, b: Simd<u32, W>) -> Simd<u32, W>
+    requires { bias ≢ 0 → bias ≡ 2 ^ 31 }
     ensures { result ≡ zip2 (less_lane 32 bias) a.entry b.entry }
 {
-    let raise = Simd::splat(bias);
+    if bias == 0 {
+        return a.simd_lt(b).select(Simd::splat(1), Simd::splat(0));
+    }
+    let raise = Simd::splat(0x8000_0000);
     (a + raise)
         .simd_lt(b + raise)
         .select(Simd::splat(1), Simd::splat(0))
@@ -209,9 +245,13 @@ fn are_less<const W: usize>(bias: u32, a: Simd<u32, W>, b: Simd<u32, W>) -> Simd
 
 /// 1 where the number of `a` is at most that of `b`, and else 0.
 fn are_at_most<const W: usize>(bias: u32, a: Simd<u32, W>, b: Simd<u32, W>) -> Simd<u32, W>
+    requires { bias ≢ 0 → bias ≡ 2 ^ 31 }
     ensures { result ≡ zip2 (at_most_lane 32 bias) a.entry b.entry }
 {
-    let raise = Simd::splat(bias);
+    if bias == 0 {
+        return a.simd_le(b).select(Simd::splat(1), Simd::splat(0));
+    }
+    let raise = Simd::splat(0x8000_0000);
     (a + raise)
         .simd_le(b + raise)
         .select(Simd::splat(1), Simd::splat(0))
@@ -229,8 +269,8 @@ fn numbers32<const W: usize>(op: Bin, t: IntType, a: Simd<u32, W>, b: Simd<u32, 
         Bin::Add => a + b,
         Bin::Sub => a - b,
         Bin::Mul => a * b,
-        Bin::Div => quotients(bias(t), a, b),
-        Bin::Rem => rests(bias(t), a, b),
+        Bin::Div => Simd::from_array(quotients(bias(t), a, b)),
+        Bin::Rem => Simd::from_array(rests(bias(t), a, b)),
         Bin::Shl => shifted_left(t, a, b),
         Bin::Shr => shifted_right(t, a, b),
         Bin::And => a & b,

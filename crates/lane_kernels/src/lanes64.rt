@@ -1,8 +1,8 @@
 //! Wide lanes: values of types up to 64 bits, extended to 64 bits.
-ghost use Rattle.std.specs.Prelude.{◌≡◌, ◌<◌, ◌≤◌, ◌+◌, ◌-◌, ◌%◌, ◌^◌, min, map, false, replicate, IfSome};
+ghost use Rattle.std.specs.Prelude.{◌≡◌, ◌≢◌, ◌<◌, ◌≤◌, ◌+◌, ◌-◌, ◌%◌, ◌^◌, min, map, false, replicate, IfSome};
 ghost use Rattle.std.specs.Bool.{OnTrue};
 ghost use Rattle.std.specs.Simd.Lanes.{zip2, Each1};
-ghost use Rattle.wg_num.specs.Wrap.{half, modulus, width_bits, value_of};
+ghost use Rattle.wg_num.specs.Wrap.{bits_of, half, modulus, width_bits, value_of};
 ghost use Rattle.wg_num.specs.Operators.{is_shift};
 ghost use Rattle.lane_values.specs.Lanes.{FitsLane, IsLane, binary_value, binary_lane, unary_value, unary_lane};
 ghost use Rattle.lane_values.specs.Lanes.{extended};
@@ -107,28 +107,60 @@ fn exponent_of(d: u64) -> Option<u64>
     }
 }
 
-#[inline(never)]
-fn quotients<const W: usize>(bias: u64, a: Simd<u64, W>, b: Simd<u64, W>) -> Simd<u64, W>
-    ensures { result ≡ zip2 (quotient_lane 64 bias) a.entry b.entry }
+/// The exponent of the power of two that all divisors are, as numbers that are not negative.
+#[inline(always)]
+fn shared_exponent<const W: usize>(bias: u64, b: Simd<u64, W>) -> Option<u64>
+    ensures { IfSome result (λ k. (b.entry ≡ replicate W (2 ^ k)) × (k < 64) × (bias ≢ 0 → k < 63)) }
+{
+    let d = shared_lane(b)?;
+    let k = exponent_of(d)?;
+    if bias == 0 || k < 63 { Some(k) } else { None }
+}
+
+/// Quotients by a power of two, by its exponent: shifts, for which a negative number is first raised by one less than
+/// the divisor.
+#[inline(always)]
+fn halved<const W: usize>(bias: u64, a: Simd<u64, W>, k: u64) -> Simd<u64, W>
+    requires top { bias ≢ 0 → bias ≡ 2 ^ 63 }
+    requires exponent { k < 64 }
+    requires signed { bias ≢ 0 → k < 63 }
+    ensures { result ≡ map (λ x. quotient_lane 64 bias x (2 ^ k)) a.entry }
 {
     if bias == 0 {
-        if let Some(d) = shared_lane(b) {
-            if let Some(k) = exponent_of(d) {
-                return a >> Simd::splat(k);
-            }
-        }
+        return a >> Simd::splat(k);
     }
-    let size = signed_as(bias, a, a) / divisors(bias, b);
-    let quotient = signed_as(bias, b, signed_as(bias, a, size));
-    b.simd_eq(Simd::splat(0)).select(Simd::splat(0), quotient)
+    let raise = Simd::splat(bias);
+    let more = (a + raise)
+        .simd_lt(raise)
+        .select(Simd::splat((1 << k) - 1), Simd::splat(0));
+    moved_right(bias, a + more, Simd::splat(k))
 }
 
 #[inline(never)]
-fn rests<const W: usize>(bias: u64, a: Simd<u64, W>, b: Simd<u64, W>) -> Simd<u64, W>
+fn quotients<const W: usize>(bias: u64, a: Simd<u64, W>, b: Simd<u64, W>) -> [u64; W]
+    requires { bias ≢ 0 → bias ≡ 2 ^ 63 }
+    ensures { result ≡ zip2 (quotient_lane 64 bias) a.entry b.entry }
+{
+    if let Some(k) = shared_exponent(bias, b) {
+        return halved(bias, a, k).to_array();
+    }
+    let size = signed_as(bias, a, a) / divisors(bias, b);
+    let quotient = signed_as(bias, b, signed_as(bias, a, size));
+    b.simd_eq(Simd::splat(0))
+        .select(Simd::splat(0), quotient)
+        .to_array()
+}
+
+#[inline(never)]
+fn rests<const W: usize>(bias: u64, a: Simd<u64, W>, b: Simd<u64, W>) -> [u64; W]
+    requires { bias ≢ 0 → bias ≡ 2 ^ 63 }
     ensures { result ≡ zip2 (rest_lane 64 bias) a.entry b.entry }
 {
+    if let Some(k) = shared_exponent(bias, b) {
+        return (a - halved(bias, a, k) * b).to_array();
+    }
     let rest = signed_as(bias, a, signed_as(bias, a, a) % divisors(bias, b));
-    b.simd_eq(Simd::splat(0)).select(a, rest)
+    b.simd_eq(Simd::splat(0)).select(a, rest).to_array()
 }
 
 /// The bits of a shift's amount.
@@ -202,9 +234,13 @@ fn shifted_right<const W: usize>(t: IntType, a: Simd<u64, W>, b: Simd<u64, W>) -
 
 /// 1 where the number of `a` is less than that of `b`, and else 0.
 fn are_less<const W: usize>(bias: u64, a: Simd<u64, W>, b: Simd<u64, W>) -> Simd<u64, W>
+    requires { bias ≢ 0 → bias ≡ 2 ^ 63 }
     ensures { result ≡ zip2 (less_lane 64 bias) a.entry b.entry }
 {
-    let raise = Simd::splat(bias);
+    if bias == 0 {
+        return a.simd_lt(b).select(Simd::splat(1), Simd::splat(0));
+    }
+    let raise = Simd::splat(0x8000_0000_0000_0000);
     (a + raise)
         .simd_lt(b + raise)
         .select(Simd::splat(1), Simd::splat(0))
@@ -212,9 +248,13 @@ fn are_less<const W: usize>(bias: u64, a: Simd<u64, W>, b: Simd<u64, W>) -> Simd
 
 /// 1 where the number of `a` is at most that of `b`, and else 0.
 fn are_at_most<const W: usize>(bias: u64, a: Simd<u64, W>, b: Simd<u64, W>) -> Simd<u64, W>
+    requires { bias ≢ 0 → bias ≡ 2 ^ 63 }
     ensures { result ≡ zip2 (at_most_lane 64 bias) a.entry b.entry }
 {
-    let raise = Simd::splat(bias);
+    if bias == 0 {
+        return a.simd_le(b).select(Simd::splat(1), Simd::splat(0));
+    }
+    let raise = Simd::splat(0x8000_0000_0000_0000);
     (a + raise)
         .simd_le(b + raise)
         .select(Simd::splat(1), Simd::splat(0))
@@ -232,8 +272,8 @@ fn numbers64<const W: usize>(op: Bin, t: IntType, a: Simd<u64, W>, b: Simd<u64, 
         Bin::Add => a + b,
         Bin::Sub => a - b,
         Bin::Mul => a * b,
-        Bin::Div => quotients(bias(t), a, b),
-        Bin::Rem => rests(bias(t), a, b),
+        Bin::Div => Simd::from_array(quotients(bias(t), a, b)),
+        Bin::Rem => Simd::from_array(rests(bias(t), a, b)),
         Bin::Shl => shifted_left(t, a, b),
         Bin::Shr => shifted_right(t, a, b),
         Bin::And => a & b,
@@ -314,4 +354,12 @@ pub fn unary64<const W: usize>(
 {
     tally.raise();
     extend64(t, unary_numbers64(op, t, extend64(t, a)))
+}
+
+/// The 64-bit pattern of the value that a lane's bits have in the type.
+pub fn pattern64(t: IntType, p: u64) -> u64
+    requires { FitsLane 64 t }
+    ensures { result ≡ bits_of (value_of t p) }
+{
+    extend64(t, Simd::<u64, 1>::splat(p)).to_array()[0]
 }

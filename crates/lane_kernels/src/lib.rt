@@ -18,7 +18,9 @@ pub use access64::{gather64, scatter64};
 pub use convert::{convert32, convert64, narrow, widen};
 pub use functions32::{builtin32, lane_of32};
 pub use functions64::{builtin64, lane_of64};
-pub use lanes32::{binary32, unary32};
-pub use lanes64::{binary64, unary64};
-pub use masks::{any, blend32, blend64, lowest, nonzero32, nonzero64};
+pub use lanes32::{binary32, shared_lane, unary32};
+pub use lanes64::{binary64, pattern64, unary64};
+pub use masks::{
+    any, blend32, blend64, bytes_of, is_full, lowest, nonzero32, nonzero64, truths_of,
+};
 pub use tally::Tally;

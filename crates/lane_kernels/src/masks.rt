@@ -7,27 +7,34 @@ ghost use Rattle.lane_values.specs.Masks.{IsEmpty, IsLowest};
 
 use std::simd::prelude::*;
 
-/// Whether every lane is set.
+/// Whether every lane is set. More than 64 lanes have no mask of bits, and are read one by one.
 #[inline(always)]
-pub(crate) fn is_full<const W: usize>(mask: [bool; W]) -> bool
+pub fn is_full<const W: usize>(mask: [bool; W]) -> bool
     ensures { result ≡ list_all (λ on. on) mask.entry }
 {
-    let mut full = true;
-    for i in 0..W {
-        full &= mask[i];
+    if W <= 64 {
+        return bytes_of(mask).simd_eq(Simd::splat(1)).all();
     }
-    full
+    mask.iter().all(|on| *on)
+}
+
+/// 1 where the mask is set, and else 0, as bytes.
+#[inline(always)]
+pub fn bytes_of<const W: usize>(mask: [bool; W]) -> Simd<u8, W>
+    ensures { result ≡ map from_bool mask.entry }
+{
+    let mut lanes = [0u8; W];
+    for i in 0..W {
+        lanes[i] = mask[i] as u8;
+    }
+    Simd::from_array(lanes)
 }
 
 /// 1 where the mask is set, and else 0.
 fn numbers_of32<const W: usize>(mask: [bool; W]) -> Simd<u32, W>
     ensures { result ≡ map from_bool mask.entry }
 {
-    let mut lanes = [0u32; W];
-    for i in 0..W {
-        lanes[i] = mask[i] as u32;
-    }
-    Simd::from_array(lanes)
+    bytes_of(mask).cast::<u32>()
 }
 
 /// What `blend32` answers, out of line, so that a step whose mask is full reads the mask alone.
@@ -56,7 +63,19 @@ pub fn blend32<const W: usize>(
 pub fn nonzero32<const W: usize>(a: Simd<u32, W>) -> [bool; W]
     ensures { result ≡ map (λ x. not (nat_eq x 0)) a.entry }
 {
-    let lanes = a.to_array();
+    truths_of(ones32(a))
+}
+
+/// Whether each lane is not 0.
+#[inline(always)]
+pub fn truths_of<const W: usize>(numbers: Simd<u8, W>) -> [bool; W]
+    ensures { result ≡ map (λ x. not (nat_eq x 0)) numbers.entry }
+{
+    let zero = Simd::splat(0);
+    let lanes = numbers
+        .simd_ne(zero)
+        .select(Simd::splat(1), zero)
+        .to_array();
     let mut set = [false; W];
     for i in 0..W {
         set[i] = lanes[i] != 0;
@@ -64,15 +83,29 @@ pub fn nonzero32<const W: usize>(a: Simd<u32, W>) -> [bool; W]
     set
 }
 
+/// 1 where a lane is not 0, and else 0.
+#[inline(always)]
+fn ones32<const W: usize>(a: Simd<u32, W>) -> Simd<u8, W>
+    ensures { result ≡ map (λ x. from_bool (not (nat_eq x 0))) a.entry }
+{
+    let zero = Simd::splat(0);
+    a.simd_ne(zero).select(Simd::splat(1), zero).cast::<u8>()
+}
+
+/// The same of wide lanes.
+#[inline(always)]
+fn ones64<const W: usize>(a: Simd<u64, W>) -> Simd<u8, W>
+    ensures { result ≡ map (λ x. from_bool (not (nat_eq x 0))) a.entry }
+{
+    let zero = Simd::splat(0);
+    a.simd_ne(zero).select(Simd::splat(1), zero).cast::<u8>()
+}
+
 /// 1 where the mask is set, and else 0.
 fn numbers_of64<const W: usize>(mask: [bool; W]) -> Simd<u64, W>
     ensures { result ≡ map from_bool mask.entry }
 {
-    let mut lanes = [0u64; W];
-    for i in 0..W {
-        lanes[i] = mask[i] as u64;
-    }
-    Simd::from_array(lanes)
+    bytes_of(mask).cast::<u32>().cast::<u64>()
 }
 
 /// What `blend64` answers, out of line, so that a step whose mask is full reads the mask alone.
@@ -101,12 +134,7 @@ pub fn blend64<const W: usize>(
 pub fn nonzero64<const W: usize>(a: Simd<u64, W>) -> [bool; W]
     ensures { result ≡ map (λ x. not (nat_eq x 0)) a.entry }
 {
-    let lanes = a.to_array();
-    let mut set = [false; W];
-    for i in 0..W {
-        set[i] = lanes[i] != 0;
-    }
-    set
+    truths_of(ones64(a))
 }
 
 /// Whether a lane is set.

@@ -1,28 +1,16 @@
 use Rattle.std.proofs.Common.{refl}
-use Rattle.std.proofs.Common.{◌∙◌, ap, ap₂, ◌/◌, ◌<◌, ◌^◌, map, replicate, eqb, subst, sym, pow_pos}
+use Rattle.std.proofs.Common.{◌∙◌, ap, ap₂, ◌/◌, ◌<◌, ◌^◌, map, replicate, eqb, subst, sym}
 use Rattle.std.specs.Simd.Lanes.{zip2, sel_l, top, Each1}
 use Rattle.lane_kernels.specs.Vectors.{signed_by, quotient_lane}
-use Rattle.lane_kernels.proofs.DivisionLaws.{plain_quotient}
 use Rattle.lane_kernels.proofs.ListLaws as L
-use Rattle.lane_kernels.proofs.ListLaws.{all_if, splat_same, each_replicate}
-use Rattle.std.proofs.lemmas.Simd.{Each2-of}
+use Rattle.lane_kernels.proofs.ListLaws.{all_if}
+use Rattle.std.proofs.lemmas.Simd.{Each2-of, zip2_splat}
 use Rattle.lane_kernels.proofs.lanes32.quotients.Goals as goal
 
-pub overflow_shr-result : goal.overflow_shr-result
-overflow_shr-result g c =
-    let k = c.in-Some-exponent_of.k in
-    Each2-of (λ _. Unit {0}) (λ k. k < 32) _ (λ x y u v. v) c.args.a (replicate g.row.W k)
-    (L.any_lane 32 31 4294967295 refl refl c.args.a)
-    (each_replicate (λ k. k < 32) g.row.W k c.in-Some-exponent_of.ensures.1)
-
-pub returns-in-Some-exponent_of : goal.returns-in-Some-exponent_of
-returns-in-Some-exponent_of g c =
-    let k = c.in-Some-exponent_of.k in
-    let e = c.in-Some-exponent_of.ensures in
-    splat_same (λ _. Unit {0}) (λ x k. x / 2 ^ k) (quotient_lane 32 0) k (2 ^ k)
-    (λ p u. plain_quotient 32 p (2 ^ k) (pow_pos k)) g.row.W c.args.a (L.any_lane 32 31 4294967295 refl refl c.args.a)
-    ∙ ap₂ (λ m y. zip2 (quotient_lane 32 m) c.args.a y) (sym c.if-bias-eq0.true)
-    (ap (replicate g.row.W) e.0 ∙ sym c.in-Some.ensures)
+pub returns-in-Some : goal.returns-in-Some
+returns-in-Some g c =
+    c.halved.ensures ∙ sym (zip2_splat (quotient_lane 32 c.args.bias) c.args.a g.row.W (2 ^ c.in-Some.k) c.fits-a.0) ∙
+    ap (zip2 (quotient_lane 32 c.args.bias) c.args.a) (sym c.in-Some.ensures.0)
 
 pub nonzero_div-size : goal.nonzero_div-size
 nonzero_div-size g c = Each2-of (λ _. Unit {0}) (λ y. 0 < y) _ (λ x y u v. v) c.signed_as.result c.divisors.result

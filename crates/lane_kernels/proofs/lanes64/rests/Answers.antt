@@ -1,11 +1,23 @@
 use Rattle.std.proofs.Common.{refl}
-use Rattle.std.proofs.Common.{◌∙◌, ap, ap₂, ◌%◌, ◌<◌, map, replicate, eqb, subst, sym}
+use Rattle.std.proofs.Common.{◌∙◌, ap, ap₂, ◌*◌, ◌%◌, ◌^◌, ◌<◌, w64, map, replicate, eqb, subst, sym}
 use Rattle.std.specs.Simd.Lanes.{zip2, sel_l, top, Each1}
-use Rattle.lane_kernels.specs.Vectors.{signed_by}
+use Rattle.lane_kernels.specs.Vectors.{signed_by, quotient_lane, rest_lane}
 use Rattle.lane_kernels.proofs.ListLaws as L
-use Rattle.lane_kernels.proofs.ListLaws.{all_if}
-use Rattle.std.proofs.lemmas.Simd.{Each2-of}
+use Rattle.lane_kernels.proofs.ListLaws.{all_if, sub_in, left_splat}
+use Rattle.lane_kernels.proofs.ShiftLaws.{rested_lane}
+use Rattle.std.proofs.lemmas.Simd.{Each2-of, below_from_Fits}
 use Rattle.lane_kernels.proofs.lanes64.rests.Goals as goal
+
+pub returns-in-Some : goal.returns-in-Some
+returns-in-Some g c =
+    let k = c.in-Some.k in
+    let bias = c.args.bias in
+    let a = c.args.a in
+    let e = c.in-Some.ensures in
+    ap₂ (λ x y. zip2 (sub_in 64) a (zip2 (λ u v. u * v % 2 ^ 64) x y)) c.halved.ensures e.0 ∙
+    left_splat 64 (λ x. x < 2 ^ 64) (λ x. quotient_lane 64 bias x (2 ^ k)) (rest_lane 64 bias) (2 ^ k)
+    (λ p h. rested_lane 64 (2 ^ 63) refl 63 k bias p refl c.requires e.2 h) g.row.W a
+    (below_from_Fits w64 a c.fits-a.1) ∙ ap (zip2 (rest_lane 64 bias) a) (sym e.0)
 
 pub nonzero_rem-signed_as : goal.nonzero_rem-signed_as
 nonzero_rem-signed_as g c = Each2-of (λ _. Unit {0}) (λ y. 0 < y) _ (λ x y u v. v) c.signed_as.result

@@ -1,19 +1,13 @@
-use Rattle.std.proofs.Common.{◌≡◌, ◌∙◌, ◌&&◌, sym, ap, length, get_or, false, arith, rules}
-use Rattle.std.specs.List.{list_all}
-use Rattle.std.proofs.lemmas.List.{take_all}
-use Rattle.std.proofs.lemmas.List.Folds.{list_all_more}
+use Rattle.std.proofs.Common.{◌≡◌, ◌∙◌, ℕ, List, refl, ap, map, eqb, ◌%◌, ◌^◌, ◌-◌, replicate, length, rules}
+use Rattle.std.specs.Simd.Lanes.{zip2, top, mask_l}
+use Rattle.lane_kernels.proofs.ListLaws as L
+use Rattle.lane_kernels.proofs.ListLaws.{all_if}
 use Rattle.lane_kernels.proofs.masks.is_full.Goals as goal
 
-pub loop-i-preserved : goal.loop-i-preserved
-loop-i-preserved g c =
+pub returns-then-this-le64 : goal.returns-then-this-le64
+returns-then-this-le64 g c =
     let long : length c.args.mask ≡ g.row.W = search rules in
-    let i = c.loop-i.i in
-    let lt = c.loop-i-test.true in
-    ap (λ b. b && get_or c.args.mask i false) c.loop-i.invariant ∙
-    sym (list_all_more (λ on. on) c.args.mask i false (omega (arith, long, lt)))
-
-pub returns : goal.returns
-returns g c =
-    let long : length c.args.mask ≡ g.row.W = search rules in
-    let end = c.loop-i-test.false in
-    c.loop-i.invariant ∙ ap (list_all (λ on. on)) (take_all c.loop-i.i c.args.mask (omega (arith, long, end)))
+    let off = λ (xs : List ℕ). mask_l (map (top 7) (map (λ x. 255 - x)
+    (zip2 (all_if 255 eqb) xs (replicate g.row.W 1)))) in
+    ap (λ xs. eqb (off xs % 2 ^ 64) 0) c.bytes_of.ensures ∙
+    L.full_told 8 7 255 refl refl g.row.W c.args.mask long c.if-this-le64.true

@@ -2,7 +2,7 @@ use Rattle.std.proofs.Common.{◌≡◌, ◌∙◌, sym, map, length, false, ari
 use Rattle.std.specs.Int.{from_bool}
 use Rattle.std.proofs.lemmas.List.{get_or-map, length-map, length-set}
 use Rattle.lane_kernels.proofs.ListLaws.{written_next, written_all}
-use Rattle.lane_kernels.proofs.masks.numbers_of32.Goals as goal
+use Rattle.lane_kernels.proofs.masks.bytes_of.Goals as goal
 
 pub loop-i-preserved : goal.loop-i-preserved
 loop-i-preserved g c =
