@@ -1,5 +1,6 @@
 pub mod AccessLaws
 pub mod AskLaws
+pub mod ByteLaws
 pub mod ClearLaws
 pub mod KeepLaws
 pub mod MaskLaws

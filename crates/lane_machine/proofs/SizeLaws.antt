@@ -52,6 +52,13 @@ groups_are_sizes a b c x y z g l e = record {
     each (suc (suc zero)) = some_groups c z (g.some 2) (l.some 2) (e 2)
     each (suc (suc (suc d))) = omega arith
 
+-- the next number times a size does not wrap
+pub next_small : (number l : ℕ) → number < 2 ^ 28 → l ≤ 2 ^ 24 → (number + 1) * l < 2 ^ 64
+next_small number l h k =
+    let few : number + 1 ≤ 268435456 = omega (arith, h) in
+    let most : (number + 1) * l ≤ 268435456 * 16777216 = mul-le-mul few k in
+    omega (arith, most)
+
 pub product_some : (a b c : ℕ) → AreSizes (a ∷ b ∷ c ∷ []) → 0 < a * (b * c)
 product_some a b c s = mul-pos (s.some 0) (mul-pos (s.some 1) (s.some 2))
 

@@ -18,7 +18,7 @@ use crate::queries::{answer, grows, is_row};
 use crate::registers::Registers;
 use cl_model::{Bound, Launch, Query};
 use lane_code::{Bank, Reg};
-use lane_kernels::{blend32, blend64, lane_of32, lane_of64};
+use lane_kernels::{blend32, blend64, lane_of32, lane_of64, shared_lane};
 use std::simd::prelude::*;
 
 /// What a work-item function gives an item, as a lane.
@@ -54,22 +54,6 @@ fn answers32<const W: usize>(
         lanes[i] = answer32(launch, item + i as u64, what, places[i] as u64);
     }
     Simd::from_array(lanes)
-}
-
-/// The entry that all lanes have, if they have one.
-fn shared_dim<const W: usize>(places: [u32; W]) -> Option<u32>
-    ensures { IfSome result (λ d. places.entry ≡ replicate W d) }
-{
-    let d = match places.first() {
-        Some(d) => *d,
-        None => 0,
-    };
-    for i in 0..W {
-        if places[i] != d {
-            return None;
-        }
-    }
-    Some(d)
 }
 
 /// One more than the number of the highest active lane, and 0 where none is active.
@@ -139,13 +123,12 @@ fn answers64<const W: usize>(
     ensures { (old : List ℕ) → sel_l mask.entry result old ≡
         sel_l mask.entry (answers 64 (launch_of launch.now) item what dims.entry) old }
 {
-    let places = dims.to_array();
     if is_row(launch, item, reach(mask)) {
-        if let Some(d) = shared_dim(places) {
+        if let Some(d) = shared_lane(dims) {
             return counted64(launch, item, what, d);
         }
     }
-    each64(launch, item, what, places)
+    each64(launch, item, what, dims.to_array())
 }
 
 /// A work-item function in lanes or in a scalar.

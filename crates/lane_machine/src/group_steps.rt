@@ -11,9 +11,9 @@ ghost use Rattle.lane_machine.specs.State.{IsIn};
 
 use crate::group_state::Group;
 use crate::registers::Registers;
-use crate::windows::{numbers_at, put_numbers, put_truths, truths_at};
+use crate::windows::{numbers_at, put_active, put_numbers, put_truths, truths_at};
 use lane_code::{Bank, Reg};
-use lane_kernels::blend64;
+use lane_kernels::{bytes_of, is_full, truths_of};
 use std::simd::prelude::*;
 
 /// The entry value of a once slot.
@@ -111,7 +111,7 @@ pub(crate) fn column_get_step<const W: usize>(
     let values = numbers_at(&group.columns[column as usize], first);
     match to.bank {
         Bank::Narrow => r.narrow[to.number as usize] = low_halves(values),
-        Bank::Wide => r.wide[to.number as usize] = Simd::from_array(values),
+        Bank::Wide => r.wide[to.number as usize] = values,
         Bank::Scalar | Bank::Mask => {}
     }
 }
@@ -162,29 +162,15 @@ fn chosen_truths<const W: usize>(mask: [bool; W], new: [bool; W], old: [bool; W]
     requires { W ≤ 64 }
     ensures { result ≡ zip3 chosen mask.entry new.entry old.entry }
 {
-    let mut lanes = [false; W];
-    for i in 0..W {
-        lanes[i] = one_of(mask[i], new[i], old[i]);
-    }
-    lanes
-}
-
-fn one_of(on: bool, new: bool, old: bool) -> bool
-    ensures { result ≡ chosen on new old }
-{
-    if on { new } else { old }
+    let on = bytes_of(mask).simd_ne(Simd::splat(0));
+    truths_of(on.select(bytes_of(new), bytes_of(old)))
 }
 
 /// The low 32 bits of each number.
-pub(crate) fn low_halves<const W: usize>(values: [u64; W]) -> Simd<u32, W>
-    requires { W ≤ 64 }
+pub(crate) fn low_halves<const W: usize>(values: Simd<u64, W>) -> Simd<u32, W>
     ensures { result ≡ map (λ x. x % 2 ^ 32) values.entry }
 {
-    let mut lanes = [0u32; W];
-    for i in 0..W {
-        lanes[i] = (values[i] % 0x1_0000_0000) as u32;
-    }
-    Simd::from_array(lanes)
+    (values & Simd::splat(0xffff_ffff)).cast::<u32>()
 }
 
 /// Narrow lanes with zeros above them.
@@ -225,6 +211,9 @@ fn store_column<const W: usize>(
     ensures { column.new.items ≡ with_window column.old.items first
         (sel_l active.entry lanes.entry (window 0 column.old.items first W)) }
 {
-    let old = Simd::from_array(numbers_at(column, first));
-    put_numbers(column, first, blend64(active, lanes, old).to_array());
+    if is_full(active) {
+        put_numbers(column, first, lanes.to_array());
+    } else {
+        put_active(column, first, active, lanes.to_array());
+    }
 }

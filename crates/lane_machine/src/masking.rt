@@ -2,60 +2,30 @@
 ghost use Rattle.std.specs.Prelude.{◌≡◌, ◌≢◌, ◌<◌, ◌≤◌, ◌&&◌, ◌||◌, not, nat_eq, length};
 ghost use Rattle.std.specs.Simd.Lanes.{zip2};
 ghost use Rattle.lane_code.specs.Registers.{with_mask, mask_of, lanes_of};
-ghost use Rattle.lane_code.specs.declared.step.Bank.TheVariants.{Mask, Scalar};
+ghost use Rattle.lane_code.specs.declared.step.Bank.TheVariants.{Mask, Scalar, Wide};
 ghost use Rattle.lane_machine.specs.State.{IsIn};
 
 use crate::registers::Registers;
 use lane_code::{Bank, Reg};
-use lane_kernels::{nonzero32, nonzero64};
+use lane_kernels::{bytes_of, nonzero32, nonzero64, truths_of};
 use std::simd::prelude::*;
-
-fn and(x: bool, y: bool) -> bool
-    ensures { result ≡ (x && y) }
-{
-    x && y
-}
-
-fn or(x: bool, y: bool) -> bool
-    ensures { result ≡ (x || y) }
-{
-    x || y
-}
-
-fn and_not(x: bool, y: bool) -> bool
-    ensures { result ≡ (x && not y) }
-{
-    x && !y
-}
 
 fn both<const W: usize>(a: [bool; W], b: [bool; W]) -> [bool; W]
     ensures { result ≡ zip2 (λ x y. x && y) a.entry b.entry }
 {
-    let mut set = [false; W];
-    for i in 0..W {
-        set[i] = and(a[i], b[i]);
-    }
-    set
+    truths_of(bytes_of(a) & bytes_of(b))
 }
 
 fn either<const W: usize>(a: [bool; W], b: [bool; W]) -> [bool; W]
     ensures { result ≡ zip2 (λ x y. x || y) a.entry b.entry }
 {
-    let mut set = [false; W];
-    for i in 0..W {
-        set[i] = or(a[i], b[i]);
-    }
-    set
+    truths_of(bytes_of(a) | bytes_of(b))
 }
 
 fn less<const W: usize>(a: [bool; W], b: [bool; W]) -> [bool; W]
     ensures { result ≡ zip2 (λ x y. x && not y) a.entry b.entry }
 {
-    let mut set = [false; W];
-    for i in 0..W {
-        set[i] = and_not(a[i], b[i]);
-    }
-    set
+    truths_of(bytes_of(a) & !bytes_of(b))
 }
 
 /// The lanes of the mask that are not 0.
@@ -112,6 +82,25 @@ pub(crate) fn less_step<const W: usize>(r: &mut Registers<W>, to: Reg, a: Reg, b
     r.masks[to.number as usize] = less(r.masks[a.number as usize], r.masks[b.number as usize]);
 }
 
+/// The same of wide lanes, out of line, so that the mask is read where narrow lanes are tested.
+#[inline(never)]
+fn test_wide<const W: usize>(r: &mut Registers<W>, to: Reg, from: Reg, mask: Reg)
+    requires lanes { W ≤ 64 }
+    requires to { to.number < length r.old.plain.masks }
+    requires from { from.number < length r.old.plain.wide }
+    requires bank { from.bank ≡ Wide }
+    requires mask { mask.number < length r.old.plain.masks }
+    ensures written { r.new.plain ≡
+        with_mask r.old.plain to (zip2 (λ on x. on && not (nat_eq x 0)) (mask_of r.old.plain mask)
+        (lanes_of r.old.plain from)) }
+    ensures room { r.new.room ≡ r.old.room }
+{
+    r.masks[to.number as usize] = active64(
+        r.masks[mask.number as usize],
+        r.wide[from.number as usize],
+    );
+}
+
 /// The active lanes whose value is not 0.
 pub(crate) fn test_step<const W: usize>(r: &mut Registers<W>, to: Reg, from: Reg, mask: Reg)
     requires lanes { W ≤ 64 }
@@ -125,14 +114,14 @@ pub(crate) fn test_step<const W: usize>(r: &mut Registers<W>, to: Reg, from: Reg
         (lanes_of r.old.plain from)) }
     ensures room { r.new.room ≡ r.old.room }
 {
-    let active = r.masks[mask.number as usize];
     match from.bank {
         Bank::Narrow => {
-            r.masks[to.number as usize] = active32(active, r.narrow[from.number as usize]);
+            r.masks[to.number as usize] = active32(
+                r.masks[mask.number as usize],
+                r.narrow[from.number as usize],
+            );
         }
-        Bank::Wide => {
-            r.masks[to.number as usize] = active64(active, r.wide[from.number as usize]);
-        }
+        Bank::Wide => test_wide(r, to, from, mask),
         Bank::Scalar | Bank::Mask => {}
     }
 }

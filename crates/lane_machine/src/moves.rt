@@ -13,10 +13,10 @@ use crate::registers::Registers;
 use lane_code::{Bank, Reg};
 use lane_kernels::{
     Tally, blend32, blend64, convert32, convert64, lane_of32, lane_of64, lowest as lowest_lane,
-    narrow, widen,
+    narrow, pattern64, widen,
 };
 use std::simd::prelude::*;
-use wg_num::{IntType, bits, value};
+use wg_num::IntType;
 
 /// Every lane of a register, or the scalar, is the value.
 pub(crate) fn const_step<const W: usize>(r: &mut Registers<W>, to: Reg, number: i128)
@@ -86,13 +86,6 @@ pub(crate) fn spread_step<const W: usize>(r: &mut Registers<W>, to: Reg, from: R
     }
 }
 
-/// The 64-bit pattern of the value that a lane's bits have in the type.
-fn pattern_of(t: IntType, p: u64) -> u64
-    ensures { result ≡ bits_of (value_of t p) }
-{
-    bits(t, value(t, p))
-}
-
 /// The lowest lane that is set, as a place.
 pub(crate) fn lowest_place<const W: usize>(mask: [bool; W]) -> Option<u32>
     requires { W ≤ 64 }
@@ -126,7 +119,7 @@ pub(crate) fn first_step<const W: usize>(
             Bank::Wide => r.wide[from.number as usize].to_array()[place as usize],
             Bank::Scalar | Bank::Mask => 0,
         };
-        r.scalars[to.number as usize] = pattern_of(t, lane);
+        r.scalars[to.number as usize] = pattern64(t, lane);
     }
 }
 

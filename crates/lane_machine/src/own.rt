@@ -232,7 +232,7 @@ fn gather_low<const W: usize>(
         (λ k. lowest (own_faults (size_of t) mask.entry index.entry own) ≡ Some k) }
 {
     match gather_own(objects, first, t, index, mask, tally) {
-        Ok(lanes) => Ok(low_halves(lanes).to_array()),
+        Ok(lanes) => Ok(low_halves(Simd::from_array(lanes)).to_array()),
         Err(lane) => Err(lane),
     }
 }

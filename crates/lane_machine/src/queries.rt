@@ -1,5 +1,5 @@
 //! What the work-item functions give an item (OpenCL 1.2, section 6.12.1).
-ghost use Rattle.std.specs.Prelude.{◌≡◌, ◌<◌, ◌≤◌, ◌+◌, ◌^◌, pos, take};
+ghost use Rattle.std.specs.Prelude.{◌≡◌, ◌<◌, ◌≤◌, ◌+◌, ◌%◌, ◌/◌, ◌^◌, pos, take};
 ghost use Rattle.cl_model.specs.Sizes.{product, size_at, offset_at, groups_of, groups_at, local_id};
 ghost use Rattle.cl_model.specs.Sizes.{group_id, global_id, answer_within, answer_outside, answer_of};
 ghost use Rattle.cl_model.specs.View.{launch_of, three_of};
@@ -72,6 +72,24 @@ fn offset_in(offsets: &[u64; 3], d: u32) -> u64
     }
 }
 
+/// The rest of a division, which is not made where the number is below the divisor.
+#[inline(always)]
+fn rest_of(a: u64, b: u64) -> u64
+    requires some { 0 < b }
+    ensures value { result ≡ a % b }
+{
+    if a < b { a } else { a % b }
+}
+
+/// A quotient, for which no division is made by 1.
+#[inline(always)]
+fn quotient_of(a: u64, b: u64) -> u64
+    requires some { 0 < b }
+    ensures value { result ≡ a / b }
+{
+    if b == 1 { a } else { a / b }
+}
+
 /// The number of groups in a dimension.
 fn groups_in(launch: &Launch, d: u32) -> u64
     requires sizes { HasSizes (launch_of launch.now) }
@@ -86,6 +104,29 @@ fn groups_in(launch: &Launch, d: u32) -> u64
     }
 }
 
+/// The number of groups in the dimensions before one.
+fn groups_before(launch: &Launch, d: u32) -> u64
+    requires sizes { HasSizes (launch_of launch.now) }
+    requires dimension { d < 3 }
+    ensures value { result ≡ product (take d (groups_of (launch_of launch.now))) }
+    ensures some { 0 < result }
+{
+    match d {
+        0 => 1,
+        1 => groups_in(launch, 0),
+        _ => groups_in(launch, 0) * groups_in(launch, 1),
+    }
+}
+
+/// Whether a dimension has more groups than the number, told without a division; it may be `false` where it has.
+fn has_group(launch: &Launch, number: u64, d: u32) -> bool
+    requires sizes { HasSizes (launch_of launch.now) }
+    requires dimension { d < 3 }
+    ensures { OnTrue result (number < groups_at (launch_of launch.now) d) }
+{
+    number < 0x1000_0000 && (number + 1) * size_in(&launch.local, d) <= size_in(&launch.global, d)
+}
+
 /// The item's number in its group, in a dimension.
 fn local_in(launch: &Launch, item: u64, d: u32) -> u64
     requires sizes { HasSizes (launch_of launch.now) }
@@ -93,7 +134,11 @@ fn local_in(launch: &Launch, item: u64, d: u32) -> u64
     ensures value { result ≡ local_id (launch_of launch.now) item d }
     ensures below { result < size_at (launch_of launch.now).local d }
 {
-    item % whole(&launch.local) / before(&launch.local, d) % size_in(&launch.local, d)
+    let place = item % whole(&launch.local);
+    rest_of(
+        quotient_of(place, before(&launch.local, d)),
+        size_in(&launch.local, d),
+    )
 }
 
 /// The number of the item's group, in a dimension.
@@ -103,7 +148,11 @@ fn group_in(launch: &Launch, item: u64, d: u32) -> u64
     ensures value { result ≡ group_id (launch_of launch.now) item d }
     ensures below { result < groups_at (launch_of launch.now) d }
 {
-    item / whole(&launch.local) / before(&groups(launch), d) % groups_in(launch, d)
+    let number = quotient_of(item / whole(&launch.local), groups_before(launch, d));
+    if has_group(launch, number, d) {
+        return number;
+    }
+    number % groups_in(launch, d)
 }
 
 /// The item's number in the launch, in a dimension, from the offset on.

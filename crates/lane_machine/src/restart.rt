@@ -6,6 +6,7 @@ ghost use Rattle.lane_machine.specs.Room.{HasRoom, IsNoLess};
 
 use crate::registers::Registers;
 use lane_code::Counts;
+use lane_kernels::truths_of;
 use std::simd::prelude::*;
 
 /// So many copies of a value in place of what the list has; there is room for them.
@@ -18,6 +19,39 @@ fn refill<T: Copy + Drop>(list: &mut Vec<T>, n: usize, x: T)
     let _ = list.resize(n, x);
 }
 
+/// The same for a list that mostly has one entry or two, which are written without a call.
+fn refill_few<T: Copy + Drop>(list: &mut Vec<T>, n: usize, x: T)
+    requires { n ≤ vec_capacity list.old }
+    ensures items { list.new.items ≡ replicate n x }
+    ensures capacity { vec_capacity list.old ≤ vec_capacity list.new }
+{
+    list.clear();
+    match n {
+        0 => {}
+        1 => list.push_reserved(x),
+        2 => {
+            list.push_reserved(x);
+            list.push_reserved(x);
+        }
+        _ => {
+            let _ = list.resize(n, x);
+        }
+    }
+}
+
+/// The lanes whose number is below the count.
+fn lanes_below<const W: usize>(count: u8) -> [bool; W]
+    requires { W ≤ 64 }
+    ensures { result ≡ existing count W 0 }
+{
+    let mut places = [0u8; W];
+    for i in 0..W {
+        places[i] = i as u8;
+    }
+    let below = Simd::from_array(places).simd_lt(Simd::splat(count));
+    truths_of(below.select(Simd::splat(1), Simd::splat(0)))
+}
+
 /// The lanes whose items exist.
 fn existing_lanes<const W: usize>(size: usize, first: usize) -> [bool; W]
     requires lanes { W ≤ 64 }
@@ -27,11 +61,7 @@ fn existing_lanes<const W: usize>(size: usize, first: usize) -> [bool; W]
     if first + W <= size {
         return [true; W];
     }
-    let mut lanes = [false; W];
-    for i in 0..W {
-        lanes[i] = first + i < size;
-    }
-    lanes
+    lanes_below(size.saturating_sub(first) as u8)
 }
 
 impl<const W: usize> Registers<W> {
@@ -47,8 +77,8 @@ impl<const W: usize> Registers<W> {
     {
         refill(&mut self.narrow, counts.narrow as usize, Simd::splat(0));
         refill(&mut self.wide, counts.wide as usize, Simd::splat(0));
-        refill(&mut self.masks, counts.masks as usize, [false; W]);
-        refill(&mut self.scalars, counts.scalars as usize, 0);
+        refill_few(&mut self.masks, counts.masks as usize, [false; W]);
+        refill_few(&mut self.scalars, counts.scalars as usize, 0);
         self.masks[0] = existing_lanes(size, first);
     }
 }

@@ -1,61 +1,44 @@
 //! A chunk's part of a list that has an entry for each item of the group.
-ghost use Rattle.std.specs.Prelude.{◌≡◌, ◌<◌, ◌≤◌, ◌^◌, false};
-ghost use Rattle.std.specs.Prelude.{slice_index_or, slice_set};
+ghost use Rattle.std.specs.Prelude.{◌≡◌, ◌<◌, ◌≤◌, ◌-◌, ◌^◌, false, min};
+ghost use Rattle.std.specs.Simd.Lanes.{sel_l};
 ghost use Rattle.lane_code.specs.Groups.{window, with_window};
 
-/// The entry at a place, or 0 past the end.
-fn number_at(list: &[u64], at: usize) -> u64
-    ensures { result ≡ slice_index_or list.now at 0 }
-{
-    match list.get(at) {
-        Some(number) => *number,
-        None => 0,
-    }
-}
+use std::simd::prelude::*;
 
-fn truth_at(list: &[bool], at: usize) -> bool
-    ensures { result ≡ slice_index_or list.now at false }
+/// How many of the chunk's items a list has entries for.
+fn entries_in<const W: usize>(len: usize, first: usize) -> usize
+    ensures { result ≡ min W (len - first) }
 {
-    match list.get(at) {
-        Some(truth) => *truth,
-        None => false,
-    }
-}
-
-/// Sets the entry at a place; nothing past the end.
-#[tactic(auto, using(crate::proofs::WindowLaws::set_past))]
-fn set_number(list: &mut [u64], at: usize, x: u64)
-    ensures { list.new ≡ slice_set list.old at x }
-{
-    if at < list.len() {
-        list[at] = x;
-    }
-}
-
-#[tactic(auto, using(crate::proofs::WindowLaws::set_past))]
-fn set_truth(list: &mut [bool], at: usize, x: bool)
-    ensures { list.new ≡ slice_set list.old at x }
-{
-    if at < list.len() {
-        list[at] = x;
-    }
+    if first < len { (len - first).min(W) } else { 0 }
 }
 
 /// The entries of the chunk's items, and 0 for lanes without an item.
-pub(crate) fn numbers_at<const W: usize>(list: &[u64], first: usize) -> [u64; W]
+#[inline(always)]
+pub(crate) fn numbers_at<const W: usize>(list: &[u64], first: usize) -> Simd<u64, W>
+    requires lanes { W ≤ 64 }
+    requires first { first < 2 ^ 32 }
+    ensures { result ≡ window 0 list.now first W }
+{
+    if first + W <= list.len() {
+        let mut lanes = [0u64; W];
+        for k in 0..W {
+            lanes[k] = list[first + k];
+        }
+        return Simd::from_array(lanes);
+    }
+    Simd::from_array(numbers_within(list, first))
+}
+
+/// The same for a chunk that the list does not fill.
+#[inline(never)]
+fn numbers_within<const W: usize>(list: &[u64], first: usize) -> [u64; W]
     requires lanes { W ≤ 64 }
     requires first { first < 2 ^ 32 }
     ensures { result ≡ window 0 list.now first W }
 {
     let mut lanes = [0u64; W];
-    if first + W <= list.len() {
-        for k in 0..W {
-            lanes[k] = list[first + k];
-        }
-        return lanes;
-    }
-    for i in 0..W {
-        lanes[i] = number_at(list, first + i);
+    for k in 0..entries_in::<W>(list.len(), first) {
+        lanes[k] = list[first + k];
     }
     lanes
 }
@@ -73,8 +56,8 @@ pub(crate) fn truths_at<const W: usize>(list: &[bool], first: usize) -> [bool; W
         }
         return lanes;
     }
-    for i in 0..W {
-        lanes[i] = truth_at(list, first + i);
+    for k in 0..entries_in::<W>(list.len(), first) {
+        lanes[k] = list[first + k];
     }
     lanes
 }
@@ -91,8 +74,8 @@ pub(crate) fn put_numbers<const W: usize>(list: &mut [u64], first: usize, lanes:
         }
         return;
     }
-    for i in 0..W {
-        set_number(list, first + i, lanes[i]);
+    for k in 0..entries_in::<W>(list.len(), first) {
+        list[first + k] = lanes[k];
     }
 }
 
@@ -107,7 +90,25 @@ pub(crate) fn put_truths<const W: usize>(list: &mut [bool], first: usize, lanes:
         }
         return;
     }
-    for i in 0..W {
-        set_truth(list, first + i, lanes[i]);
+    for k in 0..entries_in::<W>(list.len(), first) {
+        list[first + k] = lanes[k];
+    }
+}
+
+/// Writes the entries of the chunk's items whose lanes are active, as far as the list reaches.
+pub(crate) fn put_active<const W: usize>(
+    list: &mut [u64],
+    first: usize,
+    mask: [bool; W],
+    lanes: [u64; W],
+)
+    requires lanes { W ≤ 64 }
+    requires first { first < 2 ^ 32 }
+    ensures { list.new ≡ with_window list.old first (sel_l mask.entry lanes.entry (window 0 list.old first W)) }
+{
+    for k in 0..entries_in::<W>(list.len(), first) {
+        if mask[k] {
+            list[first + k] = lanes[k];
+        }
     }
 }

@@ -1,26 +1,17 @@
-use Rattle.std.proofs.Common.{◌≡◌, ℕ, ◌∙◌, ◌%◌, ◌^◌, sym, map, length, arith, rules}
-use Rattle.std.proofs.lemmas.List.{get_or-map, length-map, length-set}
-use Rattle.lane_kernels.proofs.ListLaws.{written_next, written_all}
+use Rattle.std.proofs.Common.{ℕ, ◌%◌, ◌^◌, ◌∙◌, sym, subst, ap, map, bit_and, arith, Fits, w32}
+use Rattle.std.specs.Simd.Lanes.{Each1}
+use Rattle.std.proofs.lemmas.Nat.{and_mask}
+use Rattle.std.proofs.lemmas.Simd.{zip2_splat}
+use Rattle.lane_kernels.proofs.ListLaws.{each_map, map_of_map, same_map}
 use Rattle.lane_machine.proofs.group_steps.low_halves.Goals as goal
 
-pub loop-i-preserved : goal.loop-i-preserved
-loop-i-preserved g c =
-    let v = c.args.values in
-    let long : length v ≡ g.row.W = search rules in
-    let i = c.loop-i.i in
-    let inv = c.loop-i.invariant in
-    record {
-      long = length-set _ _ _ ∙ inv.long;
-      written = written_next c.loop-i.lanes (map (λ x. x % 2 ^ 32) v) i _ 0 inv.written (omega (arith, inv.long))
-          (omega (arith, length-map v (λ (x : ℕ). x % 2 ^ 32), long))
-          (sym (get_or-map (λ x. x % 2 ^ 32) v i 0 0 (omega (arith, long))));
-    }
+pub overflow_cast-result : goal.overflow_cast-result
+overflow_cast-result g c =
+    subst (Each1 (Fits w32)) (sym (zip2_splat bit_and c.args.values g.row.W 4294967295 c.fits-values.0))
+    (each_map (Fits w32) (λ u. bit_and u 4294967295) (λ u. record { fits = omega (arith, and_mask u 32) }) c.args.values)
 
 pub returns : goal.returns
 returns g c =
-    let v = c.args.values in
-    let long : length v ≡ g.row.W = search rules in
-    written_all c.loop-i.lanes (map (λ x. x % 2 ^ 32) v) c.loop-i.i c.loop-i.invariant.written (omega (
-      arith,
-      c.loop-i.invariant.long,
-    )) (omega (arith, length-map v (λ (x : ℕ). x % 2 ^ 32), long))
+    ap (map (λ x. x)) (zip2_splat bit_and c.args.values g.row.W 4294967295 c.fits-values.0)
+    ∙ map_of_map (λ x. x) (λ u. bit_and u 4294967295) c.args.values
+    ∙ same_map (λ u. bit_and u 4294967295) (λ (x : ℕ). x % 2 ^ 32) (λ u. and_mask u 32) c.args.values

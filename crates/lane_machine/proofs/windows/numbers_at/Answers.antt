@@ -5,26 +5,6 @@ use Rattle.lane_kernels.proofs.ListLaws.{written_next, written_all}
 use Rattle.lane_machine.proofs.WindowLaws.{length-window, get_or-window}
 use Rattle.lane_machine.proofs.windows.numbers_at.Goals as goal
 
-pub loop-i-preserved : goal.loop-i-preserved
-loop-i-preserved g c =
-    let list = c.args.list.now in
-    let all = window 0 list c.args.first g.row.W in
-    let i = c.loop-i.i in
-    let inv = c.loop-i.invariant in
-    record {
-      long = length-set _ _ _ ∙ inv.long;
-      written = written_next c.loop-i.lanes all i c.number_at.result 0 inv.written (omega (arith, inv.long))
-          (omega (arith, length-window 0 list c.args.first g.row.W))
-          (c.number_at.ensures ∙ sym (get_or-window 0 list c.args.first g.row.W i c.loop-i-test.true));
-    }
-
-pub returns : goal.returns
-returns g c =
-    let list = c.args.list.now in
-    written_all c.loop-i.lanes (window 0 list c.args.first g.row.W) c.loop-i.i c.loop-i.invariant.written
-    (omega (arith, c.loop-i.invariant.long))
-    (omega (arith, length-window 0 list c.args.first g.row.W))
-
 pub loop-k-preserved : goal.loop-k-preserved
 loop-k-preserved g c =
     let list = c.args.list.now in

@@ -1,9 +1,0 @@
-use Rattle.std.proofs.Common.{◌≡◌, ◌&&◌, length, take}
-use Rattle.std.specs.Simd.Lanes.{zip2}
-use Rattle.lane_machine.proofs.masking.both.Given as goal
-
-abbrev pub invariant-loop-i : goal.invariant-loop-i
-invariant-loop-i g l = record {
-  long : length l.set ≡ g.row.W;
-  written : take l.i l.set ≡ take l.i (zip2 (λ x y. x && y) l.a l.b);
-}
