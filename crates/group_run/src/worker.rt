@@ -140,7 +140,7 @@ impl Worker {
             (room_at program.now.width self.new.machine) }
     {
         for one in nodes {
-            let end = self.node(program, launch, number, one, buffers);
+            let end = self.part(program, launch, number, one, buffers);
             if !has_done(end) {
                 return end;
             }
@@ -213,7 +213,7 @@ impl Worker {
             }
         }
         loop {
-            let end = self.node(program, launch, number, test, buffers);
+            let end = self.part(program, launch, number, test, buffers);
             if !has_done(end) {
                 return end;
             }
@@ -229,6 +229,35 @@ impl Worker {
             let end = self.iteration(program, launch, number, body, buffers);
             if !has_done(end) {
                 return end;
+            }
+        }
+    }
+
+    /// What a node says, where regions are done without a call of `node`.
+    #[cycle(node)]
+    #[inline(always)]
+    fn part(
+        &mut self,
+        program: &GroupProgram,
+        launch: &Launch,
+        number: u64,
+        node: &Node,
+        buffers: &mut Buffers,
+    ) -> RunEnd
+        requires stands { IsHeldFor (plain_of program.now) (launch_of launch.now) number self.old.group }
+        requires fits { work_fits (names_of (plain_of program.now)) (work_of node.now) ≡ true }
+        requires room { HasRoomFor (room_at program.now.width self.old.machine) (work_of node.now) }
+        ensures end { work_end (plain_of program.now) (launch_of launch.now) number (work_of node.now) self.old.turns
+            self.old.group.kept (buffers_of buffers.old) ≡ ended result self.new.turns self.new.group.kept
+            (buffers_of buffers.new) }
+        ensures stands { IsHeldFor (plain_of program.now) (launch_of launch.now) number self.new.group }
+        ensures room { IsNoLess (room_at program.now.width self.old.machine)
+            (room_at program.now.width self.new.machine) }
+    {
+        match node {
+            Node::Items(code) => self.items(program, launch, number, code, buffers),
+            Node::Seq(_) | Node::Vote { .. } | Node::Loop { .. } => {
+                self.node(program, launch, number, node, buffers)
             }
         }
     }

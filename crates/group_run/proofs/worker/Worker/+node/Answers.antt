@@ -81,8 +81,8 @@ node-node-requires-in-No t c =
       ),
     )
 
-pub nodes-node-end-requires : goal.nodes-node-end-requires
-nodes-node-end-requires t c =
+pub nodes-part-end-requires : goal.nodes-part-end-requires
+nodes-part-end-requires t c =
     let names = names_of (plain_of c.args.program.now) in
     let nodes = c.deref-one-items.result.now in
     let i = c.loop-one.one-index in
@@ -116,24 +116,24 @@ nodes-loop-one-preserved t c =
     let i = c.loop-one.one-index in
     let one = c.one-item.result in
     let now = c.loop-one.self in
-    let new = c.node-end.new in
+    let new = c.part-end.new in
     let first = room_at width c.args.self.now.machine in
     let here = drop_one nodes i one c.loop-one-test.true c.one-item.is in
-    let done : is_done c.node-end.result ≡ true = cc (c.has_done.ensures) in
+    let done : is_done c.part-end.result ≡ true = cc (c.has_done.ensures) in
     record {
       same =
           sym (goes_on (work_end p l n (work_of one) now.turns now.group.kept (buffers_of c.loop-one.buffers))
-          c.node-end.result new.self.turns new.self.group.kept (buffers_of new.buffers)
-          (nodes_end p l n (drop (i + 1) nodes)) c.node-end.ensures.end done)
+          c.part-end.result new.self.turns new.self.group.kept (buffers_of new.buffers)
+          (nodes_end p l n (drop (i + 1) nodes)) c.part-end.ensures.end done)
           ∙ sym (ap (λ (ns : List Node). nodes_end p l n ns now.turns now.group.kept (buffers_of c.loop-one.buffers))
           here)
           ∙ c.loop-one.invariant.same;
       fits = rest_fits (names_of p) one (drop (i + 1) nodes)
           (subst (λ (ns : List Node). nodes_fit (names_of p) ns ≡ true) here c.loop-one.invariant.fits);
       each = let each = subst (λ (ns : List Node). HasRoomForEach first ns) here c.loop-one.invariant.each in each.1;
-      stands = c.node-end.ensures.stands;
+      stands = c.part-end.ensures.stands;
       room = no_less_then first (room_at width now.machine) (room_at width new.self.machine) c.loop-one.invariant.room
-          c.node-end.ensures.room;
+          c.part-end.ensures.room;
     }
 
 pub rounds-loop-test-init : goal.rounds-loop-test-init
@@ -186,8 +186,8 @@ rounds-loop-test-init t c =
           }
     ]
 
-pub rounds-node-end-requires : goal.rounds-node-end-requires
-rounds-node-end-requires t c =
+pub rounds-part-end-requires : goal.rounds-part-end-requires
+rounds-part-end-requires t c =
     let names = names_of (plain_of c.args.program.now) in
     let v = c.in-Loop in
     let before = room_at c.args.program.now.width c.args.self.now.machine in
@@ -218,14 +218,14 @@ rounds-returns-then-not-has_done-2-clause-end t c =
     let now = c.loop-test.self in
     let most = c.loop-test.most in
     let old = c.loop-test.buffers in
-    let tested = c.node-end.new in
+    let tested = c.part-end.new in
     let asks : Doing = asked test body rest most in
     let ran = ap (λ (m : Node). work_end p l n (work_of m) now.turns now.group.kept (buffers_of old))
-    (sym c.deref-in-loop-test.ensures) ∙ c.node-end.ensures.end in
+    (sym c.deref-in-loop-test.ensures) ∙ c.part-end.ensures.end in
     let from =
     sym c.loop-test.invariant.same ∙ rounds_ask test body rest most now.turns now.group.kept (buffers_of old) in
-    let stopped : is_done c.node-end.result ≡ false = cc (c.has_done-in-loop-test.ensures) in
-    from ∙ stops (test now.turns now.group.kept (buffers_of old)) c.node-end.result tested.self.turns
+    let stopped : is_done c.part-end.result ≡ false = cc (c.has_done-in-loop-test.ensures) in
+    from ∙ stops (test now.turns now.group.kept (buffers_of old)) c.part-end.result tested.self.turns
     tested.self.group.kept (buffers_of tested.buffers) asks ran stopped
 
 pub rounds-returns-in-No-clause-end : goal.rounds-returns-in-No-clause-end
@@ -240,14 +240,14 @@ rounds-returns-in-No-clause-end t c =
     let now = c.loop-test.self in
     let most = c.loop-test.most in
     let old = c.loop-test.buffers in
-    let tested = c.node-end.new in
+    let tested = c.part-end.new in
     let asks : Doing = asked test body rest most in
     let ran = ap (λ (m : Node). work_end p l n (work_of m) now.turns now.group.kept (buffers_of old))
-    (sym c.deref-in-loop-test.ensures) ∙ c.node-end.ensures.end in
+    (sym c.deref-in-loop-test.ensures) ∙ c.part-end.ensures.end in
     let from =
     sym c.loop-test.invariant.same ∙ rounds_ask test body rest most now.turns now.group.kept (buffers_of old) in
-    let done : is_done c.node-end.result ≡ true = cc (c.has_done-in-loop-test.ensures) in
-    let went = from ∙ goes_on (test now.turns now.group.kept (buffers_of old)) c.node-end.result tested.self.turns
+    let done : is_done c.part-end.result ≡ true = cc (c.has_done-in-loop-test.ensures) in
+    let went = from ∙ goes_on (test now.turns now.group.kept (buffers_of old)) c.part-end.result tested.self.turns
     tested.self.group.kept (buffers_of tested.buffers) asks ran done in
     let said_no : verdict tested.self.group.kept.votes ≡ Refused = sym c.answers.ensures ∙ ap said c.in-No.is in
     went ∙ asked_no test body rest most tested.self.turns tested.self.group.kept (buffers_of tested.buffers) said_no
@@ -264,14 +264,14 @@ rounds-returns-in-Mixed-clause-end t c =
     let now = c.loop-test.self in
     let most = c.loop-test.most in
     let old = c.loop-test.buffers in
-    let tested = c.node-end.new in
+    let tested = c.part-end.new in
     let asks : Doing = asked test body rest most in
     let ran = ap (λ (m : Node). work_end p l n (work_of m) now.turns now.group.kept (buffers_of old))
-    (sym c.deref-in-loop-test.ensures) ∙ c.node-end.ensures.end in
+    (sym c.deref-in-loop-test.ensures) ∙ c.part-end.ensures.end in
     let from =
     sym c.loop-test.invariant.same ∙ rounds_ask test body rest most now.turns now.group.kept (buffers_of old) in
-    let done : is_done c.node-end.result ≡ true = cc (c.has_done-in-loop-test.ensures) in
-    let went = from ∙ goes_on (test now.turns now.group.kept (buffers_of old)) c.node-end.result tested.self.turns
+    let done : is_done c.part-end.result ≡ true = cc (c.has_done-in-loop-test.ensures) in
+    let went = from ∙ goes_on (test now.turns now.group.kept (buffers_of old)) c.part-end.result tested.self.turns
     tested.self.group.kept (buffers_of tested.buffers) asks ran done in
     let said_both : verdict tested.self.group.kept.votes ≡ Mixed = sym c.answers.ensures ∙ ap said c.in-Mixed.is in
     went ∙ asked_mixed test body rest most tested.self.turns tested.self.group.kept (buffers_of tested.buffers)
@@ -283,18 +283,18 @@ rounds-iteration-end-requires-in-loop-test t c =
     let v = c.in-Loop in
     let before = room_at c.args.program.now.width c.args.self.now.machine in
     let between = room_at c.args.program.now.width c.loop-test.self.machine in
-    let after = room_at c.args.program.now.width c.node-end.new.self.machine in
+    let after = room_at c.args.program.now.width c.part-end.new.self.machine in
     let fits = loop_fits names v.test_first (work_of v.test.value) (work_of v.body.value) (code_of v.rest)
     (subst (λ (n : Node). work_fits names (work_of n) ≡ true) v.is c.requires.fits) in
     let room = subst (λ (n : Node). HasRoomFor before (work_of n)) v.is c.requires.room in
     let here = c.deref-in-loop-test-2 in (
       omega (arith, ap node_weight v.is, ap node_weight here.ensures),
       (
-        c.node-end.ensures.stands,
+        c.part-end.ensures.stands,
         (
           fits_here names v.body.value here.result.now here.ensures fits.1,
           room_here before after v.body.value here.result.now here.ensures
-              (no_less_then before between after c.loop-test.invariant.room c.node-end.ensures.room) room.1,
+              (no_less_then before between after c.loop-test.invariant.room c.part-end.ensures.room) room.1,
         ),
       ),
     )
@@ -311,14 +311,14 @@ rounds-returns-then-not-has_done-3-clause-end t c =
     let now = c.loop-test.self in
     let most = c.loop-test.most in
     let old = c.loop-test.buffers in
-    let tested = c.node-end.new in
+    let tested = c.part-end.new in
     let asks : Doing = asked test body rest most in
     let ran = ap (λ (m : Node). work_end p l n (work_of m) now.turns now.group.kept (buffers_of old))
-    (sym c.deref-in-loop-test.ensures) ∙ c.node-end.ensures.end in
+    (sym c.deref-in-loop-test.ensures) ∙ c.part-end.ensures.end in
     let from =
     sym c.loop-test.invariant.same ∙ rounds_ask test body rest most now.turns now.group.kept (buffers_of old) in
-    let done : is_done c.node-end.result ≡ true = cc (c.has_done-in-loop-test.ensures) in
-    let went = from ∙ goes_on (test now.turns now.group.kept (buffers_of old)) c.node-end.result tested.self.turns
+    let done : is_done c.part-end.result ≡ true = cc (c.has_done-in-loop-test.ensures) in
+    let went = from ∙ goes_on (test now.turns now.group.kept (buffers_of old)) c.part-end.result tested.self.turns
     tested.self.group.kept (buffers_of tested.buffers) asks ran done in
     let said_yes : verdict tested.self.group.kept.votes ≡ Agreed = sym c.answers.ensures ∙ ap said c.in-Yes.is in
     let some : 0 < most = omega arith in
@@ -346,14 +346,14 @@ rounds-loop-test-preserved t c =
     let now = c.loop-test.self in
     let most = c.loop-test.most in
     let old = c.loop-test.buffers in
-    let tested = c.node-end.new in
+    let tested = c.part-end.new in
     let asks : Doing = asked test body rest most in
     let ran = ap (λ (m : Node). work_end p l n (work_of m) now.turns now.group.kept (buffers_of old))
-    (sym c.deref-in-loop-test.ensures) ∙ c.node-end.ensures.end in
+    (sym c.deref-in-loop-test.ensures) ∙ c.part-end.ensures.end in
     let from =
     sym c.loop-test.invariant.same ∙ rounds_ask test body rest most now.turns now.group.kept (buffers_of old) in
-    let done : is_done c.node-end.result ≡ true = cc (c.has_done-in-loop-test.ensures) in
-    let went = from ∙ goes_on (test now.turns now.group.kept (buffers_of old)) c.node-end.result tested.self.turns
+    let done : is_done c.part-end.result ≡ true = cc (c.has_done-in-loop-test.ensures) in
+    let went = from ∙ goes_on (test now.turns now.group.kept (buffers_of old)) c.part-end.result tested.self.turns
     tested.self.group.kept (buffers_of tested.buffers) asks ran done in
     let said_yes : verdict tested.self.group.kept.votes ≡ Agreed = sym c.answers.ensures ∙ ap said c.in-Yes.is in
     let some : 0 < most = omega arith in
@@ -375,5 +375,5 @@ rounds-loop-test-preserved t c =
       stands = c.iteration-end-in-loop-test.ensures.stands;
       room = no_less_then first (room_at width tested.self.machine) (room_at width new.self.machine)
           (no_less_then first (room_at width now.machine) (room_at width tested.self.machine)
-          c.loop-test.invariant.room c.node-end.ensures.room) c.iteration-end-in-loop-test.ensures.room;
+          c.loop-test.invariant.room c.part-end.ensures.room) c.iteration-end-in-loop-test.ensures.room;
     }

@@ -42,13 +42,16 @@ decreases-rounds-loop-test l = l.most
 
 -- the work, and which function does it
 abbrev pub decreases-node : goal.decreases-node
-decreases-node l = 3 * node_weight l.node.now + 2
+decreases-node l = 4 * node_weight l.node.now + 2
+
+abbrev pub decreases-part : goal.decreases-part
+decreases-part l = 4 * node_weight l.node.now + 3
 
 abbrev pub decreases-rounds : goal.decreases-rounds
-decreases-rounds l = 3 * node_weight l.node.now + 1
+decreases-rounds l = 4 * node_weight l.node.now + 1
 
 abbrev pub decreases-iteration : goal.decreases-iteration
-decreases-iteration l = 3 * node_weight l.body.now + 3
+decreases-iteration l = 4 * node_weight l.body.now + 3
 
 abbrev pub decreases-nodes : goal.decreases-nodes
-decreases-nodes l = 3 * list_weight l.nodes.now.items + 3
+decreases-nodes l = 4 * list_weight l.nodes.now.items + 4
