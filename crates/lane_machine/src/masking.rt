@@ -28,11 +28,23 @@ fn less<const W: usize>(a: [bool; W], b: [bool; W]) -> [bool; W]
     truths_of(bytes_of(a) & !bytes_of(b))
 }
 
+/// The lanes of both masks, by a call: beside a comparison of lanes the compiler would take a mask of eight lanes apart,
+/// bit by bit.
+#[inline(never)]
+fn both_apart<const W: usize>(a: [bool; W], b: [bool; W]) -> [bool; W]
+    ensures { result ≡ zip2 (λ x y. x && y) a.entry b.entry }
+{
+    both(a, b)
+}
+
 /// The lanes of the mask that are not 0.
 fn active32<const W: usize>(mask: [bool; W], a: Simd<u32, W>) -> [bool; W]
     requires { W ≤ 64 }
     ensures { result ≡ zip2 (λ on x. on && not (nat_eq x 0)) mask.entry a.entry }
 {
+    if W <= 8 {
+        return both_apart(mask, nonzero32(a));
+    }
     both(mask, nonzero32(a))
 }
 
