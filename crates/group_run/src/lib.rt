@@ -1,7 +1,6 @@
 //! Runs the program of a work-group on a launch, exactly as it means.
 #![tactic(auto)]
 
-mod ends;
 mod launcher;
 mod sizes;
 mod worker;

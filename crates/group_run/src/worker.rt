@@ -6,19 +6,18 @@ ghost use Rattle.lane_code.specs.View.{plain_of};
 ghost use Rattle.lane_code.specs.Fits.{code_fits, LaunchFits};
 ghost use Rattle.lane_code.specs.Program.{code_of, work_of, names_of, work_fits};
 ghost use Rattle.lane_code.specs.Parts.{nodes_fit};
-ghost use Rattle.lane_code.specs.Meaning.{region_end};
-ghost use Rattle.lane_code.specs.Run.{chunk_at, chunk_count, chunk_ended, chunks_end, items_end, work_end, groups_end};
+ghost use Rattle.lane_code.specs.Run.{items_end, work_end, groups_end};
 ghost use Rattle.lane_machine.specs.Room.{HasRoom, HasRoomFor, HasRoomForEach, IsNoLess};
 ghost use Rattle.lane_machine.specs.Zeroed.{IsGroupOf};
 ghost use Rattle.lane_machine.specs.Machinery.{room_at};
-ghost use Rattle.group_run.specs.Ends.{ended, run_end, is_loop, IsHeldFor};
+ghost use Rattle.lane_machine.specs.Ends.{ended, IsHeldFor};
+ghost use Rattle.group_run.specs.Ends.{run_end, is_loop};
 ghost use Rattle.group_run.specs.Nodes.{nodes_end, turn_end};
 
-use crate::ends::{chunks_in_group, has_done, launch_end};
 use crate::sizes::groups_in_launch;
 use cl_model::{Buffers, Launch};
 use lane_code::{Code, GroupProgram, Node, RunEnd};
-use lane_machine::{Answers, Group, Machine};
+use lane_machine::{Answers, Group, Machine, has_done};
 
 /// The machine, what a group keeps, and the turns that are left.
 #[derive(Drop)]
@@ -29,70 +28,8 @@ pub(crate) struct Worker {
 }
 
 impl Worker {
-    /// A code on one chunk.
-    fn chunk(
-        &mut self,
-        program: &GroupProgram,
-        launch: &Launch,
-        number: u64,
-        code: &Code,
-        chunk: u32,
-        buffers: &mut Buffers,
-    ) -> RunEnd
-        requires stands { IsHeldFor (plain_of program.now) (launch_of launch.now) number self.old.group }
-        requires fits { code_fits (names_of (plain_of program.now)) code.now.counts code.now.steps.items ≡ true }
-        requires room { HasRoom code.now.counts (room_at program.now.width self.old.machine) }
-        requires chunk { chunk < chunk_count (plain_of program.now) (launch_of launch.now) }
-        ensures end { chunk_ended (chunk_at (plain_of program.now) (launch_of launch.now) number chunk)
-            (region_end (chunk_at (plain_of program.now) (launch_of launch.now) number chunk) code.now.steps.items
-            code.now.counts self.old.turns self.old.group.kept (buffers_of buffers.old)) ≡
-            ended result self.new.turns self.new.group.kept (buffers_of buffers.new) }
-        ensures stands { IsHeldFor (plain_of program.now) (launch_of launch.now) number self.new.group }
-        ensures room { IsNoLess (room_at program.now.width self.old.machine)
-            (room_at program.now.width self.new.machine) }
-    {
-        let end = self.machine.region(
-            code,
-            program,
-            launch,
-            buffers,
-            &mut self.group,
-            chunk,
-            &mut self.turns,
-        );
-        launch_end(program, launch, number, chunk, end)
-    }
-
-    /// A code on all chunks, in order.
-    fn chunks(
-        &mut self,
-        program: &GroupProgram,
-        launch: &Launch,
-        number: u64,
-        code: &Code,
-        buffers: &mut Buffers,
-    ) -> RunEnd
-        requires stands { IsHeldFor (plain_of program.now) (launch_of launch.now) number self.old.group }
-        requires fits { code_fits (names_of (plain_of program.now)) code.now.counts code.now.steps.items ≡ true }
-        requires room { HasRoom code.now.counts (room_at program.now.width self.old.machine) }
-        ensures end { chunks_end (plain_of program.now) (launch_of launch.now) number (code_of code.now) 0
-            (chunk_count (plain_of program.now) (launch_of launch.now)) self.old.turns self.old.group.kept
-            (buffers_of buffers.old) ≡ ended result self.new.turns self.new.group.kept (buffers_of buffers.new) }
-        ensures stands { IsHeldFor (plain_of program.now) (launch_of launch.now) number self.new.group }
-        ensures room { IsNoLess (room_at program.now.width self.old.machine)
-            (room_at program.now.width self.new.machine) }
-    {
-        let count = chunks_in_group(program, launch);
-        for chunk in 0..count {
-            let end = self.chunk(program, launch, number, code, chunk, buffers);
-            if !has_done(end) {
-                return end;
-            }
-        }
-        RunEnd::Done
-    }
-
     /// A region: a code on all chunks, between the entry and exit values of the once slots.
+    #[inline(always)]
     fn items(
         &mut self,
         program: &GroupProgram,
@@ -111,12 +48,14 @@ impl Worker {
         ensures room { IsNoLess (room_at program.now.width self.old.machine)
             (room_at program.now.width self.new.machine) }
     {
-        self.group.begin();
-        let end = self.chunks(program, launch, number, code, buffers);
-        if has_done(end) {
-            self.group.finish();
-        }
-        end
+        self.machine.items(
+            code,
+            program,
+            launch,
+            buffers,
+            &mut self.group,
+            &mut self.turns,
+        )
     }
 
     /// Nodes in order.

@@ -1,5 +1,5 @@
 //! Loads and stores of wide lanes.
-ghost use Rattle.std.specs.Prelude.{◌≡◌, ◌+◌, ◌-◌, ◌≤◌, ◌^◌, min, length};
+ghost use Rattle.std.specs.Prelude.{◌≡◌, ◌+◌, ◌%◌, ◌≤◌, ◌^◌, length};
 ghost use Rattle.std.specs.Prelude.{take, MatchResult, IfErr, OnOk};
 ghost use Rattle.wg_num.specs.Bytes.{size_of};
 ghost use Rattle.lane_values.specs.Lanes.{FitsLane};
@@ -27,7 +27,7 @@ pub fn gather64<const W: usize>(
         (λ v. IsEmpty (faults (size_of t) (length bytes.now) mask.entry index.entry) ×
         (v ≡ gathered 64 t bytes.now mask.entry index.entry))
         (IsLowest (faults (size_of t) (length bytes.now) mask.entry index.entry)) }
-    ensures counted { tally.new ≡ min (tally.old + 1) (2 ^ 64 - 1) }
+    ensures counted { tally.new ≡ (tally.old + 1) % 2 ^ 64 }
 {
     let gathered = gather_numbers(bytes, t, index.to_array(), mask);
     tally.raise();
@@ -55,7 +55,7 @@ pub fn scatter64<const W: usize>(
     ensures stored { OnOk result (bytes.new ≡ scattered (size_of t) bytes.old mask.entry index.entry from.entry) }
     ensures below { IfErr result (λ k. bytes.new ≡ scattered (size_of t) bytes.old (take k mask.entry)
         (take k index.entry) (take k from.entry)) }
-    ensures counted { tally.new ≡ min (tally.old + 1) (2 ^ 64 - 1) }
+    ensures counted { tally.new ≡ (tally.old + 1) % 2 ^ 64 }
 {
     tally.raise();
     scatter_numbers(bytes, t, index.to_array(), from.to_array(), mask)

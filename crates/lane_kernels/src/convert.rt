@@ -1,5 +1,5 @@
 //! Conversions of lanes from one type to another.
-ghost use Rattle.std.specs.Prelude.{◌≡◌, ◌≤◌, ◌+◌, ◌-◌, ◌%◌, ◌^◌, min, map, not, nat_eq};
+ghost use Rattle.std.specs.Prelude.{◌≡◌, ◌≤◌, ◌+◌, ◌%◌, ◌^◌, map, not, nat_eq};
 ghost use Rattle.std.specs.Prelude.{if◌then◌else◌};
 ghost use Rattle.std.specs.Int.{from_bool};
 ghost use Rattle.wg_num.specs.Wrap.{width_bits, is_bool};
@@ -22,7 +22,7 @@ pub fn convert32<const W: usize>(
     requires from { FitsLane 32 from }
     requires lanes { W ≤ 64 }
     ensures lanes { result ≡ map (convert_lane 32 to from) a.entry }
-    ensures counted { tally.new ≡ min (tally.old + 1) (2 ^ 64 - 1) }
+    ensures counted { tally.new ≡ (tally.old + 1) % 2 ^ 64 }
 {
     tally.raise();
     extend32(to, extend32(from, a))
@@ -39,7 +39,7 @@ pub fn convert64<const W: usize>(
     requires from { FitsLane 64 from }
     requires lanes { W ≤ 64 }
     ensures lanes { result ≡ map (convert_lane 64 to from) a.entry }
-    ensures counted { tally.new ≡ min (tally.old + 1) (2 ^ 64 - 1) }
+    ensures counted { tally.new ≡ (tally.old + 1) % 2 ^ 64 }
 {
     tally.raise();
     extend64(to, extend64(from, a))
@@ -56,7 +56,7 @@ pub fn widen<const W: usize>(
     requires from { FitsLane 32 from }
     requires lanes { W ≤ 64 }
     ensures lanes { result ≡ map (convert_lane 64 to from) a.entry }
-    ensures counted { tally.new ≡ min (tally.old + 1) (2 ^ 64 - 1) }
+    ensures counted { tally.new ≡ (tally.old + 1) % 2 ^ 64 }
 {
     tally.raise();
     let held = extend32(from, a);
@@ -92,7 +92,7 @@ pub fn narrow<const W: usize>(
     requires from { width_bits from ≡ 64 }
     requires lanes { W ≤ 64 }
     ensures lanes { result ≡ map (convert_lane 32 to from) a.entry }
-    ensures counted { tally.new ≡ min (tally.old + 1) (2 ^ 64 - 1) }
+    ensures counted { tally.new ≡ (tally.old + 1) % 2 ^ 64 }
 {
     tally.raise();
     extend32(to, low_halves(to, extend64(from, a)))

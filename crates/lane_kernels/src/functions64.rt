@@ -1,5 +1,5 @@
 //! The built-in functions on wide lanes, lane by lane.
-ghost use Rattle.std.specs.Prelude.{◌≡◌, ◌≤◌, ◌+◌, ◌-◌, ◌^◌, min};
+ghost use Rattle.std.specs.Prelude.{◌≡◌, ◌≤◌, ◌+◌, ◌%◌, ◌^◌};
 ghost use Rattle.std.specs.Simd.Lanes.{zip2};
 ghost use Rattle.lane_kernels.specs.Vectors.{lesser_lane, greater_lane};
 ghost use Rattle.lane_values.specs.Lanes.{FitsLane, lane, builtin_lane, zip3};
@@ -72,7 +72,7 @@ pub fn builtin64<const W: usize>(
     requires fits { FitsLane 64 t }
     requires lanes { W ≤ 64 }
     ensures lanes { result ≡ zip3 (builtin_lane 64 f t) a.entry b.entry c.entry }
-    ensures counted { tally.new ≡ min (tally.old + 1) (2 ^ 64 - 1) }
+    ensures counted { tally.new ≡ (tally.old + 1) % 2 ^ 64 }
 {
     tally.raise();
     let lift = bias(t);

@@ -1,5 +1,5 @@
 //! Narrow lanes: values of types up to 32 bits, extended to 32 bits.
-ghost use Rattle.std.specs.Prelude.{◌≡◌, ◌≢◌, ◌<◌, ◌≤◌, ◌+◌, ◌-◌, ◌%◌, ◌^◌, min, map, false, replicate, IfSome};
+ghost use Rattle.std.specs.Prelude.{◌≡◌, ◌≢◌, ◌<◌, ◌≤◌, ◌+◌, ◌-◌, ◌%◌, ◌^◌, map, false, replicate, IfSome};
 ghost use Rattle.std.specs.Bool.{OnTrue};
 ghost use Rattle.std.specs.Simd.Lanes.{zip2, Each1};
 ghost use Rattle.wg_num.specs.Wrap.{half, modulus, width_bits, value_of};
@@ -308,7 +308,7 @@ pub fn binary32<const W: usize>(
     requires fits { FitsLane 32 t }
     requires lanes { W ≤ 64 }
     ensures lanes { result ≡ zip2 (binary_lane 32 op t) a.entry b.entry }
-    ensures counted { tally.new ≡ min (tally.old + 1) (2 ^ 64 - 1) }
+    ensures counted { tally.new ≡ (tally.old + 1) % 2 ^ 64 }
 {
     tally.raise();
     if is_whole(t) {
@@ -347,7 +347,7 @@ pub fn unary32<const W: usize>(
     requires fits { FitsLane 32 t }
     requires lanes { W ≤ 64 }
     ensures lanes { result ≡ map (unary_lane 32 op t) a.entry }
-    ensures counted { tally.new ≡ min (tally.old + 1) (2 ^ 64 - 1) }
+    ensures counted { tally.new ≡ (tally.old + 1) % 2 ^ 64 }
 {
     tally.raise();
     extend32(t, unary_numbers32(op, t, extend32(t, a)))

@@ -1,5 +1,5 @@
 //! Wide lanes: values of types up to 64 bits, extended to 64 bits.
-ghost use Rattle.std.specs.Prelude.{◌≡◌, ◌≢◌, ◌<◌, ◌≤◌, ◌+◌, ◌-◌, ◌%◌, ◌^◌, min, map, false, replicate, IfSome};
+ghost use Rattle.std.specs.Prelude.{◌≡◌, ◌≢◌, ◌<◌, ◌≤◌, ◌+◌, ◌-◌, ◌%◌, ◌^◌, map, false, replicate, IfSome};
 ghost use Rattle.std.specs.Bool.{OnTrue};
 ghost use Rattle.std.specs.Simd.Lanes.{zip2, Each1};
 ghost use Rattle.wg_num.specs.Wrap.{bits_of, half, modulus, width_bits, value_of};
@@ -311,7 +311,7 @@ pub fn binary64<const W: usize>(
     requires fits { FitsLane 64 t }
     requires lanes { W ≤ 64 }
     ensures lanes { result ≡ zip2 (binary_lane 64 op t) a.entry b.entry }
-    ensures counted { tally.new ≡ min (tally.old + 1) (2 ^ 64 - 1) }
+    ensures counted { tally.new ≡ (tally.old + 1) % 2 ^ 64 }
 {
     tally.raise();
     if is_whole(t) {
@@ -350,7 +350,7 @@ pub fn unary64<const W: usize>(
     requires fits { FitsLane 64 t }
     requires lanes { W ≤ 64 }
     ensures lanes { result ≡ map (unary_lane 64 op t) a.entry }
-    ensures counted { tally.new ≡ min (tally.old + 1) (2 ^ 64 - 1) }
+    ensures counted { tally.new ≡ (tally.old + 1) % 2 ^ 64 }
 {
     tally.raise();
     extend64(t, unary_numbers64(op, t, extend64(t, a)))

@@ -1,6 +1,7 @@
 pub mod AccessLaws
 pub mod AskLaws
 pub mod ByteLaws
+pub mod ChunkLaws
 pub mod ClearLaws
 pub mod KeepLaws
 pub mod MaskLaws

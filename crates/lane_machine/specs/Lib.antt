@@ -1,8 +1,10 @@
+pub mod Ends
 pub mod Held
 pub mod Machinery
 pub mod Room
 pub mod Rows
 pub mod Sizes
+pub mod Spots
 pub mod Standing
 pub mod State
 pub mod Votes

@@ -12,9 +12,10 @@ ghost use Rattle.lane_code.specs.Registers.{written, lanes_of, bits_in, lane_cou
 ghost use Rattle.lane_code.specs.Acts.{answers};
 ghost use Rattle.lane_code.specs.declared.step.Bank.TheVariants.{Mask};
 ghost use Rattle.lane_machine.specs.Sizes.{HasSizes};
+ghost use Rattle.lane_machine.specs.Spots.{IsSpot};
 ghost use Rattle.lane_machine.specs.State.{IsIn, FitsAsk};
 
-use crate::queries::{answer, grows, is_row};
+use crate::queries::{Spot, answer, grows, is_row, spot_of};
 use crate::registers::Registers;
 use cl_model::{Bound, Launch, Query};
 use lane_code::{Bank, Reg};
@@ -26,14 +27,24 @@ fn answer32(launch: &Launch, item: u64, what: Query, d: u64) -> u32
     requires { HasSizes (launch_of launch.now) }
     ensures { result ≡ lane 32 (answer_of (launch_of launch.now) item what (value_of Uint d)) }
 {
-    lane_of32(answer(launch, item, what, (d % 0x1_0000_0000) as u32) as i128)
+    lane_of32(answer(
+        launch,
+        spot_of(launch, item),
+        what,
+        (d % 0x1_0000_0000) as u32,
+    ) as i128)
 }
 
 fn answer64(launch: &Launch, item: u64, what: Query, d: u64) -> u64
     requires { HasSizes (launch_of launch.now) }
     ensures { result ≡ lane 64 (answer_of (launch_of launch.now) item what (value_of Uint d)) }
 {
-    lane_of64(answer(launch, item, what, (d % 0x1_0000_0000) as u32) as i128)
+    lane_of64(answer(
+        launch,
+        spot_of(launch, item),
+        what,
+        (d % 0x1_0000_0000) as u32,
+    ) as i128)
 }
 
 /// What it gives the items of a vector, the first of which has this number in the launch.
@@ -79,12 +90,14 @@ fn ahead(growing: bool, i: u64) -> u64
 
 /// What a work-item function gives the items of a vector for one argument, counted on from the first: right in the
 /// lanes whose items stand in the first one's row.
-fn counted64<const W: usize>(launch: &Launch, item: u64, what: Query, d: u32) -> Simd<u64, W>
+fn counted64<const W: usize>(launch: &Launch, item: Spot, what: Query, d: u32) -> Simd<u64, W>
     requires lanes { W ≤ 64 }
     requires sizes { HasSizes (launch_of launch.now) }
-    ensures { (k : ℕ) → k < W → local_id (launch_of launch.now) item 0 + k < size_at (launch_of launch.now).local 0 →
+    requires spot { IsSpot (launch_of launch.now) item }
+    ensures { (k : ℕ) → k < W →
+        local_id (launch_of launch.now) item.number 0 + k < size_at (launch_of launch.now).local 0 →
         slice_index_or result k 0 ≡
-        slice_index_or (answers 64 (launch_of launch.now) item what (replicate W d)) k 0 }
+        slice_index_or (answers 64 (launch_of launch.now) item.number what (replicate W d)) k 0 }
 {
     let first = answer(launch, item, what, d);
     let growing = grows(what, d);
@@ -112,23 +125,24 @@ fn each64<const W: usize>(launch: &Launch, item: u64, what: Query, places: [u32;
 /// What it gives the items of a vector for an argument each, right in the active lanes.
 fn answers64<const W: usize>(
     launch: &Launch,
-    item: u64,
+    item: Spot,
     what: Query,
     dims: Simd<u32, W>,
     mask: [bool; W],
 ) -> Simd<u64, W>
     requires lanes { W ≤ 64 }
     requires sizes { HasSizes (launch_of launch.now) }
-    requires item { item < 2 ^ 32 }
+    requires spot { IsSpot (launch_of launch.now) item }
+    requires item { item.number < 2 ^ 32 }
     ensures { (old : List ℕ) → sel_l mask.entry result old ≡
-        sel_l mask.entry (answers 64 (launch_of launch.now) item what dims.entry) old }
+        sel_l mask.entry (answers 64 (launch_of launch.now) item.number what dims.entry) old }
 {
     if is_row(launch, item, reach(mask)) {
         if let Some(d) = shared_lane(dims) {
             return counted64(launch, item, what, d);
         }
     }
-    each64(launch, item, what, dims.to_array())
+    each64(launch, item.number, what, dims.to_array())
 }
 
 /// A work-item function in lanes or in a scalar.
@@ -140,7 +154,7 @@ pub(crate) fn ask_step<const W: usize>(
     dim: Reg,
     mask: Reg,
     launch: &Launch,
-    item: u64,
+    item: Spot,
 )
     requires lanes { W ≤ 64 }
     requires fits { FitsAsk to.bank dim.bank }
@@ -148,15 +162,16 @@ pub(crate) fn ask_step<const W: usize>(
     requires dim { IsIn r.old.plain dim }
     requires mask { mask.number < length r.old.plain.masks }
     requires sizes { HasSizes (launch_of launch.now) }
-    requires item { item < 2 ^ 32 }
+    requires spot { IsSpot (launch_of launch.now) item }
+    requires item { item.number < 2 ^ 32 }
     ensures written { r.new.plain ≡
-        written r.old.plain to mask (answers (bits_in to.bank) (launch_of launch.now) item what
+        written r.old.plain to mask (answers (bits_in to.bank) (launch_of launch.now) item.number what
         (lanes_of r.old.plain dim)) }
     ensures room { r.new.room ≡ r.old.room }
 {
     match to.bank {
         Bank::Narrow => {
-            let new = answers32(launch, item, what, r.narrow[dim.number as usize]);
+            let new = answers32(launch, item.number, what, r.narrow[dim.number as usize]);
             let old = r.narrow[to.number as usize];
             r.narrow[to.number as usize] = blend32(r.masks[mask.number as usize], new, old);
         }
@@ -172,7 +187,7 @@ pub(crate) fn ask_step<const W: usize>(
             r.wide[to.number as usize] = blend64(r.masks[mask.number as usize], new, old);
         }
         Bank::Scalar => {
-            let one = answer64(launch, item, what, r.scalars[dim.number as usize]);
+            let one = answer64(launch, item.number, what, r.scalars[dim.number as usize]);
             r.scalars[to.number as usize] = one;
         }
         Bank::Mask => {}

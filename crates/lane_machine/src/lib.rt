@@ -3,8 +3,10 @@
 
 mod access;
 mod asks;
+mod chunks;
 mod clearing;
 mod dispatch;
+mod ends;
 mod group_start;
 mod group_state;
 mod group_steps;
@@ -25,5 +27,6 @@ mod setting;
 mod shared;
 mod windows;
 
+pub use ends::has_done;
 pub use group_state::{Answers, Group};
 pub use machine::Machine;

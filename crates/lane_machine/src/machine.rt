@@ -3,21 +3,23 @@ ghost use Rattle.std.specs.Prelude.{◌≡◌, ◌<◌, true, sum, IfOk};
 ghost use Rattle.cl_model.specs.Sizes.{group_count};
 ghost use Rattle.cl_model.specs.View.{buffers_of, launch_of};
 ghost use Rattle.lane_code.specs.View.{plain_of};
-ghost use Rattle.lane_code.specs.Program.{names_of};
+ghost use Rattle.lane_code.specs.Program.{code_of, names_of};
 ghost use Rattle.lane_code.specs.Fits.{code_fits, LaunchFits};
 ghost use Rattle.lane_code.specs.Meaning.{region_end};
-ghost use Rattle.lane_code.specs.Run.{chunk_at, chunk_count};
+ghost use Rattle.lane_code.specs.Run.{chunk_at, chunk_count, items_end};
+ghost use Rattle.lane_machine.specs.Ends.{ended, IsHeldFor};
 ghost use Rattle.lane_machine.specs.Zeroed.{IsGroupOf};
 ghost use Rattle.lane_machine.specs.Room.{HasRoom, HasRoomFor, IsNoLess};
 ghost use Rattle.lane_machine.specs.Machinery.{room_at};
 
+use crate::chunks::items_at;
 use crate::group_state::Group;
 use crate::region::region_at;
 use crate::registers::Registers;
 use crate::room::{counts_at, most_in, no_registers};
 use crate::setting::Task;
 use cl_model::{Buffers, Launch};
-use lane_code::{Code, GroupProgram, RegionEnd};
+use lane_code::{Code, GroupProgram, RegionEnd, RunEnd};
 use lane_kernels::Tally;
 use std::alloc::Global;
 use std::marker::Model;
@@ -116,6 +118,41 @@ impl Machine {
             Width::W4 => region_at(&mut self.four, task, buffers, group, turns, tally),
             Width::W8 => region_at(&mut self.eight, task, buffers, group, turns, tally),
             Width::W16 => region_at(&mut self.sixteen, task, buffers, group, turns, tally),
+        }
+    }
+
+    /// Does a region of the program: a code on all chunks of a group, exactly as that means, and takes no memory.
+    #[inline(always)]
+    pub fn items(
+        &mut self,
+        code: &Code,
+        program: &GroupProgram,
+        launch: &Launch,
+        buffers: &mut Buffers,
+        group: &mut Group,
+        turns: &mut u64,
+    ) -> RunEnd
+        requires stands { IsHeldFor (plain_of program.now) (launch_of launch.now) group.old.number group.old }
+        requires fits { code_fits (names_of (plain_of program.now)) code.now.counts code.now.steps.items ≡ true }
+        requires room { HasRoom code.now.counts (room_at program.now.width self.old) }
+        ensures end { items_end (plain_of program.now) (launch_of launch.now) group.old.number (code_of code.now)
+            turns.old group.old.kept (buffers_of buffers.old) ≡ ended result turns.new group.new.kept
+            (buffers_of buffers.new) }
+        ensures stands { IsHeldFor (plain_of program.now) (launch_of launch.now) group.old.number group.new }
+        ensures room { IsNoLess (room_at program.now.width self.old) (room_at program.now.width self.new) }
+    {
+        let task = Task {
+            code,
+            program,
+            launch,
+            chunk: 0,
+        };
+        let tally = &mut self.tally;
+        match program.width {
+            Width::W1 => items_at(&mut self.one, task, buffers, group, turns, tally),
+            Width::W4 => items_at(&mut self.four, task, buffers, group, turns, tally),
+            Width::W8 => items_at(&mut self.eight, task, buffers, group, turns, tally),
+            Width::W16 => items_at(&mut self.sixteen, task, buffers, group, turns, tally),
         }
     }
 }

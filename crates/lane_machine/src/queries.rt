@@ -1,10 +1,11 @@
 //! What the work-item functions give an item (OpenCL 1.2, section 6.12.1).
-ghost use Rattle.std.specs.Prelude.{◌≡◌, ◌<◌, ◌≤◌, ◌+◌, ◌%◌, ◌/◌, ◌^◌, pos, take};
-ghost use Rattle.cl_model.specs.Sizes.{product, size_at, offset_at, groups_of, groups_at, local_id};
+ghost use Rattle.std.specs.Prelude.{◌≡◌, ◌<◌, ◌≤◌, ◌+◌, ◌*◌, ◌%◌, ◌/◌, ◌^◌, pos, take};
+ghost use Rattle.cl_model.specs.Sizes.{group_size, product, size_at, offset_at, groups_of, groups_at, local_id};
 ghost use Rattle.cl_model.specs.Sizes.{group_id, global_id, answer_within, answer_outside, answer_of};
 ghost use Rattle.cl_model.specs.View.{launch_of, three_of};
 ghost use Rattle.lane_machine.specs.Sizes.{HasSizes, AreSizes};
 ghost use Rattle.lane_machine.specs.Rows.{does_grow};
+ghost use Rattle.lane_machine.specs.Spots.{IsSpot};
 ghost use Rattle.std.specs.Bool.{OnTrue};
 
 use cl_model::{Launch, Query};
@@ -127,28 +128,66 @@ fn has_group(launch: &Launch, number: u64, d: u32) -> bool
     number < 0x1000_0000 && (number + 1) * size_in(&launch.local, d) <= size_in(&launch.global, d)
 }
 
+/// An item by its number in the launch, with the number of its group and its number there.
+#[derive(Clone, Copy)]
+pub(crate) struct Spot {
+    pub number: u64,
+    pub group: u64,
+    pub local: u64,
+}
+
+/// The item of a number.
+pub(crate) fn spot_of(launch: &Launch, number: u64) -> Spot
+    requires { HasSizes (launch_of launch.now) }
+    ensures number { result.number ≡ number }
+    ensures spot { IsSpot (launch_of launch.now) result }
+{
+    let size = whole(&launch.local);
+    Spot {
+        number,
+        group: number / size,
+        local: number % size,
+    }
+}
+
+/// The item that has this number in a group of the launch.
+#[inline(always)]
+pub(crate) fn spot_in(launch: &Launch, number: u64, group: u64, local: usize) -> Spot
+    requires number { number ≡ group * group_size (launch_of launch.now) + local }
+    requires below { local < group_size (launch_of launch.now) }
+    ensures number { result.number ≡ number }
+    ensures spot { IsSpot (launch_of launch.now) result }
+{
+    Spot {
+        number,
+        group,
+        local: local as u64,
+    }
+}
+
 /// The item's number in its group, in a dimension.
-fn local_in(launch: &Launch, item: u64, d: u32) -> u64
+fn local_in(launch: &Launch, item: Spot, d: u32) -> u64
     requires sizes { HasSizes (launch_of launch.now) }
+    requires spot { IsSpot (launch_of launch.now) item }
     requires dimension { d < 3 }
-    ensures value { result ≡ local_id (launch_of launch.now) item d }
+    ensures value { result ≡ local_id (launch_of launch.now) item.number d }
     ensures below { result < size_at (launch_of launch.now).local d }
 {
-    let place = item % whole(&launch.local);
     rest_of(
-        quotient_of(place, before(&launch.local, d)),
+        quotient_of(item.local, before(&launch.local, d)),
         size_in(&launch.local, d),
     )
 }
 
 /// The number of the item's group, in a dimension.
-fn group_in(launch: &Launch, item: u64, d: u32) -> u64
+fn group_in(launch: &Launch, item: Spot, d: u32) -> u64
     requires sizes { HasSizes (launch_of launch.now) }
+    requires spot { IsSpot (launch_of launch.now) item }
     requires dimension { d < 3 }
-    ensures value { result ≡ group_id (launch_of launch.now) item d }
+    ensures value { result ≡ group_id (launch_of launch.now) item.number d }
     ensures below { result < groups_at (launch_of launch.now) d }
 {
-    let number = quotient_of(item / whole(&launch.local), groups_before(launch, d));
+    let number = quotient_of(item.group, groups_before(launch, d));
     if has_group(launch, number, d) {
         return number;
     }
@@ -156,10 +195,11 @@ fn group_in(launch: &Launch, item: u64, d: u32) -> u64
 }
 
 /// The item's number in the launch, in a dimension, from the offset on.
-fn global_in(launch: &Launch, item: u64, d: u32) -> u64
+fn global_in(launch: &Launch, item: Spot, d: u32) -> u64
     requires sizes { HasSizes (launch_of launch.now) }
+    requires spot { IsSpot (launch_of launch.now) item }
     requires dimension { d < 3 }
-    ensures { result ≡ global_id (launch_of launch.now) item d }
+    ensures { result ≡ global_id (launch_of launch.now) item.number d }
 {
     let local = local_in(launch, item, d);
     let group = group_in(launch, item, d);
@@ -167,10 +207,11 @@ fn global_in(launch: &Launch, item: u64, d: u32) -> u64
 }
 
 /// Whether so many items from an item on stand beside one another in the first dimension of a group.
-pub(crate) fn is_row(launch: &Launch, item: u64, count: u64) -> bool
+pub(crate) fn is_row(launch: &Launch, item: Spot, count: u64) -> bool
     requires sizes { HasSizes (launch_of launch.now) }
+    requires spot { IsSpot (launch_of launch.now) item }
     requires few { count ≤ 64 }
-    ensures { OnTrue result (local_id (launch_of launch.now) item 0 + count ≤ size_at (launch_of launch.now).local
+    ensures { OnTrue result (local_id (launch_of launch.now) item.number 0 + count ≤ size_at (launch_of launch.now).local
         0) }
 {
     let place = local_in(launch, item, 0);
@@ -193,10 +234,11 @@ pub(crate) fn grows(what: Query, d: u32) -> bool
 }
 
 /// What a work-item function gives an item in a dimension below 3.
-fn answer_inside(launch: &Launch, item: u64, what: Query, d: u32) -> u64
+fn answer_inside(launch: &Launch, item: Spot, what: Query, d: u32) -> u64
     requires sizes { HasSizes (launch_of launch.now) }
+    requires spot { IsSpot (launch_of launch.now) item }
     requires dimension { d < 3 }
-    ensures { result ≡ answer_within (launch_of launch.now) item what d }
+    ensures { result ≡ answer_within (launch_of launch.now) item.number what d }
 {
     match what {
         Query::WorkDim => launch.dims as u64,
@@ -222,9 +264,10 @@ fn answer_beyond(launch: &Launch, what: Query) -> u64
 }
 
 /// What a work-item function gives an item for an argument.
-pub(crate) fn answer(launch: &Launch, item: u64, what: Query, d: u32) -> u64
-    requires { HasSizes (launch_of launch.now) }
-    ensures { pos result ≡ answer_of (launch_of launch.now) item what (pos d) }
+pub(crate) fn answer(launch: &Launch, item: Spot, what: Query, d: u32) -> u64
+    requires sizes { HasSizes (launch_of launch.now) }
+    requires spot { IsSpot (launch_of launch.now) item }
+    ensures { pos result ≡ answer_of (launch_of launch.now) item.number what (pos d) }
 {
     if d < 3 {
         answer_inside(launch, item, what, d)

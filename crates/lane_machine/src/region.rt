@@ -41,7 +41,7 @@ fn item_in(group: &Group, size: u64, first: usize) -> u64
 }
 
 /// A code on one chunk, in registers of the program's width.
-#[inline(never)]
+#[inline(always)]
 pub(crate) fn region_at<const W: usize>(
     r: &mut Registers<W>,
     task: Task,

@@ -8,7 +8,7 @@ use Rattle.lane_machine.proofs.asks.answers64.Goals as goal
 pub returns-in-Some : goal.returns-in-Some
 returns-in-Some g c =
     let launch = launch_of c.args.launch.now in
-    let item = c.args.item in
+    let item = c.args.item.number in
     let what = c.args.what in
     let same : c.args.dims ≡ replicate g.row.W c.in-Some.d = c.in-Some.ensures in
     let long : length c.args.dims ≡ g.row.W = search rules in

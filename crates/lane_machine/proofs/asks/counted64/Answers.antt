@@ -16,7 +16,7 @@ pub loop-i-preserved : goal.loop-i-preserved
 loop-i-preserved g c =
     let l = c.args.launch.now in
     let launch = launch_of l in
-    let item = c.args.item in
+    let item = c.args.item.number in
     let what = c.args.what in
     let d = c.args.d in
     let dims = replicate g.row.W d in

@@ -8,7 +8,7 @@ abbrev pub invariant-loop-i : goal.invariant-loop-i
 invariant-loop-i g l = record {
   long : length l.lanes ≡ g.row.W;
   written : (k : ℕ) → k < l.i →
-      local_id (launch_of l.fn.launch) l.fn.item 0 + k < size_at (launch_of l.fn.launch).local 0 →
+      local_id (launch_of l.fn.launch) l.fn.item.number 0 + k < size_at (launch_of l.fn.launch).local 0 →
       get_or l.lanes k 0 ≡
-      get_or (answers 64 (launch_of l.fn.launch) l.fn.item l.fn.what (replicate g.row.W l.fn.d)) k 0;
+      get_or (answers 64 (launch_of l.fn.launch) l.fn.item.number l.fn.what (replicate g.row.W l.fn.d)) k 0;
 }

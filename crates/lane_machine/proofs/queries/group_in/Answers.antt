@@ -9,5 +9,5 @@ pub returns-then-has_group-clause-value : goal.returns-then-has_group-clause-val
 returns-then-has_group-clause-value c =
     let l = launch_of c.args.launch.now in
     let e = c.quotient_of-number.ensures.value
-    ∙ ap₂ (λ w b. c.args.item / w / b) c.whole.ensures.value c.groups_before.ensures.value in
+    ∙ ap₂ (λ n b. n / b) c.requires.spot.group c.groups_before.ensures.value in
     sym (mod-eq_of_lt c.if-has_group.ensures) ∙ ap (λ n. n % groups_at l c.args.d) e

@@ -101,8 +101,11 @@ run-requires g c =
             (
               few,
               (
-                c.requires.sizes,
-                (code, (registers, c.requires.names)),
+                subst (λ n. c.first_in-first.result < n) e c.first_in-first.ensures.below,
+                (
+                  c.requires.sizes,
+                  (code, (registers, c.requires.names)),
+                ),
               ),
             ),
           ),

@@ -9,9 +9,10 @@ use Rattle.lane_code.proofs.NodeRows.{node_seq_fits}
 use Rattle.lane_machine.specs.Machinery.{room_at}
 use Rattle.lane_machine.specs.Room.{HasRoomFor, HasRoomForEach, IsNoLess}
 use Rattle.lane_machine.specs.Votes.{said}
-use Rattle.group_run.specs.Ends.{is_done, IsHeldFor}
+use Rattle.lane_machine.specs.Ends.{is_done, IsHeldFor}
 use Rattle.group_run.specs.Nodes.{nodes_end, turn_end}
-use Rattle.group_run.proofs.Laws.{stops, goes_on, no_less_same, no_less_then}
+use Rattle.lane_machine.proofs.ChunkLaws.{stops, goes_on, no_less_then}
+use Rattle.group_run.proofs.Laws.{no_less_same}
 use Rattle.group_run.proofs.NodeLaws.{vote_fits, loop_fits, fits_here, room_here, drop_one, each_room, seq_does}
 use Rattle.group_run.proofs.NodeLaws.{first_fits, rest_fits, list_weight, asked, rounds_ask, asked_no, asked_mixed}
 use Rattle.group_run.proofs.NodeLaws.{asked_yes, loop_first, loop_later, node_weight, seq_weight, weight_at}

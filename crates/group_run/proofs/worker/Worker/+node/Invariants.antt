@@ -6,7 +6,7 @@ use Rattle.lane_code.specs.Parts.{nodes_fit}
 use Rattle.lane_code.specs.Run.{items_end, work_end, rounds}
 use Rattle.lane_machine.specs.Room.{HasRoomForEach, IsNoLess}
 use Rattle.lane_machine.specs.Machinery.{room_at}
-use Rattle.group_run.specs.Ends.{IsHeldFor}
+use Rattle.lane_machine.specs.Ends.{IsHeldFor}
 use Rattle.group_run.specs.Nodes.{nodes_end}
 use Rattle.group_run.proofs.NodeLaws.{node_weight, list_weight}
 use Rattle.group_run.proofs.worker.Worker.+node.Given as goal

@@ -6,7 +6,7 @@ use Rattle.lane_code.specs.Run.{work_end, start_group, groups_end}
 use Rattle.lane_machine.specs.Held.{Held}
 use Rattle.lane_machine.specs.Machinery.{room_at}
 use Rattle.lane_machine.proofs.RoomLaws.{still_for}
-use Rattle.group_run.specs.Ends.{is_done}
+use Rattle.lane_machine.specs.Ends.{is_done}
 use Rattle.group_run.proofs.Laws.{groups_step, run_stops, run_goes_on}
 use Rattle.group_run.proofs.worker.Worker.groups.Goals as goal
 
