@@ -1,10 +1,10 @@
 //! Work-item functions and kernel arguments, in lanes.
-ghost use Rattle.std.specs.Prelude.{◌≡◌, ◌≢◌, ◌<◌, ◌≤◌, ◌+◌, ◌^◌, length, replicate};
+ghost use Rattle.std.specs.Prelude.{◌≡◌, ◌≢◌, ◌<◌, ◌≤◌, ◌+◌, ◌*◌, ◌^◌, length, replicate};
 ghost use Rattle.std.specs.Prelude.{ℕ, List, true, false, slice_get, slice_index_or, IfSome, if◌then◌else◌};
 ghost use Rattle.std.specs.Simd.Lanes.{sel_l};
 ghost use Rattle.wg_num.specs.declared.types.IntType.TheVariants.{Uint};
 ghost use Rattle.wg_num.specs.Wrap.{value_of};
-ghost use Rattle.cl_model.specs.Sizes.{answer_of, local_id, size_at};
+ghost use Rattle.cl_model.specs.Sizes.{answer_of, group_size, local_id, size_at};
 ghost use Rattle.cl_model.specs.View.{launch_of};
 ghost use Rattle.cl_model.specs.Meaning.{argument_value};
 ghost use Rattle.lane_values.specs.Lanes.{lane};
@@ -15,7 +15,7 @@ ghost use Rattle.lane_machine.specs.Sizes.{HasSizes};
 ghost use Rattle.lane_machine.specs.Spots.{IsSpot};
 ghost use Rattle.lane_machine.specs.State.{IsIn, FitsAsk};
 
-use crate::queries::{Spot, answer, grows, is_row, spot_of};
+use crate::queries::{Place, Spot, answer, grows, is_row, spot_in, spot_of};
 use crate::registers::Registers;
 use cl_model::{Bound, Launch, Query};
 use lane_code::{Bank, Reg};
@@ -145,9 +145,9 @@ fn answers64<const W: usize>(
     each64(launch, item.number, what, dims.to_array())
 }
 
-/// A work-item function in lanes or in a scalar.
-#[inline(never)]
-pub(crate) fn ask_step<const W: usize>(
+/// A work-item function in lanes or in a scalar, for the item of the first lane.
+#[inline(always)]
+fn ask_from<const W: usize>(
     r: &mut Registers<W>,
     what: Query,
     to: Reg,
@@ -192,6 +192,33 @@ pub(crate) fn ask_step<const W: usize>(
         }
         Bank::Mask => {}
     }
+}
+
+/// A work-item function in lanes or in a scalar, for a first lane at the place.
+#[inline(never)]
+pub(crate) fn ask_step<const W: usize>(
+    r: &mut Registers<W>,
+    what: Query,
+    to: Reg,
+    dim: Reg,
+    mask: Reg,
+    launch: &Launch,
+    place: Place,
+)
+    requires lanes { W ≤ 64 }
+    requires fits { FitsAsk to.bank dim.bank }
+    requires to { IsIn r.old.plain to }
+    requires dim { IsIn r.old.plain dim }
+    requires mask { mask.number < length r.old.plain.masks }
+    requires sizes { HasSizes (launch_of launch.now) }
+    requires below { place.local < group_size (launch_of launch.now) }
+    requires few { place.group * group_size (launch_of launch.now) + place.local < 2 ^ 32 }
+    ensures written { r.new.plain ≡
+        written r.old.plain to mask (answers (bits_in to.bank) (launch_of launch.now)
+        (place.group * group_size (launch_of launch.now) + place.local) what (lanes_of r.old.plain dim)) }
+    ensures room { r.new.room ≡ r.old.room }
+{
+    ask_from(r, what, to, dim, mask, launch, spot_in(launch, place));
 }
 
 /// The value that is bound to a parameter, 0 for a pointer.

@@ -150,18 +150,27 @@ pub(crate) fn spot_of(launch: &Launch, number: u64) -> Spot
     }
 }
 
-/// The item that has this number in a group of the launch.
-#[inline(always)]
-pub(crate) fn spot_in(launch: &Launch, number: u64, group: u64, local: usize) -> Spot
-    requires number { number ≡ group * group_size (launch_of launch.now) + local }
-    requires below { local < group_size (launch_of launch.now) }
-    ensures number { result.number ≡ number }
+/// Where an item stands: the number of its group, and its number there. Two words, so that a call takes it in
+/// registers; `Spot`, which has the item's own number too, takes memory.
+#[derive(Clone, Copy)]
+pub(crate) struct Place {
+    pub group: u64,
+    pub local: u64,
+}
+
+/// The item at a place of the launch.
+pub(crate) fn spot_in(launch: &Launch, place: Place) -> Spot
+    requires sizes { HasSizes (launch_of launch.now) }
+    requires below { place.local < group_size (launch_of launch.now) }
+    requires few { place.group * group_size (launch_of launch.now) + place.local < 2 ^ 32 }
+    ensures number { result.number ≡ place.group * group_size (launch_of launch.now) + place.local }
     ensures spot { IsSpot (launch_of launch.now) result }
 {
+    let size = whole(&launch.local);
     Spot {
-        number,
-        group,
-        local: local as u64,
+        number: place.group * size + place.local,
+        group: place.group,
+        local: place.local,
     }
 }
 

@@ -32,14 +32,6 @@ fn first_in<const W: usize>(size: u64, chunk: u32) -> usize
     chunk as usize * W
 }
 
-/// The number in the launch of an item of a group.
-fn item_in(group: &Group, size: u64, first: usize) -> u64
-    requires { group.now.number * size + first < 2 ^ 32 }
-    ensures { result ≡ group.now.number * size + first }
-{
-    group.number * size + first as u64
-}
-
 /// A code on one chunk, in registers of the program's width.
 #[inline(always)]
 pub(crate) fn region_at<const W: usize>(
@@ -83,7 +75,6 @@ pub(crate) fn region_at<const W: usize>(
 {
     let size = whole(&task.launch.local);
     let first = first_in::<W>(size, task.chunk);
-    let item = item_in(group, size, first);
     r.restart(task.code.counts, size as usize, first);
     let setting = Setting {
         steps: &task.code.steps,
@@ -91,7 +82,6 @@ pub(crate) fn region_at<const W: usize>(
         program: task.program,
         launch: task.launch,
         first,
-        item,
     };
     run(setting, r, group, buffers, turns, tally)
 }

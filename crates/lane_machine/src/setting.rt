@@ -14,7 +14,7 @@ pub(crate) struct Task<'a> {
 }
 
 /// A code on one chunk: its steps and how many registers they have, the program and the launch, and
-/// the number of the chunk's first item, `first` in its group and `item` in the launch.
+/// the number of the chunk's first item in its group.
 #[derive(Clone, Copy)]
 pub(crate) struct Setting<'a> {
     pub steps: &'a [Step],
@@ -22,5 +22,4 @@ pub(crate) struct Setting<'a> {
     pub program: &'a GroupProgram,
     pub launch: &'a Launch,
     pub first: usize,
-    pub item: u64,
 }

@@ -14,18 +14,6 @@ use Rattle.lane_machine.proofs.RegionLaws.{started, region_is}
 use Rattle.lane_machine.proofs.SizeLaws.{all_items, item_small}
 use Rattle.lane_machine.proofs.region.region_at.Goals as goal
 
-pub item_in-item-requires : goal.item_in-item-requires
-item_in-item-requires g c =
-    let l = launch_of c.args.task.launch.now in
-    let e : c.whole-size.result ≡ group_size l = c.whole-size.ensures.value in
-    let all = all_items (size_at l.global 0) (size_at l.global 1) (size_at l.global 2) (size_at l.local 0)
-    (size_at l.local 1) (size_at l.local 2) in
-    let few : group_count l * group_size l ≤ 2 ^ 24 = omega (arith, all, c.requires.sizes.global.few) in
-    let b = item_small (group_count l) (group_size l) c.args.group.now.number c.first_in-first.result few
-    c.requires.number (subst (λ n. c.first_in-first.result < n) e c.first_in-first.ensures.below) in
-    let b' = subst (λ n. c.args.group.now.number * n + c.first_in-first.result < 2 ^ 24) (sym e) b in
-    omega (arith, b')
-
 pub returns-clause-end : goal.returns-clause-end
 returns-clause-end g c =
     let a = c.args in
@@ -74,14 +62,12 @@ run-requires g c =
     let e : c.whole-size.result ≡ group_size l = c.whole-size.ensures.value in
     let first : c.first_in-first.result < 2 ^ 32 =
     omega (arith, c.first_in-first.ensures.below, e, c.requires.sizes.local.few) in
-    let item : c.item_in-item.result ≡ a.group.now.number * group_size l + c.first_in-first.result =
-    c.item_in-item.ensures ∙ ap (λ n. a.group.now.number * n + c.first_in-first.result) e in
     let all = all_items (size_at l.global 0) (size_at l.global 1) (size_at l.global 2) (size_at l.local 0)
     (size_at l.local 1) (size_at l.local 2) in
     let most : group_count l * group_size l ≤ 2 ^ 24 = omega (arith, all, c.requires.sizes.global.few) in
     let b = item_small (group_count l) (group_size l) a.group.now.number c.first_in-first.result most
     c.requires.number (subst (λ n. c.first_in-first.result < n) e c.first_in-first.ensures.below) in
-    let few : c.item_in-item.result < 2 ^ 32 = omega (arith, b, item) in
+    let few : a.group.now.number * group_size l + c.first_in-first.result < 2 ^ 32 = omega (arith, b) in
     let tests : (steps : List Step) → Test
     = λ steps. all_steps (step_fits names counts (length steps)) 0 steps in
     let fits : tests a.task.code.now.steps.items ≡ true =
@@ -97,15 +83,12 @@ run-requires g c =
         (
           first,
           (
-            item,
+            few,
             (
-              few,
+              subst (λ n. c.first_in-first.result < n) e c.first_in-first.ensures.below,
               (
-                subst (λ n. c.first_in-first.result < n) e c.first_in-first.ensures.below,
-                (
-                  c.requires.sizes,
-                  (code, (registers, c.requires.names)),
-                ),
+                c.requires.sizes,
+                (code, (registers, c.requires.names)),
               ),
             ),
           ),
