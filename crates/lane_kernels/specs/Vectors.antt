@@ -1,10 +1,12 @@
 -- What the vector operations do in a lane of W bits, as the code writes them.
 use Rattle.std.specs.Prelude.{ℕ, ◌+◌, ◌-◌, ◌*◌, ◌/◌, ◌%◌, ◌^◌, ◌≡◌, ◌⊎◌, if◌then◌else◌, nat_lt, nat_le, nat_eq}
-use Rattle.std.specs.Prelude.{Bool, List}
+use Rattle.std.specs.Prelude.{Bool, List, ◌&&◌}
 use Rattle.std.specs.Int.{from_bool}
+use Rattle.std.specs.List.{list_all}
 use Rattle.std.specs.Simd.Lanes.{number_l, chunk}
 use Rattle.wg_num.specs.declared.types.IntType.{IntType}
 use Rattle.wg_num.specs.Wrap.{is_signed}
+use Rattle.lane_values.specs.Access.{is_within}
 
 -- two to the width less one for a signed type: added to a lane it makes the order of values that of numbers
 abbrev pub bias_of : ℕ → IntType → ℕ
@@ -54,6 +56,10 @@ pub record IsNarrowSize (size : ℕ) : Type 0 where
 -- the number whose bytes stand at an element, lowest first, and 0 for a lane that is inactive
 abbrev pub number_from : ℕ → List ℕ → Bool → ℕ → ℕ
 number_from size bytes on at = if on then number_l 256 (chunk (at * size) size bytes) else 0
+
+-- every lane is active, and every place that of an element within so many bytes
+abbrev pub are_within : ℕ → ℕ → List Bool → List ℕ → Bool
+are_within size len mask places = list_all (λ on. on) mask && list_all (is_within size len) places
 
 -- of two lanes that hold values, the one with the lesser value, and the one with the greater
 abbrev pub lesser_lane : ℕ → ℕ → ℕ → ℕ → ℕ

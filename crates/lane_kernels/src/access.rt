@@ -8,7 +8,7 @@ ghost use Rattle.wg_num.specs.Bytes.{size_of};
 ghost use Rattle.lane_values.specs.Lanes.{FitsLane};
 ghost use Rattle.lane_values.specs.Masks.{IsEmpty, IsLowest};
 ghost use Rattle.lane_values.specs.Access.{is_within, is_fault, faults, put_element, lane_put, scattered};
-ghost use Rattle.lane_kernels.specs.Vectors.{IsSize, IsNarrowSize, number_from};
+ghost use Rattle.lane_kernels.specs.Vectors.{IsSize, IsNarrowSize, number_from, are_within};
 
 use crate::masks::is_full;
 use wg_num::IntType;
@@ -235,8 +235,7 @@ fn narrow_below(bytes: &[u8], size: usize, count: u64, at: u64) -> u32
     narrow_at(bytes, size, at as usize)
 }
 
-/// What `narrow_of` answers where every lane is active and its element is one of the first `count`:
-/// no lane is tested by itself.
+/// What `narrow_of` answers where every lane is active and its element is one of the first `count`.
 #[inline(always)]
 fn narrow_each<const W: usize, const S: usize>(
     bytes: &[u8],
@@ -259,6 +258,52 @@ fn narrow_each<const W: usize, const S: usize>(
     lanes
 }
 
+/// What `narrow_of` answers where every lane is active and in range: no lane is tested by itself.
+/// `None` exactly where one is not.
+#[inline(always)]
+fn whole_of<const W: usize, const S: usize>(
+    bytes: &[u8],
+    places: [u64; W],
+    mask: [bool; W],
+) -> Option<[u32; W]>
+    requires size { IsNarrowSize S }
+    requires lanes { W ≤ 64 }
+    ensures { MatchOption result
+        (are_within S (length bytes.now) mask.entry places.entry ≡ false)
+        (λ v. (are_within S (length bytes.now) mask.entry places.entry ≡ true) ×
+        ((IsEmpty (faults S (length bytes.now) mask.entry places.entry)) ×
+        (v ≡ zip2 (number_from S bytes.now) mask.entry places.entry))) }
+{
+    let count = elements_in(S, bytes.len());
+    if is_full(mask) && are_below(places, count) {
+        return Some(narrow_each::<W, S>(bytes, count, places, mask));
+    }
+    None
+}
+
+/// The same of elements of a type of at most 32 bits.
+#[inline(always)]
+pub(crate) fn gather_whole<const W: usize>(
+    bytes: &[u8],
+    t: IntType,
+    places: [u64; W],
+    mask: [bool; W],
+) -> Option<[u32; W]>
+    requires fits { FitsLane 32 t }
+    requires lanes { W ≤ 64 }
+    ensures { MatchOption result
+        (are_within (size_of t) (length bytes.now) mask.entry places.entry ≡ false)
+        (λ v. (are_within (size_of t) (length bytes.now) mask.entry places.entry ≡ true) ×
+        ((IsEmpty (faults (size_of t) (length bytes.now) mask.entry places.entry)) ×
+        (v ≡ zip2 (number_from (size_of t) bytes.now) mask.entry places.entry))) }
+{
+    match size_in_bytes(t) {
+        1 => whole_of::<W, 1>(bytes, places, mask),
+        2 => whole_of::<W, 2>(bytes, places, mask),
+        _ => whole_of::<W, 4>(bytes, places, mask),
+    }
+}
+
 /// What `gather_of` answers, of elements of at most four bytes.
 fn narrow_of<const W: usize, const S: usize>(
     bytes: &[u8],
@@ -273,9 +318,6 @@ fn narrow_of<const W: usize, const S: usize>(
         (IsLowest (faults S (length bytes.now) mask.entry places.entry)) }
 {
     let count = elements_in(S, bytes.len());
-    if is_full(mask) && are_below(places, count) {
-        return Ok(narrow_each::<W, S>(bytes, count, places, mask));
-    }
     let mut lanes = [0u32; W];
     for i in 0..W {
         match narrow_for(bytes, S, count, mask[i], places[i]) {
@@ -326,6 +368,87 @@ fn put_lane(bytes: &mut [u8], size: usize, count: u64, on: bool, at: u64, x: u64
     }
     put_number(bytes, size, at as usize, x);
     true
+}
+
+/// Stores a number at one of the first `count` elements of at most four bytes, which are those in range.
+#[inline(always)]
+fn put_below(bytes: &mut [u8], size: usize, count: u64, at: u64, x: u32)
+    requires size { IsNarrowSize size }
+    requires count { (k : ℕ) → nat_lt k count ≡ is_within size (length bytes.old) k }
+    requires below { nat_lt at count ≡ true }
+    ensures clear { is_fault size (length bytes.old) true at ≡ false }
+    ensures stored { bytes.new ≡ lane_put size bytes.old true at x }
+{
+    put_number(bytes, size, at as usize, x as u64);
+}
+
+/// What `scatter_of` does where every lane is active and its element is one of the first `count`.
+#[inline(always)]
+fn put_each<const W: usize, const S: usize>(
+    bytes: &mut [u8],
+    count: u64,
+    places: [u64; W],
+    lanes: [u32; W],
+    mask: [bool; W],
+)
+    requires size { IsNarrowSize S }
+    requires lanes { W ≤ 64 }
+    requires count { (k : ℕ) → nat_lt k count ≡ is_within S (length bytes.old) k }
+    requires full { list_all (λ on. on) mask ≡ true }
+    requires below { list_all (λ at. nat_lt at count) places ≡ true }
+    ensures clear { IsEmpty (faults S (length bytes.old) mask.entry places.entry) }
+    ensures stored { bytes.new ≡ scattered S bytes.old mask.entry places.entry lanes.entry }
+{
+    for i in 0..W {
+        put_below(bytes, S, count, places[i], lanes[i]);
+    }
+}
+
+/// The same where every lane is active and in range, so that no lane is tested by itself; `false`, with the bytes as
+/// they were, exactly where one is not.
+#[inline(always)]
+fn put_whole_of<const W: usize, const S: usize>(
+    bytes: &mut [u8],
+    places: [u64; W],
+    lanes: [u32; W],
+    mask: [bool; W],
+) -> bool
+    requires size { IsNarrowSize S }
+    requires lanes { W ≤ 64 }
+    ensures done { result ≡ are_within S (length bytes.old) mask.entry places.entry }
+    ensures clear { OnTrue result (IsEmpty (faults S (length bytes.old) mask.entry places.entry)) }
+    ensures stored { OnTrue result (bytes.new ≡ scattered S bytes.old mask.entry places.entry lanes.entry) }
+    ensures kept { OnFalse result (bytes.new ≡ bytes.old) }
+{
+    let count = elements_in(S, bytes.len());
+    if is_full(mask) && are_below(places, count) {
+        put_each::<W, S>(bytes, count, places, lanes, mask);
+        return true;
+    }
+    false
+}
+
+/// The same as elements of a type of at most 32 bits.
+#[inline(always)]
+pub(crate) fn put_whole<const W: usize>(
+    bytes: &mut [u8],
+    t: IntType,
+    places: [u64; W],
+    lanes: [u32; W],
+    mask: [bool; W],
+) -> bool
+    requires fits { FitsLane 32 t }
+    requires lanes { W ≤ 64 }
+    ensures done { result ≡ are_within (size_of t) (length bytes.old) mask.entry places.entry }
+    ensures clear { OnTrue result (IsEmpty (faults (size_of t) (length bytes.old) mask.entry places.entry)) }
+    ensures stored { OnTrue result (bytes.new ≡ scattered (size_of t) bytes.old mask.entry places.entry lanes.entry) }
+    ensures kept { OnFalse result (bytes.new ≡ bytes.old) }
+{
+    match size_in_bytes(t) {
+        1 => put_whole_of::<W, 1>(bytes, places, lanes, mask),
+        2 => put_whole_of::<W, 2>(bytes, places, lanes, mask),
+        _ => put_whole_of::<W, 4>(bytes, places, lanes, mask),
+    }
 }
 
 /// Stores the active lanes as elements of one size, lane 0 first; or the lanes below the lowest

@@ -1,12 +1,13 @@
 //! Loads and stores of narrow lanes.
 ghost use Rattle.std.specs.Prelude.{◌≡◌, ◌+◌, ◌%◌, ◌≤◌, ◌^◌, length};
-ghost use Rattle.std.specs.Prelude.{take, MatchResult, IfErr, OnOk};
+ghost use Rattle.std.specs.Prelude.{take, true, false, MatchOption, MatchResult, IfErr, OnOk};
 ghost use Rattle.wg_num.specs.Bytes.{size_of};
 ghost use Rattle.lane_values.specs.Lanes.{FitsLane};
 ghost use Rattle.lane_values.specs.Masks.{IsEmpty, IsLowest};
 ghost use Rattle.lane_values.specs.Access.{faults, gathered, scattered};
+ghost use Rattle.lane_kernels.specs.Vectors.{are_within};
 
-use crate::access::{gather_narrow, scatter_numbers};
+use crate::access::{gather_narrow, gather_whole, put_whole, scatter_numbers};
 use crate::lanes32::extend32;
 use crate::tally::Tally;
 use std::simd::prelude::*;
@@ -37,6 +38,33 @@ pub fn gather32<const W: usize>(
     }
 }
 
+/// What `gather32` answers where every lane is active and in range; `None`, and no count, exactly where one is not.
+#[inline(always)]
+pub fn whole32<const W: usize>(
+    bytes: &[u8],
+    t: IntType,
+    index: Simd<u64, W>,
+    mask: [bool; W],
+    tally: &mut Tally,
+) -> Option<[u32; W]>
+    requires fits { FitsLane 32 t }
+    requires lanes { W ≤ 64 }
+    ensures cases { MatchOption result
+        (are_within (size_of t) (length bytes.now) mask.entry index.entry ≡ false)
+        (λ v. (are_within (size_of t) (length bytes.now) mask.entry index.entry ≡ true) ×
+        ((IsEmpty (faults (size_of t) (length bytes.now) mask.entry index.entry)) ×
+        (v ≡ gathered 32 t bytes.now mask.entry index.entry))) }
+    ensures counted { MatchOption result (tally.new ≡ tally.old) (λ v. tally.new ≡ (tally.old + 1) % 2 ^ 64) }
+{
+    match gather_whole(bytes, t, index.to_array(), mask) {
+        Some(numbers) => {
+            tally.raise();
+            Some(extend32(t, Simd::from_array(numbers)).to_array())
+        }
+        None => None,
+    }
+}
+
 /// Stores the active lanes, lane 0 first; or the lanes below the lowest active lane whose place is
 /// out of range, which is then the error.
 pub fn scatter32<const W: usize>(
@@ -58,6 +86,9 @@ pub fn scatter32<const W: usize>(
     ensures counted { tally.new ≡ (tally.old + 1) % 2 ^ 64 }
 {
     tally.raise();
+    if put_whole(bytes, t, index.to_array(), from.to_array(), mask) {
+        return Ok(());
+    }
     let lanes = from.cast::<u64>().to_array();
     scatter_numbers(bytes, t, index.to_array(), lanes, mask)
 }

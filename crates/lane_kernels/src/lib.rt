@@ -13,7 +13,7 @@ pub mod lanes64;
 pub mod masks;
 pub mod tally;
 
-pub use access32::{gather32, scatter32};
+pub use access32::{gather32, scatter32, whole32};
 pub use access64::{gather64, scatter64};
 pub use convert::{convert32, convert64, narrow, widen};
 pub use functions32::{builtin32, lane_of32};

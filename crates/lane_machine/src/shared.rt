@@ -1,6 +1,6 @@
 //! Loads and stores at which all lanes share one object.
 ghost use Rattle.std.specs.Prelude.{◌≡◌, ◌≢◌, ◌<◌, ◌≤◌, None, Some, [], length, take, map};
-ghost use Rattle.std.specs.Prelude.{slice_index_or, slice_set, MatchOption, MatchResult};
+ghost use Rattle.std.specs.Prelude.{slice_index_or, slice_set, IfSome, MatchOption, MatchResult};
 ghost use Rattle.wg_num.specs.Bytes.{size_of};
 ghost use Rattle.lane_values.specs.Access.{faults, gathered, stored_lanes, scattered};
 ghost use Rattle.lane_values.specs.Lanes.{FitsLane};
@@ -11,7 +11,7 @@ ghost use Rattle.lane_machine.specs.State.{IsIn, FitsBank};
 use crate::operands::Access;
 use crate::registers::Registers;
 use lane_code::{Bank, Reg};
-use lane_kernels::{Tally, blend32, blend64, gather32, gather64, scatter32, scatter64};
+use lane_kernels::{Tally, blend32, blend64, gather32, gather64, scatter32, scatter64, whole32};
 use std::simd::prelude::*;
 use wg_num::IntType;
 
@@ -32,6 +32,23 @@ fn gather_narrow<const W: usize>(
     gather32(bytes, t, index, mask, tally)
 }
 
+/// What `gather_narrow` answers where every lane is active and in range.
+#[inline(always)]
+fn whole_narrow<const W: usize>(
+    bytes: &[u8],
+    t: IntType,
+    index: Simd<u64, W>,
+    mask: [bool; W],
+    tally: &mut Tally,
+) -> Option<[u32; W]>
+    requires lanes { W ≤ 64 }
+    requires fits { FitsLane 32 t }
+    ensures { IfSome result (λ v. (lowest (faults (size_of t) (length bytes.now) mask.entry index.entry) ≡ None) ×
+        (v ≡ gathered 32 t bytes.now mask.entry index.entry)) }
+{
+    whole32(bytes, t, index, mask, tally)
+}
+
 fn gather_wide<const W: usize>(
     bytes: &[u8],
     t: IntType,
@@ -47,6 +64,44 @@ fn gather_wide<const W: usize>(
         (λ k. lowest (faults (size_of t) (length bytes.now) mask.entry index.entry) ≡ Some k) }
 {
     gather64(bytes, t, index, mask, tally)
+}
+
+/// Loads narrow lanes, of which some may be inactive or out of range. It is out of line, answers no vector and takes no
+/// struct, so that a load of lanes that are all active and in range keeps in registers what it loads.
+#[inline(never)]
+fn load_some<const W: usize>(
+    r: &mut Registers<W>,
+    bytes: &[u8],
+    of: IntType,
+    index: Reg,
+    to: Reg,
+    mask: Reg,
+    tally: &mut Tally,
+) -> Option<u32>
+    requires lanes { W ≤ 64 }
+    requires fits { FitsLane 32 of }
+    requires bank { to.bank ≡ Narrow }
+    requires wide { index.bank ≡ Wide }
+    requires to { to.number < length r.old.plain.narrow }
+    requires index { index.number < length r.old.plain.wide }
+    requires mask { mask.number < length r.old.plain.masks }
+    ensures written { MatchOption result
+        ((lowest (faults (size_of of) (length bytes.now) (mask_of r.old.plain mask) (lanes_of r.old.plain index)) ≡
+        None) × (r.new.plain ≡ written r.old.plain to mask (gathered (bits_in to.bank) of bytes.now
+        (mask_of r.old.plain mask) (lanes_of r.old.plain index))))
+        (λ k. (lowest (faults (size_of of) (length bytes.now) (mask_of r.old.plain mask) (lanes_of r.old.plain index)) ≡
+        Some k) × (r.new.plain ≡ r.old.plain)) }
+    ensures room { r.new.room ≡ r.old.room }
+{
+    let active = r.masks[mask.number as usize];
+    match gather_narrow(bytes, of, r.wide[index.number as usize], active, tally) {
+        Ok(new) => {
+            let old = r.narrow[to.number as usize];
+            r.narrow[to.number as usize] = blend32(active, Simd::from_array(new), old);
+            None
+        }
+        Err(lane) => Some(lane),
+    }
 }
 
 fn load_narrow<const W: usize>(
@@ -73,19 +128,22 @@ fn load_narrow<const W: usize>(
     ensures room { r.new.room ≡ r.old.room }
 {
     let active = r.masks[access.mask.number as usize];
-    match gather_narrow(
-        bytes,
-        access.of,
-        r.wide[access.index.number as usize],
-        active,
-        tally,
-    ) {
-        Ok(new) => {
+    let index = r.wide[access.index.number as usize];
+    match whole_narrow(bytes, access.of, index, active, tally) {
+        Some(new) => {
             let old = r.narrow[access.value.number as usize];
             r.narrow[access.value.number as usize] = blend32(active, Simd::from_array(new), old);
             None
         }
-        Err(lane) => Some(lane),
+        None => load_some(
+            r,
+            bytes,
+            access.of,
+            access.index,
+            access.value,
+            access.mask,
+            tally,
+        ),
     }
 }
 
