@@ -186,11 +186,10 @@ fn ask_from<const W: usize>(
             let old = r.wide[to.number as usize];
             r.wide[to.number as usize] = blend64(r.masks[mask.number as usize], new, old);
         }
-        Bank::Scalar => {
+        Bank::Scalar | Bank::Mask => {
             let one = answer64(launch, item.number, what, r.scalars[dim.number as usize]);
             r.scalars[to.number as usize] = one;
         }
-        Bank::Mask => {}
     }
 }
 
@@ -261,7 +260,6 @@ pub(crate) fn argument_step<const W: usize>(
             let new = Simd::splat(lane_of64(value));
             r.wide[to.number as usize] = blend64(r.masks[mask.number as usize], new, old);
         }
-        Bank::Scalar => r.scalars[to.number as usize] = lane_of64(value),
-        Bank::Mask => {}
+        Bank::Scalar | Bank::Mask => r.scalars[to.number as usize] = lane_of64(value),
     }
 }

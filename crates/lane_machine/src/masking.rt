@@ -28,8 +28,8 @@ fn less<const W: usize>(a: [bool; W], b: [bool; W]) -> [bool; W]
     truths_of(bytes_of(a) & !bytes_of(b))
 }
 
-/// The lanes of both masks, by a call: beside a comparison of lanes the compiler would take a mask of eight lanes apart,
-/// bit by bit.
+/// The lanes of both masks, by a call: beside a comparison of lanes the compiler would take a mask of eight lanes
+/// apart, bit by bit.
 #[inline(never)]
 fn both_apart<const W: usize>(a: [bool; W], b: [bool; W]) -> [bool; W]
     ensures { result ≡ zip2 (λ x y. x && y) a.entry b.entry }

@@ -29,8 +29,7 @@ pub(crate) fn const_step<const W: usize>(r: &mut Registers<W>, to: Reg, number: 
     match to.bank {
         Bank::Narrow => r.narrow[to.number as usize] = Simd::splat(lane_of32(number)),
         Bank::Wide => r.wide[to.number as usize] = Simd::splat(lane_of64(number)),
-        Bank::Scalar => r.scalars[to.number as usize] = lane_of64(number),
-        Bank::Mask => {}
+        Bank::Scalar | Bank::Mask => r.scalars[to.number as usize] = lane_of64(number),
     }
 }
 
@@ -62,8 +61,7 @@ pub(crate) fn copy_step<const W: usize>(r: &mut Registers<W>, to: Reg, from: Reg
                 old,
             );
         }
-        Bank::Scalar => r.scalars[to.number as usize] = r.scalars[from.number as usize],
-        Bank::Mask => {}
+        Bank::Scalar | Bank::Mask => r.scalars[to.number as usize] = r.scalars[from.number as usize],
     }
 }
 
@@ -81,8 +79,7 @@ pub(crate) fn spread_step<const W: usize>(r: &mut Registers<W>, to: Reg, from: R
     match to.bank {
         Bank::Narrow => r.narrow[to.number as usize] = Simd::splat((one % 0x1_0000_0000) as u32),
         Bank::Wide => r.wide[to.number as usize] = Simd::splat(one),
-        Bank::Scalar => {}
-        Bank::Mask => {}
+        Bank::Scalar | Bank::Mask => {}
     }
 }
 
@@ -209,8 +206,7 @@ pub(crate) fn convert_step<const W: usize>(
     match to.bank {
         Bank::Narrow => convert_narrow(r, to, kind, from, was, mask, tally),
         Bank::Wide => convert_wide(r, to, kind, from, was, mask, tally),
-        Bank::Scalar => convert_scalar(r, to, kind, from, was, mask, tally),
-        Bank::Mask => {}
+        Bank::Scalar | Bank::Mask => convert_scalar(r, to, kind, from, was, mask, tally),
     }
 }
 

@@ -1,4 +1,5 @@
-//! Operators and built-in functions on registers.
+//! Operators and built-in functions on registers. No result is a mask; it stands with the scalar so that two tests tell
+//! where a result goes, and no table of jumps.
 ghost use Rattle.std.specs.Prelude.{◌≡◌, ◌<◌, ◌≤◌, map, length};
 ghost use Rattle.std.specs.Simd.Lanes.{zip2};
 ghost use Rattle.lane_values.specs.Lanes.{FitsLane, unary_lane, binary_lane, builtin_lane, zip3};
@@ -126,8 +127,7 @@ pub(crate) fn unary_step<const W: usize>(
     match out.to.bank {
         Bank::Narrow => unary_narrow(r, op, out, a, tally),
         Bank::Wide => unary_wide(r, op, out, a, tally),
-        Bank::Scalar => unary_scalar(r, op, out, a, tally),
-        Bank::Mask => {}
+        Bank::Scalar | Bank::Mask => unary_scalar(r, op, out, a, tally),
     }
 }
 
@@ -251,8 +251,7 @@ pub(crate) fn binary_step<const W: usize>(
     match out.to.bank {
         Bank::Narrow => binary_narrow(r, op, out, a, b, tally),
         Bank::Wide => binary_wide(r, op, out, a, b, tally),
-        Bank::Scalar => binary_scalar(r, op, out, a, b, tally),
-        Bank::Mask => {}
+        Bank::Scalar | Bank::Mask => binary_scalar(r, op, out, a, b, tally),
     }
 }
 
@@ -391,7 +390,6 @@ pub(crate) fn builtin_step<const W: usize>(
     match out.to.bank {
         Bank::Narrow => builtin_narrow(r, f, out, a, b, c, tally),
         Bank::Wide => builtin_wide(r, f, out, a, b, c, tally),
-        Bank::Scalar => builtin_scalar(r, f, out, a, b, c, tally),
-        Bank::Mask => {}
+        Bank::Scalar | Bank::Mask => builtin_scalar(r, f, out, a, b, c, tally),
     }
 }

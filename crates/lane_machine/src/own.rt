@@ -375,7 +375,8 @@ fn store_objects<const W: usize>(
         (lanes_of r.now.plain access.index) own) ≡ Some k)
         × (map (λ v. v.items) objects.new.items ≡
         with_window old first (own_stored (size_of access.of) (take k (mask_of r.now.plain access.mask))
-        (take k (lanes_of r.now.plain access.index)) (take k (stored_lanes access.of (lanes_of r.now.plain access.value))) own))) }
+        (take k (lanes_of r.now.plain access.index))
+        (take k (stored_lanes access.of (lanes_of r.now.plain access.value))) own))) }
 {
     let lanes = stored64(access.of, lanes_for_column(r, access.value)).to_array();
     let places = r.wide[access.index.number as usize].to_array();
@@ -425,7 +426,8 @@ pub(crate) fn store_own<const W: usize>(
         × (map (λ a. map (λ v. v.items) a.items) privates.new.items ≡
         slice_set arrays array (with_window old first (own_stored (size_of access.of)
         (take k (mask_of r.now.plain access.mask))
-        (take k (lanes_of r.now.plain access.index)) (take k (stored_lanes access.of (lanes_of r.now.plain access.value))) own)))) }
+        (take k (lanes_of r.now.plain access.index))
+        (take k (stored_lanes access.of (lanes_of r.now.plain access.value))) own)))) }
 {
     store_objects(r, &mut privates[array], first, access, tally)
 }

@@ -220,8 +220,8 @@ pub(crate) fn is_row(launch: &Launch, item: Spot, count: u64) -> bool
     requires sizes { HasSizes (launch_of launch.now) }
     requires spot { IsSpot (launch_of launch.now) item }
     requires few { count ≤ 64 }
-    ensures { OnTrue result (local_id (launch_of launch.now) item.number 0 + count ≤ size_at (launch_of launch.now).local
-        0) }
+    ensures { OnTrue result (local_id (launch_of launch.now) item.number 0 + count
+        ≤ size_at (launch_of launch.now).local 0) }
 {
     let place = local_in(launch, item, 0);
     count <= size_in(&launch.local, 0) - place

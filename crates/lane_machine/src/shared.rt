@@ -310,7 +310,8 @@ pub(crate) fn store_slice<const W: usize>(
         (lanes_of r.now.plain access.index))
         ≡ Some k)
         × (bytes.new ≡ scattered (size_of access.of) bytes.old (take k (mask_of r.now.plain access.mask))
-        (take k (lanes_of r.now.plain access.index)) (take k (stored_lanes access.of (lanes_of r.now.plain access.value))))) }
+        (take k (lanes_of r.now.plain access.index))
+        (take k (stored_lanes access.of (lanes_of r.now.plain access.value))))) }
 {
     let places = r.wide[access.index.number as usize];
     let active = r.masks[access.mask.number as usize];
@@ -348,7 +349,8 @@ fn store_shared<const W: usize>(
         (λ k. (lowest (faults (size_of access.of) (length bytes.old.items) (mask_of r.now.plain access.mask)
         (lanes_of r.now.plain access.index)) ≡ Some k)
         × (bytes.new.items ≡ scattered (size_of access.of) bytes.old.items (take k (mask_of r.now.plain access.mask))
-        (take k (lanes_of r.now.plain access.index)) (take k (stored_lanes access.of (lanes_of r.now.plain access.value))))) }
+        (take k (lanes_of r.now.plain access.index))
+        (take k (stored_lanes access.of (lanes_of r.now.plain access.value))))) }
 {
     store_slice(r, bytes, access, tally)
 }
@@ -382,7 +384,8 @@ fn store_one<const W: usize>(
         (lanes_of r.now.plain access.index)) ≡ Some k)
         × (map (λ v. v.items) objects.new.items ≡
         slice_set old object (scattered (size_of access.of) bytes (take k (mask_of r.now.plain access.mask))
-        (take k (lanes_of r.now.plain access.index)) (take k (stored_lanes access.of (lanes_of r.now.plain access.value)))))) }
+        (take k (lanes_of r.now.plain access.index))
+        (take k (stored_lanes access.of (lanes_of r.now.plain access.value)))))) }
 {
     store_shared(r, &mut objects[object], access, tally)
 }
@@ -414,7 +417,8 @@ pub(crate) fn store_into<const W: usize>(
         (lanes_of r.now.plain access.index)) ≡ Some k)
         × (map (λ v. v.items) objects.new.items ≡
         slice_set old object (scattered (size_of access.of) bytes (take k (mask_of r.now.plain access.mask))
-        (take k (lanes_of r.now.plain access.index)) (take k (stored_lanes access.of (lanes_of r.now.plain access.value)))))) }
+        (take k (lanes_of r.now.plain access.index))
+        (take k (stored_lanes access.of (lanes_of r.now.plain access.value)))))) }
 {
     if object < objects.len() {
         return store_one(r, objects, object, access, tally);

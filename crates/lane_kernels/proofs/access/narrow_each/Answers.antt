@@ -25,7 +25,8 @@ loop-i-preserved g c =
     record {
       long = length-set _ _ _ ∙ inv.long;
       written = written_next c.loop-i.lanes (zip2 (number_from size bytes) m places) i c.narrow_below.result 0
-          inv.written (omega (arith, inv.long)) (omega (arith, length-zip2 (number_from size bytes) m places same, long))
+          inv.written (omega (arith, inv.long))
+          (omega (arith, length-zip2 (number_from size bytes) m places same, long))
           (c.narrow_below.ensures.value ∙ ap (λ b. number_from size bytes b at) (sym on) ∙
           sym (get_or-zip2 (number_from size bytes) m places i false 0 0 (omega (arith, long)) (omega (arith, wide))));
       clear = below_more (λ k. get_or (faults size (length bytes) m places) k false ≡ false) i inv.clear

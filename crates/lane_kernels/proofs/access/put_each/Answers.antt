@@ -22,7 +22,8 @@ loop-i-preserved g c =
     record {
       long = c.put_below.auto.bytes ∙ inv.long;
       written = c.put_below.ensures.stored ∙ ap (λ b. lane_put size b true at x) inv.written
-          ∙ ap (λ b. lane_put size (scattered size bytes (take i m) (take i places) (take i c.args.lanes)) b at x) (sym on)
+          ∙ ap (λ b. lane_put size (scattered size bytes (take i m) (take i places) (take i c.args.lanes)) b at x)
+          (sym on)
           ∙ sym (scattered_next size bytes m places c.args.lanes i (omega (arith, long)) (omega (arith, wide))
           (omega (arith, given)));
       clear = below_more (λ k. get_or (faults size (length bytes) m places) k false ≡ false) i inv.clear
