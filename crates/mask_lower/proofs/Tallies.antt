@@ -22,7 +22,8 @@ use Rattle.mask_lower.specs.Banks.{crosses, mask_reg, advanced}
 use Rattle.mask_lower.specs.Atoms.{right_atom, atoms_of, atoms_in, region_atoms}
 use Rattle.mask_lower.specs.Registers.{Frame, frame_for, first_constants, cell_at, operand, past_atom, past, constants}
 use Rattle.mask_lower.specs.Homes.{sets_first, get_code, cell_code, entry_code, put_cells, put_code, exit_code}
-use Rattle.mask_lower.specs.Lowered.{moves, amount_moved, result_at, right_at, brought, work_code, skipped, otherwise}
+use Rattle.mask_lower.specs.Lowered.{moves, amount_moved, result_at, right_at, brought, keeps_lane, work_code, skipped}
+use Rattle.mask_lower.specs.Lowered.{otherwise}
 use Rattle.mask_lower.specs.Lowered.{turn_code, lines_code, vote_code, begun_code, region_steps}
 use Rattle.mask_lower.specs.Counts.{load_steps, store_steps, SameAccesses}
 
@@ -68,7 +69,12 @@ module _ (l s : ℕ → ℕ) where
       (operand f.cells next a).at (right_at f op of right) mask ∷ brought f of (binary_type op of) to mask)
       (either_quiet (moves op of right) _ _ refl refl) ∙ either_quiet (crosses of (binary_type op of)) _ _ refl refl
   work_quiet f next to mask (kir.Builtin g of args) = refl
-  work_quiet f next to mask (kir.Convert kind a) = refl
+  work_quiet f next to mask (kir.Convert kind a) = convert_quiet (keeps_lane (operand f.cells next a).of kind)
+    where
+      convert_quiet : (b : Test) → tally ((if b then step.Copy to (operand f.cells next a).at mask
+          else step.Convert to kind (operand f.cells next a).at (operand f.cells next a).of mask) ∷ []) ≡ 0
+      convert_quiet true = refl
+      convert_quiet false = refl
   work_quiet f next to mask (kir.Ask what dim) = refl
   work_quiet f next to mask (kir.Argument number) = refl
   work_quiet f next to mask (kir.Copy a) = refl

@@ -1,11 +1,12 @@
 -- The masked code of a region.
 use Rattle.std.specs.Prelude.{ℕ, ◌+◌, List, [], ◌∷◌, ◌++◌, Option, Some, None, length, slice_get, slice_index_or}
-use Rattle.std.specs.Prelude.{◌&&◌, if◌then◌else◌}
+use Rattle.std.specs.Prelude.{◌&&◌, ◌||◌, if◌then◌else◌}
 use Rattle.std.specs.Prelude.{Bool as Test, true, false}
 use Rattle.wg_num.specs.declared.types.IntType.{IntType}
 use Rattle.wg_num.specs.declared.types.Bin.{Bin}
 use Rattle.wg_num.specs.declared.types.Fun.{Fun}
 use Rattle.wg_num.specs.Operators.{is_shift}
+use Rattle.wg_num.specs.Types.{same_type}
 use Rattle.cl_model.specs.Valid.{unary_type, binary_type}
 use Rattle.kir.specs.declared.line.Atom.{Atom}
 use Rattle.kir.specs.Tree as kir
@@ -20,7 +21,7 @@ use Rattle.lane_code.specs.Program.{PlainCode}
 use Rattle.lane_code.specs.Counting.{counted}
 use Rattle.mask_lower.specs.declared.registers.Free.{Free}
 use Rattle.mask_lower.specs.declared.registers.Operand.{Operand}
-use Rattle.mask_lower.specs.Banks.{crosses, amount_type, mask_reg, register_at}
+use Rattle.mask_lower.specs.Banks.{is_wide, crosses, amount_type, mask_reg, register_at}
 use Rattle.mask_lower.specs.Atoms.{right_atom, atoms_of, atoms_in, region_atoms}
 use Rattle.mask_lower.specs.Registers.{Frame, frame_for, first_constants, root_at, cell_at, operand, past_atom, past}
 use Rattle.mask_lower.specs.Registers.{constants}
@@ -77,6 +78,15 @@ builtin_code f next g of args to mask =
     let next2 = past_argument next1 second in
     step.Builtin g of to (argument f next to first) (argument f next1 to second) (argument f next2 to third) mask
 
+-- a conversion of a value of the one type into the other leaves its lane as it is
+abbrev pub keeps_lane : (of kind : IntType) → Test
+keeps_lane of kind = same_type of kind || (is_wide of && is_wide kind)
+
+-- a conversion, which is a copy where it leaves lanes as they are
+abbrev pub convert_step : (to : Reg) → (kind : IntType) → Operand → (mask : Reg) → Step
+convert_step to kind a mask =
+    if keeps_lane a.of kind then step.Copy to a.at mask else step.Convert to kind a.at a.of mask
+
 -- the steps of a line that computes for this register
 abbrev pub work_code : Frame → Free → (to mask : Reg) → Work → List Step
 work_code f next to mask (kir.Unary op of a) =
@@ -85,8 +95,7 @@ work_code f next to mask (kir.Unary op of a) =
 work_code f next to mask (kir.Binary op of a b) =
     binary_code f op of (operand f.cells next a) (operand f.cells (past_atom next a) (right_atom op of b)) to mask
 work_code f next to mask (kir.Builtin g of args) = builtin_code f next g of args to mask ∷ []
-work_code f next to mask (kir.Convert kind a) =
-    step.Convert to kind (operand f.cells next a).at (operand f.cells next a).of mask ∷ []
+work_code f next to mask (kir.Convert kind a) = convert_step to kind (operand f.cells next a) mask ∷ []
 work_code f next to mask (kir.Ask what dim) = step.Ask what to (operand f.cells next dim).at mask ∷ []
 work_code f next to mask (kir.Argument number) = step.Argument number to mask ∷ []
 work_code f next to mask (kir.Copy a) = step.Copy to (operand f.cells next a).at mask ∷ []

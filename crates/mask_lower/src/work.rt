@@ -8,11 +8,11 @@ ghost use Rattle.mask_lower.specs.Lowered as spec;
 
 use crate::atoms::right_atom;
 use crate::placing::read;
-use crate::registers::{Free, Layout, Operand, amount_type, crosses, register_at};
+use crate::registers::{Free, Layout, Operand, amount_type, crosses, is_wide, register_at};
 use cl_model::types::{binary_type, unary_type};
 use kir::{Atom, Work};
 use lane_code::{Reg, Step};
-use wg_num::{Bin, Fun, IntType, Memory, is_shift, push};
+use wg_num::{Bin, Fun, IntType, Memory, is_shift, push, same_type};
 
 /// Where what is computed in a type goes first, if it is of this kind: to the cell's register, or to
 /// that on the way to the other bank.
@@ -203,6 +203,34 @@ fn lower_builtin(
 }
 
 /// The steps of a line that computes for this register; the registers that are free for constants
+/// Whether a conversion of a value of the one type into the other leaves its lane as it is: into its own type, and
+/// between those of 64 bits.
+fn keeps_lane(of: IntType, kind: IntType) -> bool
+    ensures { result ≡ spec.keeps_lane of kind }
+{
+    same_type(of, kind) || (is_wide(of) && is_wide(kind))
+}
+
+/// A conversion, which is a copy where it leaves lanes as they are.
+fn convert_step(to: Reg, kind: IntType, a: Operand, mask: Reg) -> Step
+    ensures { result ≡ spec.convert_step to kind a mask }
+{
+    if keeps_lane(a.of, kind) {
+        return Step::Copy {
+            to,
+            from: a.at,
+            mask,
+        };
+    }
+    Step::Convert {
+        to,
+        kind,
+        from: a.at,
+        was: a.of,
+        mask,
+    }
+}
+
 /// behind it.
 pub(crate) fn lower_work(
     code: &mut Vec<Step>,
@@ -252,16 +280,7 @@ pub(crate) fn lower_work(
         }
         Work::Convert { to: kind, a } => {
             let (a, next) = read(&layout.cells, next, *a)?;
-            push(
-                code,
-                Step::Convert {
-                    to,
-                    kind: *kind,
-                    from: a.at,
-                    was: a.of,
-                    mask,
-                },
-            )?;
+            push(code, convert_step(to, *kind, a, mask))?;
             Ok(next)
         }
         Work::Ask { what, dim } => {

@@ -1,18 +1,20 @@
 -- The lane of a value, and that what an operator makes of lanes is the lane of what it makes of the values.
 use Rattle.std.proofs.Common.{◌≡◌, ℕ, zero, suc, ◌*◌, ◌%◌, ◌^◌, ◌<◌, ◌≤◌, ℤ, pos, negsuc, refl, sym, ap, ap₂, ◌∙◌}
 use Rattle.std.proofs.Common.{arith, cond}
-use Rattle.std.specs.Prelude.{nat_eq, ◌*ℤ◌}
+use Rattle.std.specs.Prelude.{nat_eq, ◌*ℤ◌, ◌&&◌, ◌||◌}
 use Rattle.std.specs.Prelude.{Bool as Test, true, false}
-use Rattle.std.proofs.lemmas.Bool.{true≢false, eqb-true}
+use Rattle.std.proofs.lemmas.Bool.{true≢false, eqb-true, and_parts}
 use Rattle.wg_num.specs.declared.types.IntType.{IntType}
 use Rattle.wg_num.specs.declared.types.IntType.TheVariants as types
 use Rattle.wg_num.specs.declared.types.Bin.{Bin}
 use Rattle.wg_num.specs.declared.types.Bin.TheVariants as bin
 use Rattle.wg_num.specs.declared.types.Un.{Un}
+use Rattle.wg_num.specs.Types.{same_type}
 use Rattle.wg_num.specs.Wrap.{IsValue, IsCongruent, residue, width_bits, modulus, bits_of, value_of, wrap_of}
 use Rattle.wg_num.specs.Operators.{is_shift, amount_of, unary_of, binary_of}
 use Rattle.wg_num.proofs.WrapLaws.{residue-lt, residue_congruent, residue_unique, congruent_trans, congruent_divides}
-use Rattle.wg_num.proofs.WrapLaws.{value-bits, wrap_congruent}
+use Rattle.wg_num.proofs.WrapLaws.{value-bits, wrap_congruent, wrap_value, congruent_sym}
+use Rattle.wg_num.proofs.TypeLaws.{same_type_is}
 use Rattle.wg_num.proofs.ByteLaws.{value-low_half}
 use Rattle.lane_values.specs.Lanes.{lane, right_value, unary_lane, binary_lane}
 use Rattle.cl_model.specs.Values.{is_zero}
@@ -21,6 +23,7 @@ use Rattle.lane_code.specs.declared.step.Bank.TheVariants.{Narrow, Wide}
 use Rattle.lane_code.specs.Fits.{bank_of}
 use Rattle.lane_code.specs.Registers.{bits_in}
 use Rattle.mask_lower.specs.Banks.{is_wide, crosses, amount_type}
+use Rattle.mask_lower.specs.Lowered.{keeps_lane}
 use Rattle.kir.proofs.CellTypes.{zero_wraps}
 
 -- how many bits a lane of the type's bank has
@@ -237,3 +240,38 @@ amount_wrap of v = go (is_wide of) refl
         width_in of in sym (residue_same (width_bits of) (2 ^ 64) w.2.0 (wrap_of types.Long v) v w.0 w.2.1 long)
     go false e = let w =
         width_in of in sym (residue_same (width_bits of) (2 ^ 32) w.1.0 (wrap_of types.Uint v) v w.0 w.1.1 uint)
+
+-- ---- conversions that leave lanes as they are
+
+wide_congruent : (t : IntType) (v : ℤ) → is_wide t ≡ true → IsCongruent (2 ^ 64) (wrap_of t v) v
+unfolding modulus
+wide_congruent types.Long v e = wrap_congruent types.Long v refl
+wide_congruent types.Ulong v e = wrap_congruent types.Ulong v refl
+wide_congruent types.Bool v e = absurd (true≢false (sym e))
+wide_congruent types.Char v e = absurd (true≢false (sym e))
+wide_congruent types.Uchar v e = absurd (true≢false (sym e))
+wide_congruent types.Short v e = absurd (true≢false (sym e))
+wide_congruent types.Ushort v e = absurd (true≢false (sym e))
+wide_congruent types.Int v e = absurd (true≢false (sym e))
+wide_congruent types.Uint v e = absurd (true≢false (sym e))
+
+wide_lane : (of kind : IntType) (v : ℤ) → is_wide of ≡ true → is_wide kind ≡ true →
+    lane_in of v ≡ lane_in kind (wrap_of kind v)
+unfolding lane
+wide_lane of kind v e f =
+    ap (λ b. lane (bits_in b) v) (wide_bank of e) ∙
+    sym (residue_unique (residue v (2 ^ 64)) (wrap_of kind v) (2 ^ 64) (residue-lt v (2 ^ 64) (omega arith))
+    (congruent_trans (residue_congruent v (2 ^ 64) (omega arith)) (congruent_sym (wide_congruent kind v f)))) ∙
+    sym (ap (λ b. lane (bits_in b) (wrap_of kind v)) (wide_bank kind f))
+
+pub kept_lane : (of kind : IntType) (v : ℤ) → IsValue of v → keeps_lane of kind ≡ true →
+    lane_in of v ≡ lane_in kind (wrap_of kind v)
+kept_lane of kind v is e = by_type (same_type of kind) refl e
+  where
+    by_type : (b : Test) → same_type of kind ≡ b → (b || (is_wide of && is_wide kind)) ≡ true →
+        lane_in of v ≡ lane_in kind (wrap_of kind v)
+    by_type true same h =
+        ap (lane_in of) (sym (wrap_value of v is)) ∙ ap (λ t. lane_in t (wrap_of t v)) (same_type_is of kind same)
+    by_type false same h =
+        let p = and_parts (is_wide of) (is_wide kind) h in
+        wide_lane of kind v p.0 p.1

@@ -2,8 +2,8 @@
 -- copy.
 use Rattle.std.proofs.Common.{◌≡◌, ℕ, zero, suc, ◌+◌, ◌*◌, ◌<◌, ℤ, pos, List, [], ◌∷◌, length, map, replicate}
 use Rattle.std.proofs.Common.{Some, slice_get, refl, sym, ap, ap₂, ◌∙◌, subst, ⊎_elim, inl, inr, ◌⊎◌, arith}
-use Rattle.std.specs.Prelude.{slice_index_or, ◌&&◌, ◌||◌}
-use Rattle.std.specs.Prelude.{true, false}
+use Rattle.std.specs.Prelude.{slice_index_or, ◌&&◌, ◌||◌, if◌then◌else◌}
+use Rattle.std.specs.Prelude.{Bool as Test, true, false}
 use Rattle.std.proofs.lemmas.Bool.{true≢false, and_parts, or_left, or_right}
 use Rattle.std.proofs.lemmas.List.{get_or-map, length-map, length-replicate, get_or-replicate}
 use Rattle.wg_num.specs.declared.types.IntType.{IntType}
@@ -38,11 +38,11 @@ use Rattle.lane_laws.specs.Reading.{mask_at}
 use Rattle.mask_lower.specs.declared.registers.Free.{Free}
 use Rattle.mask_lower.specs.Banks.{mask_reg}
 use Rattle.mask_lower.specs.Registers.{Frame, cell_at, operand, past_atom}
-use Rattle.mask_lower.specs.Lowered.{work_code}
+use Rattle.mask_lower.specs.Lowered.{keeps_lane, work_code}
 use Rattle.mask_lower_correct.specs.View.{value_at, is_lane, Shaped}
 use Rattle.mask_lower_correct.specs.Framed.{IsFramed, Held}
 use Rattle.mask_lower_correct.specs.Sim.{Above}
-use Rattle.mask_lower_correct.proofs.LaneValues.{lane_in, value_lane}
+use Rattle.mask_lower_correct.proofs.LaneValues.{lane_in, value_lane, kept_lane}
 use Rattle.mask_lower_correct.proofs.View.{code_well, lanes_length, lane_count_is, zip3_read, zip3_length}
 use Rattle.mask_lower_correct.proofs.Frames.{type_lane}
 use Rattle.mask_lower_correct.proofs.Atoms.{IsOperand, operand_is, entry_lane, cell_above, writes_step}
@@ -143,6 +143,12 @@ arity_cases fun.Rhadd = inr (inl refl)
 arity_cases fun.MulHi = inr (inl refl)
 arity_cases fun.Rotate = inr (inl refl)
 
+-- of one of two things, as a test says
+either_of : {A : Type 0} (P : A → Type 0) (b : Test) (x y : A) → (b ≡ true → P x) → (b ≡ false → P y) →
+    P (if b then x else y)
+either_of P true x y f g = f refl
+either_of P false x y f g = g refl
+
 module _ (kernel : Kernel) (launch : Launch) (width group first : ℕ) (f : Frame) (atoms : List Atom) (counts : Counts)
     (r0 : Registers) (framed : IsFramed kernel f atoms) (code : List Step) (valid : is_code counts code ≡ true)
     (G : Ended → Type 0) where
@@ -199,13 +205,31 @@ module _ (kernel : Kernel) (launch : Launch) (width group first : ℕ) (f : Fram
       named_operand next a ty.0 st.registers ty.1 (λ c e. inside c (or_left (reads c a) false e)) held.0 above in
       let x = operand f.cells next a in
       let toreg = (cell_at f.cells to).at in
-      let s = step.Convert toreg kind x.at x.of (mask_reg m) in
+      let copy = step.Copy toreg x.at (mask_reg m) in
+      let convert = step.Convert toreg kind x.at x.of (mask_reg m) in
+      let gives = GivesIt st.registers (kir.Convert kind a) in
+      either_of
+      (λ (s : Step). slice_get code p ≡ Some s →
+      G (code_end (Mine kernel launch width group first f atoms counts r0 framed code valid G) code t p st))
+      (keeps_lane x.of kind) copy convert
+      (λ e at.
       let w1 = and_parts (is_below counts toreg && is_below counts x.at) (is_below counts (mask_reg m))
-      (code_well counts code p s valid has.0) in
+      (code_well counts code p copy valid at) in
       let w2 = and_parts (is_below counts toreg) (is_below counts x.at) w1.0 in
       let xlen = lanes_length counts width st.registers shape x.at (ap is_lane one.bank ∙ type_lane ty.0) w2.1 in
-      direct_runs (GivesIt st.registers (kir.Convert kind a)) kind to tg m t p st s
-      (map (convert_lane (bits_in toreg.bank) kind x.of) (lanes_of st.registers x.at)) has.0 refl shape w2.0 w1.1
+      direct_runs gives kind to tg m t p st copy (lanes_of st.registers x.at) at refl shape w2.0 w1.1 xlen
+      (λ l z ltl on g.
+      one.holds l g.0.cells ltl g.2 ∙
+      kept_lane ty.0 kind (atom_value g.0.cells a) (atom_typed kernel g.0.cells a ty.0 g.1.typed ty.1)
+      (subst (λ u. keeps_lane u kind ≡ true) one.typed e) ∙ ap (lane_in kind) g.3)
+      go)
+      (λ e at.
+      let w1 = and_parts (is_below counts toreg && is_below counts x.at) (is_below counts (mask_reg m))
+      (code_well counts code p convert valid at) in
+      let w2 = and_parts (is_below counts toreg) (is_below counts x.at) w1.0 in
+      let xlen = lanes_length counts width st.registers shape x.at (ap is_lane one.bank ∙ type_lane ty.0) w2.1 in
+      direct_runs gives kind to tg m t p st convert
+      (map (convert_lane (bits_in toreg.bank) kind x.of) (lanes_of st.registers x.at)) at refl shape w2.0 w1.1
       (length-map (lanes_of st.registers x.at) _ ∙ xlen)
       (λ l z ltl on g.
       get_or-map (convert_lane (bits_in toreg.bank) kind x.of) (lanes_of st.registers x.at) l 0 0 (let h = xlen in
@@ -215,7 +239,8 @@ module _ (kernel : Kernel) (launch : Launch) (width group first : ℕ) (f : Fram
       ∙ convert_is (bits_in toreg.bank) kind ty.0 (atom_value g.0.cells a)
       (atom_typed kernel g.0.cells a ty.0 g.1.typed ty.1)
       ∙ ap (λ b. lane (bits_in b) (wrap_of kind (atom_value g.0.cells a))) tg.bank ∙ ap (lane_in kind) g.3)
-      go
+      go)
+      has.0
 
   copy_works : (a : Atom) → DoesWork (kir.Copy a)
   copy_works a next m to p t st has fits takes named inside held above shape go =
