@@ -61,7 +61,8 @@ pub(crate) fn copy_step<const W: usize>(r: &mut Registers<W>, to: Reg, from: Reg
                 old,
             );
         }
-        Bank::Scalar | Bank::Mask => r.scalars[to.number as usize] = r.scalars[from.number as usize],
+        Bank::Scalar | Bank::Mask => r.scalars[to.number as usize] =
+            r.scalars[from.number as usize],
     }
 }
 
