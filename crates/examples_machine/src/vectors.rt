@@ -2,8 +2,8 @@
 #![tactic(auto, unfolding(wg_num::specs::Wrap::half, wg_num::specs::Wrap::modulus))]
 
 use lane_kernels::{
-    Tally, any, binary32, binary64, blend32, builtin32, convert32, gather32, gather64, lowest,
-    narrow, nonzero32, scatter32, scatter64, unary32, widen,
+    Tally, any, binary32, binary64, builtin32, convert32, gather32, gather64, lowest, narrow,
+    nonzero32, put32, scatter32, scatter64, unary32, widen,
 };
 use std::simd::prelude::*;
 use std::test::Fail;
@@ -46,8 +46,9 @@ fn conversions_and_functions_go_lane_by_lane(rt: HostRuntime) -> Result<(), Fail
 #[test]
 fn masks_choose_lanes(rt: HostRuntime) -> Result<(), Fail> {
     let mask = [false, true, false, true];
-    let mixed = blend32(mask, u32x4::splat(9), u32x4::splat(4)).to_array();
-    assert_eq!(rt; mixed, [4u32, 9, 4, 9]);
+    let mut mixed = u32x4::splat(4);
+    put32(&mut mixed, mask, u32x4::splat(9));
+    assert_eq!(rt; mixed.to_array(), [4u32, 9, 4, 9]);
     assert_eq!(rt; nonzero32(u32x4::from_array([0, 5, 0, 1])), mask);
     assert_eq!(rt; lowest(mask), Some(1));
     assert_eq!(rt; lowest([false, false, false, false]), None);

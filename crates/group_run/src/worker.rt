@@ -111,7 +111,7 @@ impl Worker {
             return RunEnd::Turns;
         }
         self.turns -= 1;
-        self.node(program, launch, number, body, buffers)
+        self.part(program, launch, number, body, buffers)
     }
 
     /// A loop on which the group votes before each iteration.

@@ -199,14 +199,23 @@ fn shared_lane<const W: usize>(b: Simd<u64, W>) -> Option<u64>
     }
 }
 
+/// Left lanes shifted by the amount beside each; out of line, so that it is not one with a shift of all lanes alike.
+#[inline(never)]
+fn shifted_each<const W: usize>(t: IntType, a: Simd<u64, W>, b: Simd<u64, W>) -> [u64; W]
+    requires { FitsLane 64 t }
+    ensures { result ≡ zip2 (shl_lane 64 (width_bits t)) a.entry b.entry }
+{
+    (a << amounts(t, b)).to_array()
+}
+
 fn shifted_left<const W: usize>(t: IntType, a: Simd<u64, W>, b: Simd<u64, W>) -> Simd<u64, W>
     requires { FitsLane 64 t }
     ensures { result ≡ zip2 (shl_lane 64 (width_bits t)) a.entry b.entry }
 {
     if let Some(amount) = shared_lane(b) {
-        return a * Simd::splat(1u64 << (amount & amount_bits(t)));
+        return a << Simd::splat(amount & amount_bits(t));
     }
-    a << amounts(t, b)
+    Simd::from_array(shifted_each(t, a, b))
 }
 
 /// Each lane, as the number that it stands for, shifted right by the amount beside it.

@@ -20,7 +20,5 @@ pub use functions32::{builtin32, lane_of32};
 pub use functions64::{builtin64, lane_of64};
 pub use lanes32::{binary32, shared_lane, unary32};
 pub use lanes64::{binary64, pattern64, unary64};
-pub use masks::{
-    any, blend32, blend64, bytes_of, is_full, lowest, nonzero32, nonzero64, truths_of,
-};
+pub use masks::{any, bytes_of, is_full, lowest, nonzero32, nonzero64, put32, put64, truths_of};
 pub use tally::Tally;

@@ -1,5 +1,5 @@
 //! Masks: one truth value per lane.
-ghost use Rattle.std.specs.Prelude.{◌≡◌, ◌≤◌, map, not, nat_eq, MatchOption};
+ghost use Rattle.std.specs.Prelude.{◌≡◌, ◌≤◌, true, map, not, nat_eq, MatchOption};
 ghost use Rattle.std.specs.List.{list_any, list_all};
 ghost use Rattle.std.specs.Int.{from_bool};
 ghost use Rattle.std.specs.Simd.Lanes.{sel_l};
@@ -37,26 +37,34 @@ fn numbers_of32<const W: usize>(mask: [bool; W]) -> Simd<u32, W>
     bytes_of(mask).cast::<u32>()
 }
 
-/// What `blend32` answers, out of line, so that a step whose mask is full reads the mask alone.
+/// What `put32` does where some lane is not set, out of line, so that a step whose mask is full reads the mask alone.
 #[inline(never)]
-fn partly32<const W: usize>(mask: [bool; W], new: Simd<u32, W>, old: Simd<u32, W>) -> Simd<u32, W>
-    ensures { result ≡ sel_l mask.entry new.entry old.entry }
+fn put_some32<const W: usize>(lanes: &mut Simd<u32, W>, mask: [bool; W], new: Simd<u32, W>)
+    ensures { lanes.new ≡ sel_l mask.entry new.entry lanes.old }
 {
-    numbers_of32(mask).simd_ne(Simd::splat(0)).select(new, old)
+    *lanes = numbers_of32(mask)
+        .simd_ne(Simd::splat(0))
+        .select(new, *lanes);
 }
 
-/// `new` where the mask is set, and else `old`.
-pub fn blend32<const W: usize>(
-    mask: [bool; W],
-    new: Simd<u32, W>,
-    old: Simd<u32, W>,
-) -> Simd<u32, W>
+/// What `put32` leaves where every lane is set.
+#[inline(always)]
+fn all_of32<const W: usize>(mask: [bool; W], new: Simd<u32, W>, old: Simd<u32, W>) -> Simd<u32, W>
+    requires { list_all (λ on. on) mask ≡ true }
     ensures { result ≡ sel_l mask.entry new.entry old.entry }
 {
+    new
+}
+
+/// The lanes of `new` in place of those that stand there, where the mask is set.
+pub fn put32<const W: usize>(lanes: &mut Simd<u32, W>, mask: [bool; W], new: Simd<u32, W>)
+    ensures { lanes.new ≡ sel_l mask.entry new.entry lanes.old }
+{
     if is_full(mask) {
-        return new;
+        *lanes = all_of32(mask, new, *lanes);
+    } else {
+        put_some32(lanes, mask, new);
     }
-    partly32(mask, new, old)
 }
 
 /// The lanes that are not 0.
@@ -108,26 +116,34 @@ fn numbers_of64<const W: usize>(mask: [bool; W]) -> Simd<u64, W>
     bytes_of(mask).cast::<u32>().cast::<u64>()
 }
 
-/// What `blend64` answers, out of line, so that a step whose mask is full reads the mask alone.
+/// What `put64` does where some lane is not set, out of line, so that a step whose mask is full reads the mask alone.
 #[inline(never)]
-fn partly64<const W: usize>(mask: [bool; W], new: Simd<u64, W>, old: Simd<u64, W>) -> Simd<u64, W>
-    ensures { result ≡ sel_l mask.entry new.entry old.entry }
+fn put_some64<const W: usize>(lanes: &mut Simd<u64, W>, mask: [bool; W], new: Simd<u64, W>)
+    ensures { lanes.new ≡ sel_l mask.entry new.entry lanes.old }
 {
-    numbers_of64(mask).simd_ne(Simd::splat(0)).select(new, old)
+    *lanes = numbers_of64(mask)
+        .simd_ne(Simd::splat(0))
+        .select(new, *lanes);
 }
 
-/// `new` where the mask is set, and else `old`.
-pub fn blend64<const W: usize>(
-    mask: [bool; W],
-    new: Simd<u64, W>,
-    old: Simd<u64, W>,
-) -> Simd<u64, W>
+/// What `put64` leaves where every lane is set.
+#[inline(always)]
+fn all_of64<const W: usize>(mask: [bool; W], new: Simd<u64, W>, old: Simd<u64, W>) -> Simd<u64, W>
+    requires { list_all (λ on. on) mask ≡ true }
     ensures { result ≡ sel_l mask.entry new.entry old.entry }
 {
+    new
+}
+
+/// The lanes of `new` in place of those that stand there, where the mask is set.
+pub fn put64<const W: usize>(lanes: &mut Simd<u64, W>, mask: [bool; W], new: Simd<u64, W>)
+    ensures { lanes.new ≡ sel_l mask.entry new.entry lanes.old }
+{
     if is_full(mask) {
-        return new;
+        *lanes = all_of64(mask, new, *lanes);
+    } else {
+        put_some64(lanes, mask, new);
     }
-    partly64(mask, new, old)
 }
 
 /// The lanes that are not 0.

@@ -19,7 +19,7 @@ use crate::queries::{Place, Spot, answer, grows, is_row, spot_in, spot_of};
 use crate::registers::Registers;
 use cl_model::{Bound, Launch, Query};
 use lane_code::{Bank, Reg};
-use lane_kernels::{blend32, blend64, lane_of32, lane_of64, shared_lane};
+use lane_kernels::{lane_of32, lane_of64, put32, put64, shared_lane};
 use std::simd::prelude::*;
 
 /// What a work-item function gives an item, as a lane.
@@ -172,8 +172,11 @@ fn ask_from<const W: usize>(
     match to.bank {
         Bank::Narrow => {
             let new = answers32(launch, item.number, what, r.narrow[dim.number as usize]);
-            let old = r.narrow[to.number as usize];
-            r.narrow[to.number as usize] = blend32(r.masks[mask.number as usize], new, old);
+            put32(
+                &mut r.narrow[to.number as usize],
+                r.masks[mask.number as usize],
+                new,
+            );
         }
         Bank::Wide => {
             let new = answers64(
@@ -183,8 +186,11 @@ fn ask_from<const W: usize>(
                 r.narrow[dim.number as usize],
                 r.masks[mask.number as usize],
             );
-            let old = r.wide[to.number as usize];
-            r.wide[to.number as usize] = blend64(r.masks[mask.number as usize], new, old);
+            put64(
+                &mut r.wide[to.number as usize],
+                r.masks[mask.number as usize],
+                new,
+            );
         }
         Bank::Scalar | Bank::Mask => {
             let one = answer64(launch, item.number, what, r.scalars[dim.number as usize]);
@@ -251,14 +257,20 @@ pub(crate) fn argument_step<const W: usize>(
     let value = value_bound(args, number);
     match to.bank {
         Bank::Narrow => {
-            let old = r.narrow[to.number as usize];
             let new = Simd::splat(lane_of32(value));
-            r.narrow[to.number as usize] = blend32(r.masks[mask.number as usize], new, old);
+            put32(
+                &mut r.narrow[to.number as usize],
+                r.masks[mask.number as usize],
+                new,
+            );
         }
         Bank::Wide => {
-            let old = r.wide[to.number as usize];
             let new = Simd::splat(lane_of64(value));
-            r.wide[to.number as usize] = blend64(r.masks[mask.number as usize], new, old);
+            put64(
+                &mut r.wide[to.number as usize],
+                r.masks[mask.number as usize],
+                new,
+            );
         }
         Bank::Scalar | Bank::Mask => r.scalars[to.number as usize] = lane_of64(value),
     }

@@ -12,8 +12,8 @@ ghost use Rattle.lane_machine.specs.State.{IsIn, FitsConvert};
 use crate::registers::Registers;
 use lane_code::{Bank, Reg};
 use lane_kernels::{
-    Tally, blend32, blend64, convert32, convert64, lane_of32, lane_of64, lowest as lowest_lane,
-    narrow, pattern64, widen,
+    Tally, convert32, convert64, lane_of32, lane_of64, lowest as lowest_lane, narrow, pattern64,
+    put32, put64, widen,
 };
 use std::simd::prelude::*;
 use wg_num::IntType;
@@ -46,19 +46,19 @@ pub(crate) fn copy_step<const W: usize>(r: &mut Registers<W>, to: Reg, from: Reg
 {
     match to.bank {
         Bank::Narrow => {
-            let old = r.narrow[to.number as usize];
-            r.narrow[to.number as usize] = blend32(
+            let new = r.narrow[from.number as usize];
+            put32(
+                &mut r.narrow[to.number as usize],
                 r.masks[mask.number as usize],
-                r.narrow[from.number as usize],
-                old,
+                new,
             );
         }
         Bank::Wide => {
-            let old = r.wide[to.number as usize];
-            r.wide[to.number as usize] = blend64(
+            let new = r.wide[from.number as usize];
+            put64(
+                &mut r.wide[to.number as usize],
                 r.masks[mask.number as usize],
-                r.wide[from.number as usize],
-                old,
+                new,
             );
         }
         Bank::Scalar | Bank::Mask => r.scalars[to.number as usize] =
@@ -140,13 +140,16 @@ fn convert_narrow<const W: usize>(
         written r.old.plain to mask (map (convert_lane (bits_in to.bank) kind was) (lanes_of r.old.plain from)) }
     ensures room { r.new.room ≡ r.old.room }
 {
-    let old = r.narrow[to.number as usize];
     let new = match from.bank {
         Bank::Narrow => convert32(kind, r.narrow[from.number as usize], was, tally),
         Bank::Wide => narrow(kind, r.wide[from.number as usize], was, tally),
-        Bank::Scalar | Bank::Mask => old,
+        Bank::Scalar | Bank::Mask => unreachable!(),
     };
-    r.narrow[to.number as usize] = blend32(r.masks[mask.number as usize], new, old);
+    put32(
+        &mut r.narrow[to.number as usize],
+        r.masks[mask.number as usize],
+        new,
+    );
 }
 
 fn convert_wide<const W: usize>(
@@ -168,13 +171,16 @@ fn convert_wide<const W: usize>(
         written r.old.plain to mask (map (convert_lane (bits_in to.bank) kind was) (lanes_of r.old.plain from)) }
     ensures room { r.new.room ≡ r.old.room }
 {
-    let old = r.wide[to.number as usize];
     let new = match from.bank {
         Bank::Narrow => widen(kind, r.narrow[from.number as usize], was, tally),
         Bank::Wide => convert64(kind, r.wide[from.number as usize], was, tally),
-        Bank::Scalar | Bank::Mask => old,
+        Bank::Scalar | Bank::Mask => unreachable!(),
     };
-    r.wide[to.number as usize] = blend64(r.masks[mask.number as usize], new, old);
+    put64(
+        &mut r.wide[to.number as usize],
+        r.masks[mask.number as usize],
+        new,
+    );
 }
 
 fn one_convert(kind: IntType, p: u64, was: IntType, tally: &mut Tally) -> u64

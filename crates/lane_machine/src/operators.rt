@@ -11,7 +11,7 @@ use crate::operands::Output;
 use crate::registers::Registers;
 use lane_code::{Bank, Reg};
 use lane_kernels::{
-    Tally, binary32, binary64, blend32, blend64, builtin32, builtin64, unary32, unary64,
+    Tally, binary32, binary64, builtin32, builtin64, put32, put64, unary32, unary64,
 };
 use std::simd::prelude::*;
 use wg_num::{Bin, Fun, IntType, Un};
@@ -63,8 +63,11 @@ fn unary_narrow<const W: usize>(
     ensures room { r.new.room ≡ r.old.room }
 {
     let new = unary32(op, out.of, r.narrow[a.number as usize], tally);
-    let old = r.narrow[out.to.number as usize];
-    r.narrow[out.to.number as usize] = blend32(r.masks[out.mask.number as usize], new, old);
+    put32(
+        &mut r.narrow[out.to.number as usize],
+        r.masks[out.mask.number as usize],
+        new,
+    );
 }
 
 fn unary_wide<const W: usize>(r: &mut Registers<W>, op: Un, out: Output, a: Reg, tally: &mut Tally)
@@ -81,8 +84,11 @@ fn unary_wide<const W: usize>(r: &mut Registers<W>, op: Un, out: Output, a: Reg,
     ensures room { r.new.room ≡ r.old.room }
 {
     let new = unary64(op, out.of, r.wide[a.number as usize], tally);
-    let old = r.wide[out.to.number as usize];
-    r.wide[out.to.number as usize] = blend64(r.masks[out.mask.number as usize], new, old);
+    put64(
+        &mut r.wide[out.to.number as usize],
+        r.masks[out.mask.number as usize],
+        new,
+    );
 }
 
 fn unary_scalar<const W: usize>(
@@ -160,8 +166,11 @@ fn binary_narrow<const W: usize>(
         r.narrow[b.number as usize],
         tally,
     );
-    let old = r.narrow[out.to.number as usize];
-    r.narrow[out.to.number as usize] = blend32(r.masks[out.mask.number as usize], new, old);
+    put32(
+        &mut r.narrow[out.to.number as usize],
+        r.masks[out.mask.number as usize],
+        new,
+    );
 }
 
 fn binary_wide<const W: usize>(
@@ -193,8 +202,11 @@ fn binary_wide<const W: usize>(
         r.wide[b.number as usize],
         tally,
     );
-    let old = r.wide[out.to.number as usize];
-    r.wide[out.to.number as usize] = blend64(r.masks[out.mask.number as usize], new, old);
+    put64(
+        &mut r.wide[out.to.number as usize],
+        r.masks[out.mask.number as usize],
+        new,
+    );
 }
 
 fn binary_scalar<const W: usize>(
@@ -288,8 +300,11 @@ fn builtin_narrow<const W: usize>(
         r.narrow[c.number as usize],
         tally,
     );
-    let old = r.narrow[out.to.number as usize];
-    r.narrow[out.to.number as usize] = blend32(r.masks[out.mask.number as usize], new, old);
+    put32(
+        &mut r.narrow[out.to.number as usize],
+        r.masks[out.mask.number as usize],
+        new,
+    );
 }
 
 fn builtin_wide<const W: usize>(
@@ -325,8 +340,11 @@ fn builtin_wide<const W: usize>(
         r.wide[c.number as usize],
         tally,
     );
-    let old = r.wide[out.to.number as usize];
-    r.wide[out.to.number as usize] = blend64(r.masks[out.mask.number as usize], new, old);
+    put64(
+        &mut r.wide[out.to.number as usize],
+        r.masks[out.mask.number as usize],
+        new,
+    );
 }
 
 fn builtin_scalar<const W: usize>(

@@ -18,7 +18,7 @@ use crate::operands::Access;
 use crate::registers::Registers;
 use crate::shared::stored64;
 use lane_code::{Bank, Reg};
-use lane_kernels::{Tally, blend32, blend64, gather64, scatter64};
+use lane_kernels::{Tally, gather64, put32, put64, scatter64};
 use std::simd::prelude::*;
 use wg_num::IntType;
 
@@ -266,8 +266,11 @@ fn load_own_narrow<const W: usize>(
     let places = r.wide[access.index.number as usize].to_array();
     match gather_low(objects, first, access.of, places, active, tally) {
         Ok(new) => {
-            let old = r.narrow[access.value.number as usize];
-            r.narrow[access.value.number as usize] = blend32(active, Simd::from_array(new), old);
+            put32(
+                &mut r.narrow[access.value.number as usize],
+                active,
+                Simd::from_array(new),
+            );
             None
         }
         Err(lane) => Some(lane),
@@ -303,8 +306,11 @@ fn load_own_wide<const W: usize>(
     let places = r.wide[access.index.number as usize].to_array();
     match gather_own(objects, first, access.of, places, active, tally) {
         Ok(new) => {
-            let old = r.wide[access.value.number as usize];
-            r.wide[access.value.number as usize] = blend64(active, Simd::from_array(new), old);
+            put64(
+                &mut r.wide[access.value.number as usize],
+                active,
+                Simd::from_array(new),
+            );
             None
         }
         Err(lane) => Some(lane),

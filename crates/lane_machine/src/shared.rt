@@ -1,6 +1,7 @@
 //! Loads and stores at which all lanes share one object.
 ghost use Rattle.std.specs.Prelude.{◌≡◌, ◌≢◌, ◌<◌, ◌≤◌, None, Some, [], length, take, map};
 ghost use Rattle.std.specs.Prelude.{slice_index_or, slice_set, IfSome, MatchOption, MatchResult};
+ghost use Rattle.std.specs.Bool.{OnTrue};
 ghost use Rattle.wg_num.specs.Bytes.{size_of};
 ghost use Rattle.lane_values.specs.Access.{faults, gathered, stored_lanes, scattered};
 ghost use Rattle.lane_values.specs.Lanes.{FitsLane};
@@ -11,7 +12,7 @@ ghost use Rattle.lane_machine.specs.State.{IsIn, FitsBank};
 use crate::operands::Access;
 use crate::registers::Registers;
 use lane_code::{Bank, Reg};
-use lane_kernels::{Tally, blend32, blend64, gather32, gather64, scatter32, scatter64, whole32};
+use lane_kernels::{Tally, gather32, gather64, put32, put64, scatter32, scatter64, whole32};
 use std::simd::prelude::*;
 use wg_num::IntType;
 
@@ -66,8 +67,17 @@ fn gather_wide<const W: usize>(
     gather64(bytes, t, index, mask, tally)
 }
 
-/// Loads narrow lanes, of which some may be inactive or out of range. It is out of line, answers no vector and takes no
-/// struct, so that a load of lanes that are all active and in range keeps in registers what it loads.
+/// Whether the type has 32 bits.
+#[inline(always)]
+fn is_word(t: IntType) -> bool
+    ensures { OnTrue result (size_of t ≡ 4) }
+{
+    matches!(t, IntType::Int | IntType::Uint)
+}
+
+/// Loads narrow lanes of any type, of which some may be inactive or out of range. It is out of line, answers no vector
+/// and takes no struct, so that a load of 32 bits a lane whose lanes are all active and in range keeps in registers what
+/// it loads.
 #[inline(never)]
 fn load_some<const W: usize>(
     r: &mut Registers<W>,
@@ -94,10 +104,23 @@ fn load_some<const W: usize>(
     ensures room { r.new.room ≡ r.old.room }
 {
     let active = r.masks[mask.number as usize];
+    if !is_word(of) {
+        if let Some(new) = whole_narrow(bytes, of, r.wide[index.number as usize], active, tally) {
+            put32(
+                &mut r.narrow[to.number as usize],
+                active,
+                Simd::from_array(new),
+            );
+            return None;
+        }
+    }
     match gather_narrow(bytes, of, r.wide[index.number as usize], active, tally) {
         Ok(new) => {
-            let old = r.narrow[to.number as usize];
-            r.narrow[to.number as usize] = blend32(active, Simd::from_array(new), old);
+            put32(
+                &mut r.narrow[to.number as usize],
+                active,
+                Simd::from_array(new),
+            );
             None
         }
         Err(lane) => Some(lane),
@@ -127,24 +150,27 @@ fn load_narrow<const W: usize>(
         ≡ Some k) × (r.new.plain ≡ r.old.plain)) }
     ensures room { r.new.room ≡ r.old.room }
 {
-    let active = r.masks[access.mask.number as usize];
-    let index = r.wide[access.index.number as usize];
-    match whole_narrow(bytes, access.of, index, active, tally) {
-        Some(new) => {
-            let old = r.narrow[access.value.number as usize];
-            r.narrow[access.value.number as usize] = blend32(active, Simd::from_array(new), old);
-            None
+    if is_word(access.of) {
+        let active = r.masks[access.mask.number as usize];
+        let index = r.wide[access.index.number as usize];
+        if let Some(new) = whole_narrow(bytes, access.of, index, active, tally) {
+            put32(
+                &mut r.narrow[access.value.number as usize],
+                active,
+                Simd::from_array(new),
+            );
+            return None;
         }
-        None => load_some(
-            r,
-            bytes,
-            access.of,
-            access.index,
-            access.value,
-            access.mask,
-            tally,
-        ),
     }
+    load_some(
+        r,
+        bytes,
+        access.of,
+        access.index,
+        access.value,
+        access.mask,
+        tally,
+    )
 }
 
 fn load_wide<const W: usize>(
@@ -179,8 +205,11 @@ fn load_wide<const W: usize>(
         tally,
     ) {
         Ok(new) => {
-            let old = r.wide[access.value.number as usize];
-            r.wide[access.value.number as usize] = blend64(active, Simd::from_array(new), old);
+            put64(
+                &mut r.wide[access.value.number as usize],
+                active,
+                Simd::from_array(new),
+            );
             None
         }
         Err(lane) => Some(lane),

@@ -51,7 +51,7 @@ abbrev pub decreases-rounds : goal.decreases-rounds
 decreases-rounds l = 4 * node_weight l.node.now + 1
 
 abbrev pub decreases-iteration : goal.decreases-iteration
-decreases-iteration l = 4 * node_weight l.body.now + 3
+decreases-iteration l = 4 * node_weight l.body.now + 4
 
 abbrev pub decreases-nodes : goal.decreases-nodes
 decreases-nodes l = 4 * list_weight l.nodes.now.items + 4
