@@ -1,6 +1,6 @@
 -- Laws of vectors as lists of lanes.
 use Rattle.std.proofs.Common.{◌≡◌, ℕ, zero, suc, ◌+◌, ◌-◌, ◌/◌, ◌%◌, ◌^◌, ◌<◌, ◌≤◌, refl, sym, ap, ap₂, ◌∙◌, arith}
-use Rattle.std.proofs.Common.{Bool, true, false, ◌&&◌, cond, List, [], ◌∷◌, length, replicate, map, subst, ltb, eqb}
+use Rattle.std.proofs.Common.{Bool, true, false, cond, List, [], ◌∷◌, length, replicate, map, subst, ltb, eqb}
 use Rattle.std.proofs.Common.{eqb-true, eq-eqb, Fits, ◌*◌, mod-eq_of_lt}
 use Rattle.std.proofs.Common.{true≢false, pos_of_ne-zero, ltb-true, ltb-false, mod-lt, take, set, get_or, ◌++◌, not}
 use Rattle.std.proofs.lemmas.Grind.{take-set_at, take_at_read}
@@ -289,47 +289,6 @@ module _ (W high ones : ℕ) (on : top high ones ≡ true) (off : top high 0 ≡
       → eqb (mask_l (map (top high) (map (λ x. ones - x) (zip2 (all_if ones eqb) (map from_bool m) (replicate n 1)))) %
       2 ^ 64) 0 ≡ list_all (λ on. on) m
   full_told n m e le = ap (λ x. eqb x 0) (mask_l-mod _ 64 (omega (arith, full_long n m e))) ∙ full_mask n m e
-
-  -- ---- comparisons with a splat that hold in all lanes
-
-  told_long : (t : ℕ → ℕ → Bool) (k n : ℕ) (a : List ℕ) → length a ≡ n
-      → length (map (top high) (map (λ x. ones - x) (zip2 (all_if ones t) a (replicate n k)))) ≡ n
-  told_long t k zero [] e = refl
-  told_long t k zero (p ∷ a) e = absurd (omega arith)
-  told_long t k (suc n) [] e = absurd (omega arith)
-  told_long t k (suc n) (p ∷ a) e = ap suc (told_long t k n a (omega arith))
-
-  told_mask : (t : ℕ → ℕ → Bool) (k n : ℕ) (a : List ℕ) → length a ≡ n
-      → eqb (mask_l (map (top high) (map (λ x. ones - x) (zip2 (all_if ones t) a (replicate n k))))) 0 ≡
-      list_all (λ u. t u k) a
-  told_mask t k zero [] e = refl
-  told_mask t k zero (p ∷ a) e = absurd (omega arith)
-  told_mask t k (suc n) [] e = absurd (omega arith)
-  told_mask t k (suc n) (p ∷ a) e = by (t p k) (told_mask t k n a (omega arith))
-    where
-      rest : ℕ
-      rest = mask_l (map (top high) (map (λ x. ones - x) (zip2 (all_if ones t) a (replicate n k))))
-
-      twice : (r : ℕ) → eqb (0 + 2 * r) 0 ≡ eqb r 0
-      twice r = grind (arith, nat_tests)
-
-      some : (r : ℕ) → eqb (1 + 2 * r) 0 ≡ false
-      some r = grind (arith, nat_tests)
-
-      by : (b : Bool) → eqb rest 0 ≡ list_all (λ u. t u k) a →
-          eqb (cond (top high (ones - cond b ones 0)) 1 0 + 2 * rest) 0 ≡ (b && list_all (λ u. t u k) a)
-      by true more =
-          let none : ones - ones ≡ 0 = omega arith in
-          ap (λ x. eqb (cond x 1 0 + 2 * rest) 0) (ap (top high) none ∙ off) ∙ twice rest ∙ more
-      by false more =
-          let all : ones - 0 ≡ ones = omega arith in
-          ap (λ x. eqb (cond x 1 0 + 2 * rest) 0) (ap (top high) all ∙ on) ∙ some rest
-
-  -- no lane of a comparison with a splat fails exactly where it holds of all lanes
-  pub splat_told : (t : ℕ → ℕ → Bool) (k n : ℕ) (a : List ℕ) → length a ≡ n → n ≤ 64
-      → eqb (mask_l (map (top high) (map (λ x. ones - x) (zip2 (all_if ones t) a (replicate n k)))) % 2 ^ 64) 0 ≡
-      list_all (λ u. t u k) a
-  splat_told t k n a e le = ap (λ x. eqb x 0) (mask_l-mod _ 64 (omega (arith, told_long t k n a e))) ∙ told_mask t k n a e
 
   -- ---- the lesser and the greater
 
