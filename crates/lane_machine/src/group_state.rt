@@ -48,9 +48,9 @@ pub enum Answers {
 }
 
 /// The numbers of one list into another of the same length; a few are copied without a call.
-fn copy_over(to: &mut Vec<u64>, from: &Vec<u64>)
-    requires { length to.old.items ≡ length from.now.items }
-    ensures { to.new.items ≡ from.now.items }
+fn copy_numbers(to: &mut [u64], from: &[u64])
+    requires { length to.old ≡ length from.now }
+    ensures { to.new ≡ from.now }
 {
     match from.len() {
         0 => {}
@@ -68,16 +68,33 @@ fn copy_over(to: &mut Vec<u64>, from: &Vec<u64>)
     }
 }
 
+fn copy_over(to: &mut Vec<u64>, from: &Vec<u64>)
+    requires { length to.old.items ≡ length from.now.items }
+    ensures { to.new.items ≡ from.now.items }
+{
+    copy_numbers(to, from);
+}
+
+/// Whether some vote is yes; all are looked at, so that many are at once.
 fn some_yes(votes: &[bool]) -> bool
     ensures { result ≡ list_any (λ v. v) votes.now }
 {
-    votes.iter().any(|v| *v)
+    let mut found = false;
+    for vote in votes {
+        found |= *vote;
+    }
+    found
 }
 
+/// Whether some vote is no; all are looked at, so that many are at once.
 fn some_no(votes: &[bool]) -> bool
     ensures { result ≡ list_any (λ v. not v) votes.now }
 {
-    votes.iter().any(|v| !*v)
+    let mut found = false;
+    for vote in votes {
+        found |= !*vote;
+    }
+    found
 }
 
 fn answer_for(some_yes: bool, some_no: bool) -> Answers

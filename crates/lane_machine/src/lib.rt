@@ -2,6 +2,7 @@
 #![tactic(auto)]
 
 mod access;
+mod alike;
 mod asks;
 mod chunks;
 mod clearing;

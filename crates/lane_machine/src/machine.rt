@@ -19,6 +19,7 @@ use crate::registers::Registers;
 use crate::room::{counts_at, most_in, no_registers};
 use crate::setting::Task;
 use cl_model::{Buffers, Launch};
+use lane_alike::question_of;
 use lane_code::{Code, GroupProgram, RegionEnd, RunEnd};
 use lane_kernels::Tally;
 use std::alloc::Global;
@@ -121,7 +122,8 @@ impl Machine {
         }
     }
 
-    /// Does a region of the program: a code on all chunks of a group, exactly as that means, and takes no memory.
+    /// Does a region of the program: a code on all chunks of a group, exactly as that means, and takes no memory. Where
+    /// the code is known to ask all items one question, that is answered once.
     #[inline(always)]
     pub fn items(
         &mut self,
@@ -141,6 +143,10 @@ impl Machine {
         ensures stands { IsHeldFor (plain_of program.now) (launch_of launch.now) group.old.number group.new }
         ensures room { IsNoLess (room_at program.now.width self.old) (room_at program.now.width self.new) }
     {
+        if let Some(question) = question_of(code) {
+            group.answer(question);
+            return RunEnd::Done;
+        }
         let task = Task {
             code,
             program,
