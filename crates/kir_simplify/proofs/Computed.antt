@@ -1,25 +1,24 @@
 -- The walk that folds lines computes only what may be computed: what is asked of the lines, line by line.
-use Rattle.std.proofs.Common.{◌≡◌, ℕ, zero, suc, ◌+◌, ◌<◌, ◌≤◌, ℤ, pos, List, [], ◌∷◌, ◌++◌, Option, Some, None, length}
-use Rattle.std.proofs.Common.{get_or, slice_get, drop, map, refl, sym, ap, ◌∙◌, subst, Global}
-use Rattle.std.specs.Prelude.{Bool as Test, true, false}
+use Rattle.std.proofs.Common.{◌≡◌, ℕ, zero, suc, ◌+◌, ◌<◌, List, [], ◌∷◌, ◌++◌, Some, length}
+use Rattle.std.proofs.Common.{get_or, slice_get, drop, refl, sym, ap, ◌∙◌, subst, Global}
+use Rattle.std.specs.Prelude.{Bool as Test, true}
 use Rattle.std.specs.declared.vec.Vec.{Vec}
 use mathlib.Core.Path.{fun_ext}
 use Rattle.std.proofs.lemmas.Bool.{true≢false}
 use Rattle.std.proofs.lemmas.Option.{same_Some, none-some}
 use Rattle.wg_num.specs.declared.types.IntType.{IntType}
 use Rattle.wg_num.specs.Wrap.{IsValue}
-use Rattle.cl_model.specs.Steps.{nth}
 use Rattle.kir.specs.declared.line.Atom.{Atom}
 use Rattle.kir.specs.declared.line.Atom.TheVariants.{Const, Cell as CellAtom}
 use Rattle.kir.specs.declared.line.Line.{Line}
 use Rattle.kir.specs.declared.line.Line.TheVariants as line
-use Rattle.kir.specs.Tree.{Work, Lines, NoLine, SetThen, IfThen, LoopThen}
-use Rattle.kir.specs.Listed.{line_before, lines_of, work_of}
+use Rattle.kir.specs.Tree.{Work, Lines, NoLine, SetThen}
+use Rattle.kir.specs.Listed.{line_before, lines_of}
 use Rattle.kir.proofs.CellTypes.{zero_value}
 use Rattle.kir.proofs.Firsts.{first_left}
 use Rattle.kir.proofs.Rows.{if_listed, loop_listed}
-use Rattle.kir_simplify.specs.Computable.{IsValueOf, AreValuesOf, IsComputable, AreComputable}
-use Rattle.kir_simplify.specs.Passes.{Known, constant_value, known_work, settled_work, learnt}
+use Rattle.kir_simplify.specs.Computable.{IsValueOf, AreValuesOf, AreComputable}
+use Rattle.kir_simplify.specs.Passes.{Known, constant_value, known_work, settled_work, learnt, with_offsets}
 use Rattle.kir_simplify.specs.Tables.{is_bare}
 
 -- ---- tables with an entry more
@@ -49,9 +48,9 @@ value_there t (b ∷ args) (suc n) a v h = value_there t args n a v.1 h
 
 -- ---- lines
 
-module _ (once : ℕ → Test) where
+module _ (once : ℕ → Test) (os : List ℕ) where
   abbrev Asked : Known → Lines → Type 0
-  Asked = AreComputable once
+  Asked = AreComputable once os
 
   pub first_asked : (known : Known) (l : Line) (rest : Lines) → Asked known (line_before l rest) →
       Asked known (line_before l NoLine)
@@ -98,6 +97,7 @@ module _ (once : ℕ → Test) where
   pub loop_asked : (known : Known) (l : Line) (site : ℕ) (first : Test) (test : Vec Line Global) (answer : Atom)
       (body : Vec Line Global) → l ≡ line.Loop site first test answer body → (rest : Lines) →
       Asked known (line_before l rest) →
-      Asked known (lines_of test.items) × Asked known (lines_of body.items) × Asked known rest
+      Asked (with_offsets os known) (lines_of test.items) × Asked (with_offsets os known) (lines_of body.items) ×
+      Asked known rest
   loop_asked known l site first test answer body e rest =
       subst (Asked known) (ap (λ x. line_before x rest) e ∙ loop_listed site first test answer body rest)

@@ -32,9 +32,10 @@ use Rattle.kir.proofs.FromSteps.{length-world_after, start_is}
 use Rattle.kir.proofs.ItemHistories.{item_histories}
 use Rattle.kir_simplify.specs.Simple.{is_set_once}
 use Rattle.kir_simplify.specs.Faithful.{StandsFor, StandAlike, RunAlike, IsFaithful}
-use Rattle.kir_simplify.specs.Passes.{Known, nothing_known, known_atom, folded, folded_of}
+use Rattle.kir_simplify.specs.Passes.{Known, nothing_known, known_atom, offsets_of, folded, folded_of}
 use Rattle.kir_simplify.proofs.FoldedItems.{folded_tasks, AreFine, Beside, labels, start_beside, branch_beside}
-use Rattle.kir_simplify.proofs.FoldedItems.{answered_beside}
+use Rattle.kir_simplify.proofs.FoldedItems.{answered_beside, HoldZero}
+use Rattle.kir_simplify.proofs.OffsetCells.{BindsNone, binds_none}
 use Rattle.kir_simplify.proofs.FoldedLess.{or_less, atom_less, work_less, same_loads, same_stores}
 use Rattle.kir_simplify.proofs.FoldedLive.{live_there}
 use Rattle.kir_simplify.proofs.FoldedLess.{same_counts, barrier_there, cut_same, stop_same, keeps_fewer}
@@ -189,7 +190,7 @@ module _ (kernel : Kernel) where
       sym (sets_same c i.cells i.tasks b.known b.fine) ∙
       (sym (ap (λ (x : Item). tasks_set c x.tasks) b.same) ∙ e)
 
-  module _ (launch : Launch) where
+  module _ (launch : Launch) (binds : BindsNone kernel launch) where
     -- ---- a simulation
 
     matched : (i' i : Item) → Beside kernel i' i → (n : Next Item) (m : Next Item) → item_next kernel launch i ≡ m →
@@ -230,60 +231,63 @@ module _ (kernel : Kernel) where
     simulates = record {
       same_group = λ item. refl;
       matches = λ i' i b. matched i' i b (item_next simple launch i') (item_next kernel launch i) refl
-          (labels kernel launch i' i b);
+          (labels kernel launch binds i' i b);
     }
 
     -- ---- where they can come to
 
     branch_answers : (i : Item) (t : Tasks) (ks : List Known) (v : ℤ) (k : Tasks) (to : Item) →
-        AreFine kernel i.cells k ks → AnswersTo v i k to
+        HoldZero kernel i.cells → AreFine kernel i.cells k ks → AnswersTo v i k to
         → (to' : Item) × AnswersTo v (with_tasks i t) (folded_tasks kernel k ks) to' × Beside kernel to' to
-    branch_answers i t ks v NoTask to f h = absurd h
-    branch_answers i t [] v (LinesAt at lines k) to f h = absurd f
-    branch_answers i t (known ∷ ks) v (LinesAt at (IfThen site test chosen other rest) k) to f h = (
+    branch_answers i t ks v NoTask to held f h = absurd h
+    branch_answers i t [] v (LinesAt at lines k) to held f h = absurd f
+    branch_answers i t (known ∷ ks) v (LinesAt at (IfThen site test chosen other rest) k) to held f h = (
       with_tasks (with_tasks i t)
-          (branched v at (folded (is_set_once kernel) known chosen) (folded (is_set_once kernel) known other)
-          (folded (is_set_once kernel) known rest) (folded_tasks kernel k ks)),
+          (branched v at (folded (is_set_once kernel) (offsets_of kernel) known chosen) (folded (is_set_once kernel)
+          (offsets_of kernel) known other)
+          (folded (is_set_once kernel) (offsets_of kernel) known rest) (folded_tasks kernel k ks)),
       refl,
       subst (λ x. Beside kernel (with_tasks (with_tasks i t)
-          (branched v at (folded (is_set_once kernel) known chosen) (folded (is_set_once kernel) known other)
-          (folded (is_set_once kernel) known rest) (folded_tasks kernel k ks))) x) h
-          (branch_beside kernel launch i t at chosen other rest k known ks f.0
-          (λ c a e. let all = f.1 c a e in omega arith) (λ c. let all = f.2 c in omega arith)
-          (λ c a e. let all = f.1 c a e in omega arith) (λ c. let all = f.2 c in omega arith)
-          (λ c a e. let all = f.1 c a e in omega arith) (λ c. let all = f.2 c in omega arith)
+          (branched v at (folded (is_set_once kernel) (offsets_of kernel) known chosen) (folded (is_set_once kernel)
+          (offsets_of kernel) known other)
+          (folded (is_set_once kernel) (offsets_of kernel) known rest) (folded_tasks kernel k ks))) x) h
+          (branch_beside kernel launch binds i t at chosen other rest k known ks held f.0
+          (λ c a e not. let all = f.1 c a e not in omega arith) ((λ c. let all = f.2.0 c in omega arith), f.2.1.0)
+          (λ c a e not. let all = f.1 c a e not in omega arith) ((λ c. let all = f.2.0 c in omega arith), f.2.1.1)
+          (λ c a e not. let all = f.1 c a e not in omega arith) ((λ c. let all = f.2.0 c in omega arith), f.2.1.2)
           f.3 f.4 (is_zero v)),
     )
-    branch_answers i t (known ∷ ks) v (LinesAt at NoLine k) to f h = absurd h
-    branch_answers i t (known ∷ ks) v (LinesAt at (SetThen c work rest) k) to f h = absurd h
-    branch_answers i t (known ∷ ks) v (LinesAt at (LoadThen site c element root index rest) k) to f h = absurd h
-    branch_answers i t (known ∷ ks) v (LinesAt at (StoreThen site element root index from rest) k) to f h = absurd h
-    branch_answers i t (known ∷ ks) v (LinesAt at (ClearThen array rest) k) to f h = absurd h
-    branch_answers i t (known ∷ ks) v (LinesAt at (LoopThen site first test answer body rest) k) to f h = absurd h
-    branch_answers i t (known ∷ ks) v (LinesAt at (BarrierThen site rest) k) to f h = absurd h
-    branch_answers i t [] v (AnswerAt at test answer body n k) to f h = absurd f
-    branch_answers i t (known ∷ ks) v (AnswerAt at test answer body n k) to f h = (
+    branch_answers i t (known ∷ ks) v (LinesAt at NoLine k) to held f h = absurd h
+    branch_answers i t (known ∷ ks) v (LinesAt at (SetThen c work rest) k) to held f h = absurd h
+    branch_answers i t (known ∷ ks) v (LinesAt at (LoadThen site c element root index rest) k) to held f h = absurd h
+    branch_answers i t (known ∷ ks) v (LinesAt at (StoreThen site element root index from rest) k) to held f h =
+        absurd h
+    branch_answers i t (known ∷ ks) v (LinesAt at (ClearThen array rest) k) to held f h = absurd h
+    branch_answers i t (known ∷ ks) v (LinesAt at (LoopThen site first test answer body rest) k) to held f h = absurd h
+    branch_answers i t (known ∷ ks) v (LinesAt at (BarrierThen site rest) k) to held f h = absurd h
+    branch_answers i t [] v (AnswerAt at test answer body n k) to held f h = absurd f
+    branch_answers i t (known ∷ ks) v (AnswerAt at test answer body n k) to held f h = (
       with_tasks (with_tasks i t)
-          (answered v at (folded (is_set_once kernel) known test) (known_atom known answer)
-          (folded (is_set_once kernel) known body) n (folded_tasks kernel k ks)),
+          (answered v at (folded (is_set_once kernel) (offsets_of kernel) known test) (known_atom known answer)
+          (folded (is_set_once kernel) (offsets_of kernel) known body) n (folded_tasks kernel k ks)),
       refl,
       subst (λ x. Beside kernel (with_tasks (with_tasks i t)
-          (answered v at (folded (is_set_once kernel) known test) (known_atom known answer)
-          (folded (is_set_once kernel) known body) n (folded_tasks kernel k ks))) x) h
-          (answered_beside kernel launch i t at test answer body n k known ks f (is_zero v)),
+          (answered v at (folded (is_set_once kernel) (offsets_of kernel) known test) (known_atom known answer)
+          (folded (is_set_once kernel) (offsets_of kernel) known body) n (folded_tasks kernel k ks))) x) h
+          (answered_beside kernel launch binds i t at test answer body n k known ks held f (is_zero v)),
     )
 
     answers_too : (i' i to : Item) → Beside kernel i' i → MayAnswer i to →
         (to' : Item) × MayAnswer i' to' × Beside kernel to' to
     answers_too i' i to b m =
-        let r = branch_answers i (folded_tasks kernel i.tasks b.known) b.known m.0 i.tasks to b.fine m.1 in
+        let r = branch_answers i (folded_tasks kernel i.tasks b.known) b.known m.0 i.tasks to b.zero b.fine m.1 in
         (r.0, (m.0, subst (λ (x : Item). AnswersTo m.0 x x.tasks r.0) (sym b.same) r.1), r.2)
 
     comes_too : (p : Option Point) (i' i : Item) → Beside kernel i' i → ItemCanCome kernel launch i p →
         ItemCanCome simple launch i' p
     comes_too p i' i b arrived = subst (λ q. ItemCanCome simple launch i' q) (stands i' i b) arrived
     comes_too p i' i b (by_step {after = after} m c) =
-        let r = may_lead GoesOn after (labels kernel launch i' i b) m in
+        let r = may_lead GoesOn after (labels kernel launch binds i' i b) m in
         by_step r.1 (comes_too p r.0 after r.2 c)
     comes_too p i' i b (by_test {after = after} m c) =
         let r = answers_too i' i after b m in
@@ -294,14 +298,14 @@ module _ (kernel : Kernel) where
     module _ (buffers : List (List ℕ)) where
       alike : (i' i : Item) → Beside kernel i' i → StandAlike kernel simple (λ at. at) launch buffers i' i
       alike i' i b = record {
-        same_next = next_alike (labels kernel launch i' i b);
+        same_next = next_alike (labels kernel launch binds i' i b);
         waits = λ w. for;
         parting = λ point is never come. never (comes_too (Some point) i' i b come);
         reads = λ c is e. (for, reads_there c i' i b e, ap (λ (cells : ℕ → ℤ). cells c) (cells_same i' i b));
         sets = λ c is e. (for, sets_there c i' i b e);
         sets_value = λ c is e done s' steps.
             let r = steps_on (lengths_of (shell_of kernel) launch buffers) (MayBeTold (shell_of kernel) launch
-            buffers) done s' (labels kernel launch i' i b) steps in
+            buffers) done s' (labels kernel launch binds i' i b) steps in
             (r.0, r.1, ap (λ (cells : ℕ → ℤ). cells c) (cells_same s' r.0 r.2));
       }
         where
@@ -358,13 +362,13 @@ module _ (kernel : Kernel) where
   -- what is left to do at a place, folded
   even_too : (c : ℕ) → IsEven kernel (λ d. d ≡ c) → IsEven simple (λ d. d ≡ c)
   even_too c even launch fits buffers fit one other a b group deeds deeds' i' j' h h' point p p' stop d is live =
-      let x = history launch buffers one deeds i' h in
-      let y = history launch buffers other deeds' j' h' in
+      let x = history launch (binds_none kernel launch fits) buffers one deeds i' h in
+      let y = history launch (binds_none kernel launch fits) buffers other deeds' j' h' in
       let mine = ap (λ (cells : ℕ → ℤ). cells d) (cells_same i' x.0 x.2) in
       let its = ap (λ (cells : ℕ → ℤ). cells d) (cells_same j' y.0 y.2) in
       mine ∙ (even launch fits buffers fit one other a b group deeds deeds' x.0 y.0 x.1 y.1 point
       (sym (stands i' x.0 x.2) ∙ p) (sym (stands j' y.0 y.2) ∙ p')
-      (sym (stop_same (is_set_once kernel) kernel.body point.at) ∙ stop) d is
+      (sym (stop_same (is_set_once kernel) (offsets_of kernel) kernel.body point.at) ∙ stop) d is
       (live_there kernel point.at d live) ∙ sym its)
 
   -- ---- all of it
@@ -374,20 +378,31 @@ module _ (kernel : Kernel) where
     kept = refl;
     place = λ at. at;
     loops = λ at. refl;
-    barriers = λ at e. sym (barrier_there (is_set_once kernel) kernel.body at) ∙ e;
+    barriers = λ at e. sym (barrier_there (is_set_once kernel) (offsets_of kernel) kernel.body at) ∙ e;
     histories = λ launch fits sizes buffers fit item within deeds i' h.
-        let x = history launch buffers item deeds i' h in
-        (x.0, record { own_history = h; history = x.1; alike = alike launch buffers i' x.0 x.2 });
-    runs = λ launch fits sizes buffers fit moves run. run_alike launch buffers valid valid' fits moves run;
+        let x = history launch (binds_none kernel launch fits) buffers item deeds i' h in (
+          x.0,
+          record {
+            own_history = h;
+            history = x.1;
+            alike = alike launch
+                (binds_none kernel launch fits) buffers i' x.0 x.2;
+          },
+        );
+    runs = λ launch fits sizes buffers fit moves run. run_alike launch
+        (binds_none kernel launch fits) buffers valid valid' fits moves run;
     keeps = keeps_fewer kernel;
     even = λ c is even. even_too c even;
     start = λ c e. live_there kernel [] c e;
     cuts = λ at cut. (
       at,
-      sym (cut_same (is_set_once kernel) kernel.body at) ∙ cut,
+      sym (cut_same (is_set_once kernel) (offsets_of kernel) kernel.body at) ∙ cut,
       λ c live. live_there kernel at c live,
     );
-    loads = λ site. let same = same_loads (is_set_once kernel) site nothing_known kernel.body in omega arith;
-    stores = λ site. let same = same_stores (is_set_once kernel) site nothing_known kernel.body in omega arith;
-    barrier_count = λ site. let same = same_counts (is_set_once kernel) site nothing_known kernel.body in omega arith;
+    loads = λ site. let same = same_loads (is_set_once kernel) (offsets_of kernel) site nothing_known kernel.body in
+        omega arith;
+    stores = λ site. let same = same_stores (is_set_once kernel) (offsets_of kernel) site nothing_known kernel.body in
+        omega arith;
+    barrier_count = λ site. let same = same_counts (is_set_once kernel)
+        (offsets_of kernel) site nothing_known kernel.body in omega arith;
   }

@@ -1,10 +1,11 @@
 -- What folding leaves of a text: the same barriers and accesses, and no other names.
 use Rattle.std.proofs.Common.{◌≡◌, ℕ, ◌+◌, List, [], ◌∷◌, ◌++◌, map, Option, Some, None, unwrap_or, refl, sym, ap}
-use Rattle.std.proofs.Common.{ap₂, ◌∙◌, subst, true, false, if◌then◌else◌}
+use Rattle.std.proofs.Common.{ap₂, ◌∙◌, subst, true, false, if◌then◌else◌, ◌⊎◌, inl, inr, pos}
 use Rattle.std.proofs.Common.{Bool as Test}
 use Rattle.std.specs.Prelude.{nat_eq, not, ◌&&◌, ◌||◌}
 use Rattle.std.proofs.lemmas.Bool.{true≢false, and_parts}
 use Rattle.std.proofs.lemmas.Option.{none-some}
+use Rattle.wg_num.specs.declared.types.IntType.TheVariants.{Long}
 use Rattle.kir.specs.declared.line.Atom.{Atom}
 use Rattle.kir.specs.declared.line.Atom.TheVariants.{Const, Cell as CellAtom}
 use Rattle.kir.specs.Tree.{Work, Unary, Binary, Builtin, Convert, Ask, Argument, Copy, Lines, NoLine, SetThen}
@@ -19,8 +20,11 @@ use Rattle.kir.specs.Keeps.{names_behind_cut, names_across, is_keep}
 use Rattle.kir.specs.Counts.{once_if, load_lines, store_lines, barrier_lines}
 use Rattle.kir_simplify.specs.Simple.{is_constant, is_foregone, is_plain, is_set_once}
 use Rattle.kir_simplify.specs.Passes.{Known, nothing_known, learned, known_atom, known_work, foregone_value}
-use Rattle.kir_simplify.specs.Passes.{foregone_type, settled_work, copied, learnt, folded, folded_of}
-use Rattle.kir_simplify.proofs.FoldedItems.{AreConstants, learned_cases, LearnedOf, here, elsewhere}
+use Rattle.kir_simplify.specs.Passes.{foregone_type, settled_work, reduced_work, copied, learnt, with_offsets, folded}
+use Rattle.kir_simplify.specs.Passes.{offsets_of, folded_of}
+use Rattle.kir_simplify.specs.Offsets.{is_among, is_long_sum, is_zero_constant}
+use Rattle.kir_simplify.proofs.FoldedItems.{AreConstants, learned_cases, LearnedOf, here, elsewhere, offsets_cases}
+use Rattle.kir_simplify.proofs.FoldedItems.{either_so}
 
 -- ---- tests
 
@@ -67,14 +71,28 @@ known_less c known constants (Ask what dim) e = atom_less c known constants dim 
 known_less c known constants (Argument number) e = e
 known_less c known constants (Copy a) e = atom_less c known constants a e
 
+reduced_less : (c : ℕ) (work : Work) → work_reads c (reduced_work work) ≡ true → work_reads c work ≡ true
+reduced_less c (Binary op of a b) e = by_left (is_long_sum op of && is_zero_constant a) e
+  where
+    by_left : (t : Test) → work_reads c (if t then Convert of b else Binary op of a b) ≡ true →
+        (reads c a || reads c b) ≡ true
+    by_left true e = either_so (reads c a) (reads c b) e
+    by_left false e = e
+reduced_less c (Unary op of a) e = e
+reduced_less c (Builtin f of args) e = e
+reduced_less c (Convert to a) e = e
+reduced_less c (Ask what dim) e = e
+reduced_less c (Argument number) e = e
+reduced_less c (Copy a) e = e
+
 settled_less : (c : ℕ) (work : Work) → work_reads c (settled_work work) ≡ true → work_reads c work ≡ true
 settled_less c work e = by_test (is_foregone work) e
   where
     by_test : (b : Test) →
-        work_reads c (if b then Copy (Const (foregone_value work) (foregone_type work)) else work) ≡ true →
+        work_reads c (if b then Copy (Const (foregone_value work) (foregone_type work)) else reduced_work work) ≡ true →
         work_reads c work ≡ true
     by_test true e = absurd (true≢false (sym e))
-    by_test false e = e
+    by_test false e = reduced_less c work e
 
 pub work_less : (c : ℕ) (known : Known) → AreConstants known → (work : Work) →
     work_reads c (settled_work (known_work known work)) ≡ true → work_reads c work ≡ true
@@ -107,15 +125,22 @@ constants_on once known to work constants = by_test (once to && is_plain work) r
         by_learned (and_parts (once to) (is_plain work) e).1 c a (learned_cases known to (copied work) c a is)
     by_test false e = constants
 
+pub constants_inside : (os : List ℕ) (known : Known) → AreConstants known → AreConstants (with_offsets os known)
+constants_inside os known k c a is = by_case (offsets_cases os known c a is)
+  where
+    by_case : (known c ≡ Some a) ⊎ ((is_among c os ≡ true) × (a ≡ Const (pos 0) Long)) → is_constant a ≡ true
+    by_case (inl before) = k c a before
+    by_case (inr (among, same)) = ap is_constant same
+
 pub no_constants : AreConstants nothing_known
 no_constants c a e = absurd (none-some a e)
 
-module _ (once : ℕ → Test) where
+module _ (once : ℕ → Test) (os : List ℕ) where
   -- ---- what is live
 
   module _ (c : ℕ) where
     pub live_less : (known : Known) → AreConstants known → (lines : Lines) (a' a : Test) → (a' ≡ true → a ≡ true) →
-        live_in c (folded once known lines) a' ≡ true → live_in c lines a ≡ true
+        live_in c (folded once os known lines) a' ≡ true → live_in c lines a ≡ true
     live_less known k NoLine a' a f e = f e
     live_less known k (SetThen to work rest) a' a f e =
         or_less (work_reads c work) (not (nat_eq c to) && live_in c rest a) _ _ (work_less c known k work)
@@ -135,29 +160,32 @@ module _ (once : ℕ → Test) where
         or_less (reads c test) (live_in c chosen (live_in c rest a) || live_in c other (live_in c rest a)) _ _
         (atom_less c known k test)
         (or_less (live_in c chosen (live_in c rest a)) (live_in c other (live_in c rest a)) _ _
-        (live_less known k chosen (live_in c (folded once known rest) a') (live_in c rest a)
+        (live_less known k chosen (live_in c (folded once os known rest) a') (live_in c rest a)
         (live_less known k rest a' a f))
-        (live_less known k other (live_in c (folded once known rest) a') (live_in c rest a)
+        (live_less known k other (live_in c (folded once os known rest) a') (live_in c rest a)
         (live_less known k rest a' a f))) e
     live_less known k (LoopThen site true test answer body rest) a' a f e =
-        live_less known k test _ _
+        live_less (with_offsets os known) (constants_inside os known k) test _ _
         (or_less (reads c answer) (live_in c rest a || live_in c body (live_in c test false)) _ _
-        (atom_less c known k answer)
+        (atom_less c (with_offsets os known) (constants_inside os known k) answer)
         (or_less (live_in c rest a) (live_in c body (live_in c test false)) _ _ (live_less known k rest a' a f)
-        (live_less known k body (live_in c (folded once known test) false) (live_in c test false)
-        (live_less known k test false false (λ h. h))))) e
+        (live_less (with_offsets os known) (constants_inside os known k) body (live_in c (folded once os
+        (with_offsets os known) test) false) (live_in c test false)
+        (live_less (with_offsets os known) (constants_inside os known k) test false false (λ h. h))))) e
     live_less known k (LoopThen site false test answer body rest) a' a f e =
-        live_less known k body _ _ (live_less known k test _ _
+        live_less (with_offsets os known) (constants_inside os known k) body _ _ (live_less (with_offsets os known)
+        (constants_inside os known k) test _ _
         (or_less (reads c answer) (live_in c rest a || live_in c body (live_in c test false)) _ _
-        (atom_less c known k answer)
+        (atom_less c (with_offsets os known) (constants_inside os known k) answer)
         (or_less (live_in c rest a) (live_in c body (live_in c test false)) _ _ (live_less known k rest a' a f)
-        (live_less known k body (live_in c (folded once known test) false) (live_in c test false)
-        (live_less known k test false false (λ h. h)))))) e
+        (live_less (with_offsets os known) (constants_inside os known k) body (live_in c (folded once os
+        (with_offsets os known) test) false) (live_in c test false)
+        (live_less (with_offsets os known) (constants_inside os known k) test false false (λ h. h)))))) e
     live_less known k (BarrierThen site rest) a' a f e = live_less known k rest a' a f e
 
   -- ---- barriers
 
-  pub same_barriers : (known : Known) (lines : Lines) → holds_barrier (folded once known lines) ≡ holds_barrier lines
+  pub same_barriers : (known : Known) (lines : Lines) → holds_barrier (folded once os known lines) ≡ holds_barrier lines
   same_barriers known NoLine = refl
   same_barriers known (SetThen to work rest) =
       same_barriers (learnt once known to (settled_work (known_work known work))) rest
@@ -168,14 +196,14 @@ module _ (once : ℕ → Test) where
       ap₂ (λ x y. x || y) (same_barriers known chosen)
       (ap₂ (λ x y. x || y) (same_barriers known other) (same_barriers known rest))
   same_barriers known (LoopThen site test_first test answer body rest) =
-      ap₂ (λ x y. x || y) (same_barriers known test)
-      (ap₂ (λ x y. x || y) (same_barriers known body) (same_barriers known rest))
+      ap₂ (λ x y. x || y) (same_barriers (with_offsets os known) test)
+      (ap₂ (λ x y. x || y) (same_barriers (with_offsets os known) body) (same_barriers known rest))
   same_barriers known (BarrierThen site rest) = refl
 
   -- ---- counts
 
   pub same_loads : (site : ℕ) (known : Known) (lines : Lines) →
-      load_lines site (folded once known lines) ≡ load_lines site lines
+      load_lines site (folded once os known lines) ≡ load_lines site lines
   same_loads site known NoLine = refl
   same_loads site known (SetThen to work rest) =
       same_loads site (learnt once known to (settled_work (known_work known work))) rest
@@ -187,12 +215,12 @@ module _ (once : ℕ → Test) where
       ap₂ (λ x y. x + y) (same_loads site known chosen)
       (ap₂ (λ x y. x + y) (same_loads site known other) (same_loads site known rest))
   same_loads site known (LoopThen at test_first test answer body rest) =
-      ap₂ (λ x y. x + y) (same_loads site known test)
-      (ap₂ (λ x y. x + y) (same_loads site known body) (same_loads site known rest))
+      ap₂ (λ x y. x + y) (same_loads site (with_offsets os known) test)
+      (ap₂ (λ x y. x + y) (same_loads site (with_offsets os known) body) (same_loads site known rest))
   same_loads site known (BarrierThen at rest) = same_loads site known rest
 
   pub same_stores : (site : ℕ) (known : Known) (lines : Lines) →
-      store_lines site (folded once known lines) ≡ store_lines site lines
+      store_lines site (folded once os known lines) ≡ store_lines site lines
   same_stores site known NoLine = refl
   same_stores site known (SetThen to work rest) =
       same_stores site (learnt once known to (settled_work (known_work known work))) rest
@@ -204,12 +232,12 @@ module _ (once : ℕ → Test) where
       ap₂ (λ x y. x + y) (same_stores site known chosen)
       (ap₂ (λ x y. x + y) (same_stores site known other) (same_stores site known rest))
   same_stores site known (LoopThen at test_first test answer body rest) =
-      ap₂ (λ x y. x + y) (same_stores site known test)
-      (ap₂ (λ x y. x + y) (same_stores site known body) (same_stores site known rest))
+      ap₂ (λ x y. x + y) (same_stores site (with_offsets os known) test)
+      (ap₂ (λ x y. x + y) (same_stores site (with_offsets os known) body) (same_stores site known rest))
   same_stores site known (BarrierThen at rest) = same_stores site known rest
 
   pub same_counts : (site : ℕ) (known : Known) (lines : Lines) →
-      barrier_lines site (folded once known lines) ≡ barrier_lines site lines
+      barrier_lines site (folded once os known lines) ≡ barrier_lines site lines
   same_counts site known NoLine = refl
   same_counts site known (SetThen to work rest) =
       same_counts site (learnt once known to (settled_work (known_work known work))) rest
@@ -220,8 +248,8 @@ module _ (once : ℕ → Test) where
       ap₂ (λ x y. x + y) (same_counts site known chosen)
       (ap₂ (λ x y. x + y) (same_counts site known other) (same_counts site known rest))
   same_counts site known (LoopThen at test_first test answer body rest) =
-      ap₂ (λ x y. x + y) (same_counts site known test)
-      (ap₂ (λ x y. x + y) (same_counts site known body) (same_counts site known rest))
+      ap₂ (λ x y. x + y) (same_counts site (with_offsets os known) test)
+      (ap₂ (λ x y. x + y) (same_counts site (with_offsets os known) body) (same_counts site known rest))
   same_counts site known (BarrierThen at rest) = ap (λ n. once_if site at + n) (same_counts site known rest)
 
   -- ---- places
@@ -230,10 +258,10 @@ module _ (once : ℕ → Test) where
   pub record IsFolded (lines' lines : Lines) : Type 0 where
     pub known : Known
     pub constants : AreConstants known
-    pub same : lines' ≡ folded once known lines
+    pub same : lines' ≡ folded once os known lines
 
   behind_folded : (known : Known) → AreConstants known → (lines : Lines) →
-      IsFolded (behind (folded once known lines)) (behind lines)
+      IsFolded (behind (folded once os known lines)) (behind lines)
   behind_folded known k NoLine = record { known = known; constants = k; same = refl }
   behind_folded known k (SetThen to work rest) = record {
     known = learnt once known to (settled_work (known_work known work));
@@ -251,35 +279,35 @@ module _ (once : ℕ → Test) where
   behind_folded known k (BarrierThen site rest) = record { known = known; constants = k; same = refl }
 
   chosen_folded : (known : Known) → AreConstants known → (lines : Lines) →
-      IsFolded (chosen_of (folded once known lines)) (chosen_of lines)
+      IsFolded (chosen_of (folded once os known lines)) (chosen_of lines)
   chosen_folded known k (IfThen site test chosen other rest) = record { known = known; constants = k; same = refl }
   chosen_folded known k _ = record { known = known; constants = k; same = refl }
 
   other_folded : (known : Known) → AreConstants known → (lines : Lines) →
-      IsFolded (other_of (folded once known lines)) (other_of lines)
+      IsFolded (other_of (folded once os known lines)) (other_of lines)
   other_folded known k (IfThen site test chosen other rest) = record { known = known; constants = k; same = refl }
   other_folded known k _ = record { known = known; constants = k; same = refl }
 
   test_folded : (known : Known) → AreConstants known → (lines : Lines) →
-      IsFolded (test_of (folded once known lines)) (test_of lines)
+      IsFolded (test_of (folded once os known lines)) (test_of lines)
   test_folded known k (LoopThen site test_first test answer body rest) =
-      record { known = known; constants = k; same = refl }
+      record { known = with_offsets os known; constants = constants_inside os known k; same = refl }
   test_folded known k _ = record { known = known; constants = k; same = refl }
 
   body_folded : (known : Known) → AreConstants known → (lines : Lines) →
-      IsFolded (body_of (folded once known lines)) (body_of lines)
+      IsFolded (body_of (folded once os known lines)) (body_of lines)
   body_folded known k (LoopThen site test_first test answer body rest) =
-      record { known = known; constants = k; same = refl }
+      record { known = with_offsets os known; constants = constants_inside os known k; same = refl }
   body_folded known k _ = record { known = known; constants = k; same = refl }
 
   carried : (part : Lines → Lines) → ((known : Known) → AreConstants known → (lines : Lines) →
-      IsFolded (part (folded once known lines)) (part lines)) → (lines' lines : Lines) → IsFolded lines' lines →
+      IsFolded (part (folded once os known lines)) (part lines)) → (lines' lines : Lines) → IsFolded lines' lines →
       IsFolded (part lines') (part lines)
   carried part folds lines' lines h =
       let p = folds h.known h.constants lines in
       record { known = p.known; constants = p.constants; same = ap part h.same ∙ p.same }
 
-  pub lines_folded : (text : Lines) (at : Place) → IsFolded (lines_at (folded once nothing_known text) at)
+  pub lines_folded : (text : Lines) (at : Place) → IsFolded (lines_at (folded once os nothing_known text) at)
       (lines_at text at)
   lines_folded text [] = record { known = nothing_known; constants = no_constants; same = refl }
   lines_folded text (Behind ∷ at) = carried behind behind_folded _ _ (lines_folded text at)
@@ -290,13 +318,14 @@ module _ (once : ℕ → Test) where
   lines_folded text (IntoBody ∷ at) = carried body_of body_folded _ _ (lines_folded text at)
 
   -- what lines are, said by a test that folding keeps
-  kept_test : (test : Lines → Test) → ((known : Known) (lines : Lines) → test (folded once known lines) ≡ test lines) →
-      (text : Lines) (at : Place) → test (lines_at (folded once nothing_known text) at) ≡ test (lines_at text at)
+  kept_test : (test : Lines → Test) → ((known : Known) (lines : Lines) → test (folded once os known lines) ≡
+      test lines) →
+      (text : Lines) (at : Place) → test (lines_at (folded once os nothing_known text) at) ≡ test (lines_at text at)
   kept_test test same text at =
       let h = lines_folded text at in
       ap test h.same ∙ same h.known (lines_at text at)
 
-  barrier_same : (known : Known) (lines : Lines) → is_barrier (folded once known lines) ≡ is_barrier lines
+  barrier_same : (known : Known) (lines : Lines) → is_barrier (folded once os known lines) ≡ is_barrier lines
   barrier_same known NoLine = refl
   barrier_same known (SetThen to work rest) = refl
   barrier_same known (LoadThen site to element root index rest) = refl
@@ -306,7 +335,7 @@ module _ (once : ℕ → Test) where
   barrier_same known (LoopThen site test_first test answer body rest) = refl
   barrier_same known (BarrierThen site rest) = refl
 
-  choice_same : (known : Known) (lines : Lines) → is_choice (folded once known lines) ≡ is_choice lines
+  choice_same : (known : Known) (lines : Lines) → is_choice (folded once os known lines) ≡ is_choice lines
   choice_same known NoLine = refl
   choice_same known (SetThen to work rest) = refl
   choice_same known (LoadThen site to element root index rest) = refl
@@ -317,7 +346,7 @@ module _ (once : ℕ → Test) where
   choice_same known (LoopThen site test_first test answer body rest) = refl
   choice_same known (BarrierThen site rest) = refl
 
-  round_same : (known : Known) (lines : Lines) → is_round (folded once known lines) ≡ is_round lines
+  round_same : (known : Known) (lines : Lines) → is_round (folded once os known lines) ≡ is_round lines
   round_same known NoLine = refl
   round_same known (SetThen to work rest) = refl
   round_same known (LoadThen site to element root index rest) = refl
@@ -325,10 +354,10 @@ module _ (once : ℕ → Test) where
   round_same known (ClearThen array rest) = refl
   round_same known (IfThen site test chosen other rest) = refl
   round_same known (LoopThen site test_first test answer body rest) =
-      ap₂ (λ x y. x || y) (same_barriers known test) (same_barriers known body)
+      ap₂ (λ x y. x || y) (same_barriers (with_offsets os known) test) (same_barriers (with_offsets os known) body)
   round_same known (BarrierThen site rest) = refl
 
-  line_same : (known : Known) (lines : Lines) → is_line (folded once known lines) ≡ is_line lines
+  line_same : (known : Known) (lines : Lines) → is_line (folded once os known lines) ≡ is_line lines
   line_same known NoLine = refl
   line_same known (SetThen to work rest) = refl
   line_same known (LoadThen site to element root index rest) = refl
@@ -340,10 +369,10 @@ module _ (once : ℕ → Test) where
 
   module _ (text : Lines) where
     pub barrier_there : (at : Place) →
-        is_barrier (lines_at (folded once nothing_known text) at) ≡ is_barrier (lines_at text at)
+        is_barrier (lines_at (folded once os nothing_known text) at) ≡ is_barrier (lines_at text at)
     barrier_there = kept_test is_barrier barrier_same text
 
-    ends_same : (at : Place) → ends_part (folded once nothing_known text) at ≡ ends_part text at
+    ends_same : (at : Place) → ends_part (folded once os nothing_known text) at ≡ ends_part text at
     ends_same [] = refl
     ends_same (Behind ∷ at) = kept_test is_choice choice_same text at
     ends_same (IntoChosen ∷ at) = refl
@@ -352,12 +381,12 @@ module _ (once : ℕ → Test) where
     ends_same (ToAnswer ∷ at) = kept_test is_round round_same text at
     ends_same (IntoBody ∷ at) = kept_test is_round round_same text at
 
-    pub cut_same : (at : Place) → is_cut (folded once nothing_known text) at ≡ is_cut text at
+    pub cut_same : (at : Place) → is_cut (folded once os nothing_known text) at ≡ is_cut text at
     cut_same at =
         ap₂ (λ x y. x || y) (barrier_there at)
         (ap₂ (λ x y. x || y) (kept_test is_choice choice_same text at) (ends_same at))
 
-    behind_round_same : (at : Place) → is_behind_round (folded once nothing_known text) at ≡ is_behind_round text at
+    behind_round_same : (at : Place) → is_behind_round (folded once os nothing_known text) at ≡ is_behind_round text at
     behind_round_same [] = refl
     behind_round_same (Behind ∷ at) = kept_test is_round round_same text at
     behind_round_same (IntoChosen ∷ at) = refl
@@ -366,7 +395,7 @@ module _ (once : ℕ → Test) where
     behind_round_same (ToAnswer ∷ at) = refl
     behind_round_same (IntoBody ∷ at) = refl
 
-    pub stop_same : (at : Place) → is_stop (folded once nothing_known text) at ≡ is_stop text at
+    pub stop_same : (at : Place) → is_stop (folded once os nothing_known text) at ≡ is_stop text at
     stop_same at =
         ap₂ (λ x y. x || y) (kept_test is_line line_same text at)
         (ap₂ (λ x y. x || y) (cut_same at) (behind_round_same at))
@@ -474,14 +503,30 @@ none_of [] f = no_piece
 none_of (Names c ∷ ps) f = one_more c (none_of ps f)
 none_of (Cut ∷ ps) f = absurd f
 
+reduced_fewer : (work : Work) → IsFewer (named_by_work (reduced_work work)) (named_by_work work)
+reduced_fewer (Binary op of a b) = by_left (is_long_sum op of && is_zero_constant a)
+  where
+    by_left : (t : Test) →
+        IsFewer (named_by_work (if t then Convert of b else Binary op of a b)) (named_by a ++ named_by b)
+    by_left true = fewer_then (none_of (named_by a) (atom_names a)) (fewer_self (named_by b))
+    by_left false = fewer_self (named_by a ++ named_by b)
+reduced_fewer (Unary op of a) = fewer_self (named_by a)
+reduced_fewer (Builtin f of args) = fewer_self (named_by_all args)
+reduced_fewer (Convert to a) = fewer_self (named_by a)
+reduced_fewer (Ask what dim) = fewer_self (named_by dim)
+reduced_fewer (Argument number) = no_piece
+reduced_fewer (Copy a) = fewer_self (named_by a)
+
 settled_fewer : (work : Work) → IsFewer (named_by_work (settled_work work)) (named_by_work work)
 settled_fewer work = by_test (is_foregone work)
   where
     by_test : (b : Test) →
-        IsFewer (named_by_work (if b then Copy (Const (foregone_value work) (foregone_type work)) else work))
+        IsFewer
+        (named_by_work
+        (if b then Copy (Const (foregone_value work) (foregone_type work)) else reduced_work work))
         (named_by_work work)
     by_test true = none_of (named_by_work work) (work_names work)
-    by_test false = fewer_self (named_by_work work)
+    by_test false = reduced_fewer work
 
 fewer_trans : {ps qs rs : List Piece} → IsFewer ps qs → IsFewer qs rs → IsFewer ps rs
 fewer_trans f no_piece = f
@@ -500,9 +545,9 @@ cut_fewer false false ps qs same f = f
 cut_fewer true false ps qs same f = absurd (true≢false (sym same))
 cut_fewer false true ps qs same f = absurd (true≢false same)
 
-module _ (once : ℕ → Test) where
+module _ (once : ℕ → Test) (os : List ℕ) where
   pub pieces_fewer : (known : Known) → AreConstants known → (lines : Lines) →
-      IsFewer (pieces_of (folded once known lines)) (pieces_of lines)
+      IsFewer (pieces_of (folded once os known lines)) (pieces_of lines)
   pieces_fewer known k NoLine = no_piece
   pieces_fewer known k (SetThen to work rest) =
       fewer_then (work_fewer known k work) (both_have (Names to)
@@ -514,16 +559,17 @@ module _ (once : ℕ → Test) where
       fewer_then (atom_fewer known k index) (fewer_then (atom_fewer known k from) (pieces_fewer known k rest))
   pieces_fewer known k (ClearThen array rest) = pieces_fewer known k rest
   pieces_fewer known k (IfThen site test chosen other rest) =
-      let same = ap₂ (λ x y. x || y) (same_barriers once known chosen) (same_barriers once known other) in
+      let same = ap₂ (λ x y. x || y) (same_barriers once os known chosen) (same_barriers once os known other) in
       cut_fewer _ _ _ _ same (fewer_then (atom_fewer known k test)
       (cut_fewer _ _ _ _ same (fewer_then (pieces_fewer known k chosen)
       (cut_fewer _ _ _ _ same (fewer_then (pieces_fewer known k other)
       (cut_fewer _ _ _ _ same (pieces_fewer known k rest)))))))
   pieces_fewer known k (LoopThen site test_first test answer body rest) =
-      let same = ap₂ (λ x y. x || y) (same_barriers once known test) (same_barriers once known body) in
-      cut_fewer _ _ _ _ same (fewer_then (pieces_fewer known k test)
-      (fewer_then (atom_fewer known k answer)
-      (cut_fewer _ _ _ _ same (fewer_then (pieces_fewer known k body)
+      let same = ap₂ (λ x y. x || y) (same_barriers once os (with_offsets os known) test) (same_barriers once os
+      (with_offsets os known) body) in
+      cut_fewer _ _ _ _ same (fewer_then (pieces_fewer (with_offsets os known) (constants_inside os known k) test)
+      (fewer_then (atom_fewer (with_offsets os known) (constants_inside os known k) answer)
+      (cut_fewer _ _ _ _ same (fewer_then (pieces_fewer (with_offsets os known) (constants_inside os known k) body)
       (cut_fewer _ _ _ _ same (pieces_fewer known k rest))))))
   pieces_fewer known k (BarrierThen site rest) = both_have Cut (pieces_fewer known k rest)
 
@@ -531,4 +577,4 @@ module _ (once : ℕ → Test) where
 pub keeps_fewer : (kernel : Kernel) (c : ℕ) → is_keep (folded_of kernel) c ≡ true → is_keep kernel c ≡ true
 keeps_fewer kernel c e =
     and_less _ (names_across c (pieces_of kernel.body)) _ _ (λ h. h)
-    (across_less c (pieces_fewer (is_set_once kernel) nothing_known no_constants kernel.body)) e
+    (across_less c (pieces_fewer (is_set_once kernel) (offsets_of kernel) nothing_known no_constants kernel.body)) e

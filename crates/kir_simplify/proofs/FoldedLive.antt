@@ -10,9 +10,9 @@ use Rattle.kir.specs.Places.{in_other, at_answer, in_test, in_body, tasks_at, fi
 use Rattle.kir.specs.Live.{reads, live_in, live_now, live_behind, live_at}
 use Rattle.kir_simplify.specs.Simple.{is_set_once}
 use Rattle.kir_simplify.specs.Passes.{Known, nothing_known, known_atom, known_work, settled_work, learnt, folded}
-use Rattle.kir_simplify.specs.Passes.{folded_of}
+use Rattle.kir_simplify.specs.Passes.{with_offsets, offsets_of, folded_of}
 use Rattle.kir_simplify.proofs.FoldedItems.{AreConstants, folded_tasks}
-use Rattle.kir_simplify.proofs.FoldedLess.{or_less, atom_less, live_less, no_constants, constants_on}
+use Rattle.kir_simplify.proofs.FoldedLess.{or_less, atom_less, live_less, no_constants, constants_on, constants_inside}
 
 -- constants alone are known of each part
 abbrev pub AllConstants : List Known → Type 0
@@ -21,7 +21,7 @@ AllConstants (known ∷ ks) = AreConstants known × AllConstants ks
 
 module _ (kernel : Kernel) where
   abbrev F : Known → Lines → Lines
-  F known lines = folded (is_set_once kernel) known lines
+  F known lines = folded (is_set_once kernel) (offsets_of kernel) known lines
 
   -- the parts of the first line are folded with what is known before it
   chosen_parts : (known : Known) (lines : Lines) → chosen_of (F known lines) ≡ F known (chosen_of lines)
@@ -107,11 +107,14 @@ module _ (kernel : Kernel) where
             (other_parts known lines);
       }
 
-  -- at a loop's answer, in its test and in its body: its parts are folded with what is known before it
+  -- at a loop's answer, in its test and in its body: its parts are folded with what is known in it
+  abbrev inside : Known → Known
+  inside known = with_offsets (offsets_of kernel) known
+
   record IsLoop (known : Known) (lines : Lines) : Type 0 where
-    test : test_of (F known lines) ≡ F known (test_of lines)
-    answer : answer_of (F known lines) ≡ known_atom known (answer_of lines)
-    body : body_of (F known lines) ≡ F known (body_of lines)
+    test : test_of (F known lines) ≡ F (inside known) (test_of lines)
+    answer : answer_of (F known lines) ≡ known_atom (inside known) (answer_of lines)
+    body : body_of (F known lines) ≡ F (inside known) (body_of lines)
 
   loop_parts : (known : Known) (lines : Lines) → IsLoop known lines
   loop_parts known NoLine = record { test = refl; answer = refl; body = refl }
@@ -135,16 +138,16 @@ module _ (kernel : Kernel) where
       let p = past_folded (LinesAt at lines t) (known ∷ ks) k in
       let l = loop_parts known lines in
       record {
-        known = known ∷ p.known;
-        constants = (k.0, p.constants);
+        known = inside known ∷ p.known;
+        constants = (constants_inside (offsets_of kernel) known k.0, p.constants);
         same =
             ap (λ z. AnswerAt at (test_of (F known lines)) (answer_of (F known lines)) (body_of (F known lines)) n z)
             p.same
             ∙ (ap (λ z. AnswerAt at z (answer_of (F known lines)) (body_of (F known lines)) n
             (folded_tasks kernel (past (LinesAt at lines t)) p.known)) l.test
-            ∙ (ap (λ z. AnswerAt at (F known (test_of lines)) z (body_of (F known lines)) n
+            ∙ (ap (λ z. AnswerAt at (F (inside known) (test_of lines)) z (body_of (F known lines)) n
             (folded_tasks kernel (past (LinesAt at lines t)) p.known)) l.answer
-            ∙ ap (λ z. AnswerAt at (F known (test_of lines)) (known_atom known (answer_of lines)) z n
+            ∙ ap (λ z. AnswerAt at (F (inside known) (test_of lines)) (known_atom (inside known) (answer_of lines)) z n
             (folded_tasks kernel (past (LinesAt at lines t)) p.known)) l.body));
       }
 
@@ -158,8 +161,8 @@ module _ (kernel : Kernel) where
       let p = answer_folded n (LinesAt at lines t) (known ∷ ks) k in
       let l = loop_parts known lines in
       record {
-        known = known ∷ p.known;
-        constants = (k.0, p.constants);
+        known = inside known ∷ p.known;
+        constants = (constants_inside (offsets_of kernel) known k.0, p.constants);
         same = ap (λ z. LinesAt (IntoTest ∷ at) (test_of (F known lines)) z) p.same ∙
             ap (λ z. LinesAt (IntoTest ∷ at) z (folded_tasks kernel (at_answer n (LinesAt at lines t)) p.known)) l.test;
       }
@@ -174,8 +177,8 @@ module _ (kernel : Kernel) where
       let p = test_folded n (LinesAt at lines t) (known ∷ ks) k in
       let l = loop_parts known lines in
       record {
-        known = known ∷ p.known;
-        constants = (k.0, p.constants);
+        known = inside known ∷ p.known;
+        constants = (constants_inside (offsets_of kernel) known k.0, p.constants);
         same = ap (λ z. LinesAt (IntoBody ∷ at) (body_of (F known lines)) z) p.same ∙
             ap (λ z. LinesAt (IntoBody ∷ at) z (folded_tasks kernel (in_test n (LinesAt at lines t)) p.known)) l.body;
       }
@@ -208,15 +211,17 @@ module _ (kernel : Kernel) where
     now_less NoTask ks k e = e
     now_less (LinesAt at lines t) [] k e = absurd (true≢false (sym e))
     now_less (LinesAt at lines t) (known ∷ ks) k e =
-        live_less (is_set_once kernel) c known k.0 lines (live_now c (folded_tasks kernel t ks)) (live_now c t)
+        live_less (is_set_once kernel) (offsets_of kernel) c known k.0 lines (live_now c (folded_tasks kernel t ks))
+        (live_now c t)
         (now_less t ks k.1) e
     now_less (AnswerAt at test answer body n t) [] k e = absurd (true≢false (sym e))
     now_less (AnswerAt at test answer body n t) (known ∷ ks) k e =
         or_less (reads c answer) (live_now c t || live_in c body (live_in c test false)) _ _
         (atom_less c known k.0 answer)
         (or_less (live_now c t) (live_in c body (live_in c test false)) _ _ (now_less t ks k.1)
-        (live_less (is_set_once kernel) c known k.0 body (live_in c (F known test) false) (live_in c test false)
-        (live_less (is_set_once kernel) c known k.0 test false false (λ h. h)))) e
+        (live_less (is_set_once kernel) (offsets_of kernel) c known k.0 body (live_in c (F known test) false)
+        (live_in c test false)
+        (live_less (is_set_once kernel) (offsets_of kernel) c known k.0 test false false (λ h. h)))) e
 
     behind_less : (t : Tasks) (ks : List Known) → AllConstants ks → live_behind c (folded_tasks kernel t ks) ≡ true →
         live_behind c t ≡ true
@@ -227,8 +232,8 @@ module _ (kernel : Kernel) where
     behind_less (AnswerAt at test answer body n t) (known ∷ ks) k e =
         or_less (live_now c t) (live_in c body (live_in c test (live_now c (AnswerAt at test answer body n t)))) _ _
         (now_less t ks k.1)
-        (live_less (is_set_once kernel) c known k.0 body _ _
-        (live_less (is_set_once kernel) c known k.0 test _ _
+        (live_less (is_set_once kernel) (offsets_of kernel) c known k.0 body _ _
+        (live_less (is_set_once kernel) (offsets_of kernel) c known k.0 test _ _
         (now_less (AnswerAt at test answer body n t) (known ∷ ks) k))) e
 
   pub live_there : (at : Place) (c : ℕ) → live_at (folded_of kernel).body at c ≡ true → live_at kernel.body at c ≡ true

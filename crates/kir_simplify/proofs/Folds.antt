@@ -10,19 +10,24 @@ use Rattle.std.proofs.lemmas.List.{drop_all, append-nil}
 use Rattle.std.proofs.lemmas.Option.{same_Some, none-some}
 use Rattle.std.proofs.lemmas.Bool.{eqb-true}
 use Rattle.cl_model.specs.Steps.{nth}
+use Rattle.wg_num.specs.declared.types.IntType.TheVariants.{Long}
+use Rattle.cl_model.specs.declared.program.VarKind.{VarKind}
 use Rattle.kir.specs.declared.line.Atom.{Atom}
+use Rattle.kir.specs.declared.line.Atom.TheVariants.{Const}
 use Rattle.kir.specs.declared.line.Line.{Line}
 use Rattle.kir.specs.declared.line.Line.TheVariants as line
 use Rattle.kir.specs.Tree.{Work, Lines, NoLine, SetThen, IfThen, LoopThen, Kernel, joined_to}
-use Rattle.kir.specs.Listed.{line_before, lines_in, lines_of}
+use Rattle.kir.specs.Listed.{line_before, lines_in, lines_of, work_of}
 use Rattle.kir.proofs.Firsts.{first_left}
 use Rattle.kir.proofs.Rows.{if_listed, loop_listed}
 use Rattle.kir_simplify.specs.Reading.{sets_in}
 use Rattle.kir_simplify.specs.Simple.{is_plain}
 use Rattle.kir_simplify.specs.Faithful.{with_body}
 use Rattle.kir_simplify.specs.Passes.{Known, learned, learnt, known_atom, known_work, settled_work}
-use Rattle.kir_simplify.specs.Passes.{copied, constant_value, folded, folded_of}
-use Rattle.kir_simplify.specs.Tables.{known_by, is_one_at, plain_of, put_known, unlearned}
+use Rattle.kir_simplify.specs.Passes.{nothing_known, copied, constant_value, with_offset, with_offsets, offsets_in}
+use Rattle.kir_simplify.specs.Passes.{folded, folded_of}
+use Rattle.kir_simplify.specs.Tables.{known_by, is_one_at, plain_of, put_known, unlearned, offset_of_line}
+use Rattle.kir_simplify.specs.Offsets.{is_offset}
 use Rattle.kir_simplify.specs.declared.settling.Learned.{Learned}
 
 -- ---- lists
@@ -177,38 +182,116 @@ nth_some [] n a h = absurd (none-some a h)
 nth_some (b ∷ args) zero a h = ap constant_value (sym (same_Some b a h))
 nth_some (b ∷ args) (suc n) a h = nth_some args n a h
 
+-- ---- offsets
+
+-- no more cells, or one
+abbrev prepended : Option ℕ → List ℕ → List ℕ
+prepended None cells = cells
+prepended (Some c) cells = c ∷ cells
+
+offsets_first : (once : ℕ → Test) (kinds : List VarKind) (l : Line) (rest : Lines) →
+    offsets_in once kinds (line_before l rest) ≡ prepended (offset_of_line once kinds l) (offsets_in once kinds rest)
+offsets_first once kinds (line.Set to w) rest = by_test (once to && is_offset kinds (work_of w))
+  where
+    by_test : (b : Test) →
+        (if b then to ∷ offsets_in once kinds rest else offsets_in once kinds rest) ≡
+        prepended (if b then Some to else None) (offsets_in once kinds rest)
+    by_test true = refl
+    by_test false = refl
+offsets_first once kinds (line.Load site to element root index) rest = refl
+offsets_first once kinds (line.Store site element root index from) rest = refl
+offsets_first once kinds (line.Clear array) rest = refl
+offsets_first once kinds (line.If' site test _ chosen _ other) rest = refl
+offsets_first once kinds (line.Loop' site first _ test answer _ body) rest = refl
+offsets_first once kinds (line.Barrier site) rest = refl
+
+pub offsets_skip : (once : ℕ → Test) (kinds : List VarKind) (made all : List ℕ) (ls : List Line) (i : ℕ) (l : Line) →
+    i < length ls → l ≡ get_or ls i l → offset_of_line once kinds l ≡ None →
+    made ++ offsets_in once kinds (lines_of (drop i ls)) ≡ all →
+    made ++ offsets_in once kinds (lines_of (drop (i + 1) ls)) ≡ all
+offsets_skip once kinds made all ls i l lt is none same =
+    ap (λ z. made ++ z) (sym (offsets_first once kinds l (lines_of (drop (i + 1) ls)) ∙
+    ap (λ o. prepended o (offsets_in once kinds (lines_of (drop (i + 1) ls)))) none)) ∙
+    (ap (λ x. made ++ offsets_in once kinds (lines_of x)) (sym (first_left ls i l lt is)) ∙ same)
+
+pub offsets_push : (once : ℕ → Test) (kinds : List VarKind) (made longer all : List ℕ) (ls : List Line) (i : ℕ)
+    (l : Line) (c : ℕ) → i < length ls → l ≡ get_or ls i l → offset_of_line once kinds l ≡ Some c →
+    longer ≡ made ++ c ∷ [] → made ++ offsets_in once kinds (lines_of (drop i ls)) ≡ all →
+    longer ++ offsets_in once kinds (lines_of (drop (i + 1) ls)) ≡ all
+offsets_push once kinds made longer all ls i l c lt is some more same =
+    ap (λ z. z ++ offsets_in once kinds (lines_of (drop (i + 1) ls))) more ∙
+    (append_assoc made (c ∷ []) (offsets_in once kinds (lines_of (drop (i + 1) ls))) ∙
+    (ap (λ z. made ++ z) (sym (offsets_first once kinds l (lines_of (drop (i + 1) ls)) ∙
+    ap (λ o. prepended o (offsets_in once kinds (lines_of (drop (i + 1) ls)))) some)) ∙
+    (ap (λ x. made ++ offsets_in once kinds (lines_of x)) (sym (first_left ls i l lt is)) ∙ same)))
+
+pub offsets_done : (once : ℕ → Test) (kinds : List VarKind) (made all : List ℕ) (ls : List Line) (i : ℕ) →
+    length ls ≤ i → made ++ offsets_in once kinds (lines_of (drop i ls)) ≡ all → made ≡ all
+offsets_done once kinds made all ls i done same =
+    sym (append-nil made) ∙
+    (sym (ap (λ x. made ++ offsets_in once kinds (lines_of x)) (drop_all i ls done)) ∙ same)
+
+pub offset_none : (known new : Known) (to : ℕ) → known to ≡ None →
+    ((c : ℕ) → new c ≡ learned known to (Const (pos 0) Long) c) → (c : ℕ) → new c ≡ with_offset known to (known to) c
+offset_none known new to none h c = h c ∙ sym (ap (λ o. with_offset known to o c) none)
+
+pub offset_some : (known : Known) (to : ℕ) (a : Atom) → known to ≡ Some a → (c : ℕ) →
+    known c ≡ with_offset known to (known to) c
+offset_some known to a some c = sym (ap (λ o. with_offset known to o c) some)
+
+any_default : (cells : List ℕ) (i d e : ℕ) → i < length cells → get_or cells i d ≡ get_or cells i e
+any_default [] i d e lt = absurd (omega arith)
+any_default (c ∷ cells) zero d e lt = refl
+any_default (c ∷ cells) (suc i) d e lt = any_default cells i d e (omega arith)
+
+pub inside_step : (known new all : Known) (cells : List ℕ) (i : ℕ) → i < length cells →
+    ((c : ℕ) → new c ≡ with_offset known (get_or cells i 0) (known (get_or cells i 0)) c) →
+    ((c : ℕ) → with_offsets (drop i cells) known c ≡ all c) → (c : ℕ) →
+    with_offsets (drop (i + 1) cells) new c ≡ all c
+inside_step known new all cells i lt h same c =
+    ap (λ (k : Known). with_offsets (drop (i + 1) cells) k c) (fun_ext h) ∙
+    (ap (λ xs. with_offsets xs known c) (sym (first_left cells i (get_or cells i 0) lt
+    (any_default cells i 0 (get_or cells i 0) lt))) ∙ same c)
+
+pub inside_end : (known all : Known) (cells : List ℕ) (i : ℕ) → length cells ≤ i →
+    ((c : ℕ) → with_offsets (drop i cells) known c ≡ all c) → (c : ℕ) → known c ≡ all c
+inside_end known all cells i done same c =
+    sym (ap (λ xs. with_offsets xs known c) (drop_all i cells done)) ∙ same c
+
 -- ---- lines
 
-pub set_folded : (once : ℕ → Test) (known new : Known) (to : ℕ) (work made : Work) →
+pub set_folded : (once : ℕ → Test) (os : List ℕ) (known new : Known) (to : ℕ) (work made : Work) →
     made ≡ settled_work (known_work known work) → ((c : ℕ) → new c ≡ learnt once known to made c) → (rest : Lines) →
-    SetThen to made (folded once new rest) ≡ folded once known (SetThen to work rest)
-set_folded once known new to work made e h rest =
-    ap₂ (λ (w : Work) (k : Known). SetThen to w (folded once k rest)) e
+    SetThen to made (folded once os new rest) ≡ folded once os known (SetThen to work rest)
+set_folded once os known new to work made e h rest =
+    ap₂ (λ (w : Work) (k : Known). SetThen to w (folded once os k rest)) e
     (fun_ext h ∙ ap (learnt once known to) e)
 
-if_folded : (once : ℕ → Test) (known : Known) (l : Line) (site : ℕ) (test test' : Atom)
+if_folded : (once : ℕ → Test) (os : List ℕ) (known : Known) (l : Line) (site : ℕ) (test test' : Atom)
     (chosen other : Vec Line Global) (made ys ns : Lines) → l ≡ line.If site test chosen other →
-    test' ≡ known_atom known test → ys ≡ folded once known (lines_of chosen.items) →
-    ns ≡ folded once known (lines_of other.items) → (rest : Lines) →
-    joined_to made (IfThen site test' ys ns (folded once known rest)) ≡
-    joined_to made (folded once known (line_before l rest))
-if_folded once known l site test test' chosen other made ys ns e et ey en rest =
-    ap (joined_to made) (ap (λ t. IfThen site t ys ns (folded once known rest)) et ∙
-    (ap₂ (λ a b. IfThen site (known_atom known test) a b (folded once known rest)) ey en ∙
-    sym (ap (λ x. folded once known (line_before x rest)) e ∙
-    ap (folded once known) (if_listed site test chosen other rest))))
+    test' ≡ known_atom known test → ys ≡ folded once os known (lines_of chosen.items) →
+    ns ≡ folded once os known (lines_of other.items) → (rest : Lines) →
+    joined_to made (IfThen site test' ys ns (folded once os known rest)) ≡
+    joined_to made (folded once os known (line_before l rest))
+if_folded once os known l site test test' chosen other made ys ns e et ey en rest =
+    ap (joined_to made) (ap (λ t. IfThen site t ys ns (folded once os known rest)) et ∙
+    (ap₂ (λ a b. IfThen site (known_atom known test) a b (folded once os known rest)) ey en ∙
+    sym (ap (λ x. folded once os known (line_before x rest)) e ∙
+    ap (folded once os known) (if_listed site test chosen other rest))))
 
-loop_folded : (once : ℕ → Test) (known : Known) (l : Line) (site : ℕ) (first : Test) (test : Vec Line Global)
-    (answer answer' : Atom) (body : Vec Line Global) (made ts bs : Lines) →
-    l ≡ line.Loop site first test answer body → answer' ≡ known_atom known answer →
-    ts ≡ folded once known (lines_of test.items) → bs ≡ folded once known (lines_of body.items) → (rest : Lines) →
-    joined_to made (LoopThen site first ts answer' bs (folded once known rest)) ≡
-    joined_to made (folded once known (line_before l rest))
-loop_folded once known l site first test answer answer' body made ts bs e ea et eb rest =
-    ap (joined_to made) (ap (λ a. LoopThen site first ts a bs (folded once known rest)) ea ∙
-    (ap₂ (λ x y. LoopThen site first x (known_atom known answer) y (folded once known rest)) et eb ∙
-    sym (ap (λ x. folded once known (line_before x rest)) e ∙
-    ap (folded once known) (loop_listed site first test answer body rest))))
+loop_folded : (once : ℕ → Test) (os : List ℕ) (known : Known) (l : Line) (site : ℕ) (first : Test)
+    (test : Vec Line Global) (answer answer' : Atom) (body : Vec Line Global) (made ts bs : Lines) →
+    l ≡ line.Loop site first test answer body → answer' ≡ known_atom (with_offsets os known) answer →
+    ts ≡ folded once os (with_offsets os known) (lines_of test.items) →
+    bs ≡ folded once os (with_offsets os known) (lines_of body.items) → (rest : Lines) →
+    joined_to made (LoopThen site first ts answer' bs (folded once os known rest)) ≡
+    joined_to made (folded once os known (line_before l rest))
+loop_folded once os known l site first test answer answer' body made ts bs e ea et eb rest =
+    ap (joined_to made) (ap (λ a. LoopThen site first ts a bs (folded once os known rest)) ea ∙
+    (ap₂ (λ x y. LoopThen site first x (known_atom (with_offsets os known) answer) y
+    (folded once os known rest)) et eb ∙
+    sym (ap (λ x. folded once os known (line_before x rest)) e ∙
+    ap (folded once os known) (loop_listed site first test answer body rest))))
 
 -- one line on, where what is known may change
 pub fold_step : (walk next : Lines → Lines) (made longer all : Lines) (ls : List Line) (i : ℕ) (l : Line) →
@@ -265,36 +348,46 @@ pub kept_known : (ls : List Learned) (known mid new : Known) → ((c : ℕ) → 
     ((c : ℕ) → new c ≡ mid c) → (c : ℕ) → unlearned ls new c ≡ unlearned ls known c
 kept_known ls known mid new m n = unlearned_same ls known new (λ c. n c ∙ m c)
 
-pub if_folded_on : (once : ℕ → Test) (known mid new : Known) (l : Line) (site : ℕ) (test test' : Atom)
+pub if_folded_on : (once : ℕ → Test) (os : List ℕ) (known mid new : Known) (l : Line) (site : ℕ) (test test' : Atom)
     (chosen other : Vec Line Global) (made ys ns : Lines) → ((c : ℕ) → mid c ≡ known c) →
     ((c : ℕ) → new c ≡ mid c) → l ≡ line.If site test chosen other →
-    test' ≡ known_atom known test → ys ≡ folded once known (lines_of chosen.items) →
-    ns ≡ folded once mid (lines_of other.items) → (rest : Lines) →
-    joined_to made (IfThen site test' ys ns (folded once new rest)) ≡
-    joined_to made (folded once known (line_before l rest))
-if_folded_on once known mid new l site test test' chosen other made ys ns m n e et ey en rest =
-    ap (λ (k : Known). joined_to made (IfThen site test' ys ns (folded once k rest))) (fun_ext (λ c. n c ∙ m c)) ∙
-    if_folded once known l site test test' chosen other made ys ns e et ey
-    (en ∙ ap (λ (k : Known). folded once k (lines_of other.items)) (fun_ext m)) rest
+    test' ≡ known_atom known test → ys ≡ folded once os known (lines_of chosen.items) →
+    ns ≡ folded once os mid (lines_of other.items) → (rest : Lines) →
+    joined_to made (IfThen site test' ys ns (folded once os new rest)) ≡
+    joined_to made (folded once os known (line_before l rest))
+if_folded_on once os known mid new l site test test' chosen other made ys ns m n e et ey en rest =
+    ap (λ (k : Known). joined_to made (IfThen site test' ys ns (folded once os k rest))) (fun_ext (λ c. n c ∙ m c)) ∙
+    if_folded once os known l site test test' chosen other made ys ns e et ey
+    (en ∙ ap (λ (k : Known). folded once os k (lines_of other.items)) (fun_ext m)) rest
 
-pub loop_folded_on : (once : ℕ → Test) (known mid new : Known) (l : Line) (site : ℕ) (first : Test)
-    (test : Vec Line Global) (answer answer' : Atom) (body : Vec Line Global) (made ts bs : Lines) →
-    ((c : ℕ) → mid c ≡ known c) → ((c : ℕ) → new c ≡ mid c) → l ≡ line.Loop site first test answer body →
-    answer' ≡ known_atom known answer → ts ≡ folded once known (lines_of test.items) →
-    bs ≡ folded once mid (lines_of body.items) → (rest : Lines) →
-    joined_to made (LoopThen site first ts answer' bs (folded once new rest)) ≡
-    joined_to made (folded once known (line_before l rest))
-loop_folded_on once known mid new l site first test answer answer' body made ts bs m n e ea et eb rest =
-    ap (λ (k : Known). joined_to made (LoopThen site first ts answer' bs (folded once k rest)))
-    (fun_ext (λ c. n c ∙ m c)) ∙
-    loop_folded once known l site first test answer answer' body made ts bs e ea et
-    (eb ∙ ap (λ (k : Known). folded once k (lines_of body.items)) (fun_ext m)) rest
+pub loop_folded_on : (once : ℕ → Test) (os : List ℕ) (known inside mid new : Known) (l : Line) (site : ℕ)
+    (first : Test) (test : Vec Line Global) (answer answer' : Atom) (body : Vec Line Global) (made ts bs : Lines) →
+    ((c : ℕ) → inside c ≡ with_offsets os known c) → ((c : ℕ) → mid c ≡ inside c) → ((c : ℕ) → new c ≡ known c) →
+    l ≡ line.Loop site first test answer body → answer' ≡ known_atom inside answer →
+    ts ≡ folded once os inside (lines_of test.items) → bs ≡ folded once os mid (lines_of body.items) →
+    (rest : Lines) →
+    joined_to made (LoopThen site first ts answer' bs (folded once os new rest)) ≡
+    joined_to made (folded once os known (line_before l rest))
+loop_folded_on once os known inside mid new l site first test answer answer' body made ts bs d m n e ea et eb rest =
+    ap (λ (k : Known). joined_to made (LoopThen site first ts answer' bs (folded once os k rest))) (fun_ext n) ∙
+    loop_folded once os known l site first test answer answer' body made ts bs e
+    (ea ∙ ap (λ (k : Known). known_atom k answer) (fun_ext d))
+    (et ∙ ap (λ (k : Known). folded once os k (lines_of test.items)) (fun_ext d))
+    (eb ∙ ap (λ (k : Known). folded once os k (lines_of body.items)) (fun_ext (λ c. m c ∙ d c))) rest
 
-pub kernel_folded : (kernel : Kernel) (sets : List ℕ) (known : List (Option Atom)) (body : Lines) →
-    ((c : ℕ) → get_or sets c 0 ≡ sets_in c kernel.body) → ((c : ℕ) → known_by known c ≡ None) →
-    body ≡ folded (is_one_at sets) (known_by known) kernel.body → with_body kernel body ≡ folded_of kernel
-kernel_folded kernel sets known body s k e =
+-- what was learned for a loop is forgotten behind it
+pub left_known : (ls : List Learned) (known inside mid last new : Known) →
+    ((c : ℕ) → unlearned ls inside c ≡ known c) → ((c : ℕ) → mid c ≡ inside c) → ((c : ℕ) → last c ≡ mid c) →
+    ((c : ℕ) → new c ≡ unlearned ls last c) → (c : ℕ) → new c ≡ known c
+left_known ls known inside mid last new u m l n c =
+    n c ∙ (unlearned_same ls inside last (λ d. l d ∙ m d) c ∙ u c)
+
+pub kernel_folded : (kernel : Kernel) (sets os : List ℕ) (known : List (Option Atom)) (body : Lines) →
+    ((c : ℕ) → get_or sets c 0 ≡ sets_in c kernel.body) →
+    os ≡ offsets_in (is_one_at sets) kernel.params kernel.body → ((c : ℕ) → known_by known c ≡ None) →
+    body ≡ folded (is_one_at sets) os (known_by known) kernel.body → with_body kernel body ≡ folded_of kernel
+kernel_folded kernel sets os known body s o k e =
     ap (with_body kernel) (e ∙
-    ap₂ (λ (o : ℕ → Test) (n : Known). folded o n kernel.body)
-    (fun_ext (λ c. ap (λ n. nat_eq n 1) (s c)))
-    (fun_ext k))
+    (ap₂ (λ (l : List ℕ) (n : Known). folded (is_one_at sets) l n kernel.body) o (fun_ext k) ∙
+    ap (λ (once : ℕ → Test). folded once (offsets_in once kernel.params kernel.body) nothing_known kernel.body)
+    (fun_ext (λ c. ap (λ n. nat_eq n 1) (s c)))))

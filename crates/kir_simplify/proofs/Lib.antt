@@ -1,5 +1,7 @@
 pub mod Composed
 pub mod Chained
+pub mod OffsetCells
+pub mod Reduced
 pub mod FoldedItems
 pub mod FoldedLess
 pub mod FoldedLive

@@ -18,13 +18,15 @@ use Rattle.kir_simplify.specs.Simple.{none_stands, IsSimple}
 use Rattle.kir_simplify.specs.Faithful.{with_body, IsFaithful}
 use Rattle.kir_simplify.specs.Passes.{Known, nothing_known, learned, known_atom, known_work, constant_value}
 use Rattle.kir_simplify.specs.Passes.{foregone_value}
-use Rattle.kir_simplify.specs.Passes.{foregone_type, settled_work, copied, learnt, folded, folded_of, spliced}
+use Rattle.kir_simplify.specs.Passes.{foregone_type, reduced_work, settled_work, copied, learnt, with_offsets, folded}
+use Rattle.kir_simplify.specs.Passes.{offsets_of, folded_of, spliced}
+use Rattle.kir_simplify.specs.Offsets.{is_long_sum, is_zero_constant}
 use Rattle.kir_simplify.specs.Passes.{spliced_of}
 use Rattle.kir_simplify.specs.Passes.{swept, atom_size, atoms_size, work_size, size_of, round_of, shrinks, rounds}
 use Rattle.kir_simplify.specs.Passes.{simplified_of}
 use Rattle.kir_simplify.proofs.Chained.{chained}
-use Rattle.kir_simplify.proofs.FoldedItems.{AreConstants}
-use Rattle.kir_simplify.proofs.FoldedLess.{no_constants, constants_on}
+use Rattle.kir_simplify.proofs.FoldedItems.{AreConstants, offsets_around}
+use Rattle.kir_simplify.proofs.FoldedLess.{no_constants, constants_on, constants_inside}
 
 -- ---- smaller, or as it should be
 
@@ -103,10 +105,10 @@ known_out : (known : Known) → AreConstants known → (work : Work) →
 known_out known k (Unary op of a) =
     one_on _ _ (mapped _ _ (λ p. (ap (Unary op of) p.0, p.1)) (atom_out known k a))
 known_out known k (Binary op of a b) =
-    one_on _ _ (mapped _ _ (λ p. (
+    one_on _ _ (one_on _ _ (mapped _ _ (λ p. (
       ap₂ (Binary op of) p.0.0 p.1.0,
       λ c x e. neither (reads c a) (reads c b) (p.0.1 c x e) (p.1.1 c x e),
-    )) (both _ _ _ _ (atom_out known k a) (atom_out known k b)))
+    )) (both _ _ _ _ (atom_out known k a) (atom_out known k b))))
 known_out known k (Builtin f of args) =
     one_on _ _ (mapped _ _ (λ p. (ap (Builtin f of) p.0, p.1)) (atoms_out known k args))
 known_out known k (Convert to a) =
@@ -125,16 +127,32 @@ foregone_size (Ask what dim) e = absurd (true≢false (sym e))
 foregone_size (Argument number) e = absurd (true≢false (sym e))
 foregone_size (Copy a) e = absurd (true≢false (sym e))
 
+-- a sum that is reduced is one operator of one operand
+reduced_out : (work : Work) → Out (work_size (reduced_work work)) (work_size work) (reduced_work work ≡ work)
+reduced_out (Binary op of a b) = by_left (is_long_sum op of && is_zero_constant a)
+  where
+    by_left : (t : Test) → Out (work_size (if t then Convert of b else Binary op of a b))
+        (work_size (Binary op of a b)) ((if t then Convert of b else Binary op of a b) ≡ Binary op of a b)
+    by_left true = inl (omega arith)
+    by_left false = inr (refl, refl)
+reduced_out (Unary op of a) = inr (refl, refl)
+reduced_out (Builtin f of args) = inr (refl, refl)
+reduced_out (Convert to a) = inr (refl, refl)
+reduced_out (Ask what dim) = inr (refl, refl)
+reduced_out (Argument number) = inr (refl, refl)
+reduced_out (Copy a) = inr (refl, refl)
+
 settled_out : (work : Work) → Out (work_size (settled_work work)) (work_size work)
     ((settled_work work ≡ work) × (is_foregone work ≡ false))
 settled_out work = by_test (is_foregone work) refl
   where
     by_test : (b : Test) → is_foregone work ≡ b →
-        Out (work_size (if b then Copy (Const (foregone_value work) (foregone_type work)) else work)) (work_size work)
-        (((if b then Copy (Const (foregone_value work) (foregone_type work)) else work) ≡ work) ×
+        Out (work_size (if b then Copy (Const (foregone_value work) (foregone_type work)) else reduced_work work))
+        (work_size work)
+        (((if b then Copy (Const (foregone_value work) (foregone_type work)) else reduced_work work) ≡ work) ×
         (is_foregone work ≡ false))
     by_test true e = let size = foregone_size work e in inl (omega arith)
-    by_test false e = inr (refl, (refl, e))
+    by_test false e = mapped _ _ (λ same. (same, e)) (reduced_out work)
 
 then_out : {P Q R : Type 0} (a b c : ℕ) → Out a b P → Out b c Q → (P → Q → R) → Out a c R
 then_out a b c (inl l) (inl m) f = inl (omega arith)
@@ -152,7 +170,14 @@ work_out known k work =
 
 module _ (kernel : Kernel) where
   abbrev F : Known → Lines → Lines
-  F known lines = folded (is_set_once kernel) known lines
+  F known lines = folded (is_set_once kernel) (offsets_of kernel) known lines
+
+  -- what is known in a loop
+  abbrev inside : Known → Known
+  inside known = with_offsets (offsets_of kernel) known
+
+  known_inside : (known : Known) (c : ℕ) (b : Atom) → known c ≡ Some b → inside known c ≡ Some b
+  known_inside known = offsets_around (offsets_of kernel) known
 
   -- folding changes nothing, and finds nothing to be done
   record IsDone (known : Known) (lines : Lines) : Type 0 where
@@ -254,13 +279,15 @@ module _ (kernel : Kernel) where
             (ap₂ (λ x (y : Lines × Lines). (x, y.0, y.1)) p.1.0.0
             (ap₂ (λ x y. (x, y)) p.1.1.0.same p.1.1.1.same));
         none = each_of _ _ p.0.none (each_of _ _ p.1.1.0.none p.1.1.1.none);
-        unread = λ c b e. neither (reads_in c test) _ (p.0.unread c b e)
-            (neither (reads c answer) _ (p.1.0.1 c b e)
-            (neither (reads_in c body) (reads_in c rest) (p.1.1.0.unread c b e) (p.1.1.1.unread c b e)));
+        unread = λ c b e. neither (reads_in c test) _ (p.0.unread c b (known_inside known c b e))
+            (neither (reads c answer) _ (p.1.0.1 c b (known_inside known c b e))
+            (neither (reads_in c body) (reads_in c rest) (p.1.1.0.unread c b (known_inside known c b e))
+            (p.1.1.1.unread c b e)));
         stands = each_of _ _ p.0.stands (each_of _ _ p.1.1.0.stands p.1.1.1.stands);
-      }) (both _ _ _ _ (lines_out known k test)
-      (both _ _ _ _ (atom_out known k answer)
-      (both _ _ _ _ (lines_out known k body) (lines_out known k rest)))))
+      }) (both _ _ _ _ (lines_out (inside known) (constants_inside (offsets_of kernel) known k) test)
+      (both _ _ _ _ (atom_out (inside known) (constants_inside (offsets_of kernel) known k) answer)
+      (both _ _ _ _ (lines_out (inside known) (constants_inside (offsets_of kernel) known k) body)
+      (lines_out known k rest)))))
   lines_out known k (BarrierThen site rest) =
       one_on _ _ (mapped _ _ (λ p. record {
         same = ap (BarrierThen site) p.same;
@@ -466,7 +493,8 @@ simplified_on kernel e = by_count (size_of kernel.body) refl
     by_count : (n : ℕ) → size_of kernel.body ≡ n →
         rounds (size_of (round_of kernel).body) (round_of kernel) ≡ rounds n kernel
     by_count zero s =
-        absurd (true≢false (sym e ∙ nothing_less (size_of (round_of kernel).body) (size_of kernel.body) (omega (arith, s))))
+        absurd (true≢false (sym e ∙ nothing_less (size_of (round_of kernel).body) (size_of kernel.body) (omega
+        (arith, s))))
     by_count (suc n) s =
         let less = ltb-true (size_of (round_of kernel).body) (size_of kernel.body) e in
         enough (size_of (round_of kernel).body) n (round_of kernel) (omega arith) (omega (arith, s, less)) ∙

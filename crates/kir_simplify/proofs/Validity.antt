@@ -1,43 +1,47 @@
 -- Each pass keeps a valid kernel valid, and the constants of which a folded line computes are values of their types.
-use Rattle.std.proofs.Common.{◌≡◌, ℕ, zero, suc, ℤ, pos, List, [], ◌∷◌, Option, Some, None, slice_get, length, map}
+use Rattle.std.proofs.Common.{◌≡◌, ℕ, zero, suc, ℤ, pos, List, [], ◌∷◌, Option, Some, None, slice_get, map}
 use Rattle.std.proofs.Common.{refl, sym, ap, ap₂}
-use Rattle.std.proofs.Common.{◌∙◌, subst, arith, if◌then◌else◌}
+use Rattle.std.proofs.Common.{◌∙◌, subst, arith, if◌then◌else◌, ◌⊎◌, inl, inr}
 use Rattle.std.proofs.lemmas.Int.{ints}
 use Rattle.std.proofs.lemmas.Bool.{and_parts, and_from, true≢false, eqb-true}
 use Rattle.std.proofs.lemmas.Option.{same_Some, none-some}
-use Rattle.std.specs.Prelude.{◌&&◌, nat_eq, int_le, replicate, ◌≤ℤ◌}
+use Rattle.std.specs.Prelude.{◌&&◌, ◌||◌, nat_eq, int_le, replicate, ◌≤ℤ◌}
 use Rattle.std.specs.Prelude.{Bool as Test, true, false}
 use Rattle.wg_num.specs.declared.types.IntType.{IntType}
 use Rattle.wg_num.specs.declared.types.IntType.TheVariants.{Uint, Long}
 use Rattle.wg_num.specs.declared.types.Bin.{Bin}
-use Rattle.wg_num.specs.Wrap.{IsValue, lowest, highest, wrap_of}
-use Rattle.wg_num.specs.Types.{is_value}
-use Rattle.wg_num.specs.Builtins.{result_type}
+use Rattle.wg_num.specs.Wrap.{IsValue, lowest, highest}
+use Rattle.wg_num.specs.Types.{is_value, same_type}
 use Rattle.wg_num.specs.Operators.{is_shift, IsOperand}
 use Rattle.wg_num.proofs.OperatorLaws.{value_wide}
 use Rattle.wg_num.proofs.WrapLaws.{IsValue-wrap}
 use Rattle.wg_num.proofs.BuiltinLaws.{IsValue-builtin}
 use Rattle.cl_model.specs.declared.program.Root.{Root}
 use Rattle.cl_model.specs.declared.program.Root.TheVariants as root
-use Rattle.cl_model.specs.Valid.{arity_of}
+use Rattle.cl_model.specs.declared.program.VarKind.{VarKind}
+use Rattle.cl_model.specs.declared.program.VarKind.TheVariants.{Scalar, Pointer}
+use Rattle.cl_model.specs.Valid.{arity_of, binary_type}
 use Rattle.cl_model.specs.Values.{is_zero}
 use Rattle.kir.specs.declared.line.Atom.{Atom}
 use Rattle.kir.specs.declared.line.Atom.TheVariants.{Const, Cell as CellAtom}
 use Rattle.kir.specs.Tree.{Work, Unary, Binary, Builtin, Convert, Ask, Argument, Copy, Lines, NoLine, SetThen}
 use Rattle.kir.specs.Tree.{LoadThen, StoreThen, ClearThen, IfThen, LoopThen, BarrierThen, joined_to, Kernel}
 use Rattle.kir.specs.Fits.{has_type, has_some_type, type_of_cell, atom_type, right_fits, have_types, work_fits}
-use Rattle.kir.specs.Fits.{work_type}
+use Rattle.kir.specs.Fits.{work_type, type_of_parameter}
 use Rattle.kir.specs.Fits.{cell_takes, can_load, can_store, is_private_array, is_site, lines_fit, roots_are_own}
-use Rattle.kir.specs.Fits.{are_few}
 use Rattle.kir.specs.Fits.{is_kernel}
-use Rattle.kir.proofs.CellTypes.{has_type_is, is_value_is, unary_value, binary_value}
-use Rattle.kir_simplify.specs.Simple.{is_constant, are_constants, is_foregone, is_plain, is_decided, is_set_once}
+use Rattle.kir.proofs.CellTypes.{has_type_is, is_value_is, unary_value, binary_value, zero_value}
+use Rattle.kir_simplify.specs.Simple.{is_constant, is_foregone, is_plain, is_decided, is_set_once}
 use Rattle.kir_simplify.specs.Simple.{is_unread}
+use Rattle.kir_simplify.specs.Offsets.{is_pointer, is_offset, is_among, is_add, is_long_sum, is_zero_constant}
 use Rattle.kir_simplify.specs.Computable.{IsValueOf, AreValuesOf, IsRightOf, IsComputable, AreComputable}
 use Rattle.kir_simplify.specs.Faithful.{with_body}
 use Rattle.kir_simplify.specs.Passes.{Known, nothing_known, learned, learnt, known_atom, known_work, constant_value}
-use Rattle.kir_simplify.specs.Passes.{foregone_value, foregone_type, settled_work, copied, folded, folded_of, spliced}
+use Rattle.kir_simplify.specs.Passes.{foregone_value, foregone_type, reduced_work, settled_work, copied, with_offsets}
+use Rattle.kir_simplify.specs.Passes.{offsets_in, offsets_of, folded, folded_of, spliced}
 use Rattle.kir_simplify.specs.Passes.{spliced_of, swept, swept_of}
+use Rattle.kir_simplify.proofs.Reduced.{add_is}
+use Rattle.kir_simplify.proofs.FoldedItems.{offsets_cases}
 
 -- ---- what lines ask of a kernel is asked of all but its lines
 
@@ -273,6 +277,46 @@ module _ (kernel : Kernel) where
   constant_type : (t : IntType) (z : ℤ) → IsValue t z → atom_type kernel (Const z t) ≡ Some t
   constant_type t z v = ap (λ (b : Test). if b then Some t else None) (value_fits t z v)
 
+  -- a sum that is reduced fits, and has its type
+  some_type : (t : IntType) (o : Option IntType) → has_type t o ≡ true → has_some_type o ≡ true
+  some_type t None e = e
+  some_type t (Some u) e = refl
+
+  right_type : (op : Bin) (t : IntType) (o : Option IntType) → right_fits op t o ≡ true → has_some_type o ≡ true
+  right_type op t o = by (is_shift op)
+    where
+      by : (b : Test) → (if b then has_some_type o else has_type t o) ≡ true → has_some_type o ≡ true
+      by true e = e
+      by false e = some_type t o e
+
+  sum_type : (op : Bin) (of : IntType) → is_long_sum op of ≡ true → Some of ≡ Some (binary_type op of)
+  sum_type op of e =
+      ap (λ (o : Bin). Some (binary_type o of)) (sym (add_is op (and_parts (is_add op) (same_type Long of) e).0))
+
+  reduces : (work : Work) → work_fits kernel work ≡ true →
+      (work_fits kernel (reduced_work work) ≡ true) × (work_type kernel (reduced_work work) ≡ work_type kernel work)
+  reduces (Binary op of a b) h = by_left (is_long_sum op of && is_zero_constant a) refl
+    where
+      fits : (has_type of (atom_type kernel a) ≡ true) × (right_fits op of (atom_type kernel b) ≡ true)
+      fits = and_parts (has_type of (atom_type kernel a)) (right_fits op of (atom_type kernel b)) h
+
+      Fits : Work → Type 0
+      Fits w = (work_fits kernel w ≡ true) × (work_type kernel w ≡ Some (binary_type op of))
+
+      by_left : (t : Test) → (is_long_sum op of && is_zero_constant a) ≡ t →
+          Fits (if t then Convert of b else Binary op of a b)
+      by_left true e = (
+        right_type op of (atom_type kernel b) fits.1,
+        sum_type op of (and_parts (is_long_sum op of) (is_zero_constant a) e).0,
+      )
+      by_left false e = (h, refl)
+  reduces (Unary op of a) h = (h, refl)
+  reduces (Builtin f of args) h = (h, refl)
+  reduces (Convert to a) h = (h, refl)
+  reduces (Ask what dim) h = (h, refl)
+  reduces (Argument number) h = (h, refl)
+  reduces (Copy a) h = (h, refl)
+
   record Settles (work : Work) : Type 0 where
     fits : work_fits kernel (settled_work work) ≡ true
     type : work_type kernel (settled_work work) ≡ work_type kernel work
@@ -283,16 +327,19 @@ module _ (kernel : Kernel) where
       by : (b : Test) → is_foregone work ≡ b → Settles work
       by true e =
           let made : settled_work work ≡ Copy (Const (foregone_value work) (foregone_type work)) =
-          ap (λ (x : Test). if x then Copy (Const (foregone_value work) (foregone_type work)) else work) e in
+          ap (λ (x : Test).
+          if x then Copy (Const (foregone_value work) (foregone_type work)) else reduced_work work) e in
           let t = constant_type (foregone_type work) (foregone_value work) (settled_value work e) in
           record {
             fits = ap (work_fits kernel) made ∙ ap has_some_type t;
             type = ap (work_type kernel) made ∙ (t ∙ settled_type work e);
           }
       by false e =
-          let made : settled_work work ≡ work =
-          ap (λ (x : Test). if x then Copy (Const (foregone_value work) (foregone_type work)) else work) e in
-          record { fits = ap (work_fits kernel) made ∙ h; type = ap (work_type kernel) made }
+          let made : settled_work work ≡ reduced_work work =
+          ap (λ (x : Test).
+          if x then Copy (Const (foregone_value work) (foregone_type work)) else reduced_work work) e in
+          let reduced = reduces work h in
+          record { fits = ap (work_fits kernel) made ∙ reduced.0; type = ap (work_type kernel) made ∙ reduced.1 }
 
   takes_is : (to : ℕ) (o : Option IntType) → cell_takes kernel to o ≡ true →
       type_of_cell (slice_get kernel.cells to) ≡ o
@@ -345,36 +392,109 @@ module _ (kernel : Kernel) where
       let s = settles (known_work known work) (work_same known typed work ∙ p.0) in
       and_from _ _ s.fits (ap (cell_takes kernel to) (s.type ∙ result_same known typed work) ∙ p.1)
 
-  folded_fits : (once : ℕ → Test) (known : Known) → AreTyped known → (ls : Lines) → lines_fit kernel ls ≡ true →
-      lines_fit kernel (folded once known ls) ≡ true
-  folded_fits once known typed NoLine h = h
-  folded_fits once known typed (SetThen to work rest) h =
+  -- cells that hold offsets are of type long
+  abbrev pub AreLong : List ℕ → Type 0
+  AreLong os = (c : ℕ) → is_among c os ≡ true → type_of_cell (slice_get kernel.cells c) ≡ Some Long
+
+  offset_type : (work : Work) → is_offset kernel.params work ≡ true → work_type kernel work ≡ Some Long
+  offset_type (Argument number) e = by_kind (slice_get kernel.params number) e
+    where
+      by_kind : (o : Option VarKind) → is_pointer o ≡ true → type_of_parameter o ≡ Some Long
+      by_kind None e = absurd (true≢false (sym e))
+      by_kind (Some (Scalar t)) e = absurd (true≢false (sym e))
+      by_kind (Some (Pointer at element root)) e = refl
+  offset_type (Unary op of a) e = absurd (true≢false (sym e))
+  offset_type (Binary op of a b) e = absurd (true≢false (sym e))
+  offset_type (Builtin f of args) e = absurd (true≢false (sym e))
+  offset_type (Convert to a) e = absurd (true≢false (sym e))
+  offset_type (Ask what dim) e = absurd (true≢false (sym e))
+  offset_type (Copy a) e = absurd (true≢false (sym e))
+
+  among_long : (once : ℕ → Test) (ls : Lines) → lines_fit kernel ls ≡ true →
+      AreLong (offsets_in once kernel.params ls)
+  among_long once NoLine h c e = absurd (true≢false (sym e))
+  among_long once (SetThen to work rest) h c e =
+      by_test (λ f d i. among_long once rest f d i) (once to && is_offset kernel.params work) refl e
+    where
+      fits : ((work_fits kernel work && cell_takes kernel to (work_type kernel work)) ≡ true) ×
+          (lines_fit kernel rest ≡ true)
+      fits = and_parts (work_fits kernel work && cell_takes kernel to (work_type kernel work)) (lines_fit kernel rest) h
+
+      by_cell : (lines_fit kernel rest ≡ true → AreLong (offsets_in once kernel.params rest)) → (t : Test) →
+          nat_eq c to ≡ t → is_offset kernel.params work ≡ true →
+          (t || is_among c (offsets_in once kernel.params rest)) ≡ true →
+          type_of_cell (slice_get kernel.cells c) ≡ Some Long
+      by_cell behind true is offset e =
+          ap (λ n. type_of_cell (slice_get kernel.cells n)) (eqb-true c to is) ∙
+          (takes_is to (work_type kernel work) (and_parts (work_fits kernel work) _ fits.0).1 ∙ offset_type work offset)
+      by_cell behind false is offset e = behind fits.1 c e
+
+      by_test : (lines_fit kernel rest ≡ true → AreLong (offsets_in once kernel.params rest)) → (b : Test) →
+          (once to && is_offset kernel.params work) ≡ b →
+          is_among c (if b then to ∷ offsets_in once kernel.params rest else offsets_in once kernel.params rest) ≡ true
+          → type_of_cell (slice_get kernel.cells c) ≡ Some Long
+      by_test behind true is e =
+          by_cell behind (nat_eq c to) refl (and_parts (once to) (is_offset kernel.params work) is).1 e
+      by_test behind false is e = behind fits.1 c e
+  among_long once (LoadThen site to element r index rest) h c e =
+      among_long once rest (and_parts _ (lines_fit kernel rest) h).1 c e
+  among_long once (StoreThen site element r index from rest) h c e =
+      among_long once rest (and_parts _ (lines_fit kernel rest) h).1 c e
+  among_long once (ClearThen array rest) h c e = among_long once rest (and_parts _ (lines_fit kernel rest) h).1 c e
+  among_long once (IfThen site test chosen others rest) h c e =
+      among_long once rest (and_parts _ (lines_fit kernel rest) h).1 c e
+  among_long once (LoopThen site test_first test answer inner rest) h c e =
+      among_long once rest (and_parts _ (lines_fit kernel rest) h).1 c e
+  among_long once (BarrierThen site rest) h c e = among_long once rest (and_parts _ (lines_fit kernel rest) h).1 c e
+
+  typed_inside : (os : List ℕ) → AreLong os → (known : Known) → AreTyped known → AreTyped (with_offsets os known)
+  typed_inside os long known typed c a is = by_case (offsets_cases os known c a is)
+    where
+      by_case : (known c ≡ Some a) ⊎ ((is_among c os ≡ true) × (a ≡ Const (pos 0) Long)) →
+          (is_constant a ≡ true) × (atom_type kernel a ≡ type_of_cell (slice_get kernel.cells c))
+      by_case (inl before) = typed c a before
+      by_case (inr (among, same)) = (
+        ap is_constant same,
+        ap (atom_type kernel) same ∙ (constant_type Long (pos 0) (zero_value Long) ∙ sym (long c among)),
+      )
+
+  folded_fits : (once : ℕ → Test) (os : List ℕ) → AreLong os → (known : Known) → AreTyped known → (ls : Lines) →
+      lines_fit kernel ls ≡ true →
+      lines_fit kernel (folded once os known ls) ≡ true
+  folded_fits once os long known typed NoLine h = h
+  folded_fits once os long known typed (SetThen to work rest) h =
       let p = and_parts _ (lines_fit kernel rest) h in
       let s = set_work known typed to work p.0 in
       let takes = (and_parts (work_fits kernel (settled_work (known_work known work))) _ s).1 in
-      and_from _ _ s (folded_fits once (learnt once known to (settled_work (known_work known work)))
+      and_from _ _ s (folded_fits once os long (learnt once known to (settled_work (known_work known work)))
       (learnt_typed once known typed to (settled_work (known_work known work)) takes) rest p.1)
-  folded_fits once known typed (LoadThen site to element r index rest) h =
+  folded_fits once os long known typed (LoadThen site to element r index rest) h =
       both (both (both same (λ x. ap (has_type Long) (atom_same known typed index) ∙ x)) same)
-      (folded_fits once known typed rest) h
-  folded_fits once known typed (StoreThen site element r index from rest) h =
+      (folded_fits once os long known typed rest) h
+  folded_fits once os long known typed (StoreThen site element r index from rest) h =
       both (both (both same (λ x. ap (has_type Long) (atom_same known typed index) ∙ x))
-      (λ x. ap (has_type element) (atom_same known typed from) ∙ x)) (folded_fits once known typed rest) h
-  folded_fits once known typed (ClearThen array rest) h = both same (folded_fits once known typed rest) h
-  folded_fits once known typed (IfThen site test chosen others rest) h =
+      (λ x. ap (has_type element) (atom_same known typed from) ∙ x)) (folded_fits once os long known typed rest) h
+  folded_fits once os long known typed (ClearThen array rest) h =
+      both same (folded_fits once os long known typed rest) h
+  folded_fits once os long known typed (IfThen site test chosen others rest) h =
       both (both (both (both same (λ x. ap has_some_type (atom_same known typed test) ∙ x))
-      (folded_fits once known typed chosen)) (folded_fits once known typed others)) (folded_fits once known typed rest)
+      (folded_fits once os long known typed chosen)) (folded_fits once os long known typed others))
+      (folded_fits once os long known typed rest)
       h
-  folded_fits once known typed (LoopThen site test_first test answer inner rest) h =
-      both (both (both (both same (folded_fits once known typed test))
-      (λ x. ap has_some_type (atom_same known typed answer) ∙ x)) (folded_fits once known typed inner))
-      (folded_fits once known typed rest) h
-  folded_fits once known typed (BarrierThen site rest) h = both same (folded_fits once known typed rest) h
+  folded_fits once os long known typed (LoopThen site test_first test answer inner rest) h =
+      both (both (both (both same (folded_fits once os long (with_offsets os known)
+      (typed_inside os long known typed) test))
+      (λ x. ap has_some_type (atom_same (with_offsets os known) (typed_inside os long known typed) answer) ∙ x))
+      (folded_fits once os long (with_offsets os known) (typed_inside os long known typed) inner))
+      (folded_fits once os long known typed rest) h
+  folded_fits once os long known typed (BarrierThen site rest) h =
+      both same (folded_fits once os long known typed rest) h
 
   pub folded_valid : is_kernel kernel ≡ true → is_kernel (folded_of kernel) ≡ true
   folded_valid =
-      valid_with kernel (folded (is_set_once kernel) nothing_known kernel.body)
-      (folded_fits (is_set_once kernel) nothing_known none_typed kernel.body)
+      valid_with kernel (folded (is_set_once kernel) (offsets_of kernel) nothing_known kernel.body)
+      (λ fits. folded_fits (is_set_once kernel) (offsets_of kernel) (among_long (is_set_once kernel) kernel.body fits)
+      nothing_known none_typed kernel.body fits)
 
   -- the constants of a work that fits are values of the types in which it computes
   is_of : (t : IntType) (a : Atom) → has_type t (atom_type kernel a) ≡ true → IsValueOf t a
@@ -423,44 +543,48 @@ module _ (kernel : Kernel) where
   computable (Argument number) h = tt
   computable (Copy a) h = tt
 
-  all_computable : (once : ℕ → Test) (known : Known) → AreTyped known → (ls : Lines) → lines_fit kernel ls ≡ true →
-      AreComputable once known ls
-  all_computable once known typed NoLine h = tt
-  all_computable once known typed (SetThen to work rest) h =
+  all_computable : (once : ℕ → Test) (os : List ℕ) → AreLong os → (known : Known) → AreTyped known → (ls : Lines) →
+      lines_fit kernel ls ≡ true →
+      AreComputable once os known ls
+  all_computable once os long known typed NoLine h = tt
+  all_computable once os long known typed (SetThen to work rest) h =
       let p = and_parts _ (lines_fit kernel rest) h in
       let q = and_parts (work_fits kernel work) _ p.0 in
       let s = set_work known typed to work p.0 in
       let takes = (and_parts (work_fits kernel (settled_work (known_work known work))) _ s).1 in (
         computable (known_work known work) (work_same known typed work ∙ q.0),
-        all_computable once (learnt once known to (settled_work (known_work known work)))
+        all_computable once os long (learnt once known to (settled_work (known_work known work)))
             (learnt_typed once known typed to (settled_work (known_work known work)) takes) rest p.1,
       )
-  all_computable once known typed (LoadThen site to element r index rest) h =
-      all_computable once known typed rest (and_parts _ (lines_fit kernel rest) h).1
-  all_computable once known typed (StoreThen site element r index from rest) h =
-      all_computable once known typed rest (and_parts _ (lines_fit kernel rest) h).1
-  all_computable once known typed (ClearThen array rest) h =
-      all_computable once known typed rest (and_parts _ (lines_fit kernel rest) h).1
-  all_computable once known typed (IfThen site test chosen others rest) h =
+  all_computable once os long known typed (LoadThen site to element r index rest) h =
+      all_computable once os long known typed rest (and_parts _ (lines_fit kernel rest) h).1
+  all_computable once os long known typed (StoreThen site element r index from rest) h =
+      all_computable once os long known typed rest (and_parts _ (lines_fit kernel rest) h).1
+  all_computable once os long known typed (ClearThen array rest) h =
+      all_computable once os long known typed rest (and_parts _ (lines_fit kernel rest) h).1
+  all_computable once os long known typed (IfThen site test chosen others rest) h =
       let p = and_parts _ (lines_fit kernel rest) h in
       let q = and_parts _ (lines_fit kernel others) p.0 in
       let r = and_parts _ (lines_fit kernel chosen) q.0 in (
-        all_computable once known typed chosen r.1,
-        all_computable once known typed others q.1,
-        all_computable once known typed rest p.1,
+        all_computable once os long known typed chosen r.1,
+        all_computable once os long known typed others q.1,
+        all_computable once os long known typed rest p.1,
       )
-  all_computable once known typed (LoopThen site test_first test answer inner rest) h =
+  all_computable once os long known typed (LoopThen site test_first test answer inner rest) h =
       let p = and_parts _ (lines_fit kernel rest) h in
       let q = and_parts _ (lines_fit kernel inner) p.0 in
       let r = and_parts _ (lines_fit kernel test) (and_parts _ _ q.0).0 in (
-        all_computable once known typed test r.1,
-        all_computable once known typed inner q.1,
-        all_computable once known typed rest p.1,
+        all_computable once os long (with_offsets os known) (typed_inside os long known typed) test r.1,
+        all_computable once os long (with_offsets os known) (typed_inside os long known typed) inner q.1,
+        all_computable once os long known typed rest p.1,
       )
-  all_computable once known typed (BarrierThen site rest) h =
-      all_computable once known typed rest (and_parts _ (lines_fit kernel rest) h).1
+  all_computable once os long known typed (BarrierThen site rest) h =
+      all_computable once os long known typed rest (and_parts _ (lines_fit kernel rest) h).1
 
-  pub body_computable : is_kernel kernel ≡ true → (once : ℕ → Test) → AreComputable once nothing_known kernel.body
+  pub body_computable : is_kernel kernel ≡ true → (once : ℕ → Test) →
+      AreComputable once (offsets_in once kernel.params kernel.body) nothing_known kernel.body
   body_computable valid once =
-      all_computable once nothing_known none_typed kernel.body (and_parts (roots_are_own 0 kernel.params) _
-      (and_parts _ _ (and_parts _ _ (and_parts _ _ (and_parts _ _ (and_parts _ _ valid).0).0).0).0).0).1
+      let fits = (and_parts (roots_are_own 0 kernel.params) _
+      (and_parts _ _ (and_parts _ _ (and_parts _ _ (and_parts _ _ (and_parts _ _ valid).0).0).0).0).0).1 in
+      all_computable once (offsets_in once kernel.params kernel.body) (among_long once kernel.body fits) nothing_known
+      none_typed kernel.body fits

@@ -10,7 +10,7 @@ use Rattle.kir.specs.declared.line.Atom.{Atom}
 use Rattle.kir.specs.declared.line.Atom.TheVariants.{Const, Cell as CellAtom}
 use Rattle.kir.specs.Tree.{Work, Unary, Binary, Builtin, Convert, Ask, Argument, Copy, Lines, NoLine, SetThen}
 use Rattle.kir.specs.Tree.{LoadThen, StoreThen, ClearThen, IfThen, LoopThen, BarrierThen}
-use Rattle.kir_simplify.specs.Passes.{Known, known_work, settled_work, learnt}
+use Rattle.kir_simplify.specs.Passes.{Known, known_work, settled_work, learnt, with_offsets}
 
 -- a constant is a value of the type
 abbrev pub IsValueOf : IntType → Atom → Type 0
@@ -37,17 +37,19 @@ IsComputable (Ask what dim) = Unit {0}
 IsComputable (Argument number) = Unit {0}
 IsComputable (Copy a) = Unit {0}
 
--- so are those of each line, where these constants are known before the lines
-abbrev pub AreComputable : (once : ℕ → Test) → Known → Lines → Type 0
-AreComputable once known NoLine = Unit {0}
-AreComputable once known (SetThen to work rest) =
+-- so are those of each line, where these constants are known before the lines, and where these cells are offsets
+abbrev pub AreComputable : (once : ℕ → Test) → (offsets : List ℕ) → Known → Lines → Type 0
+AreComputable once offsets known NoLine = Unit {0}
+AreComputable once offsets known (SetThen to work rest) =
     IsComputable (known_work known work) ×
-    AreComputable once (learnt once known to (settled_work (known_work known work))) rest
-AreComputable once known (LoadThen site to element root index rest) = AreComputable once known rest
-AreComputable once known (StoreThen site element root index from rest) = AreComputable once known rest
-AreComputable once known (ClearThen array rest) = AreComputable once known rest
-AreComputable once known (IfThen site test chosen other rest) =
-    AreComputable once known chosen × AreComputable once known other × AreComputable once known rest
-AreComputable once known (LoopThen site test_first test answer body rest) =
-    AreComputable once known test × AreComputable once known body × AreComputable once known rest
-AreComputable once known (BarrierThen site rest) = AreComputable once known rest
+    AreComputable once offsets (learnt once known to (settled_work (known_work known work))) rest
+AreComputable once offsets known (LoadThen site to element root index rest) = AreComputable once offsets known rest
+AreComputable once offsets known (StoreThen site element root index from rest) = AreComputable once offsets known rest
+AreComputable once offsets known (ClearThen array rest) = AreComputable once offsets known rest
+AreComputable once offsets known (IfThen site test chosen other rest) =
+    AreComputable once offsets known chosen × AreComputable once offsets known other ×
+    AreComputable once offsets known rest
+AreComputable once offsets known (LoopThen site test_first test answer body rest) =
+    AreComputable once offsets (with_offsets offsets known) test ×
+    AreComputable once offsets (with_offsets offsets known) body × AreComputable once offsets known rest
+AreComputable once offsets known (BarrierThen site rest) = AreComputable once offsets known rest

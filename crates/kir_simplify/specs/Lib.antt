@@ -1,5 +1,6 @@
 pub mod Reading
 pub mod Simple
+pub mod Offsets
 pub mod Faithful
 pub mod Passes
 pub mod Tables

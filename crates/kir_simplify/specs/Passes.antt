@@ -1,15 +1,17 @@
 -- The simplification of a kernel: rounds of three passes, until one changes nothing. Each pass is one walk over the
 -- lines. The first computes what is computed of constants alone and puts constants in place of cells that stand for
--- them; it leaves each line where it is. The second puts the branch that a constant chooses in place of its if. The
--- third leaves out values that no line reads.
+-- them, in loops also of the offsets of pointers that are parameters; it leaves each line where it is. The second puts
+-- the branch that a constant chooses in place of its if. The third leaves out values that no line reads.
 use Rattle.std.specs.Prelude.{ℕ, zero, suc, ◌+◌, ℤ, pos, List, [], ◌∷◌, Option, Some, None, map, unwrap_or}
 use Rattle.std.specs.Prelude.{◌&&◌, nat_eq, nat_lt, if◌then◌else◌}
 use Rattle.std.specs.Prelude.{Bool as Test}
 use Rattle.wg_num.specs.declared.types.IntType.{IntType}
-use Rattle.wg_num.specs.declared.types.IntType.TheVariants.{Int}
+use Rattle.wg_num.specs.declared.types.IntType.TheVariants.{Int, Long}
+use Rattle.wg_num.specs.declared.types.Bin.{Bin}
 use Rattle.wg_num.specs.Wrap.{wrap_of}
 use Rattle.wg_num.specs.Operators.{unary_of, binary_of}
 use Rattle.wg_num.specs.Builtins.{builtin_of, result_type}
+use Rattle.cl_model.specs.declared.program.VarKind.{VarKind}
 use Rattle.cl_model.specs.Steps.{nth}
 use Rattle.cl_model.specs.Valid.{unary_type, binary_type}
 use Rattle.cl_model.specs.Values.{is_zero}
@@ -18,6 +20,7 @@ use Rattle.kir.specs.declared.line.Atom.TheVariants.{Const, Cell as CellAtom}
 use Rattle.kir.specs.Tree.{Work, Unary, Binary, Builtin, Convert, Ask, Argument, Copy, Lines, NoLine, SetThen}
 use Rattle.kir.specs.Tree.{LoadThen, StoreThen, ClearThen, IfThen, LoopThen, BarrierThen, joined_to, Kernel}
 use Rattle.kir_simplify.specs.Simple.{is_foregone, is_plain, is_decided, is_unread, is_set_once}
+use Rattle.kir_simplify.specs.Offsets.{is_long_sum, is_zero_constant, is_offset}
 use Rattle.kir_simplify.specs.Faithful.{with_body}
 
 -- ---- constants
@@ -72,9 +75,23 @@ foregone_type (Ask what dim) = Int
 foregone_type (Argument number) = Int
 foregone_type (Copy a) = Int
 
+-- a sum of type long whose left operand is the constant 0, as that of the offset 0 and an index is, is a conversion
+abbrev pub reduced_binary : Bin → IntType → Atom → Atom → Work
+reduced_binary op of a b = if is_long_sum op of && is_zero_constant a then Convert of b else Binary op of a b
+
+abbrev pub reduced_work : Work → Work
+reduced_work (Unary op of a) = Unary op of a
+reduced_work (Binary op of a b) = reduced_binary op of a b
+reduced_work (Builtin f of args) = Builtin f of args
+reduced_work (Convert to a) = Convert to a
+reduced_work (Ask what dim) = Ask what dim
+reduced_work (Argument number) = Argument number
+reduced_work (Copy a) = Copy a
+
 -- it is computed now where it can be
 abbrev pub settled_work : Work → Work
-settled_work work = if is_foregone work then Copy (Const (foregone_value work) (foregone_type work)) else work
+settled_work work =
+    if is_foregone work then Copy (Const (foregone_value work) (foregone_type work)) else reduced_work work
 
 -- what is copied
 abbrev pub copied : Work → Atom
@@ -90,26 +107,54 @@ copied (Copy a) = a
 abbrev pub learnt : (once : ℕ → Test) → Known → ℕ → Work → Known
 learnt once known to work = if once to && is_plain work then learned known to (copied work) else known
 
--- the lines, where these constants are known before them
-abbrev pub folded : (once : ℕ → Test) → Known → Lines → Lines
-folded once known NoLine = NoLine
-folded once known (SetThen to work rest) =
+-- the cells that one line alone sets, to the offset of a pointer that is a parameter, where that line is one of these
+-- and stands in none of them: each holds 0 from its start on
+abbrev pub offsets_in : (once : ℕ → Test) → List VarKind → Lines → List ℕ
+offsets_in once kinds NoLine = []
+offsets_in once kinds (SetThen to work rest) =
+    if once to && is_offset kinds work then to ∷ offsets_in once kinds rest else offsets_in once kinds rest
+offsets_in once kinds (LoadThen site to element root index rest) = offsets_in once kinds rest
+offsets_in once kinds (StoreThen site element root index from rest) = offsets_in once kinds rest
+offsets_in once kinds (ClearThen array rest) = offsets_in once kinds rest
+offsets_in once kinds (IfThen site test chosen other rest) = offsets_in once kinds rest
+offsets_in once kinds (LoopThen site test_first test answer body rest) = offsets_in once kinds rest
+offsets_in once kinds (BarrierThen site rest) = offsets_in once kinds rest
+
+-- where nothing is known of the cell, it is the offset 0
+abbrev pub with_offset : Known → ℕ → Option Atom → Known
+with_offset known c None = learned known c (Const (pos 0) Long)
+with_offset known c (Some a) = known
+
+-- what is known in a loop: these cells are offsets, too
+abbrev pub with_offsets : List ℕ → Known → Known
+with_offsets [] known = known
+with_offsets (c ∷ cells) known = with_offsets cells (with_offset known c (known c))
+
+-- the lines, where these constants are known before them, and where these cells are offsets
+abbrev pub folded : (once : ℕ → Test) → (offsets : List ℕ) → Known → Lines → Lines
+folded once offsets known NoLine = NoLine
+folded once offsets known (SetThen to work rest) =
     SetThen to (settled_work (known_work known work))
-    (folded once (learnt once known to (settled_work (known_work known work))) rest)
-folded once known (LoadThen site to element root index rest) =
-    LoadThen site to element root (known_atom known index) (folded once known rest)
-folded once known (StoreThen site element root index from rest) =
-    StoreThen site element root (known_atom known index) (known_atom known from) (folded once known rest)
-folded once known (ClearThen array rest) = ClearThen array (folded once known rest)
-folded once known (IfThen site test chosen other rest) =
-    IfThen site (known_atom known test) (folded once known chosen) (folded once known other) (folded once known rest)
-folded once known (LoopThen site test_first test answer body rest) =
-    LoopThen site test_first (folded once known test) (known_atom known answer) (folded once known body)
-    (folded once known rest)
-folded once known (BarrierThen site rest) = BarrierThen site (folded once known rest)
+    (folded once offsets (learnt once known to (settled_work (known_work known work))) rest)
+folded once offsets known (LoadThen site to element root index rest) =
+    LoadThen site to element root (known_atom known index) (folded once offsets known rest)
+folded once offsets known (StoreThen site element root index from rest) =
+    StoreThen site element root (known_atom known index) (known_atom known from) (folded once offsets known rest)
+folded once offsets known (ClearThen array rest) = ClearThen array (folded once offsets known rest)
+folded once offsets known (IfThen site test chosen other rest) =
+    IfThen site (known_atom known test) (folded once offsets known chosen) (folded once offsets known other)
+    (folded once offsets known rest)
+folded once offsets known (LoopThen site test_first test answer body rest) =
+    LoopThen site test_first (folded once offsets (with_offsets offsets known) test)
+    (known_atom (with_offsets offsets known) answer) (folded once offsets (with_offsets offsets known) body)
+    (folded once offsets known rest)
+folded once offsets known (BarrierThen site rest) = BarrierThen site (folded once offsets known rest)
+
+abbrev pub offsets_of : Kernel → List ℕ
+offsets_of kernel = offsets_in (is_set_once kernel) kernel.params kernel.body
 
 abbrev pub folded_of : Kernel → Kernel
-folded_of kernel = with_body kernel (folded (is_set_once kernel) nothing_known kernel.body)
+folded_of kernel = with_body kernel (folded (is_set_once kernel) (offsets_of kernel) nothing_known kernel.body)
 
 -- ---- branches
 
@@ -152,7 +197,7 @@ swept_of kernel = with_body kernel (swept (is_unread kernel) kernel.body)
 
 -- ---- rounds
 
--- what a round makes smaller: the cells that are read, the operators, and the lines
+-- what a round makes smaller: the cells that are read, the operators, those of two operands twice, and the lines
 abbrev pub atom_size : Atom → ℕ
 atom_size (Const value of) = 0
 atom_size (CellAtom c) = 1
@@ -163,7 +208,7 @@ atoms_size (a ∷ atoms) = atom_size a + atoms_size atoms
 
 abbrev pub work_size : Work → ℕ
 work_size (Unary op of a) = suc (atom_size a)
-work_size (Binary op of a b) = suc (atom_size a + atom_size b)
+work_size (Binary op of a b) = suc (suc (atom_size a + atom_size b))
 work_size (Builtin f of args) = suc (atoms_size args)
 work_size (Convert to a) = suc (atom_size a)
 work_size (Ask what dim) = atom_size dim

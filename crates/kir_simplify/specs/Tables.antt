@@ -1,14 +1,16 @@
 -- Lists that say something of each cell.
 use Rattle.std.specs.Prelude.{◌≡◌, ℕ, ◌<◌, List, [], ◌∷◌, length, map, Option, None, Some, slice_index_or, nat_eq}
-use Rattle.std.specs.Prelude.{Bool as Test, true, false, if◌then◌else◌}
+use Rattle.std.specs.Prelude.{Bool as Test, true, false, if◌then◌else◌, ◌&&◌}
+use Rattle.cl_model.specs.declared.program.VarKind.{VarKind}
 use Rattle.cl_model.specs.Values.{is_zero}
 use Rattle.kir.specs.declared.line.Atom.{Atom}
 use Rattle.kir.specs.declared.line.Line.{Line}
 use Rattle.kir.specs.declared.line.Line.TheVariants as line
-use Rattle.kir.specs.Listed.{line_before}
+use Rattle.kir.specs.Listed.{line_before, work_of}
 use Rattle.kir.specs.Tree.{Cell, Lines, Work}
 use Rattle.kir_simplify.specs.declared.settling.Learned.{Learned}
 use Rattle.kir_simplify.specs.Simple.{is_value_kind, is_decided, is_plain}
+use Rattle.kir_simplify.specs.Offsets.{is_offset}
 use Rattle.kir_simplify.specs.Passes.{Known, constant_value, copied}
 
 -- what the list says of a cell; of one that it does not have, no
@@ -74,3 +76,13 @@ is_one_at counts c = nat_eq (slice_index_or counts c 0) 1
 -- the constant that is copied, where one is
 abbrev pub plain_of : Work → Option Atom
 plain_of work = if is_plain work then Some (copied work) else None
+
+-- the cell that the line sets to the offset of a pointer, where it alone sets the cell
+abbrev pub offset_of_line : (once : ℕ → Test) → List VarKind → Line → Option ℕ
+offset_of_line once kinds (line.Set to w) = if once to && is_offset kinds (work_of w) then Some to else None
+offset_of_line once kinds (line.Load site to element root index) = None
+offset_of_line once kinds (line.Store site element root index from) = None
+offset_of_line once kinds (line.Clear array) = None
+offset_of_line once kinds (line.If' site test m chosen n other) = None
+offset_of_line once kinds (line.Loop' site test_first m test answer n body) = None
+offset_of_line once kinds (line.Barrier site) = None

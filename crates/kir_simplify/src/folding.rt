@@ -1,6 +1,6 @@
 //! Kernels whose constants are computed beforehand.
 
-ghost use Rattle.std.specs.Prelude.{◌≡◌, ℕ, true, IfOk, OnOk};
+ghost use Rattle.std.specs.Prelude.{◌≡◌, ℕ, List, true, IfOk, OnOk};
 ghost use Rattle.std.specs.Prelude.{Bool as Test};
 ghost use Rattle.kir.specs.Tree.{Lines, NoLine, SetThen, joined_to};
 ghost use Rattle.kir.specs.Listed.{line_before, lines_of, work_of};
@@ -12,7 +12,8 @@ ghost use Rattle.kir_simplify.specs.Tables.{is_bare, is_one_at, known_by, unlear
 
 use crate::adding::{add_if, add_line, add_loop};
 use crate::counting::counted;
-use crate::settling::{Learned, fold_work, forget, known_atom, learn};
+use crate::offsets::offsets_among;
+use crate::settling::{Learned, fold_work, forget, known_atom, learn, learn_offsets};
 use kir::{Atom, Kernel, Line, Work};
 use std::alloc::Global;
 use wg_num::Memory;
@@ -31,13 +32,13 @@ fn fold_set(
     requires { IsComputable (known_work (known_by known.old.items) (work_of work.now)) }
     ensures before { OnOk result ((c : ℕ) → unlearned trail.new.items (known_by known.new.items) c ≡
         unlearned trail.old.items (known_by known.old.items) c) }
-    ensures made { OnOk result ((rest : Lines) →
-        joined_to (lines_of made.new.items) (folded (is_one_at sets.now) (known_by known.new.items) rest) ≡
+    ensures made { OnOk result ((offsets : List ℕ) (rest : Lines) →
+        joined_to (lines_of made.new.items) (folded (is_one_at sets.now) offsets (known_by known.new.items) rest) ≡
         joined_to (lines_of made.old.items)
-        (folded (is_one_at sets.now) (known_by known.old.items) (SetThen to (work_of work.now) rest))) }
-    ensures computable { OnOk result ((rest : Lines) →
-        AreComputable (is_one_at sets.now) (known_by known.old.items) (SetThen to (work_of work.now) rest) →
-        AreComputable (is_one_at sets.now) (known_by known.new.items) rest) }
+        (folded (is_one_at sets.now) offsets (known_by known.old.items) (SetThen to (work_of work.now) rest))) }
+    ensures computable { OnOk result ((offsets : List ℕ) (rest : Lines) →
+        AreComputable (is_one_at sets.now) offsets (known_by known.old.items) (SetThen to (work_of work.now) rest) →
+        AreComputable (is_one_at sets.now) offsets (known_by known.new.items) rest) }
 {
     let work = fold_work(alloc, known, work)?;
     learn(sets, known, trail, to, &work)?;
@@ -48,8 +49,9 @@ fn fold_set(
 /// Another line without lines, where these constants are known.
 fn folded_plain(known: &[Option<Atom>], line: &Line) -> Line
     requires { is_bare line.now ≡ true }
-    ensures { (once : ℕ → Test) (rest : Lines) → line_before result (folded once (known_by known.now) rest) ≡
-        folded once (known_by known.now) (line_before line.now rest) }
+    ensures { (once : ℕ → Test) (offsets : List ℕ) (rest : Lines) →
+        line_before result (folded once offsets (known_by known.now) rest) ≡
+        folded once offsets (known_by known.now) (line_before line.now rest) }
 {
     match line {
         Line::Load {
@@ -88,9 +90,9 @@ fn folded_plain(known: &[Option<Atom>], line: &Line) -> Line
 #[inline(never)]
 fn fold_plain(known: &[Option<Atom>], line: &Line, made: &mut Vec<Line>) -> Result<(), Memory>
     requires { is_bare line.now ≡ true }
-    ensures { OnOk result ((once : ℕ → Test) (rest : Lines) →
-        joined_to (lines_of made.new.items) (folded once (known_by known.now) rest) ≡
-        joined_to (lines_of made.old.items) (folded once (known_by known.now) (line_before line.now rest))) }
+    ensures { OnOk result ((once : ℕ → Test) (offsets : List ℕ) (rest : Lines) →
+        joined_to (lines_of made.new.items) (folded once offsets (known_by known.now) rest) ≡
+        joined_to (lines_of made.old.items) (folded once offsets (known_by known.now) (line_before line.now rest))) }
 {
     let line = folded_plain(known, line);
     add_line(made, line)?;
@@ -104,19 +106,20 @@ fn fold_plain(known: &[Option<Atom>], line: &Line, made: &mut Vec<Line>) -> Resu
 fn fold_lines(
     alloc: Global,
     sets: &[u64],
+    offsets: &[u32],
     known: &mut Vec<Option<Atom>>,
     lines: &[Line],
 ) -> Result<Vec<Line>, Memory>
-    requires { AreComputable (is_one_at sets.now) (known_by known.old.items) (lines_of lines.now) }
+    requires { AreComputable (is_one_at sets.now) offsets.now (known_by known.old.items) (lines_of lines.now) }
     ensures forgotten { IfOk result (λ made. (c : ℕ) →
         known_by known.new.items c ≡ known_by known.old.items c) }
     ensures made { IfOk result (λ made. lines_of made.items ≡
-        folded (is_one_at sets.now) (known_by known.old.items) (lines_of lines.now)) }
+        folded (is_one_at sets.now) offsets.now (known_by known.old.items) (lines_of lines.now)) }
 {
     let mut trail = Vec::new(alloc);
     let mut made = Vec::new(alloc);
     for line in lines {
-        fold_onto(alloc, sets, known, &mut trail, line, &mut made)?;
+        fold_onto(alloc, sets, offsets, known, &mut trail, line, &mut made)?;
     }
     forget(known, &mut trail)?;
     Ok(made)
@@ -128,21 +131,22 @@ fn fold_lines(
 fn fold_onto(
     alloc: Global,
     sets: &[u64],
+    offsets: &[u32],
     known: &mut Vec<Option<Atom>>,
     trail: &mut Vec<Learned>,
     line: &Line,
     made: &mut Vec<Line>,
 ) -> Result<(), Memory>
-    requires { AreComputable (is_one_at sets.now) (known_by known.old.items) (line_before line.now NoLine) }
+    requires { AreComputable (is_one_at sets.now) offsets.now (known_by known.old.items) (line_before line.now NoLine) }
     ensures before { OnOk result ((c : ℕ) → unlearned trail.new.items (known_by known.new.items) c ≡
         unlearned trail.old.items (known_by known.old.items) c) }
     ensures made { OnOk result ((rest : Lines) →
-        joined_to (lines_of made.new.items) (folded (is_one_at sets.now) (known_by known.new.items) rest) ≡
+        joined_to (lines_of made.new.items) (folded (is_one_at sets.now) offsets.now (known_by known.new.items) rest) ≡
         joined_to (lines_of made.old.items)
-        (folded (is_one_at sets.now) (known_by known.old.items) (line_before line.now rest))) }
+        (folded (is_one_at sets.now) offsets.now (known_by known.old.items) (line_before line.now rest))) }
     ensures computable { OnOk result ((rest : Lines) →
-        AreComputable (is_one_at sets.now) (known_by known.old.items) (line_before line.now rest) →
-        AreComputable (is_one_at sets.now) (known_by known.new.items) rest) }
+        AreComputable (is_one_at sets.now) offsets.now (known_by known.old.items) (line_before line.now rest) →
+        AreComputable (is_one_at sets.now) offsets.now (known_by known.new.items) rest) }
 {
     match line {
         Line::Set { to, work } => {
@@ -156,8 +160,8 @@ fn fold_onto(
             no,
         } => {
             let test = known_atom(known, *test);
-            let yes = fold_lines(alloc, sets, known, yes)?;
-            let no = fold_lines(alloc, sets, known, no)?;
+            let yes = fold_lines(alloc, sets, offsets, known, yes)?;
+            let no = fold_lines(alloc, sets, offsets, known, no)?;
             add_if(made, *site, test, yes, no)?;
             Ok(())
         }
@@ -168,9 +172,11 @@ fn fold_onto(
             answer,
             body,
         } => {
+            let mut learned = learn_offsets(alloc, offsets, known)?;
             let answer = known_atom(known, *answer);
-            let test = fold_lines(alloc, sets, known, test)?;
-            let body = fold_lines(alloc, sets, known, body)?;
+            let test = fold_lines(alloc, sets, offsets, known, test)?;
+            let body = fold_lines(alloc, sets, offsets, known, body)?;
+            forget(known, &mut learned)?;
             add_loop(made, *site, *test_first, test, answer, body)?;
             Ok(())
         }
@@ -186,13 +192,15 @@ fn folded_body(alloc: Global, kernel: &Kernel) -> Result<Vec<Line>, Memory>
     ensures { IfOk result (λ body. lines_of body.items ≡ (folded_of (kernel_of kernel.now)).body) }
 {
     let sets = counted(alloc, &kernel.body)?;
+    let offsets = offsets_among(alloc, &sets, &kernel.params, &kernel.body)?;
     let mut known = Vec::new(alloc);
-    let body = fold_lines(alloc, &sets, &mut known, &kernel.body)?;
+    let body = fold_lines(alloc, &sets, &offsets, &mut known, &kernel.body)?;
     Ok(body)
 }
 
 /// The kernel with what is computed of constants alone computed beforehand, and with constants in
-/// place of the cells that stand for them. Memory where it was refused.
+/// place of the cells that stand for them; in loops a pointer that is a parameter stands for the offset
+/// 0, which each launch binds to it (OpenCL 1.2, 5.7.2). Memory where it was refused.
 pub fn fold(alloc: Global, kernel: Kernel) -> Result<Kernel, Memory>
     ensures exact { IfOk result (λ k. kernel_of k ≡ folded_of (kernel_of kernel)) }
     ensures faithful { IfOk result (λ k. IsFaithful (kernel_of kernel) (kernel_of k)) }

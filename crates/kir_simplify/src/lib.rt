@@ -4,6 +4,7 @@
 mod adding;
 mod counting;
 pub mod folding;
+mod offsets;
 mod reading;
 pub mod rounds;
 mod settling;

@@ -6,6 +6,8 @@ ghost use Rattle.wg_num.specs.Wrap.{IsValue};
 ghost use Rattle.kir.specs.Tree as tree;
 ghost use Rattle.kir.specs.Listed.{work_of};
 ghost use Rattle.kir_simplify.specs.Passes.{constant_value, known_atom, known_work, settled_work, learned, learnt};
+ghost use Rattle.kir_simplify.specs.Passes.{reduced_binary, with_offset, with_offsets};
+ghost use Rattle.kir_simplify.specs.Offsets as offset;
 ghost use Rattle.kir_simplify.specs.Computable.{IsComputable, AreValuesOf, IsRightOf, IsValueOf};
 ghost use Rattle.kir_simplify.specs.Simple as simple;
 ghost use Rattle.kir_simplify.specs.Tables.{is_one_at, known_by, plain_of, put_known, unlearned};
@@ -14,7 +16,9 @@ use crate::counting::is_one;
 use cl_model::types::{binary_type, unary_type};
 use kir::{Atom, Work};
 use std::alloc::Global;
-use wg_num::{Bin, Fun, IntType, Memory, Un, binary, builtin, convert, push, result_type, unary};
+use wg_num::{
+    Bin, Fun, IntType, Memory, Un, binary, builtin, convert, push, result_type, same_type, unary,
+};
 
 /// What stands for an atom.
 pub(crate) fn known_atom(known: &[Option<Atom>], atom: Atom) -> Atom
@@ -54,6 +58,51 @@ fn fold_unary(op: Un, of: IntType, a: Atom) -> Work
     }
 }
 
+/// Whether the operator adds in the type of offsets and indices.
+fn is_long_sum(op: Bin, of: IntType) -> bool
+    ensures { result ≡ offset.is_long_sum op of }
+{
+    match op {
+        Bin::Add => same_type(IntType::Long, of),
+        Bin::Sub
+        | Bin::Mul
+        | Bin::Div
+        | Bin::Rem
+        | Bin::Shl
+        | Bin::Shr
+        | Bin::And
+        | Bin::Or
+        | Bin::Xor
+        | Bin::Eq
+        | Bin::Ne
+        | Bin::Lt
+        | Bin::Le
+        | Bin::Gt
+        | Bin::Ge => false,
+    }
+}
+
+/// Whether the atom is the constant 0.
+fn is_zero_constant(atom: Atom) -> bool
+    ensures { result ≡ offset.is_zero_constant atom }
+{
+    match atom {
+        Atom::Const { value, .. } => value == 0,
+        Atom::Cell(_) => false,
+    }
+}
+
+/// An operator of two operands; a conversion of the right one where that is added to 0.
+fn reduce_binary(op: Bin, of: IntType, a: Atom, b: Atom) -> Work
+    ensures { work_of result ≡ reduced_binary op of a b }
+{
+    if is_long_sum(op, of) && is_zero_constant(a) {
+        Work::Convert { to: of, a: b }
+    } else {
+        Work::Binary { op, of, a, b }
+    }
+}
+
 /// An operator of two, computed now where it can be.
 fn fold_binary(op: Bin, of: IntType, a: Atom, b: Atom) -> Work
     requires left { IsValueOf of a }
@@ -67,7 +116,7 @@ fn fold_binary(op: Bin, of: IntType, a: Atom, b: Atom) -> Work
                 of: binary_type(op, of),
             })
         }
-        (Atom::Cell(_), _) | (Atom::Const { .. }, Atom::Cell(_)) => Work::Binary { op, of, a, b },
+        (Atom::Cell(_), _) | (Atom::Const { .. }, Atom::Cell(_)) => reduce_binary(op, of, a, b),
     }
 }
 
@@ -268,6 +317,49 @@ pub(crate) fn learn(
             }
         }
     }
+}
+
+/// The cell is an offset, where nothing is known of it.
+fn learn_offset(
+    known: &mut Vec<Option<Atom>>,
+    trail: &mut Vec<Learned>,
+    cell: u32,
+) -> Result<(), Memory>
+    ensures known { OnOk result ((c : ℕ) → known_by known.new.items c ≡
+        with_offset (known_by known.old.items) cell (known_by known.old.items cell) c) }
+    ensures before { OnOk result ((c : ℕ) → unlearned trail.new.items (known_by known.new.items) c ≡
+        unlearned trail.old.items (known_by known.old.items) c) }
+{
+    match found_for(known, cell) {
+        Some(_) => Ok(()),
+        None => note(
+            known,
+            trail,
+            cell,
+            Atom::Const {
+                value: 0,
+                of: IntType::Long,
+            },
+        ),
+    }
+}
+
+/// What is known in a loop, where these cells are offsets, too. It answers what was learned.
+pub(crate) fn learn_offsets(
+    alloc: Global,
+    offsets: &[u32],
+    known: &mut Vec<Option<Atom>>,
+) -> Result<Vec<Learned>, Memory>
+    ensures known { IfOk result (λ trail. (c : ℕ) →
+        known_by known.new.items c ≡ with_offsets offsets.now (known_by known.old.items) c) }
+    ensures before { IfOk result (λ trail. (c : ℕ) →
+        unlearned trail.items (known_by known.new.items) c ≡ known_by known.old.items c) }
+{
+    let mut trail = Vec::new(alloc);
+    for cell in offsets {
+        learn_offset(known, &mut trail, *cell)?;
+    }
+    Ok(trail)
 }
 
 /// What was learned is forgotten, the last first.

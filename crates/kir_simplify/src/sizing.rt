@@ -39,7 +39,7 @@ fn atoms_size(atoms: &[Atom]) -> Result<u64, Memory>
     Ok(size)
 }
 
-/// The cells that are read, and one for an operator.
+/// The cells that are read, and one for an operator, two for one of two operands.
 fn work_size(work: &Work) -> Result<u64, Memory>
     ensures { IfOk result (λ size. size ≡ work_size (work_of work.now)) }
 {
@@ -47,7 +47,7 @@ fn work_size(work: &Work) -> Result<u64, Memory>
         Work::Unary { a, .. } | Work::Convert { a, .. } => add(1, atom_size(*a)),
         Work::Binary { a, b, .. } => {
             let cells = add(atom_size(*a), atom_size(*b))?;
-            add(1, cells)
+            add(2, cells)
         }
         Work::Builtin { args, .. } => {
             let cells = atoms_size(args)?;

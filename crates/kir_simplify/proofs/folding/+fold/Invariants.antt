@@ -10,9 +10,10 @@ abbrev pub invariant-fold_lines-loop-line : goal.invariant-fold_lines-loop-line
 invariant-fold_lines-loop-line l = record {
   before : (c : ℕ) → unlearned l.trail.items (known_by l.known.items) c ≡ known_by l.fn.known.items c;
   made : joined_to (lines_of l.made.items)
-      (folded (is_one_at l.sets) (known_by l.known.items) (lines_of (drop l.line-index l.lines))) ≡
-      folded (is_one_at l.sets) (known_by l.fn.known.items) (lines_of l.lines);
-  computable : AreComputable (is_one_at l.sets) (known_by l.known.items) (lines_of (drop l.line-index l.lines));
+      (folded (is_one_at l.sets) l.offsets (known_by l.known.items) (lines_of (drop l.line-index l.lines))) ≡
+      folded (is_one_at l.sets) l.offsets (known_by l.fn.known.items) (lines_of l.lines);
+  computable : AreComputable (is_one_at l.sets) l.offsets (known_by l.known.items) (lines_of
+      (drop l.line-index l.lines));
 }
 
 -- the size, and which function walks

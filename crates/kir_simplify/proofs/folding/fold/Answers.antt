@@ -1,4 +1,4 @@
-use Rattle.std.proofs.Common.{◌≡◌, ◌∙◌, true, subst, sym, ap}
+use Rattle.std.proofs.Common.{◌≡◌, true, subst, sym, ap}
 use Rattle.kir.specs.Tree.{Kernel}
 use Rattle.kir.specs.View.{kernel_of}
 use Rattle.kir.specs.Fits.{is_kernel}

@@ -6,6 +6,6 @@ use Rattle.kir_simplify.specs.Tables.{known_by}
 use Rattle.kir_simplify.proofs.folding.fold_plain.Goals as goal
 
 pub returns : goal.returns
-returns c = λ once rest.
-    c.in_ok-add_line.ensures (folded once (known_by c.args.known.now) rest) ∙
-    ap (joined_to (lines_of c.args.made.now.items)) (c.folded_plain-line.ensures once rest)
+returns c = λ once offsets rest.
+    c.in_ok-add_line.ensures (folded once offsets (known_by c.args.known.now) rest) ∙
+    ap (joined_to (lines_of c.args.made.now.items)) (c.folded_plain-line.ensures once offsets rest)

@@ -14,15 +14,18 @@ pub clear_line-returns-in-If : goal.clear_line-returns-in-If
 clear_line-returns-in-If t c =
     let chosen = λ (n : ℕ). reads_in n (lines_of c.in-If.yes.items) in
     let other = λ (n : ℕ). reads_in n (lines_of c.in-If.no.items) in
-    clear_then c.args.set.now c.clear_lines-in-If.new.set _ (λ (n : ℕ). reads n c.in-If.test) (λ (n : ℕ). chosen n || other n)
+    clear_then c.args.set.now c.clear_lines-in-If.new.set _ (λ (n : ℕ). reads n c.in-If.test)
+    (λ (n : ℕ). chosen n || other n)
     (λ (n : ℕ). reads_in n (line_before c.args.line.now NoLine))
     (if_reads c.args.line.now c.in-If.site c.in-If.test c.in-If.yes c.in-If.no c.in-If.is)
     (clear_then c.args.set.now c.clear_lines.new.set c.clear_lines-in-If.new.set chosen other
     (λ (n : ℕ). chosen n || other n) (λ (n : ℕ). refl)
-    (subst (λ (xs : List Line). Becomes c.args.set.now c.clear_lines.new.set (λ (n : ℕ) (entry : Test). not (reads_in n (lines_of xs)) && entry))
+    (subst (λ (xs : List Line). Becomes c.args.set.now c.clear_lines.new.set
+    (λ (n : ℕ) (entry : Test). not (reads_in n (lines_of xs)) && entry))
     c.deref.ensures.value c.clear_lines.ensures)
     (subst (λ (xs : List Line). Becomes c.clear_lines.new.set c.clear_lines-in-If.new.set
-    (λ (n : ℕ) (entry : Test). not (reads_in n (lines_of xs)) && entry)) c.deref-in-If.ensures.value c.clear_lines-in-If.ensures))
+    (λ (n : ℕ) (entry : Test). not (reads_in n (lines_of xs)) && entry)) c.deref-in-If.ensures.value
+    c.clear_lines-in-If.ensures))
     c.clear_atom-in-If.ensures
 
 pub clear_line-returns-in-Loop : goal.clear_line-returns-in-Loop
@@ -36,7 +39,8 @@ clear_line-returns-in-Loop t c =
     (clear_then c.args.set.now c.clear_lines-in-Loop.new.set c.clear_atom-in-Loop.new.set
     (λ (n : ℕ). reads n c.in-Loop.answer) body (λ (n : ℕ). reads n c.in-Loop.answer || body n) (λ (n : ℕ). refl)
     (subst (λ (xs : List Line). Becomes c.args.set.now c.clear_lines-in-Loop.new.set
-    (λ (n : ℕ) (entry : Test). not (reads_in n (lines_of xs)) && entry)) c.deref-in-Loop.ensures.value c.clear_lines-in-Loop.ensures)
+    (λ (n : ℕ) (entry : Test). not (reads_in n (lines_of xs)) && entry)) c.deref-in-Loop.ensures.value
+    c.clear_lines-in-Loop.ensures)
     c.clear_atom-in-Loop.ensures)
     (subst (λ (xs : List Line). Becomes c.clear_atom-in-Loop.new.set c.clear_lines-in-Loop-2.new.set
     (λ (n : ℕ) (entry : Test). not (reads_in n (lines_of xs)) && entry)) c.deref-in-Loop-2.ensures.value
