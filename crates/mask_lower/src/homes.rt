@@ -1,15 +1,16 @@
 //! The code at the ends of a region.
 
-ghost use Rattle.std.specs.Prelude.{◌≡◌, ◌++◌, slice_get, OnOk};
+ghost use Rattle.std.specs.Prelude.{◌≡◌, ◌++◌, false, slice_get, OnOk};
 ghost use Rattle.kir.specs.Listed.{lines_of};
 ghost use Rattle.mask_lower.specs.Registers.{frame_of};
 ghost use Rattle.mask_lower.specs.Homes as spec;
 ghost use Rattle.mask_lower.specs.Lowered.{vote_code};
+ghost use Rattle.mask_lower.specs.Uses as table;
 
 use crate::masks::lower_test;
 use crate::placing::cell_at;
 use crate::registers::{Free, Layout, Operand, mask_reg, slot_reg};
-use crate::setting::{first_uses, is_set_first};
+use crate::setting::{FirstUse, first_uses, is_set_first};
 use ctx_plan::Home;
 use kir::{Atom, Line};
 use lane_code::{Reg, Step};
@@ -57,18 +58,20 @@ fn lower_get(code: &mut Vec<Step>, to: Reg, home: Option<Home>) -> Result<(), Me
 fn lower_cell(
     code: &mut Vec<Step>,
     cell: Option<Operand>,
-    first: bool,
-    home: Option<Home>,
+    number: usize,
+    uses: &Vec<FirstUse>,
+    homes: &Vec<Home>,
 ) -> Result<(), Memory>
-    ensures { OnOk result (code.new.items ≡ code.old.items ++ spec.cell_code cell first home) }
+    ensures { OnOk result (code.new.items ≡ code.old.items ++ spec.cell_code cell
+        (table.is_set_first (table.use_at uses.now.items number) false) (slice_get homes.now.items number)) }
 {
     match cell {
         None => Ok(()),
         Some(cell) => {
-            if first {
+            if is_set_first(uses, number) {
                 Ok(())
             } else {
-                lower_get(code, cell.at, home)?;
+                lower_get(code, cell.at, home_of(homes, number))?;
                 Ok(())
             }
         }
@@ -89,8 +92,7 @@ pub(crate) fn lower_entry(
     let uses = first_uses(alloc, cells.len(), lines)?;
     let mut number: usize = 0;
     for cell in cells {
-        let first = is_set_first(&uses, number);
-        lower_cell(code, *cell, first, home_of(homes, number))?;
+        lower_cell(code, *cell, number, &uses, homes)?;
         number += 1;
     }
     Ok(())

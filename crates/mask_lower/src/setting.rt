@@ -30,11 +30,10 @@ pub enum FirstUse {
 fn none_set(alloc: Global, cells: usize) -> Result<Vec<bool>, Memory>
     ensures { IfOk result (λ set. (c : ℕ) → slice_index_or set.items c false ≡ false) }
 {
-    let mut set = Vec::new(alloc);
-    for _cell in 0..cells {
-        push(&mut set, false)?;
+    match vec![in alloc; false; cells] {
+        Ok(set) => Ok(set),
+        Err(_) => Err(Memory),
     }
-    Ok(set)
 }
 
 /// Marks the cell. Memory where there is no such cell.
@@ -122,11 +121,10 @@ pub(crate) fn put_cells(
 fn none_used(alloc: Global, cells: usize) -> Result<Vec<FirstUse>, Memory>
     ensures { IfOk result (λ uses. (c : ℕ) → table.use_at uses.items c ≡ table.unnamed) }
 {
-    let mut uses = Vec::new(alloc);
-    for _cell in 0..cells {
-        push(&mut uses, FirstUse::Neither)?;
+    match vec![in alloc; FirstUse::Neither; cells] {
+        Ok(uses) => Ok(uses),
+        Err(_) => Err(Memory),
     }
-    Ok(uses)
 }
 
 /// What is done first, where this was done first so far, and then that.
