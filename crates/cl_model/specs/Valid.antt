@@ -102,6 +102,12 @@ abbrev pub kind_type : VarKind → IntType
 kind_type (Scalar t) = t
 kind_type (Pointer space element root) = Long
 
+-- a parameter of this kind is there, and it is a pointer
+abbrev pub is_pointer : Option VarKind → Test
+is_pointer None = false
+is_pointer (Some (Scalar t)) = false
+is_pointer (Some (Pointer space element root)) = true
+
 -- the function has this variable, and what it holds is of this type
 abbrev pub HasVariable : Function → ℕ → IntType → Type 0
 HasVariable f x t = (kind : VarKind) × (slice_get f.variables x ≡ Some kind) × (kind_type kind ≡ t)

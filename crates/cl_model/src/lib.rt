@@ -18,4 +18,4 @@ pub use program::{
     VarKind,
 };
 pub use tables::{bytes_of_array, copy_array, copy_table, copy_tables, product_of};
-pub use types::{arity_of, query_type};
+pub use types::{arity_of, is_pointer, query_type};

@@ -1,6 +1,6 @@
 //! The types of what operators and functions give, and of what variables hold.
 
-ghost use Rattle.std.specs.Prelude.{◌≡◌};
+ghost use Rattle.std.specs.Prelude.{◌≡◌, slice_get};
 ghost use Rattle.cl_model.specs.Valid as valid;
 
 use crate::program::{Query, VarKind};
@@ -94,5 +94,15 @@ pub fn kind_type(kind: VarKind) -> IntType
     match kind {
         VarKind::Scalar(of) => of,
         VarKind::Pointer { .. } => IntType::Long,
+    }
+}
+
+/// Whether a parameter has this number, and is a pointer.
+pub fn is_pointer(params: &[VarKind], number: u32) -> bool
+    ensures { result ≡ valid.is_pointer (slice_get params.now number) }
+{
+    match params.get(number as usize) {
+        Some(VarKind::Pointer { .. }) => true,
+        Some(VarKind::Scalar(_)) | None => false,
     }
 }

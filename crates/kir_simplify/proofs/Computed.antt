@@ -48,7 +48,7 @@ value_there t (b ∷ args) (suc n) a v h = value_there t args n a v.1 h
 
 -- ---- lines
 
-module _ (once : ℕ → Test) (os : List ℕ) where
+module _ (once : ℕ → Test) (os : ℕ → Test) where
   abbrev Asked : Known → Lines → Type 0
   Asked = AreComputable once os
 

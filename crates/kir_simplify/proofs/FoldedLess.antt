@@ -22,9 +22,8 @@ use Rattle.kir_simplify.specs.Simple.{is_constant, is_foregone, is_plain, is_set
 use Rattle.kir_simplify.specs.Passes.{Known, nothing_known, learned, known_atom, known_work, foregone_value}
 use Rattle.kir_simplify.specs.Passes.{foregone_type, settled_work, reduced_work, copied, learnt, with_offsets, folded}
 use Rattle.kir_simplify.specs.Passes.{offsets_of, folded_of}
-use Rattle.kir_simplify.specs.Offsets.{is_among, is_long_sum, is_zero_constant}
+use Rattle.kir_simplify.specs.Offsets.{is_long_sum, is_zero_constant}
 use Rattle.kir_simplify.proofs.FoldedItems.{AreConstants, learned_cases, LearnedOf, here, elsewhere, offsets_cases}
-use Rattle.kir_simplify.proofs.FoldedItems.{either_so}
 
 -- ---- tests
 
@@ -74,6 +73,10 @@ known_less c known constants (Copy a) e = atom_less c known constants a e
 reduced_less : (c : ℕ) (work : Work) → work_reads c (reduced_work work) ≡ true → work_reads c work ≡ true
 reduced_less c (Binary op of a b) e = by_left (is_long_sum op of && is_zero_constant a) e
   where
+    either_so : (x y : Test) → y ≡ true → (x || y) ≡ true
+    either_so true y e = refl
+    either_so false y e = e
+
     by_left : (t : Test) → work_reads c (if t then Convert of b else Binary op of a b) ≡ true →
         (reads c a || reads c b) ≡ true
     by_left true e = either_so (reads c a) (reads c b) e
@@ -125,17 +128,17 @@ constants_on once known to work constants = by_test (once to && is_plain work) r
         by_learned (and_parts (once to) (is_plain work) e).1 c a (learned_cases known to (copied work) c a is)
     by_test false e = constants
 
-pub constants_inside : (os : List ℕ) (known : Known) → AreConstants known → AreConstants (with_offsets os known)
+pub constants_inside : (os : ℕ → Test) (known : Known) → AreConstants known → AreConstants (with_offsets os known)
 constants_inside os known k c a is = by_case (offsets_cases os known c a is)
   where
-    by_case : (known c ≡ Some a) ⊎ ((is_among c os ≡ true) × (a ≡ Const (pos 0) Long)) → is_constant a ≡ true
+    by_case : (known c ≡ Some a) ⊎ ((os c ≡ true) × (a ≡ Const (pos 0) Long)) → is_constant a ≡ true
     by_case (inl before) = k c a before
     by_case (inr (among, same)) = ap is_constant same
 
 pub no_constants : AreConstants nothing_known
 no_constants c a e = absurd (none-some a e)
 
-module _ (once : ℕ → Test) (os : List ℕ) where
+module _ (once : ℕ → Test) (os : ℕ → Test) where
   -- ---- what is live
 
   module _ (c : ℕ) where
@@ -545,7 +548,7 @@ cut_fewer false false ps qs same f = f
 cut_fewer true false ps qs same f = absurd (true≢false (sym same))
 cut_fewer false true ps qs same f = absurd (true≢false same)
 
-module _ (once : ℕ → Test) (os : List ℕ) where
+module _ (once : ℕ → Test) (os : ℕ → Test) where
   pub pieces_fewer : (known : Known) → AreConstants known → (lines : Lines) →
       IsFewer (pieces_of (folded once os known lines)) (pieces_of lines)
   pieces_fewer known k NoLine = no_piece

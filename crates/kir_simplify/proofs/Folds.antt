@@ -2,7 +2,7 @@
 use Rattle.std.proofs.Common.{◌≡◌, ℕ, zero, suc, ◌+◌, ◌<◌, ◌≤◌, pos, List, [], ◌∷◌, ◌++◌, append_assoc, length, get_or}
 use Rattle.std.proofs.Common.{map, drop, refl, ap, ap₂, sym, ◌∙◌, arith, Global, Option, Some, None, if◌then◌else◌}
 use Rattle.std.proofs.Common.{slice_get}
-use Rattle.std.specs.Prelude.{◌&&◌, nat_eq}
+use Rattle.std.specs.Prelude.{◌&&◌, ◌||◌, nat_eq}
 use Rattle.std.specs.Prelude.{Bool as Test, true, false}
 use Rattle.std.specs.declared.vec.Vec.{Vec}
 use mathlib.Core.Path.{fun_ext}
@@ -10,10 +10,8 @@ use Rattle.std.proofs.lemmas.List.{drop_all, append-nil}
 use Rattle.std.proofs.lemmas.Option.{same_Some, none-some}
 use Rattle.std.proofs.lemmas.Bool.{eqb-true}
 use Rattle.cl_model.specs.Steps.{nth}
-use Rattle.wg_num.specs.declared.types.IntType.TheVariants.{Long}
 use Rattle.cl_model.specs.declared.program.VarKind.{VarKind}
 use Rattle.kir.specs.declared.line.Atom.{Atom}
-use Rattle.kir.specs.declared.line.Atom.TheVariants.{Const}
 use Rattle.kir.specs.declared.line.Line.{Line}
 use Rattle.kir.specs.declared.line.Line.TheVariants as line
 use Rattle.kir.specs.Tree.{Work, Lines, NoLine, SetThen, IfThen, LoopThen, Kernel, joined_to}
@@ -21,12 +19,11 @@ use Rattle.kir.specs.Listed.{line_before, lines_in, lines_of, work_of}
 use Rattle.kir.proofs.Firsts.{first_left}
 use Rattle.kir.proofs.Rows.{if_listed, loop_listed}
 use Rattle.kir_simplify.specs.Reading.{sets_in}
-use Rattle.kir_simplify.specs.Simple.{is_plain}
-use Rattle.kir_simplify.specs.Faithful.{with_body}
+use Rattle.kir_simplify.specs.Simple.{is_plain, is_set_once}
 use Rattle.kir_simplify.specs.Passes.{Known, learned, learnt, known_atom, known_work, settled_work}
-use Rattle.kir_simplify.specs.Passes.{nothing_known, copied, constant_value, with_offset, with_offsets, offsets_in}
-use Rattle.kir_simplify.specs.Passes.{folded, folded_of}
-use Rattle.kir_simplify.specs.Tables.{known_by, is_one_at, plain_of, put_known, unlearned, offset_of_line}
+use Rattle.kir_simplify.specs.Passes.{nothing_known, copied, constant_value, or_offset, with_offsets, holds_offset}
+use Rattle.kir_simplify.specs.Passes.{offsets_of, folded, folded_of}
+use Rattle.kir_simplify.specs.Tables.{known_where, listed, plain_of, put_known, unlearned, offset_of_line}
 use Rattle.kir_simplify.specs.Offsets.{is_offset}
 use Rattle.kir_simplify.specs.declared.settling.Learned.{Learned}
 
@@ -45,18 +42,6 @@ pub map_end : {A B : Type 0} (f : A → B) (made : List B) (xs : List A) (i : �
     made ++ map f (drop i xs) ≡ map f xs → made ≡ map f xs
 map_end f made xs i done same =
     sym (append-nil made) ∙ (sym (ap (λ z. made ++ map f z) (drop_all i xs done)) ∙ same)
-
--- entries that all are the same
-pub one_same : {A : Type 0} (xs longer : List A) (d : A) → longer ≡ xs ++ d ∷ [] → ((c : ℕ) → get_or xs c d ≡ d) →
-    (c : ℕ) → get_or longer c d ≡ d
-one_same xs longer d e h c = ap (λ l. get_or l c d) e ∙ more xs d h c
-  where
-    more : {A : Type 0} (xs : List A) (d : A) → ((c : ℕ) → get_or xs c d ≡ d) → (c : ℕ) →
-        get_or (xs ++ d ∷ []) c d ≡ d
-    more [] d h zero = refl
-    more [] d h (suc c) = refl
-    more (x ∷ xs) d h zero = h 0
-    more (x ∷ xs) d h (suc c) = more xs d (λ n. h (suc n)) c
 
 -- ---- counting
 
@@ -184,90 +169,123 @@ nth_some (b ∷ args) (suc n) a h = nth_some args n a h
 
 -- ---- offsets
 
--- no more cells, or one
-abbrev prepended : Option ℕ → List ℕ → List ℕ
-prepended None cells = cells
-prepended (Some c) cells = c ∷ cells
+-- the cell is this one, where there is one
+abbrev is_this : ℕ → Option ℕ → Test
+is_this c None = false
+is_this c (Some d) = nat_eq c d
 
-offsets_first : (once : ℕ → Test) (kinds : List VarKind) (l : Line) (rest : Lines) →
-    offsets_in once kinds (line_before l rest) ≡ prepended (offset_of_line once kinds l) (offsets_in once kinds rest)
-offsets_first once kinds (line.Set to w) rest = by_test (once to && is_offset kinds (work_of w))
+holds_first : (once : ℕ → Test) (kinds : List VarKind) (c : ℕ) (l : Line) (rest : Lines) →
+    holds_offset once kinds c (line_before l rest) ≡
+    (is_this c (offset_of_line once kinds l) || holds_offset once kinds c rest)
+holds_first once kinds c (line.Set to w) rest = by_test (once to && is_offset kinds (work_of w))
   where
-    by_test : (b : Test) →
-        (if b then to ∷ offsets_in once kinds rest else offsets_in once kinds rest) ≡
-        prepended (if b then Some to else None) (offsets_in once kinds rest)
-    by_test true = refl
+    and_true : (t : Test) → (t && true) ≡ t
+    and_true true = refl
+    and_true false = refl
+
+    and_false : (t : Test) → (t && false) ≡ false
+    and_false true = refl
+    and_false false = refl
+
+    by_test : (p : Test) →
+        ((nat_eq c to && p) || holds_offset once kinds c rest) ≡
+        (is_this c (if p then Some to else None) || holds_offset once kinds c rest)
+    by_test true = ap (λ b. b || holds_offset once kinds c rest) (and_true (nat_eq c to))
+    by_test false = ap (λ b. b || holds_offset once kinds c rest) (and_false (nat_eq c to))
+holds_first once kinds c (line.Load site to element root index) rest = refl
+holds_first once kinds c (line.Store site element root index from) rest = refl
+holds_first once kinds c (line.Clear array) rest = refl
+holds_first once kinds c (line.If' site test _ chosen _ other) rest = refl
+holds_first once kinds c (line.Loop' site first _ test answer _ body) rest = refl
+holds_first once kinds c (line.Barrier site) rest = refl
+
+-- what is marked so far, and what the lines hold that are left
+module _ (once : ℕ → Test) (kinds : List VarKind) (ls : List Line) where
+  abbrev pub Marked : List Test → ℕ → Type 0
+  Marked marks i = (c : ℕ) → (listed marks c || holds_offset once kinds c (lines_of (drop i ls))) ≡
+      holds_offset once kinds c (lines_of ls)
+
+  holds_next : (i c : ℕ) (l : Line) → i < length ls → l ≡ get_or ls i l →
+      holds_offset once kinds c (lines_of (drop i ls)) ≡
+      (is_this c (offset_of_line once kinds l) || holds_offset once kinds c (lines_of (drop (i + 1) ls)))
+  holds_next i c l lt is =
+      ap (λ xs. holds_offset once kinds c (lines_of xs)) (first_left ls i l lt is) ∙
+      holds_first once kinds c l (lines_of (drop (i + 1) ls))
+
+  pub offsets_skip : (i : ℕ) (marks : List Test) (l : Line) → i < length ls → l ≡ get_or ls i l →
+      offset_of_line once kinds l ≡ None → Marked marks i → Marked marks (i + 1)
+  offsets_skip i marks l lt is none same c =
+      ap (λ b. listed marks c || b) (sym (holds_next i c l lt is ∙
+      ap (λ o. is_this c o || holds_offset once kinds c (lines_of (drop (i + 1) ls))) none)) ∙ same c
+
+  pub offsets_mark : (i : ℕ) (marks more : List Test) (l : Line) (cell : ℕ) → i < length ls → l ≡ get_or ls i l →
+      offset_of_line once kinds l ≡ Some cell →
+      ((c : ℕ) → listed more c ≡ (nat_eq c cell || listed marks c)) → Marked marks i → Marked more (i + 1)
+  offsets_mark i marks more l cell lt is some one same c =
+      let left = holds_offset once kinds c (lines_of (drop (i + 1) ls)) in
+      ap (λ b. b || left) (one c) ∙ (swapped (nat_eq c cell) (listed marks c) left ∙
+      (ap (λ b. listed marks c || b) (sym (holds_next i c l lt is ∙ ap (λ o. is_this c o || left) some)) ∙ same c))
+    where
+      swapped : (a b d : Test) → ((a || b) || d) ≡ (b || (a || d))
+      swapped true true d = refl
+      swapped true false d = refl
+      swapped false b d = refl
+
+  pub offsets_done : (i : ℕ) (marks : List Test) → length ls ≤ i → Marked marks i → (c : ℕ) →
+      listed marks c ≡ holds_offset once kinds c (lines_of ls)
+  offsets_done i marks done same c =
+      no_more (listed marks c) ∙
+      (ap (λ xs. listed marks c || holds_offset once kinds c (lines_of xs)) (sym (drop_all i ls done)) ∙ same c)
+    where
+      no_more : (b : Test) → b ≡ (b || false)
+      no_more true = refl
+      no_more false = refl
+
+-- ---- what is known in a loop and outside
+
+-- behind a line that sets a cell
+pub learnt_where : (once offsets : ℕ → Test) (in_loop : Test) (known new : Known) (to : ℕ) (work : Work) →
+    ((c : ℕ) → new c ≡ learnt once known to work c) → (c : ℕ) →
+    known_where in_loop offsets new c ≡ learnt once (known_where in_loop offsets known) to work c
+learnt_where once offsets false known new to work h c = h c
+learnt_where once offsets true known new to work h c =
+    ap (λ o. or_offset o (offsets c)) (h c) ∙ by_test (once to && is_plain work)
+  where
+    by_cell : (t : Test) → or_offset (if t then Some (copied work) else known c) (offsets c) ≡
+        (if t then Some (copied work) else or_offset (known c) (offsets c))
+    by_cell true = refl
+    by_cell false = refl
+
+    by_test : (b : Test) → or_offset ((if b then learned known to (copied work) else known) c) (offsets c) ≡
+        (if b then learned (with_offsets offsets known) to (copied work) else with_offsets offsets known) c
+    by_test true = by_cell (nat_eq c to)
     by_test false = refl
-offsets_first once kinds (line.Load site to element root index) rest = refl
-offsets_first once kinds (line.Store site element root index from) rest = refl
-offsets_first once kinds (line.Clear array) rest = refl
-offsets_first once kinds (line.If' site test _ chosen _ other) rest = refl
-offsets_first once kinds (line.Loop' site first _ test answer _ body) rest = refl
-offsets_first once kinds (line.Barrier site) rest = refl
 
-pub offsets_skip : (once : ℕ → Test) (kinds : List VarKind) (made all : List ℕ) (ls : List Line) (i : ℕ) (l : Line) →
-    i < length ls → l ≡ get_or ls i l → offset_of_line once kinds l ≡ None →
-    made ++ offsets_in once kinds (lines_of (drop i ls)) ≡ all →
-    made ++ offsets_in once kinds (lines_of (drop (i + 1) ls)) ≡ all
-offsets_skip once kinds made all ls i l lt is none same =
-    ap (λ z. made ++ z) (sym (offsets_first once kinds l (lines_of (drop (i + 1) ls)) ∙
-    ap (λ o. prepended o (offsets_in once kinds (lines_of (drop (i + 1) ls)))) none)) ∙
-    (ap (λ x. made ++ offsets_in once kinds (lines_of x)) (sym (first_left ls i l lt is)) ∙ same)
+pub same_where : (offsets : ℕ → Test) (in_loop : Test) (known new : Known) → ((c : ℕ) → new c ≡ known c) → (c : ℕ) →
+    known_where in_loop offsets new c ≡ known_where in_loop offsets known c
+same_where offsets in_loop known new h c = ap (λ (k : Known). known_where in_loop offsets k c) (fun_ext h)
 
-pub offsets_push : (once : ℕ → Test) (kinds : List VarKind) (made longer all : List ℕ) (ls : List Line) (i : ℕ)
-    (l : Line) (c : ℕ) → i < length ls → l ≡ get_or ls i l → offset_of_line once kinds l ≡ Some c →
-    longer ≡ made ++ c ∷ [] → made ++ offsets_in once kinds (lines_of (drop i ls)) ≡ all →
-    longer ++ offsets_in once kinds (lines_of (drop (i + 1) ls)) ≡ all
-offsets_push once kinds made longer all ls i l c lt is some more same =
-    ap (λ z. z ++ offsets_in once kinds (lines_of (drop (i + 1) ls))) more ∙
-    (append_assoc made (c ∷ []) (offsets_in once kinds (lines_of (drop (i + 1) ls))) ∙
-    (ap (λ z. made ++ z) (sym (offsets_first once kinds l (lines_of (drop (i + 1) ls)) ∙
-    ap (λ o. prepended o (offsets_in once kinds (lines_of (drop (i + 1) ls)))) some)) ∙
-    (ap (λ x. made ++ offsets_in once kinds (lines_of x)) (sym (first_left ls i l lt is)) ∙ same)))
-
-pub offsets_done : (once : ℕ → Test) (kinds : List VarKind) (made all : List ℕ) (ls : List Line) (i : ℕ) →
-    length ls ≤ i → made ++ offsets_in once kinds (lines_of (drop i ls)) ≡ all → made ≡ all
-offsets_done once kinds made all ls i done same =
-    sym (append-nil made) ∙
-    (sym (ap (λ x. made ++ offsets_in once kinds (lines_of x)) (drop_all i ls done)) ∙ same)
-
-pub offset_none : (known new : Known) (to : ℕ) → known to ≡ None →
-    ((c : ℕ) → new c ≡ learned known to (Const (pos 0) Long) c) → (c : ℕ) → new c ≡ with_offset known to (known to) c
-offset_none known new to none h c = h c ∙ sym (ap (λ o. with_offset known to o c) none)
-
-pub offset_some : (known : Known) (to : ℕ) (a : Atom) → known to ≡ Some a → (c : ℕ) →
-    known c ≡ with_offset known to (known to) c
-offset_some known to a some c = sym (ap (λ o. with_offset known to o c) some)
-
-any_default : (cells : List ℕ) (i d e : ℕ) → i < length cells → get_or cells i d ≡ get_or cells i e
-any_default [] i d e lt = absurd (omega arith)
-any_default (c ∷ cells) zero d e lt = refl
-any_default (c ∷ cells) (suc i) d e lt = any_default cells i d e (omega arith)
-
-pub inside_step : (known new all : Known) (cells : List ℕ) (i : ℕ) → i < length cells →
-    ((c : ℕ) → new c ≡ with_offset known (get_or cells i 0) (known (get_or cells i 0)) c) →
-    ((c : ℕ) → with_offsets (drop i cells) known c ≡ all c) → (c : ℕ) →
-    with_offsets (drop (i + 1) cells) new c ≡ all c
-inside_step known new all cells i lt h same c =
-    ap (λ (k : Known). with_offsets (drop (i + 1) cells) k c) (fun_ext h) ∙
-    (ap (λ xs. with_offsets xs known c) (sym (first_left cells i (get_or cells i 0) lt
-    (any_default cells i 0 (get_or cells i 0) lt))) ∙ same c)
-
-pub inside_end : (known all : Known) (cells : List ℕ) (i : ℕ) → length cells ≤ i →
-    ((c : ℕ) → with_offsets (drop i cells) known c ≡ all c) → (c : ℕ) → known c ≡ all c
-inside_end known all cells i done same c =
-    sym (ap (λ xs. with_offsets xs known c) (drop_all i cells done)) ∙ same c
+-- a loop in a loop knows no more
+pub inside_where : (offsets : ℕ → Test) (in_loop : Test) (known : Known) (c : ℕ) →
+    with_offsets offsets known c ≡ with_offsets offsets (known_where in_loop offsets known) c
+inside_where offsets false known c = refl
+inside_where offsets true known c = by_case (known c) (offsets c)
+  where
+    by_case : (o : Option Atom) (b : Test) → or_offset o b ≡ or_offset (or_offset o b) b
+    by_case (Some a) b = refl
+    by_case None true = refl
+    by_case None false = refl
 
 -- ---- lines
 
-pub set_folded : (once : ℕ → Test) (os : List ℕ) (known new : Known) (to : ℕ) (work made : Work) →
+pub set_folded : (once : ℕ → Test) (os : ℕ → Test) (known new : Known) (to : ℕ) (work made : Work) →
     made ≡ settled_work (known_work known work) → ((c : ℕ) → new c ≡ learnt once known to made c) → (rest : Lines) →
     SetThen to made (folded once os new rest) ≡ folded once os known (SetThen to work rest)
 set_folded once os known new to work made e h rest =
     ap₂ (λ (w : Work) (k : Known). SetThen to w (folded once os k rest)) e
     (fun_ext h ∙ ap (learnt once known to) e)
 
-if_folded : (once : ℕ → Test) (os : List ℕ) (known : Known) (l : Line) (site : ℕ) (test test' : Atom)
+if_folded : (once : ℕ → Test) (os : ℕ → Test) (known : Known) (l : Line) (site : ℕ) (test test' : Atom)
     (chosen other : Vec Line Global) (made ys ns : Lines) → l ≡ line.If site test chosen other →
     test' ≡ known_atom known test → ys ≡ folded once os known (lines_of chosen.items) →
     ns ≡ folded once os known (lines_of other.items) → (rest : Lines) →
@@ -279,7 +297,7 @@ if_folded once os known l site test test' chosen other made ys ns e et ey en res
     sym (ap (λ x. folded once os known (line_before x rest)) e ∙
     ap (folded once os known) (if_listed site test chosen other rest))))
 
-loop_folded : (once : ℕ → Test) (os : List ℕ) (known : Known) (l : Line) (site : ℕ) (first : Test)
+loop_folded : (once : ℕ → Test) (os : ℕ → Test) (known : Known) (l : Line) (site : ℕ) (first : Test)
     (test : Vec Line Global) (answer answer' : Atom) (body : Vec Line Global) (made ts bs : Lines) →
     l ≡ line.Loop site first test answer body → answer' ≡ known_atom (with_offsets os known) answer →
     ts ≡ folded once os (with_offsets os known) (lines_of test.items) →
@@ -348,7 +366,7 @@ pub kept_known : (ls : List Learned) (known mid new : Known) → ((c : ℕ) → 
     ((c : ℕ) → new c ≡ mid c) → (c : ℕ) → unlearned ls new c ≡ unlearned ls known c
 kept_known ls known mid new m n = unlearned_same ls known new (λ c. n c ∙ m c)
 
-pub if_folded_on : (once : ℕ → Test) (os : List ℕ) (known mid new : Known) (l : Line) (site : ℕ) (test test' : Atom)
+pub if_folded_on : (once : ℕ → Test) (os : ℕ → Test) (known mid new : Known) (l : Line) (site : ℕ) (test test' : Atom)
     (chosen other : Vec Line Global) (made ys ns : Lines) → ((c : ℕ) → mid c ≡ known c) →
     ((c : ℕ) → new c ≡ mid c) → l ≡ line.If site test chosen other →
     test' ≡ known_atom known test → ys ≡ folded once os known (lines_of chosen.items) →
@@ -360,7 +378,7 @@ if_folded_on once os known mid new l site test test' chosen other made ys ns m n
     if_folded once os known l site test test' chosen other made ys ns e et ey
     (en ∙ ap (λ (k : Known). folded once os k (lines_of other.items)) (fun_ext m)) rest
 
-pub loop_folded_on : (once : ℕ → Test) (os : List ℕ) (known inside mid new : Known) (l : Line) (site : ℕ)
+pub loop_folded_on : (once : ℕ → Test) (os : ℕ → Test) (known inside mid new : Known) (l : Line) (site : ℕ)
     (first : Test) (test : Vec Line Global) (answer answer' : Atom) (body : Vec Line Global) (made ts bs : Lines) →
     ((c : ℕ) → inside c ≡ with_offsets os known c) → ((c : ℕ) → mid c ≡ inside c) → ((c : ℕ) → new c ≡ known c) →
     l ≡ line.Loop site first test answer body → answer' ≡ known_atom inside answer →
@@ -375,19 +393,9 @@ loop_folded_on once os known inside mid new l site first test answer answer' bod
     (et ∙ ap (λ (k : Known). folded once os k (lines_of test.items)) (fun_ext d))
     (eb ∙ ap (λ (k : Known). folded once os k (lines_of body.items)) (fun_ext (λ c. m c ∙ d c))) rest
 
--- what was learned for a loop is forgotten behind it
-pub left_known : (ls : List Learned) (known inside mid last new : Known) →
-    ((c : ℕ) → unlearned ls inside c ≡ known c) → ((c : ℕ) → mid c ≡ inside c) → ((c : ℕ) → last c ≡ mid c) →
-    ((c : ℕ) → new c ≡ unlearned ls last c) → (c : ℕ) → new c ≡ known c
-left_known ls known inside mid last new u m l n c =
-    n c ∙ (unlearned_same ls inside last (λ d. l d ∙ m d) c ∙ u c)
-
-pub kernel_folded : (kernel : Kernel) (sets os : List ℕ) (known : List (Option Atom)) (body : Lines) →
-    ((c : ℕ) → get_or sets c 0 ≡ sets_in c kernel.body) →
-    os ≡ offsets_in (is_one_at sets) kernel.params kernel.body → ((c : ℕ) → known_by known c ≡ None) →
-    body ≡ folded (is_one_at sets) os (known_by known) kernel.body → with_body kernel body ≡ folded_of kernel
-kernel_folded kernel sets os known body s o k e =
-    ap (with_body kernel) (e ∙
-    (ap₂ (λ (l : List ℕ) (n : Known). folded (is_one_at sets) l n kernel.body) o (fun_ext k) ∙
-    ap (λ (once : ℕ → Test). folded once (offsets_in once kernel.params kernel.body) nothing_known kernel.body)
-    (fun_ext (λ c. ap (λ n. nat_eq n 1) (s c)))))
+pub body_folded : (kernel : Kernel) (once offsets : ℕ → Test) (known : Known) (body : Lines) →
+    ((c : ℕ) → once c ≡ is_set_once kernel c) → ((c : ℕ) → offsets c ≡ offsets_of kernel c) →
+    ((c : ℕ) → known c ≡ None) → body ≡ folded once offsets known kernel.body → body ≡ (folded_of kernel).body
+body_folded kernel once offsets known body s o k e =
+    e ∙ (ap₂ (λ (l : ℕ → Test) (n : Known). folded once l n kernel.body) (fun_ext o) (fun_ext k) ∙
+    ap (λ (one : ℕ → Test). folded one (offsets_of kernel) nothing_known kernel.body) (fun_ext s))

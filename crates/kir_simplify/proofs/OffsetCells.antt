@@ -17,8 +17,9 @@ use Rattle.kir.specs.Tree.{Work, Lines, NoLine, SetThen, LoadThen, StoreThen, Cl
 use Rattle.kir.specs.Tree.{Kernel}
 use Rattle.kir_simplify.specs.Reading.{one_if, sets_in}
 use Rattle.kir_simplify.specs.Simple.{is_set_once}
-use Rattle.kir_simplify.specs.Offsets.{is_pointer, is_among, is_offset}
-use Rattle.kir_simplify.specs.Passes.{offsets_in, offsets_of}
+use Rattle.cl_model.specs.Valid.{is_pointer}
+use Rattle.kir_simplify.specs.Offsets.{is_offset}
+use Rattle.kir_simplify.specs.Passes.{holds_offset, offsets_of}
 
 -- ---- launches
 
@@ -57,81 +58,68 @@ pub one_same : (c : ℕ) → one_if c c ≡ 1
 one_same c = ap (λ (b : Test). if b then 1 else 0) (eq-eqb c c refl)
 
 module _ (once : ℕ → Test) (kinds : List VarKind) where
-  abbrev R : Lines → List ℕ
-  R lines = offsets_in once kinds lines
+  abbrev Holds : ℕ → Lines → Type 0
+  Holds c lines = holds_offset once kinds c lines ≡ true
 
   -- such a cell is set
-  among_sets : (c : ℕ) (lines : Lines) → is_among c (R lines) ≡ true → 1 ≤ sets_in c lines
-  among_sets c NoLine e = absurd (true≢false (sym e))
-  among_sets c (SetThen to work rest) e =
-      by_test (λ h. among_sets c rest h) (once to && is_offset kinds work) e
+  holds_sets : (c : ℕ) (lines : Lines) → Holds c lines → 1 ≤ sets_in c lines
+  holds_sets c NoLine e = absurd (true≢false (sym e))
+  holds_sets c (SetThen to work rest) e =
+      by_cell (λ h. holds_sets c rest h) (nat_eq c to) (once to && is_offset kinds work) e
     where
-      by_cell : (is_among c (R rest) ≡ true → 1 ≤ sets_in c rest) → (t : Test) →
-          (t || is_among c (R rest)) ≡ true → 1 ≤ (if t then 1 else 0) + sets_in c rest
-      by_cell behind true h = omega arith
-      by_cell behind false h = let some = behind h in omega arith
-
-      by_test : (is_among c (R rest) ≡ true → 1 ≤ sets_in c rest) → (b : Test) →
-          is_among c (if b then to ∷ R rest else R rest) ≡ true → 1 ≤ one_if c to + sets_in c rest
-      by_test behind true h = by_cell behind (nat_eq c to) h
-      by_test behind false h = let some = behind h in omega arith
-  among_sets c (LoadThen site to element root index rest) e = let some = among_sets c rest e in omega arith
-  among_sets c (StoreThen site element root index from rest) e = among_sets c rest e
-  among_sets c (ClearThen array rest) e = among_sets c rest e
-  among_sets c (IfThen site test chosen other rest) e = let some = among_sets c rest e in omega arith
-  among_sets c (LoopThen site test_first test answer body rest) e = let some = among_sets c rest e in omega arith
-  among_sets c (BarrierThen site rest) e = among_sets c rest e
+      by_cell : (Holds c rest → 1 ≤ sets_in c rest) → (t p : Test) →
+          ((t && p) || holds_offset once kinds c rest) ≡ true → 1 ≤ (if t then 1 else 0) + sets_in c rest
+      by_cell behind true p h = omega arith
+      by_cell behind false p h = let some = behind h in omega arith
+  holds_sets c (LoadThen site to element root index rest) e = let some = holds_sets c rest e in omega arith
+  holds_sets c (StoreThen site element root index from rest) e = holds_sets c rest e
+  holds_sets c (ClearThen array rest) e = holds_sets c rest e
+  holds_sets c (IfThen site test chosen other rest) e = let some = holds_sets c rest e in omega arith
+  holds_sets c (LoopThen site test_first test answer body rest) e = let some = holds_sets c rest e in omega arith
+  holds_sets c (BarrierThen site rest) e = holds_sets c rest e
 
   -- by one line alone
-  among_once : (c : ℕ) (lines : Lines) → is_among c (R lines) ≡ true → once c ≡ true
-  among_once c NoLine e = absurd (true≢false (sym e))
-  among_once c (SetThen to work rest) e =
-      by_test (λ h. among_once c rest h) (once to && is_offset kinds work) refl e
+  holds_once : (c : ℕ) (lines : Lines) → Holds c lines → once c ≡ true
+  holds_once c NoLine e = absurd (true≢false (sym e))
+  holds_once c (SetThen to work rest) e =
+      by_cell (λ h. holds_once c rest h) (nat_eq c to) (once to && is_offset kinds work) refl refl e
     where
-      by_cell : (is_among c (R rest) ≡ true → once c ≡ true) → (t : Test) → nat_eq c to ≡ t → once to ≡ true →
-          (t || is_among c (R rest)) ≡ true → once c ≡ true
-      by_cell behind true is first h = ap once (eqb-true c to is) ∙ first
-      by_cell behind false is first h = behind h
-
-      by_test : (is_among c (R rest) ≡ true → once c ≡ true) → (b : Test) → (once to && is_offset kinds work) ≡ b →
-          is_among c (if b then to ∷ R rest else R rest) ≡ true → once c ≡ true
-      by_test behind true is h =
-          by_cell behind (nat_eq c to) refl (and_parts (once to) (is_offset kinds work) is).0 h
-      by_test behind false is h = behind h
-  among_once c (LoadThen site to element root index rest) e = among_once c rest e
-  among_once c (StoreThen site element root index from rest) e = among_once c rest e
-  among_once c (ClearThen array rest) e = among_once c rest e
-  among_once c (IfThen site test chosen other rest) e = among_once c rest e
-  among_once c (LoopThen site test_first test answer body rest) e = among_once c rest e
-  among_once c (BarrierThen site rest) e = among_once c rest e
+      by_cell : (Holds c rest → once c ≡ true) → (t p : Test) → nat_eq c to ≡ t →
+          (once to && is_offset kinds work) ≡ p → ((t && p) || holds_offset once kinds c rest) ≡ true → once c ≡ true
+      by_cell behind true true is first h =
+          ap once (eqb-true c to is) ∙ (and_parts (once to) (is_offset kinds work) first).0
+      by_cell behind true false is first h = behind h
+      by_cell behind false p is first h = behind h
+  holds_once c (LoadThen site to element root index rest) e = holds_once c rest e
+  holds_once c (StoreThen site element root index from rest) e = holds_once c rest e
+  holds_once c (ClearThen array rest) e = holds_once c rest e
+  holds_once c (IfThen site test chosen other rest) e = holds_once c rest e
+  holds_once c (LoopThen site test_first test answer body rest) e = holds_once c rest e
+  holds_once c (BarrierThen site rest) e = holds_once c rest e
 
   -- no line sets the cell, or one of these does, to an offset, and no other
   abbrev SetHere : ℕ → Lines → Type 0
-  SetHere c lines = (sets_in c lines ≡ 0) ⊎ ((is_among c (R lines) ≡ true) × (sets_in c lines ≡ 1))
+  SetHere c lines = (sets_in c lines ≡ 0) ⊎ (Holds c lines × (sets_in c lines ≡ 1))
 
   -- what is so of these lines and those inside them is so of the rest, and none is inside
   rest_sets : (c : ℕ) (rest : Lines) (n m : ℕ) →
-      (n + (m + sets_in c rest) ≡ 0) ⊎ ((is_among c (R rest) ≡ true) × (n + (m + sets_in c rest) ≡ 1)) →
+      (n + (m + sets_in c rest) ≡ 0) ⊎ (Holds c rest × (n + (m + sets_in c rest) ≡ 1)) →
       (n ≡ 0) × (m ≡ 0) × SetHere c rest
   rest_sets c rest n m (inl none) = (omega arith, omega arith, inl (omega arith))
   rest_sets c rest n m (inr (there, one)) =
-      let some = among_sets c rest there in
+      let some = holds_sets c rest there in
       (omega arith, omega arith, inr (there, omega arith))
 
   -- behind a line that sets a cell
   line_sets : (c to : ℕ) (work : Work) (rest : Lines) → SetHere c (SetThen to work rest) → SetHere c rest
   line_sets c to work rest (inl none) = inl (omega arith)
-  line_sets c to work rest (inr (there, one)) = by_test (once to && is_offset kinds work) there
+  line_sets c to work rest (inr (there, one)) = by_cell (nat_eq c to) (once to && is_offset kinds work) refl there
     where
-      by_cell : (t : Test) → nat_eq c to ≡ t → (t || is_among c (R rest)) ≡ true → SetHere c rest
-      by_cell true is h =
+      by_cell : (t p : Test) → nat_eq c to ≡ t → ((t && p) || holds_offset once kinds c rest) ≡ true → SetHere c rest
+      by_cell true p is h =
           let first : one_if c to ≡ 1 = ap (λ (b : Test). if b then 1 else 0) is in
           inl (omega arith)
-      by_cell false is h = let some = among_sets c rest h in inr (h, omega arith)
-
-      by_test : (b : Test) → is_among c (if b then to ∷ R rest else R rest) ≡ true → SetHere c rest
-      by_test true h = by_cell (nat_eq c to) refl h
-      by_test false h = let some = among_sets c rest h in inr (h, omega arith)
+      by_cell false p is h = let some = holds_sets c rest h in inr (h, omega arith)
 
   -- the line that sets it sets it to an offset
   line_offset : (to : ℕ) (work : Work) (rest : Lines) → SetHere to (SetThen to work rest) →
@@ -139,37 +127,41 @@ module _ (once : ℕ → Test) (kinds : List VarKind) where
   line_offset to work rest (inl none) = let one = one_same to in absurd (omega arith)
   line_offset to work rest (inr (there, once_set)) = by_test (once to && is_offset kinds work) refl there
     where
-      by_test : (b : Test) → (once to && is_offset kinds work) ≡ b →
-          is_among to (if b then to ∷ R rest else R rest) ≡ true → is_offset kinds work ≡ true
+      behind : (t : Test) → ((t && false) || holds_offset once kinds to rest) ≡ true → Holds to rest
+      behind true h = h
+      behind false h = h
+
+      by_test : (p : Test) → (once to && is_offset kinds work) ≡ p →
+          ((nat_eq to to && p) || holds_offset once kinds to rest) ≡ true → is_offset kinds work ≡ true
       by_test true is h = (and_parts (once to) (is_offset kinds work) is).1
       by_test false is h =
-          let some = among_sets to rest h in
+          let some = holds_sets to rest (behind (nat_eq to to) h) in
           let one = one_same to in
           let all = once_set in
           absurd (omega arith)
 
   -- no load sets it
-  no_load : (to : ℕ) (rest : Lines) → (one_if to to + sets_in to rest ≡ 0) ⊎ ((is_among to (R rest) ≡ true) ×
+  no_load : (to : ℕ) (rest : Lines) → (one_if to to + sets_in to rest ≡ 0) ⊎ (Holds to rest ×
       (one_if to to + sets_in to rest ≡ 1)) → ⊥
   no_load to rest (inl none) = let one = one_same to in omega arith
   no_load to rest (inr (there, all)) =
-      let some = among_sets to rest there in
+      let some = holds_sets to rest there in
       let one = one_same to in
       omega arith
 
-  load_sets : (c to : ℕ) (rest : Lines) → (one_if c to + sets_in c rest ≡ 0) ⊎ ((is_among c (R rest) ≡ true) ×
+  load_sets : (c to : ℕ) (rest : Lines) → (one_if c to + sets_in c rest ≡ 0) ⊎ (Holds c rest ×
       (one_if c to + sets_in c rest ≡ 1)) → SetHere c rest
   load_sets c to rest (inl none) = inl (omega arith)
-  load_sets c to rest (inr (there, all)) = let some = among_sets c rest there in inr (there, omega arith)
+  load_sets c to rest (inr (there, all)) = let some = holds_sets c rest there in inr (there, omega arith)
 
 module _ (kernel : Kernel) where
   -- lines set cells that hold offsets to offsets alone
   abbrev pub KeepsOffsets : Lines → Type 0
   KeepsOffsets NoLine = Unit {0}
   KeepsOffsets (SetThen to work rest) =
-      (is_among to (offsets_of kernel) ≡ true → is_offset kernel.params work ≡ true) × KeepsOffsets rest
+      (offsets_of kernel to ≡ true → is_offset kernel.params work ≡ true) × KeepsOffsets rest
   KeepsOffsets (LoadThen site to element root index rest) =
-      (is_among to (offsets_of kernel) ≡ true → ⊥) × KeepsOffsets rest
+      (offsets_of kernel to ≡ true → ⊥) × KeepsOffsets rest
   KeepsOffsets (StoreThen site element root index from rest) = KeepsOffsets rest
   KeepsOffsets (ClearThen array rest) = KeepsOffsets rest
   KeepsOffsets (IfThen site test chosen other rest) = KeepsOffsets chosen × KeepsOffsets other × KeepsOffsets rest
@@ -181,35 +173,35 @@ module _ (kernel : Kernel) where
   once = is_set_once kernel
 
   keeps : (lines : Lines) →
-      ((c : ℕ) → is_among c (offsets_of kernel) ≡ true → SetHere once kernel.params c lines) → KeepsOffsets lines
+      ((c : ℕ) → offsets_of kernel c ≡ true → SetHere once kernel.params c lines) → KeepsOffsets lines
   keeps NoLine h = tt
   keeps (SetThen to work rest) h = (
-    λ among. line_offset once kernel.params to work rest (h to among),
-    keeps rest (λ c among. line_sets once kernel.params c to work rest (h c among)),
+    λ holds. line_offset once kernel.params to work rest (h to holds),
+    keeps rest (λ c holds. line_sets once kernel.params c to work rest (h c holds)),
   )
   keeps (LoadThen site to element root index rest) h = (
-    λ among. no_load once kernel.params to rest (h to among),
-    keeps rest (λ c among. load_sets once kernel.params c to rest (h c among)),
+    λ holds. no_load once kernel.params to rest (h to holds),
+    keeps rest (λ c holds. load_sets once kernel.params c to rest (h c holds)),
   )
   keeps (StoreThen site element root index from rest) h = keeps rest h
   keeps (ClearThen array rest) h = keeps rest h
   keeps (IfThen site test chosen other rest) h = (
-    keeps chosen (λ c among. inl (rest_sets once kernel.params c rest (sets_in c chosen) (sets_in c other)
-        (h c among)).0),
-    keeps other (λ c among. inl (rest_sets once kernel.params c rest (sets_in c chosen) (sets_in c other)
-        (h c among)).1),
-    keeps rest (λ c among. (rest_sets once kernel.params c rest (sets_in c chosen) (sets_in c other) (h c among)).2),
+    keeps chosen (λ c holds. inl (rest_sets once kernel.params c rest (sets_in c chosen) (sets_in c other)
+        (h c holds)).0),
+    keeps other (λ c holds. inl (rest_sets once kernel.params c rest (sets_in c chosen) (sets_in c other)
+        (h c holds)).1),
+    keeps rest (λ c holds. (rest_sets once kernel.params c rest (sets_in c chosen) (sets_in c other) (h c holds)).2),
   )
   keeps (LoopThen site test_first test answer body rest) h = (
-    keeps test (λ c among. inl (rest_sets once kernel.params c rest (sets_in c test) (sets_in c body) (h c among)).0),
-    keeps body (λ c among. inl (rest_sets once kernel.params c rest (sets_in c test) (sets_in c body) (h c among)).1),
-    keeps rest (λ c among. (rest_sets once kernel.params c rest (sets_in c test) (sets_in c body) (h c among)).2),
+    keeps test (λ c holds. inl (rest_sets once kernel.params c rest (sets_in c test) (sets_in c body) (h c holds)).0),
+    keeps body (λ c holds. inl (rest_sets once kernel.params c rest (sets_in c test) (sets_in c body) (h c holds)).1),
+    keeps rest (λ c holds. (rest_sets once kernel.params c rest (sets_in c test) (sets_in c body) (h c holds)).2),
   )
   keeps (BarrierThen site rest) h = keeps rest h
 
   pub body_keeps : KeepsOffsets kernel.body
-  body_keeps = keeps kernel.body (λ c among. inr (
-    among,
+  body_keeps = keeps kernel.body (λ c holds. inr (
+    holds,
     eqb-true (sets_in c kernel.body) 1
-        (among_once once kernel.params c kernel.body among),
+        (holds_once once kernel.params c kernel.body holds),
   ))

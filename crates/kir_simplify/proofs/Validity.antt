@@ -20,7 +20,7 @@ use Rattle.cl_model.specs.declared.program.Root.{Root}
 use Rattle.cl_model.specs.declared.program.Root.TheVariants as root
 use Rattle.cl_model.specs.declared.program.VarKind.{VarKind}
 use Rattle.cl_model.specs.declared.program.VarKind.TheVariants.{Scalar, Pointer}
-use Rattle.cl_model.specs.Valid.{arity_of, binary_type}
+use Rattle.cl_model.specs.Valid.{arity_of, binary_type, is_pointer}
 use Rattle.cl_model.specs.Values.{is_zero}
 use Rattle.kir.specs.declared.line.Atom.{Atom}
 use Rattle.kir.specs.declared.line.Atom.TheVariants.{Const, Cell as CellAtom}
@@ -33,12 +33,12 @@ use Rattle.kir.specs.Fits.{is_kernel}
 use Rattle.kir.proofs.CellTypes.{has_type_is, is_value_is, unary_value, binary_value, zero_value}
 use Rattle.kir_simplify.specs.Simple.{is_constant, is_foregone, is_plain, is_decided, is_set_once}
 use Rattle.kir_simplify.specs.Simple.{is_unread}
-use Rattle.kir_simplify.specs.Offsets.{is_pointer, is_offset, is_among, is_add, is_long_sum, is_zero_constant}
+use Rattle.kir_simplify.specs.Offsets.{is_offset, is_add, is_long_sum, is_zero_constant}
 use Rattle.kir_simplify.specs.Computable.{IsValueOf, AreValuesOf, IsRightOf, IsComputable, AreComputable}
 use Rattle.kir_simplify.specs.Faithful.{with_body}
 use Rattle.kir_simplify.specs.Passes.{Known, nothing_known, learned, learnt, known_atom, known_work, constant_value}
 use Rattle.kir_simplify.specs.Passes.{foregone_value, foregone_type, reduced_work, settled_work, copied, with_offsets}
-use Rattle.kir_simplify.specs.Passes.{offsets_in, offsets_of, folded, folded_of, spliced}
+use Rattle.kir_simplify.specs.Passes.{holds_offset, offsets_of, folded, folded_of, spliced}
 use Rattle.kir_simplify.specs.Passes.{spliced_of, swept, swept_of}
 use Rattle.kir_simplify.proofs.Reduced.{add_is}
 use Rattle.kir_simplify.proofs.FoldedItems.{offsets_cases}
@@ -393,8 +393,8 @@ module _ (kernel : Kernel) where
       and_from _ _ s.fits (ap (cell_takes kernel to) (s.type ∙ result_same known typed work) ∙ p.1)
 
   -- cells that hold offsets are of type long
-  abbrev pub AreLong : List ℕ → Type 0
-  AreLong os = (c : ℕ) → is_among c os ≡ true → type_of_cell (slice_get kernel.cells c) ≡ Some Long
+  abbrev pub AreLong : (ℕ → Test) → Type 0
+  AreLong os = (c : ℕ) → os c ≡ true → type_of_cell (slice_get kernel.cells c) ≡ Some Long
 
   offset_type : (work : Work) → is_offset kernel.params work ≡ true → work_type kernel work ≡ Some Long
   offset_type (Argument number) e = by_kind (slice_get kernel.params number) e
@@ -410,47 +410,41 @@ module _ (kernel : Kernel) where
   offset_type (Ask what dim) e = absurd (true≢false (sym e))
   offset_type (Copy a) e = absurd (true≢false (sym e))
 
-  among_long : (once : ℕ → Test) (ls : Lines) → lines_fit kernel ls ≡ true →
-      AreLong (offsets_in once kernel.params ls)
-  among_long once NoLine h c e = absurd (true≢false (sym e))
-  among_long once (SetThen to work rest) h c e =
-      by_test (λ f d i. among_long once rest f d i) (once to && is_offset kernel.params work) refl e
+  holds_long : (once : ℕ → Test) (ls : Lines) → lines_fit kernel ls ≡ true →
+      AreLong (λ c. holds_offset once kernel.params c ls)
+  holds_long once NoLine h c e = absurd (true≢false (sym e))
+  holds_long once (SetThen to work rest) h c e =
+      by_cell (λ f d i. holds_long once rest f d i) (nat_eq c to) (once to && is_offset kernel.params work) refl refl e
     where
       fits : ((work_fits kernel work && cell_takes kernel to (work_type kernel work)) ≡ true) ×
           (lines_fit kernel rest ≡ true)
       fits = and_parts (work_fits kernel work && cell_takes kernel to (work_type kernel work)) (lines_fit kernel rest) h
 
-      by_cell : (lines_fit kernel rest ≡ true → AreLong (offsets_in once kernel.params rest)) → (t : Test) →
-          nat_eq c to ≡ t → is_offset kernel.params work ≡ true →
-          (t || is_among c (offsets_in once kernel.params rest)) ≡ true →
+      by_cell : (lines_fit kernel rest ≡ true → AreLong (λ c. holds_offset once kernel.params c rest)) → (t p : Test) →
+          nat_eq c to ≡ t → (once to && is_offset kernel.params work) ≡ p →
+          ((t && p) || holds_offset once kernel.params c rest) ≡ true →
           type_of_cell (slice_get kernel.cells c) ≡ Some Long
-      by_cell behind true is offset e =
+      by_cell behind true true is offset e =
           ap (λ n. type_of_cell (slice_get kernel.cells n)) (eqb-true c to is) ∙
-          (takes_is to (work_type kernel work) (and_parts (work_fits kernel work) _ fits.0).1 ∙ offset_type work offset)
-      by_cell behind false is offset e = behind fits.1 c e
+          (takes_is to (work_type kernel work) (and_parts (work_fits kernel work) _ fits.0).1 ∙
+          offset_type work (and_parts (once to) (is_offset kernel.params work) offset).1)
+      by_cell behind true false is offset e = behind fits.1 c e
+      by_cell behind false p is offset e = behind fits.1 c e
+  holds_long once (LoadThen site to element r index rest) h c e =
+      holds_long once rest (and_parts _ (lines_fit kernel rest) h).1 c e
+  holds_long once (StoreThen site element r index from rest) h c e =
+      holds_long once rest (and_parts _ (lines_fit kernel rest) h).1 c e
+  holds_long once (ClearThen array rest) h c e = holds_long once rest (and_parts _ (lines_fit kernel rest) h).1 c e
+  holds_long once (IfThen site test chosen others rest) h c e =
+      holds_long once rest (and_parts _ (lines_fit kernel rest) h).1 c e
+  holds_long once (LoopThen site test_first test answer inner rest) h c e =
+      holds_long once rest (and_parts _ (lines_fit kernel rest) h).1 c e
+  holds_long once (BarrierThen site rest) h c e = holds_long once rest (and_parts _ (lines_fit kernel rest) h).1 c e
 
-      by_test : (lines_fit kernel rest ≡ true → AreLong (offsets_in once kernel.params rest)) → (b : Test) →
-          (once to && is_offset kernel.params work) ≡ b →
-          is_among c (if b then to ∷ offsets_in once kernel.params rest else offsets_in once kernel.params rest) ≡ true
-          → type_of_cell (slice_get kernel.cells c) ≡ Some Long
-      by_test behind true is e =
-          by_cell behind (nat_eq c to) refl (and_parts (once to) (is_offset kernel.params work) is).1 e
-      by_test behind false is e = behind fits.1 c e
-  among_long once (LoadThen site to element r index rest) h c e =
-      among_long once rest (and_parts _ (lines_fit kernel rest) h).1 c e
-  among_long once (StoreThen site element r index from rest) h c e =
-      among_long once rest (and_parts _ (lines_fit kernel rest) h).1 c e
-  among_long once (ClearThen array rest) h c e = among_long once rest (and_parts _ (lines_fit kernel rest) h).1 c e
-  among_long once (IfThen site test chosen others rest) h c e =
-      among_long once rest (and_parts _ (lines_fit kernel rest) h).1 c e
-  among_long once (LoopThen site test_first test answer inner rest) h c e =
-      among_long once rest (and_parts _ (lines_fit kernel rest) h).1 c e
-  among_long once (BarrierThen site rest) h c e = among_long once rest (and_parts _ (lines_fit kernel rest) h).1 c e
-
-  typed_inside : (os : List ℕ) → AreLong os → (known : Known) → AreTyped known → AreTyped (with_offsets os known)
+  typed_inside : (os : ℕ → Test) → AreLong os → (known : Known) → AreTyped known → AreTyped (with_offsets os known)
   typed_inside os long known typed c a is = by_case (offsets_cases os known c a is)
     where
-      by_case : (known c ≡ Some a) ⊎ ((is_among c os ≡ true) × (a ≡ Const (pos 0) Long)) →
+      by_case : (known c ≡ Some a) ⊎ ((os c ≡ true) × (a ≡ Const (pos 0) Long)) →
           (is_constant a ≡ true) × (atom_type kernel a ≡ type_of_cell (slice_get kernel.cells c))
       by_case (inl before) = typed c a before
       by_case (inr (among, same)) = (
@@ -458,7 +452,7 @@ module _ (kernel : Kernel) where
         ap (atom_type kernel) same ∙ (constant_type Long (pos 0) (zero_value Long) ∙ sym (long c among)),
       )
 
-  folded_fits : (once : ℕ → Test) (os : List ℕ) → AreLong os → (known : Known) → AreTyped known → (ls : Lines) →
+  folded_fits : (once : ℕ → Test) (os : ℕ → Test) → AreLong os → (known : Known) → AreTyped known → (ls : Lines) →
       lines_fit kernel ls ≡ true →
       lines_fit kernel (folded once os known ls) ≡ true
   folded_fits once os long known typed NoLine h = h
@@ -493,7 +487,7 @@ module _ (kernel : Kernel) where
   pub folded_valid : is_kernel kernel ≡ true → is_kernel (folded_of kernel) ≡ true
   folded_valid =
       valid_with kernel (folded (is_set_once kernel) (offsets_of kernel) nothing_known kernel.body)
-      (λ fits. folded_fits (is_set_once kernel) (offsets_of kernel) (among_long (is_set_once kernel) kernel.body fits)
+      (λ fits. folded_fits (is_set_once kernel) (offsets_of kernel) (holds_long (is_set_once kernel) kernel.body fits)
       nothing_known none_typed kernel.body fits)
 
   -- the constants of a work that fits are values of the types in which it computes
@@ -543,7 +537,7 @@ module _ (kernel : Kernel) where
   computable (Argument number) h = tt
   computable (Copy a) h = tt
 
-  all_computable : (once : ℕ → Test) (os : List ℕ) → AreLong os → (known : Known) → AreTyped known → (ls : Lines) →
+  all_computable : (once : ℕ → Test) (os : ℕ → Test) → AreLong os → (known : Known) → AreTyped known → (ls : Lines) →
       lines_fit kernel ls ≡ true →
       AreComputable once os known ls
   all_computable once os long known typed NoLine h = tt
@@ -581,10 +575,10 @@ module _ (kernel : Kernel) where
   all_computable once os long known typed (BarrierThen site rest) h =
       all_computable once os long known typed rest (and_parts _ (lines_fit kernel rest) h).1
 
-  pub body_computable : is_kernel kernel ≡ true → (once : ℕ → Test) →
-      AreComputable once (offsets_in once kernel.params kernel.body) nothing_known kernel.body
-  body_computable valid once =
+  pub body_computable : is_kernel kernel ≡ true →
+      AreComputable (is_set_once kernel) (offsets_of kernel) nothing_known kernel.body
+  body_computable valid =
       let fits = (and_parts (roots_are_own 0 kernel.params) _
       (and_parts _ _ (and_parts _ _ (and_parts _ _ (and_parts _ _ (and_parts _ _ valid).0).0).0).0).0).1 in
-      all_computable once (offsets_in once kernel.params kernel.body) (among_long once kernel.body fits) nothing_known
-      none_typed kernel.body fits
+      all_computable (is_set_once kernel) (offsets_of kernel) (holds_long (is_set_once kernel) kernel.body fits)
+      nothing_known none_typed kernel.body fits

@@ -37,8 +37,8 @@ IsComputable (Ask what dim) = Unit {0}
 IsComputable (Argument number) = Unit {0}
 IsComputable (Copy a) = Unit {0}
 
--- so are those of each line, where these constants are known before the lines, and where these cells are offsets
-abbrev pub AreComputable : (once : ℕ → Test) → (offsets : List ℕ) → Known → Lines → Type 0
+-- so are those of each line, where these constants are known before the lines, and where these cells hold offsets
+abbrev pub AreComputable : (once offsets : ℕ → Test) → Known → Lines → Type 0
 AreComputable once offsets known NoLine = Unit {0}
 AreComputable once offsets known (SetThen to work rest) =
     IsComputable (known_work known work) ×

@@ -1,6 +1,6 @@
 -- What is known of pointers that are parameters: a launch binds the offset 0 to each, and the sum of it and an index is
 -- the index.
-use Rattle.std.specs.Prelude.{ℕ, List, [], ◌∷◌, Option, Some, None, slice_get, ◌&&◌, ◌||◌, nat_eq}
+use Rattle.std.specs.Prelude.{List, slice_get, ◌&&◌}
 use Rattle.std.specs.Prelude.{Bool as Test, true, false}
 use Rattle.wg_num.specs.declared.types.IntType.{IntType}
 use Rattle.wg_num.specs.declared.types.IntType.TheVariants.{Long}
@@ -8,17 +8,11 @@ use Rattle.wg_num.specs.declared.types.Bin.{Bin}
 use Rattle.wg_num.specs.declared.types.Bin.TheVariants as bin
 use Rattle.wg_num.specs.Types.{same_type}
 use Rattle.cl_model.specs.declared.program.VarKind.{VarKind}
-use Rattle.cl_model.specs.declared.program.VarKind.TheVariants.{Scalar, Pointer}
+use Rattle.cl_model.specs.Valid.{is_pointer}
 use Rattle.cl_model.specs.Values.{is_zero}
 use Rattle.kir.specs.declared.line.Atom.{Atom}
 use Rattle.kir.specs.declared.line.Atom.TheVariants.{Const, Cell as CellAtom}
 use Rattle.kir.specs.Tree.{Work, Unary, Binary, Builtin, Convert, Ask, Argument, Copy}
-
--- the parameter is a pointer
-abbrev pub is_pointer : Option VarKind → Test
-is_pointer None = false
-is_pointer (Some (Scalar t)) = false
-is_pointer (Some (Pointer at element root)) = true
 
 -- what is computed is the offset of a pointer that is a parameter of these kinds
 abbrev pub is_offset : List VarKind → Work → Test
@@ -29,11 +23,6 @@ is_offset kinds (Convert to a) = false
 is_offset kinds (Ask what dim) = false
 is_offset kinds (Argument number) = is_pointer (slice_get kinds number)
 is_offset kinds (Copy a) = false
-
--- the cell is one of these
-abbrev pub is_among : ℕ → List ℕ → Test
-is_among c [] = false
-is_among c (d ∷ cells) = nat_eq c d || is_among c cells
 
 -- the operator adds
 abbrev pub is_add : Bin → Test

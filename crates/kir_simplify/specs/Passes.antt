@@ -3,8 +3,8 @@
 -- them, in loops also of the offsets of pointers that are parameters; it leaves each line where it is. The second puts
 -- the branch that a constant chooses in place of its if. The third leaves out values that no line reads.
 use Rattle.std.specs.Prelude.{ℕ, zero, suc, ◌+◌, ℤ, pos, List, [], ◌∷◌, Option, Some, None, map, unwrap_or}
-use Rattle.std.specs.Prelude.{◌&&◌, nat_eq, nat_lt, if◌then◌else◌}
-use Rattle.std.specs.Prelude.{Bool as Test}
+use Rattle.std.specs.Prelude.{◌&&◌, ◌||◌, nat_eq, nat_lt, if◌then◌else◌}
+use Rattle.std.specs.Prelude.{Bool as Test, false}
 use Rattle.wg_num.specs.declared.types.IntType.{IntType}
 use Rattle.wg_num.specs.declared.types.IntType.TheVariants.{Int, Long}
 use Rattle.wg_num.specs.declared.types.Bin.{Bin}
@@ -107,31 +107,30 @@ copied (Copy a) = a
 abbrev pub learnt : (once : ℕ → Test) → Known → ℕ → Work → Known
 learnt once known to work = if once to && is_plain work then learned known to (copied work) else known
 
--- the cells that one line alone sets, to the offset of a pointer that is a parameter, where that line is one of these
--- and stands in none of them: each holds 0 from its start on
-abbrev pub offsets_in : (once : ℕ → Test) → List VarKind → Lines → List ℕ
-offsets_in once kinds NoLine = []
-offsets_in once kinds (SetThen to work rest) =
-    if once to && is_offset kinds work then to ∷ offsets_in once kinds rest else offsets_in once kinds rest
-offsets_in once kinds (LoadThen site to element root index rest) = offsets_in once kinds rest
-offsets_in once kinds (StoreThen site element root index from rest) = offsets_in once kinds rest
-offsets_in once kinds (ClearThen array rest) = offsets_in once kinds rest
-offsets_in once kinds (IfThen site test chosen other rest) = offsets_in once kinds rest
-offsets_in once kinds (LoopThen site test_first test answer body rest) = offsets_in once kinds rest
-offsets_in once kinds (BarrierThen site rest) = offsets_in once kinds rest
+-- one line alone sets the cell, to the offset of a pointer that is a parameter, and that line is one of these and stands
+-- in none of them: the cell holds 0 from an item's start on
+abbrev pub holds_offset : (once : ℕ → Test) → List VarKind → ℕ → Lines → Test
+holds_offset once kinds c NoLine = false
+holds_offset once kinds c (SetThen to work rest) =
+    (nat_eq c to && (once to && is_offset kinds work)) || holds_offset once kinds c rest
+holds_offset once kinds c (LoadThen site to element root index rest) = holds_offset once kinds c rest
+holds_offset once kinds c (StoreThen site element root index from rest) = holds_offset once kinds c rest
+holds_offset once kinds c (ClearThen array rest) = holds_offset once kinds c rest
+holds_offset once kinds c (IfThen site test chosen other rest) = holds_offset once kinds c rest
+holds_offset once kinds c (LoopThen site test_first test answer body rest) = holds_offset once kinds c rest
+holds_offset once kinds c (BarrierThen site rest) = holds_offset once kinds c rest
 
--- where nothing is known of the cell, it is the offset 0
-abbrev pub with_offset : Known → ℕ → Option Atom → Known
-with_offset known c None = learned known c (Const (pos 0) Long)
-with_offset known c (Some a) = known
+-- where nothing is known of a cell that holds an offset, it is 0
+abbrev pub or_offset : Option Atom → Test → Option Atom
+or_offset (Some a) offset = Some a
+or_offset None offset = if offset then Some (Const (pos 0) Long) else None
 
--- what is known in a loop: these cells are offsets, too
-abbrev pub with_offsets : List ℕ → Known → Known
-with_offsets [] known = known
-with_offsets (c ∷ cells) known = with_offsets cells (with_offset known c (known c))
+-- what is known in a loop: that these cells hold offsets, too
+abbrev pub with_offsets : (ℕ → Test) → Known → Known
+with_offsets offsets known c = or_offset (known c) (offsets c)
 
--- the lines, where these constants are known before them, and where these cells are offsets
-abbrev pub folded : (once : ℕ → Test) → (offsets : List ℕ) → Known → Lines → Lines
+-- the lines, where these constants are known before them, and where these cells hold offsets
+abbrev pub folded : (once offsets : ℕ → Test) → Known → Lines → Lines
 folded once offsets known NoLine = NoLine
 folded once offsets known (SetThen to work rest) =
     SetThen to (settled_work (known_work known work))
@@ -150,8 +149,9 @@ folded once offsets known (LoopThen site test_first test answer body rest) =
     (folded once offsets known rest)
 folded once offsets known (BarrierThen site rest) = BarrierThen site (folded once offsets known rest)
 
-abbrev pub offsets_of : Kernel → List ℕ
-offsets_of kernel = offsets_in (is_set_once kernel) kernel.params kernel.body
+-- the cells that hold the offsets of a kernel's pointers
+abbrev pub offsets_of : Kernel → ℕ → Test
+offsets_of kernel c = holds_offset (is_set_once kernel) kernel.params c kernel.body
 
 abbrev pub folded_of : Kernel → Kernel
 folded_of kernel = with_body kernel (folded (is_set_once kernel) (offsets_of kernel) nothing_known kernel.body)

@@ -8,10 +8,11 @@ use Rattle.kir.specs.declared.line.Line.{Line}
 use Rattle.kir.specs.declared.line.Line.TheVariants as line
 use Rattle.kir.specs.Listed.{line_before, work_of}
 use Rattle.kir.specs.Tree.{Cell, Lines, Work}
+use Rattle.kir_simplify.specs.declared.offsets.CellFacts.{CellFacts}
 use Rattle.kir_simplify.specs.declared.settling.Learned.{Learned}
 use Rattle.kir_simplify.specs.Simple.{is_value_kind, is_decided, is_plain}
 use Rattle.kir_simplify.specs.Offsets.{is_offset}
-use Rattle.kir_simplify.specs.Passes.{Known, constant_value, copied}
+use Rattle.kir_simplify.specs.Passes.{Known, constant_value, copied, with_offsets}
 
 -- what the list says of a cell; of one that it does not have, no
 abbrev pub listed : List Test → ℕ → Test
@@ -60,6 +61,11 @@ decision test chosen other =
 abbrev pub known_by : List (Option Atom) → Known
 known_by table c = slice_index_or table c None
 
+-- what is known where this was learned: in a loop, that these cells hold offsets, too
+abbrev pub known_where : (in_loop : Test) → (offsets : ℕ → Test) → Known → Known
+known_where true offsets known = with_offsets offsets known
+known_where false offsets known = known
+
 -- something else is known of the cell, or nothing
 abbrev pub put_known : Known → ℕ → Option Atom → Known
 put_known known to found c = if nat_eq c to then found else known c
@@ -86,3 +92,13 @@ offset_of_line once kinds (line.Clear array) = None
 offset_of_line once kinds (line.If' site test m chosen n other) = None
 offset_of_line once kinds (line.Loop' site test_first m test answer n body) = None
 offset_of_line once kinds (line.Barrier site) = None
+
+-- what a kernel's facts say of a cell: that one line alone sets it, that it holds an offset, and what is known of it
+abbrev pub once_by : CellFacts → ℕ → Test
+once_by facts = is_one_at facts.sets.items
+
+abbrev pub offsets_by : CellFacts → ℕ → Test
+offsets_by facts = listed facts.offsets.items
+
+abbrev pub known_in : CellFacts → (in_loop : Test) → List (Option Atom) → Known
+known_in facts in_loop table = known_where in_loop (offsets_by facts) (known_by table)

@@ -10,13 +10,18 @@ use kir::Line;
 use std::alloc::Global;
 use wg_num::{Memory, push};
 
-/// A table that has an entry for the cell.
-fn make_room(sets: &mut Vec<u64>, at: usize) -> Result<(), Memory>
-    ensures same { OnOk result ((c : ℕ) → slice_index_or sets.new.items c 0 ≡ slice_index_or sets.old.items c 0) }
-    ensures room { OnOk result (at < vec_len sets.new) }
+/// A table that has an entry for the cell; new entries are this.
+pub(crate) fn make_room<T: Copy + Drop>(
+    table: &mut Vec<T>,
+    at: usize,
+    none: T,
+) -> Result<(), Memory>
+    ensures same { OnOk result ((c : ℕ) →
+        slice_index_or table.new.items c none ≡ slice_index_or table.old.items c none) }
+    ensures room { OnOk result (at < vec_len table.new) }
 {
-    while sets.len() <= at {
-        push(sets, 0)?;
+    while table.len() <= at {
+        push(table, none)?;
     }
     Ok(())
 }
@@ -27,7 +32,7 @@ fn count_cell(sets: &mut Vec<u64>, to: u32) -> Result<(), Memory>
         one_if c to + slice_index_or sets.old.items c 0) }
 {
     let at = to as usize;
-    make_room(sets, at)?;
+    make_room(sets, at, 0)?;
     match sets[at].checked_add(1) {
         Some(more) => {
             sets[at] = more;

@@ -1,6 +1,6 @@
 //! Kernels whose constants are computed beforehand.
 
-ghost use Rattle.std.specs.Prelude.{◌≡◌, ℕ, List, true, IfOk, OnOk};
+ghost use Rattle.std.specs.Prelude.{◌≡◌, ℕ, true, IfOk, OnOk};
 ghost use Rattle.std.specs.Prelude.{Bool as Test};
 ghost use Rattle.kir.specs.Tree.{Lines, NoLine, SetThen, joined_to};
 ghost use Rattle.kir.specs.Listed.{line_before, lines_of, work_of};
@@ -8,50 +8,50 @@ ghost use Rattle.kir.specs.View.{kernel_of};
 ghost use Rattle.kir_simplify.specs.Computable.{IsComputable, AreComputable};
 ghost use Rattle.kir_simplify.specs.Faithful.{IsFaithful};
 ghost use Rattle.kir_simplify.specs.Passes.{folded, folded_of, known_work};
-ghost use Rattle.kir_simplify.specs.Tables.{is_bare, is_one_at, known_by, unlearned};
+ghost use Rattle.kir_simplify.specs.Tables.{is_bare, known_by, known_in, offsets_by, once_by, unlearned};
 
 use crate::adding::{add_if, add_line, add_loop};
-use crate::counting::counted;
-use crate::offsets::offsets_among;
-use crate::settling::{Learned, fold_work, forget, known_atom, learn, learn_offsets};
+use crate::offsets::{CellFacts, facts_of};
+use crate::settling::{Learned, fold_work, forget, known_atom, learn};
 use kir::{Atom, Kernel, Line, Work};
 use std::alloc::Global;
 use wg_num::Memory;
 
-/// The list with a line more that sets a cell, and what is known behind it.
+/// A line that sets a cell, folded; and what is known behind it.
 #[inline(never)]
-fn fold_set(
+fn folded_set(
     alloc: Global,
-    sets: &[u64],
+    facts: &CellFacts,
+    in_loop: bool,
     known: &mut Vec<Option<Atom>>,
     trail: &mut Vec<Learned>,
     to: u32,
     work: &Work,
-    made: &mut Vec<Line>,
-) -> Result<(), Memory>
-    requires { IsComputable (known_work (known_by known.old.items) (work_of work.now)) }
-    ensures before { OnOk result ((c : ℕ) → unlearned trail.new.items (known_by known.new.items) c ≡
+) -> Result<Line, Memory>
+    requires { IsComputable (known_work (known_in facts.now in_loop known.old.items) (work_of work.now)) }
+    ensures before { IfOk result (λ line. (c : ℕ) → unlearned trail.new.items (known_by known.new.items) c ≡
         unlearned trail.old.items (known_by known.old.items) c) }
-    ensures made { OnOk result ((offsets : List ℕ) (rest : Lines) →
-        joined_to (lines_of made.new.items) (folded (is_one_at sets.now) offsets (known_by known.new.items) rest) ≡
-        joined_to (lines_of made.old.items)
-        (folded (is_one_at sets.now) offsets (known_by known.old.items) (SetThen to (work_of work.now) rest))) }
-    ensures computable { OnOk result ((offsets : List ℕ) (rest : Lines) →
-        AreComputable (is_one_at sets.now) offsets (known_by known.old.items) (SetThen to (work_of work.now) rest) →
-        AreComputable (is_one_at sets.now) offsets (known_by known.new.items) rest) }
+    ensures line { IfOk result (λ line. (rest : Lines) →
+        line_before line (folded (once_by facts.now) (offsets_by facts.now)
+        (known_in facts.now in_loop known.new.items) rest) ≡
+        folded (once_by facts.now) (offsets_by facts.now) (known_in facts.now in_loop known.old.items)
+        (SetThen to (work_of work.now) rest)) }
+    ensures computable { IfOk result (λ line. (rest : Lines) →
+        AreComputable (once_by facts.now) (offsets_by facts.now) (known_in facts.now in_loop known.old.items)
+        (SetThen to (work_of work.now) rest) →
+        AreComputable (once_by facts.now) (offsets_by facts.now) (known_in facts.now in_loop known.new.items) rest) }
 {
-    let work = fold_work(alloc, known, work)?;
-    learn(sets, known, trail, to, &work)?;
-    add_line(made, Line::Set { to, work })?;
-    Ok(())
+    let work = fold_work(alloc, facts, in_loop, known, work)?;
+    learn(facts, known, trail, to, &work)?;
+    Ok(Line::Set { to, work })
 }
 
 /// Another line without lines, where these constants are known.
-fn folded_plain(known: &[Option<Atom>], line: &Line) -> Line
+fn folded_plain(facts: &CellFacts, in_loop: bool, known: &[Option<Atom>], line: &Line) -> Line
     requires { is_bare line.now ≡ true }
-    ensures { (once : ℕ → Test) (offsets : List ℕ) (rest : Lines) →
-        line_before result (folded once offsets (known_by known.now) rest) ≡
-        folded once offsets (known_by known.now) (line_before line.now rest) }
+    ensures { (once : ℕ → Test) (offsets : ℕ → Test) (rest : Lines) →
+        line_before result (folded once offsets (known_in facts.now in_loop known.now) rest) ≡
+        folded once offsets (known_in facts.now in_loop known.now) (line_before line.now rest) }
 {
     match line {
         Line::Load {
@@ -65,7 +65,7 @@ fn folded_plain(known: &[Option<Atom>], line: &Line) -> Line
             to: *to,
             element: *element,
             root: *root,
-            index: known_atom(known, *index),
+            index: known_atom(facts, in_loop, known, *index),
         },
         Line::Store {
             site,
@@ -77,8 +77,8 @@ fn folded_plain(known: &[Option<Atom>], line: &Line) -> Line
             site: *site,
             element: *element,
             root: *root,
-            index: known_atom(known, *index),
-            from: known_atom(known, *from),
+            index: known_atom(facts, in_loop, known, *index),
+            from: known_atom(facts, in_loop, known, *from),
         },
         Line::Clear { array } => Line::Clear { array: *array },
         Line::Barrier { site } => Line::Barrier { site: *site },
@@ -88,13 +88,20 @@ fn folded_plain(known: &[Option<Atom>], line: &Line) -> Line
 
 /// The list with that line more.
 #[inline(never)]
-fn fold_plain(known: &[Option<Atom>], line: &Line, made: &mut Vec<Line>) -> Result<(), Memory>
+fn fold_plain(
+    facts: &CellFacts,
+    in_loop: bool,
+    known: &[Option<Atom>],
+    line: &Line,
+    made: &mut Vec<Line>,
+) -> Result<(), Memory>
     requires { is_bare line.now ≡ true }
-    ensures { OnOk result ((once : ℕ → Test) (offsets : List ℕ) (rest : Lines) →
-        joined_to (lines_of made.new.items) (folded once offsets (known_by known.now) rest) ≡
-        joined_to (lines_of made.old.items) (folded once offsets (known_by known.now) (line_before line.now rest))) }
+    ensures { OnOk result ((once : ℕ → Test) (offsets : ℕ → Test) (rest : Lines) →
+        joined_to (lines_of made.new.items) (folded once offsets (known_in facts.now in_loop known.now) rest) ≡
+        joined_to (lines_of made.old.items)
+        (folded once offsets (known_in facts.now in_loop known.now) (line_before line.now rest))) }
 {
-    let line = folded_plain(known, line);
+    let line = folded_plain(facts, in_loop, known, line);
     add_line(made, line)?;
     Ok(())
 }
@@ -105,21 +112,22 @@ fn fold_plain(known: &[Option<Atom>], line: &Line, made: &mut Vec<Line>) -> Resu
 #[inline(never)]
 fn fold_lines(
     alloc: Global,
-    sets: &[u64],
-    offsets: &[u32],
+    facts: &CellFacts,
+    in_loop: bool,
     known: &mut Vec<Option<Atom>>,
     lines: &[Line],
 ) -> Result<Vec<Line>, Memory>
-    requires { AreComputable (is_one_at sets.now) offsets.now (known_by known.old.items) (lines_of lines.now) }
+    requires { AreComputable (once_by facts.now) (offsets_by facts.now) (known_in facts.now in_loop known.old.items)
+        (lines_of lines.now) }
     ensures forgotten { IfOk result (λ made. (c : ℕ) →
         known_by known.new.items c ≡ known_by known.old.items c) }
-    ensures made { IfOk result (λ made. lines_of made.items ≡
-        folded (is_one_at sets.now) offsets.now (known_by known.old.items) (lines_of lines.now)) }
+    ensures made { IfOk result (λ made. lines_of made.items ≡ folded (once_by facts.now) (offsets_by facts.now)
+        (known_in facts.now in_loop known.old.items) (lines_of lines.now)) }
 {
     let mut trail = Vec::new(alloc);
     let mut made = Vec::new(alloc);
     for line in lines {
-        fold_onto(alloc, sets, offsets, known, &mut trail, line, &mut made)?;
+        fold_onto(alloc, facts, in_loop, known, &mut trail, line, &mut made)?;
     }
     forget(known, &mut trail)?;
     Ok(made)
@@ -130,28 +138,31 @@ fn fold_lines(
 #[inline(never)]
 fn fold_onto(
     alloc: Global,
-    sets: &[u64],
-    offsets: &[u32],
+    facts: &CellFacts,
+    in_loop: bool,
     known: &mut Vec<Option<Atom>>,
     trail: &mut Vec<Learned>,
     line: &Line,
     made: &mut Vec<Line>,
 ) -> Result<(), Memory>
-    requires { AreComputable (is_one_at sets.now) offsets.now (known_by known.old.items) (line_before line.now NoLine) }
+    requires { AreComputable (once_by facts.now) (offsets_by facts.now) (known_in facts.now in_loop known.old.items)
+        (line_before line.now NoLine) }
     ensures before { OnOk result ((c : ℕ) → unlearned trail.new.items (known_by known.new.items) c ≡
         unlearned trail.old.items (known_by known.old.items) c) }
     ensures made { OnOk result ((rest : Lines) →
-        joined_to (lines_of made.new.items) (folded (is_one_at sets.now) offsets.now (known_by known.new.items) rest) ≡
-        joined_to (lines_of made.old.items)
-        (folded (is_one_at sets.now) offsets.now (known_by known.old.items) (line_before line.now rest))) }
+        joined_to (lines_of made.new.items) (folded (once_by facts.now) (offsets_by facts.now)
+        (known_in facts.now in_loop known.new.items) rest) ≡
+        joined_to (lines_of made.old.items) (folded (once_by facts.now) (offsets_by facts.now)
+        (known_in facts.now in_loop known.old.items) (line_before line.now rest))) }
     ensures computable { OnOk result ((rest : Lines) →
-        AreComputable (is_one_at sets.now) offsets.now (known_by known.old.items) (line_before line.now rest) →
-        AreComputable (is_one_at sets.now) offsets.now (known_by known.new.items) rest) }
+        AreComputable (once_by facts.now) (offsets_by facts.now) (known_in facts.now in_loop known.old.items)
+        (line_before line.now rest) →
+        AreComputable (once_by facts.now) (offsets_by facts.now) (known_in facts.now in_loop known.new.items) rest) }
 {
     match line {
         Line::Set { to, work } => {
-            fold_set(alloc, sets, known, trail, *to, work, made)?;
-            Ok(())
+            let line = folded_set(alloc, facts, in_loop, known, trail, *to, work)?;
+            add_line(made, line)?;
         }
         Line::If {
             site,
@@ -159,11 +170,10 @@ fn fold_onto(
             yes,
             no,
         } => {
-            let test = known_atom(known, *test);
-            let yes = fold_lines(alloc, sets, offsets, known, yes)?;
-            let no = fold_lines(alloc, sets, offsets, known, no)?;
+            let test = known_atom(facts, in_loop, known, *test);
+            let yes = fold_lines(alloc, facts, in_loop, known, yes)?;
+            let no = fold_lines(alloc, facts, in_loop, known, no)?;
             add_if(made, *site, test, yes, no)?;
-            Ok(())
         }
         Line::Loop {
             site,
@@ -172,29 +182,25 @@ fn fold_onto(
             answer,
             body,
         } => {
-            let mut learned = learn_offsets(alloc, offsets, known)?;
-            let answer = known_atom(known, *answer);
-            let test = fold_lines(alloc, sets, offsets, known, test)?;
-            let body = fold_lines(alloc, sets, offsets, known, body)?;
-            forget(known, &mut learned)?;
+            let answer = known_atom(facts, true, known, *answer);
+            let test = fold_lines(alloc, facts, true, known, test)?;
+            let body = fold_lines(alloc, facts, true, known, body)?;
             add_loop(made, *site, *test_first, test, answer, body)?;
-            Ok(())
         }
         Line::Load { .. } | Line::Store { .. } | Line::Clear { .. } | Line::Barrier { .. } => {
-            fold_plain(known, line, made)?;
-            Ok(())
+            fold_plain(facts, in_loop, known, line, made)?;
         }
     }
+    Ok(())
 }
 
 /// The kernel's lines, folded.
 fn folded_body(alloc: Global, kernel: &Kernel) -> Result<Vec<Line>, Memory>
     ensures { IfOk result (λ body. lines_of body.items ≡ (folded_of (kernel_of kernel.now)).body) }
 {
-    let sets = counted(alloc, &kernel.body)?;
-    let offsets = offsets_among(alloc, &sets, &kernel.params, &kernel.body)?;
+    let facts = facts_of(alloc, kernel)?;
     let mut known = Vec::new(alloc);
-    let body = fold_lines(alloc, &sets, &offsets, &mut known, &kernel.body)?;
+    let body = fold_lines(alloc, &facts, false, &mut known, &kernel.body)?;
     Ok(body)
 }
 

@@ -1,25 +1,26 @@
 //! Cells that hold the offset of a pointer, which each launch makes 0.
 
-ghost use Rattle.std.specs.Prelude.{◌≡◌, IfOk, slice_get};
+ghost use Rattle.std.specs.Prelude.{◌≡◌, ℕ, ◌||◌, nat_eq, IfOk, OnOk};
 ghost use Rattle.kir.specs.Listed.{lines_of, work_of};
+ghost use Rattle.kir.specs.View.{kernel_of};
 ghost use Rattle.kir_simplify.specs.Offsets as offset;
-ghost use Rattle.kir_simplify.specs.Passes.{offsets_in};
-ghost use Rattle.kir_simplify.specs.Tables.{is_one_at, offset_of_line};
+ghost use Rattle.kir_simplify.specs.Passes.{holds_offset, offsets_of};
+ghost use Rattle.kir_simplify.specs.Simple.{is_set_once};
+ghost use Rattle.kir_simplify.specs.Tables.{is_one_at, listed, offset_of_line, offsets_by, once_by};
 
-use crate::counting::is_one;
-use cl_model::VarKind;
-use kir::{Line, Work};
+use crate::counting::{counted, is_one, make_room};
+use cl_model::{VarKind, is_pointer};
+use kir::{Kernel, Line, Work};
 use std::alloc::Global;
-use wg_num::{Memory, push};
+use wg_num::Memory;
 
-/// Whether the parameter with this number is a pointer.
-fn is_pointer(params: &[VarKind], number: u32) -> bool
-    ensures { result ≡ offset.is_pointer (slice_get params.now number) }
-{
-    match params.get(number as usize) {
-        Some(VarKind::Pointer { .. }) => true,
-        Some(VarKind::Scalar(_)) | None => false,
-    }
+/// What all lines of a kernel say of its cells.
+#[derive(Drop)]
+pub(crate) struct CellFacts {
+    /// How many lines set each.
+    pub(crate) sets: Vec<u64>,
+    /// Which hold the offset of a pointer that is a parameter.
+    pub(crate) offsets: Vec<bool>,
 }
 
 /// Whether what is computed is the offset of a pointer that is a parameter.
@@ -58,20 +59,41 @@ fn offset_cell(sets: &[u64], params: &[VarKind], line: &Line) -> Option<u32>
     }
 }
 
-/// The cells that one line alone sets, where it is one of these, to such an offset.
-pub(crate) fn offsets_among(
+/// The cell holds an offset.
+fn mark_offset(offsets: &mut Vec<bool>, cell: u32) -> Result<(), Memory>
+    ensures { OnOk result ((c : ℕ) → listed offsets.new.items c ≡ (nat_eq c cell || listed offsets.old.items c)) }
+{
+    let at = cell as usize;
+    make_room(offsets, at, false)?;
+    offsets[at] = true;
+    Ok(())
+}
+
+/// Which cells one of these lines sets to such an offset, where no other line sets them.
+fn offsets_among(
     alloc: Global,
     sets: &[u64],
     params: &[VarKind],
     lines: &[Line],
-) -> Result<Vec<u32>, Memory>
-    ensures { IfOk result (λ cells. cells.items ≡ offsets_in (is_one_at sets.now) params.now (lines_of lines.now)) }
+) -> Result<Vec<bool>, Memory>
+    ensures { IfOk result (λ offsets. (c : ℕ) →
+        listed offsets.items c ≡ holds_offset (is_one_at sets.now) params.now c (lines_of lines.now)) }
 {
-    let mut cells = Vec::new(alloc);
+    let mut offsets = Vec::new(alloc);
     for line in lines {
         if let Some(cell) = offset_cell(sets, params, line) {
-            push(&mut cells, cell)?;
+            mark_offset(&mut offsets, cell)?;
         }
     }
-    Ok(cells)
+    Ok(offsets)
+}
+
+/// What the lines of a kernel say of its cells.
+pub(crate) fn facts_of(alloc: Global, kernel: &Kernel) -> Result<CellFacts, Memory>
+    ensures once { IfOk result (λ facts. (c : ℕ) → once_by facts c ≡ is_set_once (kernel_of kernel.now) c) }
+    ensures offsets { IfOk result (λ facts. (c : ℕ) → offsets_by facts c ≡ offsets_of (kernel_of kernel.now) c) }
+{
+    let sets = counted(alloc, &kernel.body)?;
+    let offsets = offsets_among(alloc, &sets, &kernel.params, &kernel.body)?;
+    Ok(CellFacts { sets, offsets })
 }

@@ -1,18 +1,20 @@
 //! What lines compute of constants, computed beforehand.
 
-ghost use Rattle.std.specs.Prelude.{◌≡◌, ℕ, ◌<◌, IfOk, OnOk, map, slice_get, vec_len};
+ghost use Rattle.std.specs.Prelude.{◌≡◌, ℕ, IfOk, OnOk, map};
 ghost use Rattle.cl_model.specs.Steps.{nth};
 ghost use Rattle.wg_num.specs.Wrap.{IsValue};
 ghost use Rattle.kir.specs.Tree as tree;
 ghost use Rattle.kir.specs.Listed.{work_of};
 ghost use Rattle.kir_simplify.specs.Passes.{constant_value, known_atom, known_work, settled_work, learned, learnt};
-ghost use Rattle.kir_simplify.specs.Passes.{reduced_binary, with_offset, with_offsets};
+ghost use Rattle.kir_simplify.specs.Passes.{reduced_binary};
 ghost use Rattle.kir_simplify.specs.Offsets as offset;
 ghost use Rattle.kir_simplify.specs.Computable.{IsComputable, AreValuesOf, IsRightOf, IsValueOf};
 ghost use Rattle.kir_simplify.specs.Simple as simple;
-ghost use Rattle.kir_simplify.specs.Tables.{is_one_at, known_by, plain_of, put_known, unlearned};
+ghost use Rattle.kir_simplify.specs.Tables.{known_by, known_in, once_by, plain_of, put_known, unlearned};
 
-use crate::counting::is_one;
+use crate::counting::{is_one, make_room};
+use crate::offsets::CellFacts;
+use crate::reading::is_listed;
 use cl_model::types::{binary_type, unary_type};
 use kir::{Atom, Work};
 use std::alloc::Global;
@@ -20,26 +22,66 @@ use wg_num::{
     Bin, Fun, IntType, Memory, Un, binary, builtin, convert, push, result_type, same_type, unary,
 };
 
+/// What was learned of a cell.
+fn learned_of(known: &[Option<Atom>], cell: u32) -> Option<Atom>
+    ensures { result ≡ known_by known.now cell }
+{
+    match known.get(cell as usize) {
+        Some(found) => *found,
+        None => None,
+    }
+}
+
+/// What is known of a cell: what was learned, or in a loop that it holds an offset.
+fn known_of(facts: &CellFacts, in_loop: bool, known: &[Option<Atom>], cell: u32) -> Option<Atom>
+    ensures { result ≡ known_in facts.now in_loop known.now cell }
+{
+    match learned_of(known, cell) {
+        Some(found) => Some(found),
+        None => {
+            if in_loop && is_listed(&facts.offsets, cell) {
+                Some(Atom::Const {
+                    value: 0,
+                    of: IntType::Long,
+                })
+            } else {
+                None
+            }
+        }
+    }
+}
+
 /// What stands for an atom.
-pub(crate) fn known_atom(known: &[Option<Atom>], atom: Atom) -> Atom
-    ensures { result ≡ known_atom (known_by known.now) atom }
+pub(crate) fn known_atom(
+    facts: &CellFacts,
+    in_loop: bool,
+    known: &[Option<Atom>],
+    atom: Atom,
+) -> Atom
+    ensures { result ≡ known_atom (known_in facts.now in_loop known.now) atom }
 {
     match atom {
         Atom::Const { .. } => atom,
-        Atom::Cell(cell) => match known.get(cell as usize) {
-            Some(Some(found)) => *found,
-            Some(None) | None => atom,
+        Atom::Cell(cell) => match known_of(facts, in_loop, known, cell) {
+            Some(found) => found,
+            None => atom,
         },
     }
 }
 
 /// What stands for atoms.
-fn known_atoms(alloc: Global, known: &[Option<Atom>], atoms: &[Atom]) -> Result<Vec<Atom>, Memory>
-    ensures { IfOk result (λ v. v.items ≡ map (known_atom (known_by known.now)) atoms.now) }
+fn known_atoms(
+    alloc: Global,
+    facts: &CellFacts,
+    in_loop: bool,
+    known: &[Option<Atom>],
+    atoms: &[Atom],
+) -> Result<Vec<Atom>, Memory>
+    ensures { IfOk result (λ v. v.items ≡ map (known_atom (known_in facts.now in_loop known.now)) atoms.now) }
 {
     let mut found = Vec::new(alloc);
     for atom in atoms {
-        push(&mut found, known_atom(known, *atom))?;
+        push(&mut found, known_atom(facts, in_loop, known, *atom))?;
     }
     Ok(found)
 }
@@ -193,29 +235,38 @@ fn fold_builtin(f: Fun, of: IntType, args: Vec<Atom>) -> Work
 }
 
 /// What a line computes where these constants are known, computed now where it can be.
-pub(crate) fn fold_work(alloc: Global, known: &[Option<Atom>], work: &Work) -> Result<Work, Memory>
-    requires { IsComputable (known_work (known_by known.now) (work_of work.now)) }
-    ensures { IfOk result (λ w. work_of w ≡ settled_work (known_work (known_by known.now) (work_of work.now))) }
+pub(crate) fn fold_work(
+    alloc: Global,
+    facts: &CellFacts,
+    in_loop: bool,
+    known: &[Option<Atom>],
+    work: &Work,
+) -> Result<Work, Memory>
+    requires { IsComputable (known_work (known_in facts.now in_loop known.now) (work_of work.now)) }
+    ensures { IfOk result (λ w.
+        work_of w ≡ settled_work (known_work (known_in facts.now in_loop known.now) (work_of work.now))) }
 {
     match work {
-        Work::Unary { op, of, a } => Ok(fold_unary(*op, *of, known_atom(known, *a))),
-        Work::Binary { op, of, a, b } => Ok(fold_binary(
-            *op,
-            *of,
-            known_atom(known, *a),
-            known_atom(known, *b),
-        )),
+        Work::Unary { op, of, a } => {
+            let a = known_atom(facts, in_loop, known, *a);
+            Ok(fold_unary(*op, *of, a))
+        }
+        Work::Binary { op, of, a, b } => {
+            let a = known_atom(facts, in_loop, known, *a);
+            let b = known_atom(facts, in_loop, known, *b);
+            Ok(fold_binary(*op, *of, a, b))
+        }
         Work::Builtin { f, of, args } => {
-            let args = known_atoms(alloc, known, args)?;
+            let args = known_atoms(alloc, facts, in_loop, known, args)?;
             Ok(fold_builtin(*f, *of, args))
         }
-        Work::Convert { to, a } => Ok(fold_convert(*to, known_atom(known, *a))),
+        Work::Convert { to, a } => Ok(fold_convert(*to, known_atom(facts, in_loop, known, *a))),
         Work::Ask { what, dim } => Ok(Work::Ask {
             what: *what,
-            dim: known_atom(known, *dim),
+            dim: known_atom(facts, in_loop, known, *dim),
         }),
         Work::Argument(number) => Ok(Work::Argument(*number)),
-        Work::Copy(a) => Ok(Work::Copy(known_atom(known, *a))),
+        Work::Copy(a) => Ok(Work::Copy(known_atom(facts, in_loop, known, *a))),
     }
 }
 
@@ -245,33 +296,12 @@ pub(crate) struct Learned {
     before: Option<Atom>,
 }
 
-/// What is known of a cell.
-fn found_for(known: &[Option<Atom>], cell: u32) -> Option<Atom>
-    ensures { result ≡ known_by known.now cell }
-{
-    match known.get(cell as usize) {
-        Some(found) => *found,
-        None => None,
-    }
-}
-
-/// A table that has an entry for the cell.
-fn make_room(known: &mut Vec<Option<Atom>>, at: usize) -> Result<(), Memory>
-    ensures same { OnOk result ((c : ℕ) → known_by known.new.items c ≡ known_by known.old.items c) }
-    ensures room { OnOk result (at < vec_len known.new) }
-{
-    while known.len() <= at {
-        push(known, None)?;
-    }
-    Ok(())
-}
-
 /// This is known of the cell, or nothing.
 fn put_known(known: &mut Vec<Option<Atom>>, cell: u32, found: Option<Atom>) -> Result<(), Memory>
     ensures { OnOk result ((c : ℕ) → known_by known.new.items c ≡ put_known (known_by known.old.items) cell found c) }
 {
     let at = cell as usize;
-    make_room(known, at)?;
+    make_room(known, at, None)?;
     known[at] = found;
     Ok(())
 }
@@ -288,7 +318,7 @@ fn note(
     ensures before { OnOk result ((c : ℕ) → unlearned trail.new.items (known_by known.new.items) c ≡
         unlearned trail.old.items (known_by known.old.items) c) }
 {
-    let before = found_for(known, to);
+    let before = learned_of(known, to);
     push(trail, Learned { cell: to, before })?;
     put_known(known, to, Some(atom))?;
     Ok(())
@@ -296,70 +326,27 @@ fn note(
 
 /// What is known behind a line that sets the cell to this work.
 pub(crate) fn learn(
-    sets: &[u64],
+    facts: &CellFacts,
     known: &mut Vec<Option<Atom>>,
     trail: &mut Vec<Learned>,
     to: u32,
     work: &Work,
 ) -> Result<(), Memory>
     ensures known { OnOk result ((c : ℕ) → known_by known.new.items c ≡
-        learnt (is_one_at sets.now) (known_by known.old.items) to (work_of work.now) c) }
+        learnt (once_by facts.now) (known_by known.old.items) to (work_of work.now) c) }
     ensures before { OnOk result ((c : ℕ) → unlearned trail.new.items (known_by known.new.items) c ≡
         unlearned trail.old.items (known_by known.old.items) c) }
 {
     match plain_constant(work) {
         None => Ok(()),
         Some(atom) => {
-            if is_one(sets, to) {
+            if is_one(&facts.sets, to) {
                 note(known, trail, to, atom)
             } else {
                 Ok(())
             }
         }
     }
-}
-
-/// The cell is an offset, where nothing is known of it.
-fn learn_offset(
-    known: &mut Vec<Option<Atom>>,
-    trail: &mut Vec<Learned>,
-    cell: u32,
-) -> Result<(), Memory>
-    ensures known { OnOk result ((c : ℕ) → known_by known.new.items c ≡
-        with_offset (known_by known.old.items) cell (known_by known.old.items cell) c) }
-    ensures before { OnOk result ((c : ℕ) → unlearned trail.new.items (known_by known.new.items) c ≡
-        unlearned trail.old.items (known_by known.old.items) c) }
-{
-    match found_for(known, cell) {
-        Some(_) => Ok(()),
-        None => note(
-            known,
-            trail,
-            cell,
-            Atom::Const {
-                value: 0,
-                of: IntType::Long,
-            },
-        ),
-    }
-}
-
-/// What is known in a loop, where these cells are offsets, too. It answers what was learned.
-pub(crate) fn learn_offsets(
-    alloc: Global,
-    offsets: &[u32],
-    known: &mut Vec<Option<Atom>>,
-) -> Result<Vec<Learned>, Memory>
-    ensures known { IfOk result (λ trail. (c : ℕ) →
-        known_by known.new.items c ≡ with_offsets offsets.now (known_by known.old.items) c) }
-    ensures before { IfOk result (λ trail. (c : ℕ) →
-        unlearned trail.items (known_by known.new.items) c ≡ known_by known.old.items c) }
-{
-    let mut trail = Vec::new(alloc);
-    for cell in offsets {
-        learn_offset(known, &mut trail, *cell)?;
-    }
-    Ok(trail)
 }
 
 /// What was learned is forgotten, the last first.

@@ -2,7 +2,7 @@
 
 ghost use Rattle.std.specs.Prelude.{◌≡◌, ◌&&◌, ◌||◌, length, is_some, IfSome, slice_get, true};
 ghost use Rattle.lane_code.specs.Fits.{is_reg, bank_of, holds_lanes, holds_values, holds_numbers, is_mask, is_own_mask};
-ghost use Rattle.lane_code.specs.Fits.{is_pointer, names_object, names_written, holds_argument};
+ghost use Rattle.lane_code.specs.Fits.{names_object, names_written, holds_argument};
 ghost use Rattle.lane_code.specs.Fits.{is_of_group, holds_answer, holds_converted, role_test, fit_test, all_pass};
 ghost use Rattle.lane_code.specs.Fits.{step_fits, all_steps, code_fits};
 ghost use Rattle.lane_code.specs.Program.{work_of, names_of, work_fits, roots_are_own, is_parameter};
@@ -16,7 +16,7 @@ use crate::operand::{Operand, Role};
 use crate::program::GroupProgram;
 use crate::row::row_of;
 use crate::step::{Bank, Reg, Step};
-use cl_model::{Query, Root, Table, VarKind, query_type};
+use cl_model::{Query, Root, Table, VarKind, is_pointer, query_type};
 use wg_num::{IntType, Place, Width, Word, is_value};
 
 /// The parts of a group program, which need not fit each other.
@@ -96,23 +96,12 @@ fn has_own_mask(c: Counts, x: Reg) -> bool
 
 // ---- what a step names
 
-/// Whether the parameter is a pointer.
-fn is_pointer_at(params: &[VarKind], n: u32) -> bool
-    ensures { result ≡ is_pointer (slice_get params.now n) }
-{
-    match params.get(n as usize) {
-        Some(VarKind::Pointer { .. }) => true,
-        Some(VarKind::Scalar(_)) => false,
-        None => false,
-    }
-}
-
 /// Whether the root names an object.
 fn has_object(parts: &GroupParts, root: Root) -> bool
     ensures { result ≡ names_object (names_of (parts_of parts.now)) root }
 {
     match root {
-        Root::Param(n) => is_pointer_at(&parts.params, n),
+        Root::Param(n) => is_pointer(&parts.params, n),
         Root::Constant(n) => (n as usize) < parts.tables.len(),
         Root::Local(n) => (n as usize) < parts.locals.len(),
         Root::Private(n) => (n as usize) < parts.privates.len(),
@@ -124,7 +113,7 @@ fn has_written(parts: &GroupParts, root: Root) -> bool
     ensures { result ≡ names_written (names_of (parts_of parts.now)) root }
 {
     match root {
-        Root::Param(n) => is_pointer_at(&parts.params, n),
+        Root::Param(n) => is_pointer(&parts.params, n),
         Root::Constant(_) => false,
         Root::Local(n) => (n as usize) < parts.locals.len(),
         Root::Private(n) => (n as usize) < parts.privates.len(),

@@ -1,7 +1,7 @@
 use Rattle.kir_simplify.proofs.Computed.{default_step}
 use Rattle.kir_simplify.proofs.counting.make_room.Goals as goal
 
-pub loop-sets-preserved : goal.loop-sets-preserved
-loop-sets-preserved c =
-    default_step c.args.sets.now.items c.loop-sets.sets.items c.push.new.list.items _ c.in_ok-push.ensures
-    c.loop-sets.invariant
+pub loop-none-preserved : goal.loop-none-preserved
+loop-none-preserved g c =
+    default_step c.args.table.now.items c.loop-none.table.items c.push.new.list.items _ c.in_ok-push.ensures
+    c.loop-none.invariant

@@ -8,5 +8,5 @@ pub returns-clause-before : goal.returns-clause-before
 returns-clause-before c =
     noted c.args.trail.now.items c.push.new.list.items _ (known_by c.args.known.now.items)
     (known_by c.put_known.new.known.items) c.args.to c.args.atom c.in_ok-push.ensures refl
-    (c.found_for-before.ensures ∙ ap (λ (x : List (Option Atom)). known_by x c.args.to) c.deref.ensures.value)
+    (c.learned_of-before.ensures ∙ ap (λ (x : List (Option Atom)). known_by x c.args.to) c.deref.ensures.value)
     c.in_ok-put_known.ensures
