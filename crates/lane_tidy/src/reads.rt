@@ -61,11 +61,11 @@ fn scalar_at(x: Reg) -> Reg
     }
 }
 
-/// Whether two registers are one.
+/// Whether two registers are one. The numbers come first, since most registers differ in these.
 pub(crate) fn same_reg(x: Reg, y: Reg) -> bool
     ensures { result ≡ same_reg x y }
 {
-    x.bank == y.bank && x.number == y.number
+    x.number == y.number && x.bank == y.bank
 }
 
 /// The registers that a step reads.
