@@ -8,7 +8,7 @@ ghost use Rattle.kir.specs.View.{kernel_of};
 ghost use Rattle.kir_simplify.specs.Computable.{IsComputable, AreComputable};
 ghost use Rattle.kir_simplify.specs.Faithful.{IsFaithful};
 ghost use Rattle.kir_simplify.specs.Passes.{folded, folded_of, known_work};
-ghost use Rattle.kir_simplify.specs.Tables.{is_bare, known_by, known_in, offsets_by, once_by, unlearned};
+ghost use Rattle.kir_simplify.specs.Tables.{has_no_lines, is_bare, known_by, known_in, offsets_by, once_by, unlearned};
 
 use crate::adding::{add_if, add_line, add_loop};
 use crate::offsets::{CellFacts, facts_of};
@@ -18,7 +18,6 @@ use std::alloc::Global;
 use wg_num::Memory;
 
 /// A line that sets a cell, folded; and what is known behind it.
-#[inline(never)]
 fn folded_set(
     alloc: Global,
     facts: &CellFacts,
@@ -47,7 +46,7 @@ fn folded_set(
 }
 
 /// Another line without lines, where these constants are known.
-fn folded_plain(facts: &CellFacts, in_loop: bool, known: &[Option<Atom>], line: &Line) -> Line
+fn folded_bare(facts: &CellFacts, in_loop: bool, known: &[Option<Atom>], line: &Line) -> Line
     requires { is_bare line.now ≡ true }
     ensures { (once : ℕ → Test) (offsets : ℕ → Test) (rest : Lines) →
         line_before result (folded once offsets (known_in facts.now in_loop known.now) rest) ≡
@@ -86,24 +85,46 @@ fn folded_plain(facts: &CellFacts, in_loop: bool, known: &[Option<Atom>], line: 
     }
 }
 
-/// The list with that line more.
+/// The list with a line more that has no lines, folded; and what is known behind it. What it needs of
+/// the stack is not needed by each loop that lines stand in.
 #[inline(never)]
 fn fold_plain(
+    alloc: Global,
     facts: &CellFacts,
     in_loop: bool,
-    known: &[Option<Atom>],
+    known: &mut Vec<Option<Atom>>,
+    trail: &mut Vec<Learned>,
     line: &Line,
     made: &mut Vec<Line>,
 ) -> Result<(), Memory>
-    requires { is_bare line.now ≡ true }
-    ensures { OnOk result ((once : ℕ → Test) (offsets : ℕ → Test) (rest : Lines) →
-        joined_to (lines_of made.new.items) (folded once offsets (known_in facts.now in_loop known.now) rest) ≡
-        joined_to (lines_of made.old.items)
-        (folded once offsets (known_in facts.now in_loop known.now) (line_before line.now rest))) }
+    requires plain { has_no_lines line.now ≡ true }
+    requires computable { AreComputable (once_by facts.now) (offsets_by facts.now)
+        (known_in facts.now in_loop known.old.items) (line_before line.now NoLine) }
+    ensures before { OnOk result ((c : ℕ) → unlearned trail.new.items (known_by known.new.items) c ≡
+        unlearned trail.old.items (known_by known.old.items) c) }
+    ensures made { OnOk result ((rest : Lines) →
+        joined_to (lines_of made.new.items) (folded (once_by facts.now) (offsets_by facts.now)
+        (known_in facts.now in_loop known.new.items) rest) ≡
+        joined_to (lines_of made.old.items) (folded (once_by facts.now) (offsets_by facts.now)
+        (known_in facts.now in_loop known.old.items) (line_before line.now rest))) }
+    ensures computable { OnOk result ((rest : Lines) →
+        AreComputable (once_by facts.now) (offsets_by facts.now) (known_in facts.now in_loop known.old.items)
+        (line_before line.now rest) →
+        AreComputable (once_by facts.now) (offsets_by facts.now) (known_in facts.now in_loop known.new.items) rest) }
 {
-    let line = folded_plain(facts, in_loop, known, line);
-    add_line(made, line)?;
-    Ok(())
+    match line {
+        Line::Set { to, work } => {
+            let line = folded_set(alloc, facts, in_loop, known, trail, *to, work)?;
+            add_line(made, line)?;
+            Ok(())
+        }
+        Line::Load { .. } | Line::Store { .. } | Line::Clear { .. } | Line::Barrier { .. } => {
+            let line = folded_bare(facts, in_loop, known, line);
+            add_line(made, line)?;
+            Ok(())
+        }
+        Line::If { .. } | Line::Loop { .. } => unreachable!(),
+    }
 }
 
 /// The lines, where these constants are known before them. What is learned in them is forgotten behind
@@ -160,10 +181,6 @@ fn fold_onto(
         AreComputable (once_by facts.now) (offsets_by facts.now) (known_in facts.now in_loop known.new.items) rest) }
 {
     match line {
-        Line::Set { to, work } => {
-            let line = folded_set(alloc, facts, in_loop, known, trail, *to, work)?;
-            add_line(made, line)?;
-        }
         Line::If {
             site,
             test,
@@ -187,8 +204,12 @@ fn fold_onto(
             let body = fold_lines(alloc, facts, true, known, body)?;
             add_loop(made, *site, *test_first, test, answer, body)?;
         }
-        Line::Load { .. } | Line::Store { .. } | Line::Clear { .. } | Line::Barrier { .. } => {
-            fold_plain(facts, in_loop, known, line, made)?;
+        Line::Set { .. }
+        | Line::Load { .. }
+        | Line::Store { .. }
+        | Line::Clear { .. }
+        | Line::Barrier { .. } => {
+            fold_plain(alloc, facts, in_loop, known, trail, line, made)?;
         }
     }
     Ok(())
