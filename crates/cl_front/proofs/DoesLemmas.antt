@@ -1,5 +1,5 @@
 -- A source whose unit without vectors is accepted has a typed unit; the unit without vectors is what it should be, and
--- in its program each vector statement does its steps.
+-- in its program each vector statement stands in its function and does its steps.
 use Rattle.std.proofs.Common.{◌≡◌, ℕ, List, [], sym, subst}
 use Rattle.wg_num.specs.declared.types.Place.{Place}
 use Rattle.cl_token.specs.declared.token.Token.{Token}
@@ -15,28 +15,38 @@ use Rattle.cl_check_sound.proofs.Expanded.{expanded_read}
 use Rattle.cl_short_vec.specs.Kinds.{no_names}
 use Rattle.cl_short_vec.specs.Marks.{marked}
 use Rattle.cl_short_vec.specs.Unit.{scalarised_of}
-use Rattle.cl_short_vec_form.specs.Form.{IsScalarForm}
 use Rattle.cl_short_vec_form.proofs.Forms.{forms_are}
-use Rattle.cl_short_vec_correct.specs.Each.{EachDoes}
+use Rattle.cl_short_vec_form.proofs.StatementCounts.{forms_small}
+use Rattle.cl_short_vec_form.proofs.Long.{forms_long}
+use Rattle.cl_short_vec_kept.proofs.Units.{forms_keep}
+use Rattle.cl_short_vec_correct.specs.Each.{EachIsDone}
 use Rattle.cl_short_vec_correct.proofs.Statements.{statements_do}
 use Rattle.cl_front.specs.Front.{IsSource, IsScalarSource}
+use Rattle.cl_front.specs.ScalarForm.{IsScalarFormOf}
 use Rattle.cl_front.specs.Typed.{places_of, HasTypedUnit}
 
 source_does : (source : List ℕ) (defines : List Define) (kernel : List ℕ) (expanded : List Token) (unit : Syntax)
     (typed : Unit') → IsSource source defines expanded unit →
     IsAccepted (places_of source expanded) kernel (scalarised_of unit) →
     typed ≡ unit_meant (places_of source expanded) kernel (scalarised_of unit) → DefinesFit defines →
-    EachDoes (program_of typed) (marked no_names unit) (start_of (places_of source expanded) (scalarised_of unit)) []
+    EachIsDone (program_of typed) (marked no_names unit) (start_of (places_of source expanded) (scalarised_of unit)) []
 source_does source defines kernel expanded unit typed s accepted means fit =
-    subst (λ (t : Unit'). EachDoes (program_of t) (marked no_names unit)
+    subst (λ (t : Unit'). EachIsDone (program_of t) (marked no_names unit)
     (start_of (places_of source expanded) (scalarised_of unit)) []) (sym means)
     (statements_do source s.read.0 expanded defines unit (places_of source expanded) kernel s.read.1.cuts fit
     s.read.1.expands s.spelled s.vectors accepted)
 
-source_form : (source : List ℕ) (defines : List Define) (expanded : List Token) (unit : Syntax) →
-    IsSource source defines expanded unit → DefinesFit defines → IsScalarForm unit (scalarised_of unit)
-source_form source defines expanded unit s fit = forms_are unit (spelled_wide unit expanded s.spelled
-    (expanded_read source s.read.0 expanded defines s.read.1.cuts fit s.read.1.expands)) s.vectors
+pub source_form : (source : List ℕ) (defines : List Define) (expanded : List Token) (unit : Syntax) →
+    IsSource source defines expanded unit → DefinesFit defines → IsScalarFormOf unit (scalarised_of unit)
+source_form source defines expanded unit s fit =
+    let shape = spelled_wide unit expanded s.spelled
+    (expanded_read source s.read.0 expanded defines s.read.1.cuts fit s.read.1.expands) in
+    record {
+      plain = forms_are unit shape s.vectors;
+      kept = (forms_keep unit shape s.vectors).1;
+      small = forms_small;
+      long = forms_long;
+    }
 
 pub has_typed : (source : List ℕ) (defines : List Define) (kernel : List ℕ) (expanded : List Token) (form : Syntax)
     (places : List Place) (typed : Unit') → IsScalarSource source defines expanded form →

@@ -26,6 +26,7 @@ use Rattle.cl_short_vec.specs.Unit.{scalarised_of}
 use Rattle.cl_short_vec_faults.specs.SoundBut.{is_of_size}
 use Rattle.cl_short_vec_faults.specs.UnitLaw.{NoFlags, PlainStands, FormStands}
 use Rattle.cl_short_vec_faults.proofs.UnitsStand.{units_stand}
+use Rattle.cl_front.proofs.DoesLemmas.{source_form}
 use Rattle.cl_front.specs.declared.condition.Condition.TheVariants as conditions
 use Rattle.cl_front.specs.Front.{IsSource, IsScalarSource, place_of_token}
 use Rattle.cl_front.specs.Typed.{places_of, IsFaulty}
@@ -95,5 +96,6 @@ is_faulty source defines kernel expanded form places k token place s p refused a
       refused = refused';
       condition_is = refl;
       place_is = at;
+      form = source_form source defines expanded s.unit s.is_source;
       plain = source_plain source defines kernel expanded s.unit k token s.is_source refused';
     }

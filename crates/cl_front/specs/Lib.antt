@@ -1,4 +1,5 @@
 pub mod Conditions
 pub mod Front
 pub mod Law
+pub mod ScalarForm
 pub mod Typed

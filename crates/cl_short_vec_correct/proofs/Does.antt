@@ -4,7 +4,7 @@ use Rattle.wg_num.specs.declared.types.IntType.{IntType}
 use Rattle.cl_model.specs.Tree.{Statements, Block, empty, also, Program}
 use Rattle.cl_model.specs.Sizes.{Launch}
 use Rattle.cl_model.specs.Task.{Nth, Task, Run, Item}
-use Rattle.cl_model.specs.Steps.{in_order, frame_of}
+use Rattle.cl_model.specs.Steps.{in_order, frame_of, item_next}
 use Rattle.cl_model.specs.Calls.{function_at}
 use Rattle.cl_model.specs.Valid.{HasVariable}
 use Rattle.cl_model.specs.Meaning.{lengths_of, MayBeTold}
@@ -63,7 +63,10 @@ module _ (program : Program) (env later : Env) where
       (elim (peel program launch buffers i j to deeds refl (subst (λ a. D program launch buffers a deeds to) q h)) [
         | inl (e, z) ↦ stop program launch buffers env later H result rest steps nothing_got i to deeds
             (ap (λ (a : Item). a.number) e) (ap (λ (a : Item). a.frames) e) z
-        | inr g ↦ ahead program launch buffers env later H result rest (computes_same H i j refl refl)
+            (Run at' (Block ss), [], ap (λ (a : Item). a.tasks) e) (j, ap (item_next program launch) e)
+            (subst (λ a. D program launch buffers a deeds to) q h)
+        | inr g ↦ ahead program launch buffers env later H result rest
+            (computes_same H i j refl refl, one_step program launch buffers i j refl)
             (d launch buffers at' 0 rest j to frame frames deeds (record {
               typed = comes.typed;
               item = comes.item;

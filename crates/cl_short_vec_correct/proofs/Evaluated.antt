@@ -2,6 +2,7 @@
 use Rattle.std.proofs.Common.{◌≡◌, ℕ, ℤ, pos, Bool, true, List, [], ◌∷◌, ◌++◌}
 use Rattle.std.proofs.Common.{if◌then◌else◌, ◌⊎◌, inl, inr, refl, sym, ap, ◌∙◌, subst, nat_eq}
 use Rattle.std.proofs.lemmas.Bool.{eq-eqb}
+use Rattle.std.proofs.lemmas.List.{append_assoc}
 use Rattle.work_items.specs.Items.{Next, Goes}
 use Rattle.work_items.specs.Histories.{Deed, History, nothing, going, doing, DoesOnce}
 use Rattle.wg_num.specs.Wrap.{wrap_of}
@@ -17,6 +18,7 @@ use Rattle.cl_model.specs.Steps.{set_in, item_next}
 use Rattle.cl_model.specs.Meaning.{lengths_of, MayBeTold}
 use Rattle.cl_short_vec_correct.specs.Emits.{Known, IsIn, Fresh, Own, literal, variable, unary, binary, convert}
 use Rattle.cl_short_vec_correct.specs.Emits.{builtin, builtin_one, builtin_three}
+use Rattle.cl_short_vec_correct.specs.Doing.{IsWithin, GoesOn}
 
 -- ---- what helping variables hold
 
@@ -46,6 +48,16 @@ now_holds f x v = subst (λ (b : Bool). (if b then v else f.variables x) ≡ v) 
 abbrev pub it : ℕ → List Task → List ℤ → List Frame → Item
 it n tasks values frames = record { number = n; tasks = tasks; values = values; frames = frames }
 
+-- ---- what is left to do
+
+-- where more is left behind
+pub within_more : (ts rest : List Task) (i : Item) → IsWithin (ts ++ rest) i → IsWithin rest i
+within_more ts rest i (t, us, e) = (t, us ++ ts, e ∙ ap (λ z. t ∷ z) (sym (append_assoc us ts rest)))
+
+-- where what is left behind is spelled otherwise
+pub within_same : (us : List Task) (ts rest : List Task) (i : Item) → us ≡ ts ++ rest → IsWithin us i → IsWithin rest i
+within_same us ts rest i e w = within_more ts rest i (subst (λ z. IsWithin z i) e w)
+
 -- ---- one step of a history
 
 abbrev after_or : Item → Next Item → Item
@@ -74,109 +86,122 @@ module _ (program : Program) (launch : Launch) (buffers : List (List ℕ)) where
 
   -- ---- own expressions
 
-  abbrev pub Same : ℕ → List Frame → Item → List Deed → Type 0
-  Same n fs to deeds = (to.number ≡ n) × (to.frames ≡ fs) × (deeds ≡ [])
+  abbrev pub Same : List Task → ℕ → List Frame → Item → List Deed → Type 0
+  Same rest n fs to deeds = (to.number ≡ n) × (to.frames ≡ fs) × (deeds ≡ []) × IsWithin rest to ×
+      GoesOn program launch buffers to
 
-  abbrev pub Arrives : ℕ → List Frame → Item → Item → List Deed → Type 0
-  Arrives n fs j to deeds = Same n fs to deeds ⊎ D j deeds to
+  abbrev pub Arrives : List Task → ℕ → List Frame → Item → Item → List Deed → Type 0
+  Arrives rest n fs j to deeds = Same rest n fs to deeds ⊎ D j deeds to
+
+  -- behind more tasks
+  wider : (ts rest : List Task) (n : ℕ) (fs : List Frame) (to : Item) (deeds : List Deed) →
+      Same (ts ++ rest) n fs to deeds → Same rest n fs to deeds
+  wider ts rest n fs to deeds (a, b, c, w, g) = (a, b, c, within_more ts rest to w, g)
 
   -- one step ahead
-  pub first : (n : ℕ) (fs : List Frame) (ts us : List Task) (vs ws : List ℤ) (to : Item) (deeds : List Deed) →
-      item_next program launch (it n ts vs fs) ≡ Goes (it n us ws fs) → D (it n ts vs fs) deeds to →
-      Arrives n fs (it n us ws fs) to deeds
-  first n fs ts us vs ws to deeds e h = elim (peel (it n ts vs fs) (it n us ws fs) to deeds e h) [
-    | inl (q, z) ↦ inl (ap (λ (i : Item). i.number) q, ap (λ (i : Item). i.frames) q, z)
+  pub first : (n : ℕ) (fs : List Frame) (t : Task) (ts us : List Task) (vs ws : List ℤ) (to : Item)
+      (deeds : List Deed) → item_next program launch (it n (t ∷ ts) vs fs) ≡ Goes (it n us ws fs) →
+      D (it n (t ∷ ts) vs fs) deeds to → Arrives ts n fs (it n us ws fs) to deeds
+  first n fs t ts us vs ws to deeds e h = elim (peel (it n (t ∷ ts) vs fs) (it n us ws fs) to deeds e h) [
+    | inl (q, z) ↦ inl (
+      ap (λ (i : Item). i.number) q,
+      ap (λ (i : Item). i.frames) q,
+      z,
+      (t, [], ap (λ (i : Item). i.tasks) q),
+      (it n us ws fs, ap (item_next program launch) q ∙ e),
+    )
     | inr g ↦ inr g
   ]
 
   pub own_runs : (known : List Known) (e : Expression) (v : ℤ) → Own known e v → (at : Point) (n : ℕ) (rest : List Task)
       (vs : List ℤ) (f : Frame) (fs : List Frame) (to : Item) (deeds : List Deed) → Holds known f →
-      D (it n (Evaluate at e ∷ rest) vs (f ∷ fs)) deeds to → Arrives n (f ∷ fs) (it n rest (v ∷ vs) (f ∷ fs)) to deeds
+      D (it n (Evaluate at e ∷ rest) vs (f ∷ fs)) deeds to →
+      Arrives rest n (f ∷ fs) (it n rest (v ∷ vs) (f ∷ fs)) to deeds
   own_runs known e v (literal u of) at n rest vs f fs to deeds k h =
-      first n (f ∷ fs) (Evaluate at (Apply (Literal u of) none) ∷ rest) rest vs (u ∷ vs) to deeds refl h
+      first n (f ∷ fs) (Evaluate at (Apply (Literal u of) none)) rest rest vs (u ∷ vs) to deeds refl h
   own_runs known e v (variable x u i) at n rest vs f fs to deeds k h =
-      first n (f ∷ fs) (Evaluate at (Apply (Variable x) none) ∷ rest) rest vs (u ∷ vs) to deeds
+      first n (f ∷ fs) (Evaluate at (Apply (Variable x) none)) rest rest vs (u ∷ vs) to deeds
       (ap (λ (w : ℤ). Goes (it n rest (w ∷ vs) (f ∷ fs))) (held known f x u i k)) h
   own_runs known e v (unary op of a u p) at n rest vs f fs to deeds k h =
-      elim (first n (f ∷ fs) (Evaluate at (Apply (Unary op of) (single a)) ∷ rest)
+      elim (first n (f ∷ fs) (Evaluate at (Apply (Unary op of) (single a))) rest
       (Evaluate (at ++ Operand 0 ∷ []) a ∷ Finish at (Unary op of) 1 ∷ rest) vs vs to deeds refl h) [
         | inl s ↦ inl s
         | inr g ↦ elim (own_runs known a u p (at ++ Operand 0 ∷ []) n (Finish at (Unary op of) 1 ∷ rest) vs f fs to
             deeds k g) [
-              | inl s ↦ inl s
-              | inr g ↦ first n (f ∷ fs) (Finish at (Unary op of) 1 ∷ rest) rest (u ∷ vs) (unary_of op of u ∷ vs) to
+              | inl s ↦ inl (wider (Finish at (Unary op of) 1 ∷ []) rest n (f ∷ fs) to deeds s)
+              | inr g ↦ first n (f ∷ fs) (Finish at (Unary op of) 1) rest rest (u ∷ vs) (unary_of op of u ∷ vs) to
                   deeds refl g
             ]
       ]
   own_runs known e v (convert t a u p) at n rest vs f fs to deeds k h =
-      elim (first n (f ∷ fs) (Evaluate at (Apply (Convert t) (single a)) ∷ rest)
+      elim (first n (f ∷ fs) (Evaluate at (Apply (Convert t) (single a))) rest
       (Evaluate (at ++ Operand 0 ∷ []) a ∷ Finish at (Convert t) 1 ∷ rest) vs vs to deeds refl h) [
         | inl s ↦ inl s
         | inr g ↦ elim (own_runs known a u p (at ++ Operand 0 ∷ []) n (Finish at (Convert t) 1 ∷ rest) vs f fs to deeds
             k g) [
-              | inl s ↦ inl s
-              | inr g ↦ first n (f ∷ fs) (Finish at (Convert t) 1 ∷ rest) rest (u ∷ vs) (wrap_of t u ∷ vs) to deeds
+              | inl s ↦ inl (wider (Finish at (Convert t) 1 ∷ []) rest n (f ∷ fs) to deeds s)
+              | inr g ↦ first n (f ∷ fs) (Finish at (Convert t) 1) rest rest (u ∷ vs) (wrap_of t u ∷ vs) to deeds
                   refl g
             ]
       ]
   own_runs known e v (binary op of a b u w p q) at n rest vs f fs to deeds k h =
-      elim (first n (f ∷ fs) (Evaluate at (Apply (Binary op of) (pair a b)) ∷ rest)
+      elim (first n (f ∷ fs) (Evaluate at (Apply (Binary op of) (pair a b))) rest
       (Evaluate (at ++ Operand 0 ∷ []) a ∷ Evaluate (at ++ Operand 1 ∷ []) b ∷ Finish at (Binary op of) 2 ∷ rest) vs vs
       to deeds refl h) [
         | inl s ↦ inl s
         | inr g ↦ elim (own_runs known a u p (at ++ Operand 0 ∷ []) n (Evaluate (at ++ Operand 1 ∷ []) b ∷
             Finish at (Binary op of) 2 ∷ rest) vs f fs to deeds k g) [
-              | inl s ↦ inl s
+              | inl s ↦ inl (wider (Evaluate (at ++ Operand 1 ∷ []) b ∷ Finish at (Binary op of) 2 ∷ []) rest n (f ∷ fs) to deeds s)
               | inr g ↦ elim (own_runs known b w q (at ++ Operand 1 ∷ []) n (Finish at (Binary op of) 2 ∷ rest) (u ∷ vs)
                   f fs to deeds k g) [
-                    | inl s ↦ inl s
-                    | inr g ↦ first n (f ∷ fs) (Finish at (Binary op of) 2 ∷ rest) rest (w ∷ u ∷ vs)
+                    | inl s ↦ inl (wider (Finish at (Binary op of) 2 ∷ []) rest n (f ∷ fs) to deeds s)
+                    | inr g ↦ first n (f ∷ fs) (Finish at (Binary op of) 2) rest rest (w ∷ u ∷ vs)
                         (binary_of op of u w ∷ vs) to deeds refl g
                   ]
             ]
       ]
   own_runs known e v (builtin g of a b u w p q) at n rest vs f fs to deeds k h =
-      elim (first n (f ∷ fs) (Evaluate at (Apply (Builtin g of) (pair a b)) ∷ rest)
+      elim (first n (f ∷ fs) (Evaluate at (Apply (Builtin g of) (pair a b))) rest
       (Evaluate (at ++ Operand 0 ∷ []) a ∷ Evaluate (at ++ Operand 1 ∷ []) b ∷ Finish at (Builtin g of) 2 ∷ rest) vs vs
       to deeds refl h) [
         | inl s ↦ inl s
         | inr h1 ↦ elim (own_runs known a u p (at ++ Operand 0 ∷ []) n (Evaluate (at ++ Operand 1 ∷ []) b ∷
             Finish at (Builtin g of) 2 ∷ rest) vs f fs to deeds k h1) [
-              | inl s ↦ inl s
+              | inl s ↦ inl (wider (Evaluate (at ++ Operand 1 ∷ []) b ∷ Finish at (Builtin g of) 2 ∷ []) rest n (f ∷ fs) to deeds s)
               | inr h2 ↦ elim (own_runs known b w q (at ++ Operand 1 ∷ []) n (Finish at (Builtin g of) 2 ∷ rest)
                   (u ∷ vs) f fs to deeds k h2) [
-                    | inl s ↦ inl s
-                    | inr h3 ↦ first n (f ∷ fs) (Finish at (Builtin g of) 2 ∷ rest) rest (w ∷ u ∷ vs)
+                    | inl s ↦ inl (wider (Finish at (Builtin g of) 2 ∷ []) rest n (f ∷ fs) to deeds s)
+                    | inr h3 ↦ first n (f ∷ fs) (Finish at (Builtin g of) 2) rest rest (w ∷ u ∷ vs)
                         (builtin_of g of u w (pos 0) ∷ vs) to deeds refl h3
                   ]
             ]
       ]
   own_runs known e v (builtin_one g of a u p) at n rest vs f fs to deeds k h =
-      elim (first n (f ∷ fs) (Evaluate at (Apply (Builtin g of) (single a)) ∷ rest)
+      elim (first n (f ∷ fs) (Evaluate at (Apply (Builtin g of) (single a))) rest
       (Evaluate (at ++ Operand 0 ∷ []) a ∷ Finish at (Builtin g of) 1 ∷ rest) vs vs to deeds refl h) [
         | inl s ↦ inl s
         | inr h1 ↦ elim (own_runs known a u p (at ++ Operand 0 ∷ []) n (Finish at (Builtin g of) 1 ∷ rest) vs f fs to
             deeds k h1) [
-              | inl s ↦ inl s
-              | inr h2 ↦ first n (f ∷ fs) (Finish at (Builtin g of) 1 ∷ rest) rest (u ∷ vs)
+              | inl s ↦ inl (wider (Finish at (Builtin g of) 1 ∷ []) rest n (f ∷ fs) to deeds s)
+              | inr h2 ↦ first n (f ∷ fs) (Finish at (Builtin g of) 1) rest rest (u ∷ vs)
                   (builtin_of g of u (pos 0) (pos 0) ∷ vs) to deeds refl h2
             ]
       ]
   own_runs known e v (builtin_three g of a b c u w x p q r) at n rest vs f fs to deeds k h =
       let L = Finish at (Builtin g of) 3 ∷ rest in
-      elim (first n (f ∷ fs) (Evaluate at (Apply (Builtin g of) (more a (pair b c))) ∷ rest)
+      elim (first n (f ∷ fs) (Evaluate at (Apply (Builtin g of) (more a (pair b c)))) rest
       (Evaluate (at ++ Operand 0 ∷ []) a ∷ Evaluate (at ++ Operand 1 ∷ []) b ∷ Evaluate (at ++ Operand 2 ∷ []) c ∷ L) vs
       vs to deeds refl h) [
         | inl s ↦ inl s
         | inr h1 ↦ elim (own_runs known a u p (at ++ Operand 0 ∷ []) n (Evaluate (at ++ Operand 1 ∷ []) b ∷
             Evaluate (at ++ Operand 2 ∷ []) c ∷ L) vs f fs to deeds k h1) [
-              | inl s ↦ inl s
+              | inl s ↦ inl (wider (Evaluate (at ++ Operand 1 ∷ []) b ∷ Evaluate (at ++ Operand 2 ∷ []) c ∷ Finish at (Builtin g of) 3 ∷ []) rest n (f ∷ fs) to deeds s)
               | inr h2 ↦ elim (own_runs known b w q (at ++ Operand 1 ∷ []) n (Evaluate (at ++ Operand 2 ∷ []) c ∷ L)
                   (u ∷ vs) f fs to deeds k h2) [
-                    | inl s ↦ inl s
+                    | inl s ↦ inl (wider (Evaluate (at ++ Operand 2 ∷ []) c ∷ Finish at (Builtin g of) 3 ∷ []) rest n (f ∷ fs) to deeds s)
                     | inr h3 ↦ elim (own_runs known c x r (at ++ Operand 2 ∷ []) n L (w ∷ u ∷ vs) f fs to deeds k h3) [
-                      | inl s ↦ inl s
-                      | inr h4 ↦ first n (f ∷ fs) L rest (x ∷ w ∷ u ∷ vs) (builtin_of g of u w x ∷ vs) to deeds refl h4
+                      | inl s ↦ inl (wider (Finish at (Builtin g of) 3 ∷ []) rest n (f ∷ fs) to deeds s)
+                      | inr h4 ↦ first n (f ∷ fs) (Finish at (Builtin g of) 3) rest rest (x ∷ w ∷ u ∷ vs) (builtin_of g of u w x ∷ vs) to deeds refl h4
                     ]
                   ]
             ]

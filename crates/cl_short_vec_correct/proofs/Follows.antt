@@ -14,8 +14,8 @@ use Rattle.wg_num.specs.Bytes.{bytes_of, value_of_bytes}
 use Rattle.std.specs.Simd.Lanes.{number_l}
 use Rattle.cl_model.specs.declared.program.Root.{Root}
 use Rattle.cl_model.specs.Tree.{Variable, Set, Load, Store}
-use Rattle.cl_model.specs.Tree.{Expression, Apply, single, pair, none, Do, Declare, Statements}
-use Rattle.cl_model.specs.Tree.{also, Program}
+use Rattle.cl_model.specs.Tree.{Expression, Apply, single, pair, none, Do, Declare, Statement, Statements}
+use Rattle.cl_model.specs.Tree.{empty, also, Program}
 use Rattle.cl_model.specs.Sizes.{Launch}
 use Rattle.cl_model.specs.Task.{Operand, Own as OwnLeg, Nth, Point, Task, Run, Evaluate, Finish, Discard, Keep}
 use Rattle.cl_model.specs.Task.{Frame, Item}
@@ -37,12 +37,12 @@ use Rattle.cl_short_vec_correct.specs.Values.{Leaves, Worth}
 use Rattle.cl_short_vec_correct.specs.Doing.{Got, with_number, with_component, with_offset, first_at, index_of, Sets}
 use Rattle.cl_short_vec_correct.specs.Doing.{sets_nothing, sets_one, IsElement, IsComponent, StandsIn, IsDeclaredAs}
 use Rattle.cl_short_vec_correct.specs.Doing.{Evaluates, Along, between, behind, in_offset, offset, in_number, number}
-use Rattle.cl_short_vec_correct.specs.Doing.{copy, load, store, set}
+use Rattle.cl_short_vec_correct.specs.Doing.{copy, load, store, set, at_load, at_store, IsWithin, Advances, GoesOn}
 use Rattle.cl_short_vec_correct.specs.Emits.{Known, knows, Fresh, Own}
 use Rattle.cl_short_vec_correct.specs.Emits.{Spares, Emits, end, offset_line}
 use Rattle.cl_short_vec_correct.specs.Emits.{number_line, copy_line, load_line, store_line, set_line, declare_line}
 use Rattle.cl_short_vec_correct.proofs.Evaluated.{Holds, still_holds, now_holds, it, D, peel, first, own_runs}
-use Rattle.cl_short_vec_correct.proofs.Evaluated.{then_further, one_step, own_reaches}
+use Rattle.cl_short_vec_correct.proofs.Evaluated.{then_further, one_step, steps_on, own_reaches, Same, within_same}
 
 -- ---- values of their types
 
@@ -137,29 +137,52 @@ module _ (program : Program) (launch : Launch) (buffers : List (List ℕ)) (env 
   abbrev pub Al : List Step → Got → Item → List Deed → Item → Type 0
   Al = Along program launch buffers env later helps result rest
 
+  -- without a deed, and nothing but helping variables is set
   abbrev C : Item → Item → Type 0
-  C = Sets helps sets_nothing
+  C i j = Sets helps sets_nothing i j × DD i [] j
+
+  -- the item advances
+  abbrev Ad : (ℕ → ℤ → Type 0) → Item → Item → Type 0
+  Ad sets = Advances program launch buffers helps sets rest
+
+  advances_then : (sets : ℕ → ℤ → Type 0) (i j k : Item) → C i j → Ad sets j k → Ad sets i k
+  advances_then sets i j k c d = record {
+    does = then_further program launch buffers c.1 d.does;
+    changes = computes_then helps sets i j k c.0 d.changes;
+    front = d.front;
+    left = d.left;
+  }
+
+  -- where nothing of it changed but what is left to do
+  goes_on_to : (i j : Item) (ts : List Task) → j.number ≡ i.number → j.frames ≡ i.frames → j.tasks ≡ ts ++ rest →
+      DD i [] j → Ad sets_nothing i j
+  goes_on_to i j ts n f e d =
+      record { does = d; changes = computes_same helps i j n f; front = ts; left = e }
 
   -- computing in front
   pub ahead : {steps : List Step} {got : Got} {i j to : Item} {deeds : List Deed} → C i j → Al steps got j deeds to →
       Al steps got i deeds to
-  ahead {i = i} {j = j} c (between {to = to} d) = between (computes_then helps sets_nothing i j to c d)
-  ahead {i = i} {j = j} c (behind {mid = m} d e h) = behind (computes_then helps sets_nothing i j m c d) e h
+  ahead {i = i} {j = j} c (between {to = to} d w g) = between (advances_then sets_nothing i j to c d) w g
+  ahead {i = i} {j = j} c (at_load {to = to} r e site after a d n) =
+      at_load r e site after a (advances_then sets_nothing i j to c d) n
+  ahead {i = i} {j = j} c (at_store {to = to} r e site after a d n) =
+      at_store r e site after a (advances_then sets_nothing i j to c d) n
+  ahead {i = i} {j = j} c (behind {mid = m} d e h) = behind (advances_then sets_nothing i j m c d) e h
   ahead {i = i} {j = j} c (in_offset {start = m} r e a d h) =
-      in_offset r e a (computes_then helps sets_nothing i j m c d) h
+      in_offset r e a (advances_then sets_nothing i j m c d) h
   ahead {i = i} {j = j} c (offset {start = m} r e v a d h b) =
-      offset r e v a (computes_then helps sets_nothing i j m c d) h b
-  ahead {i = i} {j = j} c (in_number {start = m} e a d h) = in_number e a (computes_then helps sets_nothing i j m c d) h
+      offset r e v a (advances_then sets_nothing i j m c d) h b
+  ahead {i = i} {j = j} c (in_number {start = m} e a d h) = in_number e a (advances_then sets_nothing i j m c d) h
   ahead {i = i} {j = j} c (number {start = m} e v a d h w b) =
-      number e v a (computes_then helps sets_nothing i j m c d) h w b
+      number e v a (advances_then sets_nothing i j m c d) h w b
   ahead {i = i} {j = j} c (copy {mid = m} y a d w b) =
-      copy y a (computes_then helps sets_nothing i j m c d) w b
+      copy y a (advances_then sets_nothing i j m c d) w b
   ahead {i = i} {j = j} c (load {start = m} r e site bytes a d o b) =
-      load r e site bytes a (computes_then helps sets_nothing i j m c d) o b
+      load r e site bytes a (advances_then sets_nothing i j m c d) o b
   ahead {i = i} {j = j} c (store {start = m} r e site a d o b) =
-      store r e site a (computes_then helps sets_nothing i j m c d) o b
+      store r e site a (advances_then sets_nothing i j m c d) o b
   ahead {i = i} {j = j} c (set {mid = m} of y a d b) =
-      set of y a (computes_then helps (sets_one y _) i j m c d) b
+      set of y a (advances_then (sets_one y _) i j m c d) b
 
   -- what is asked of evaluations: an item stands in one, or has come behind it in a frame where the variables that help
   -- hold what they held
@@ -246,14 +269,30 @@ module _ (program : Program) (launch : Launch) (buffers : List (List ℕ)) (env 
 
   -- where the history ends before anything but helping variables changed
   pub stop : (steps : List Step) (got : Got) (i to : Item) (deeds : List Deed) → to.number ≡ i.number →
-      to.frames ≡ i.frames → deeds ≡ [] → Al steps got i deeds to
-  stop steps got i to deeds n f z = subst (λ ds. Al steps got i ds to) (sym z) (between (computes_same helps i to n f))
+      to.frames ≡ i.frames → deeds ≡ [] → IsWithin rest to → GoesOn program launch buffers to → DD i deeds to →
+      Al steps got i deeds to
+  stop steps got i to deeds n f z w g h =
+      subst (λ ds. Al steps got i ds to) (sym z) (between (goes_on_to i to (w.0 ∷ w.1) n f w.2
+      (subst (λ ds. DD i ds to) z h)) w g)
 
   -- where it ends at an item with the same number and frames
   stopped : (steps : List Step) (got : Got) (i j to : Item) (deeds : List Deed) → j.number ≡ i.number →
-      j.frames ≡ i.frames → to ≡ j → deeds ≡ [] → Al steps got i deeds to
-  stopped steps got i j to deeds n f e z =
+      j.frames ≡ i.frames → IsWithin rest j → GoesOn program launch buffers j → to ≡ j → deeds ≡ [] →
+      DD i deeds to → Al steps got i deeds to
+  stopped steps got i j to deeds n f w g e z h =
       stop steps got i to deeds (ap (λ (a : Item). a.number) e ∙ n) (ap (λ (a : Item). a.frames) e ∙ f) z
+      (subst (IsWithin rest) (sym e) w) (subst (GoesOn program launch buffers) (sym e) g) h
+
+  -- the same, behind tasks
+  stop_at : (steps : List Step) (got : Got) (i to : Item) (deeds : List Deed) (ts us : List Task) → us ≡ ts ++ rest →
+      Same program launch buffers us i.number i.frames to deeds → DD i deeds to → Al steps got i deeds to
+  stop_at steps got i to deeds ts us e s h =
+      stop steps got i to deeds s.0 s.1 s.2 (within_same us ts rest to e s.3) s.4 h
+
+  -- the tasks of statements in order, and then what is left behind
+  ordered : (at : Point) (k : ℕ) (ss : Statements) → in_order at k ss rest ≡ in_order at k ss [] ++ rest
+  ordered at k empty = refl
+  ordered at k (also s ss) = ap (λ z. Run (at ++ Nth k ∷ []) s ∷ z) (ordered at (suc k) ss)
 
   -- the item stands in this function, in which variables that are declared there have their types
   module _ (kept : KeepsHeld) (typed : IsTyped program launch) (function : ℕ)
@@ -285,6 +324,12 @@ module _ (program : Program) (launch : Launch) (buffers : List (List ℕ)) (env 
           Holds known f → DD (it n (in_order at k ss rest) vs (f ∷ fs)) deeds to →
           Al steps got (it n (in_order at k ss rest) vs (f ∷ fs)) deeds to
 
+      -- at the first of the statements
+      within_head : (at : Point) (k : ℕ) (s : Statement) (ss : Statements) (n : ℕ) (vs : List ℤ) (fs : List Frame) →
+          IsWithin rest (it n (in_order at k (also s ss) rest) vs fs)
+      within_head at k s ss n vs fs =
+          (Run (At at k) s, in_order at (suc k) ss [], ap (λ z. Run (At at k) s ∷ z) (ordered at (suc k) ss))
+
       -- the value that is there is kept in a helping variable, and then the others
       keeping : (known : List Known) (got : Got) (steps : List Step) (ss : Statements) (x : ℕ) → helps x →
           Fresh x known → (at : Point) (k n : ℕ) (us : List ℤ) (f : Frame) (fs : List Frame) (to : Item)
@@ -296,9 +341,16 @@ module _ (program : Program) (launch : Launch) (buffers : List (List ℕ)) (env 
           let i = it n (Keep (At at k) x ∷ in_order at (suc k) ss rest) us (f ∷ fs) in
           let j = it n (in_order at (suc k) ss rest) (before us) (set_in f x (last us) ∷ fs) in
           elim (peel program launch buffers i j to deeds refl h) [
-            | inl (q, z) ↦ stopped steps got i i to deeds refl refl q z
-            | inr g ↦ ahead (computes_set helps i j x (last us) help (set_variable helps n (Keep (At at k) x ∷
-                in_order at (suc k) ss rest) (in_order at (suc k) ss rest) us (before us) f fs x (last us)))
+            | inl (q, z) ↦ stopped steps got i i to deeds refl refl (
+              Keep (At at k) x,
+              in_order at (suc k) ss [],
+              ap (λ z. Keep (At at k) x ∷ z) (ordered at (suc k) ss),
+            ) (j, refl) q z h
+            | inr g ↦ ahead (
+              computes_set helps i j x (last us) help (set_variable helps n (Keep (At at k) x ∷
+                  in_order at (suc k) ss rest) (in_order at (suc k) ss rest) us (before us) f fs x (last us)),
+              one_step program launch buffers i j refl,
+            )
                 (others at (suc k) n (before us) (set_in f x (last us)) fs to deeds (next_fits i j refl fit) fn (
                   now_holds f x (last us),
                   still_holds known f x (last us) fresh holds,
@@ -309,10 +361,10 @@ module _ (program : Program) (launch : Launch) (buffers : List (List ℕ)) (env 
       evaluated : (G : ℤ → Type 0) (known : List Known) (got : Got) (next : ℤ → Got) (step : Step) (steps : List Step)
           (ss : Statements)
           (x : ℕ) (e : Expression) → Spares known e → helps x → Fresh x known →
-          ((from start to : Item) (deeds : List Deed) → C from start →
-          StandsIn program launch buffers e start deeds to → Al (step ∷ steps) got from deeds to) →
-          ((from start mid to : Item) (deeds further : List Deed) (v : ℤ) → C from start →
-          Evaluates program launch buffers e start deeds mid v →
+          ((from start to : Item) (deeds : List Deed) → Ad sets_nothing from start →
+          StandsIn program launch buffers rest e start deeds to → Al (step ∷ steps) got from deeds to) →
+          ((from start mid to : Item) (deeds further : List Deed) (v : ℤ) → Ad sets_nothing from start →
+          Evaluates program launch buffers rest e start deeds mid v →
           G v → Al steps (next v) mid further to → Al (step ∷ steps) got from (deeds ++ further) to) →
           ((n : ℕ) (p : Point) (tail : List Task) (us : List ℤ) (g : Frame) (fs : List Frame) →
           g.function ≡ function → Fits program (it n (Keep p x ∷ tail) us (g ∷ fs)) → G (last us)) →
@@ -323,33 +375,40 @@ module _ (program : Program) (launch : Launch) (buffers : List (List ℕ)) (env 
           let T = in_order at (suc k) ss rest in
           let i = it n (Run (At at k) (Declare x (Some e)) ∷ T) vs (f ∷ fs) in
           let j = it n (Evaluate (At at k ++ Operand 0 ∷ []) e ∷ Keep (At at k) x ∷ T) vs (f ∷ fs) in
+          let T' = in_order at (suc k) ss [] in
+          let o = ordered at (suc k) ss in
+          let behind_e : Keep (At at k) x ∷ T ≡ (Keep (At at k) x ∷ T') ++ rest = ap (λ z. Keep (At at k) x ∷ z) o in
+          let begins : Evaluate (At at k ++ Operand 0 ∷ []) e ∷ Keep (At at k) x ∷ T ≡
+          Evaluate (At at k ++ Operand 0 ∷ []) e ∷ ((Keep (At at k) x ∷ T') ++ rest) =
+          ap (λ z. Evaluate (At at k ++ Operand 0 ∷ []) e ∷ z) behind_e in
+          let to_j = goes_on_to i j (Evaluate (At at k ++ Operand 0 ∷ []) e ∷ Keep (At at k) x ∷ T') refl refl begins
+          (one_step program launch buffers i j refl) in
           elim (peel program launch buffers i j to deeds refl h) [
             | inl (q, z) ↦
-                stopped (step ∷ steps) got i i to deeds refl refl q z
+                stopped (step ∷ steps) got i i to deeds refl refl (within_head at k (Declare x (Some e)) ss n vs (f ∷ fs))
+                (j, refl) q z h
             | inr h1 ↦ elim (kept known e spares (At at k ++ Operand 0 ∷ []) n (Keep (At at k) x ∷ T) vs f fs to deeds
                 holds h1) [
-                  | inl (t, ts, q) ↦ inside i j to deeds (computes_same helps i j refl refl) (record {
+                  | inl (t, ts, q) ↦ inside i j to deeds to_j (record {
                     at = At at k ++ Operand 0 ∷ [];
-                    rest = Keep (At at k) x ∷ T;
-                    begins = refl;
+                    front = Keep (At at k) x ∷ T';
+                    begins = begins;
                     does = h1;
-                    task = t;
-                    tasks = ts;
-                    stands = q;
+                    stands = (t, ts, q ∙ ap (λ z. t ∷ (ts ++ z)) behind_e);
                   })
                   | inr (g, us, front, further, a, holds', b, p) ↦
-                      let o = it n (Keep (At at k) x ∷ T) us (g ∷ fs) in
-                      let there = reached_fits j o front a (next_fits i j refl fit) in
+                      let m = it n (Keep (At at k) x ∷ T) us (g ∷ fs) in
+                      let there = reached_fits j m front a (next_fits i j refl fit) in
                       let gf = holds'.1 ∙ fn in
                       let good = gives n (At at k) T us g fs gf there in
                       subst (λ ds. Al (step ∷ steps) got i ds to) (sym p) (whole i j
                       (it n (Keep (At at k) x ∷ T) us (g ∷ fs)) to front further (last us)
-                      (computes_same helps i j refl refl) (record {
+                      to_j (record {
                         at = At at k ++ Operand 0 ∷ [];
-                        rest = Keep (At at k) x ∷ T;
-                        begins = refl;
+                        front = Keep (At at k) x ∷ T';
+                        begins = begins;
                         does = a;
-                        behind = refl;
+                        behind = behind_e;
                         value = refl;
                       }) good (keeping known (next (last us)) steps ss x help fresh at k n us g fs to further there gf
                       holds'.0 (others (last us) good) b))
@@ -369,13 +428,22 @@ module _ (program : Program) (launch : Launch) (buffers : List (List ℕ)) (env 
           let o = it n (Keep (At at k) x ∷ T) (f.variables y ∷ vs) (f ∷ fs) in
           let fit' = next_fits j o refl (next_fits i j refl fit) in
           let good = value_kept n (At at k) x T (f.variables y ∷ vs) f fs of fn there fit' in
+          let T' = in_order at (suc k) ss [] in
+          let behind_e : Keep (At at k) x ∷ T ≡ (Keep (At at k) x ∷ T') ++ rest =
+          ap (λ z. Keep (At at k) x ∷ z) (ordered at (suc k) ss) in
           elim (peel program launch buffers i j to deeds refl h) [
             | inl (q, z) ↦
-                stopped (Copy of m c ∷ steps) got i i to deeds refl refl q z
+                stopped (Copy of m c ∷ steps) got i i to deeds refl refl (within_head at k (Declare x (Some e)) ss n vs (f ∷ fs))
+                (j, refl) q z h
             | inr h1 ↦ elim (peel program launch buffers j o to deeds refl h1) [
               | inl (q, z) ↦
-                  stopped (Copy of m c ∷ steps) got i j to deeds refl refl q z
-              | inr h2 ↦ copy y is_component (computes_same helps i o refl refl) good (keeping known
+                  stopped (Copy of m c ∷ steps) got i j to deeds refl refl (
+                    Evaluate (At at k ++ Operand 0 ∷ []) e,
+                    Keep (At at k) x ∷ T',
+                    ap (λ z. Evaluate (At at k ++ Operand 0 ∷ []) e ∷ z) behind_e,
+                  ) (o, refl) q z h
+              | inr h2 ↦ copy y is_component (goes_on_to i o (Keep (At at k) x ∷ T') refl refl behind_e
+                  (steps_on program launch buffers i j o (one_step program launch buffers i j refl) refl)) good (keeping known
                   (with_component got m.span.first c (f.variables y)) steps ss x help fresh at k n
                   (f.variables y ∷ vs) f
                   fs to deeds fit' fn holds (others (f.variables y) good) h2)
@@ -401,21 +469,38 @@ module _ (program : Program) (launch : Launch) (buffers : List (List ℕ)) (env 
           let L = Finish p (Load site of r) 1 ∷ Keep (At at k) x ∷ T in
           let o = it n L (index_of got m c ∷ vs) (f ∷ fs) in
           let l = it n (Evaluate (p ++ Operand 0 ∷ []) index ∷ L) vs (f ∷ fs) in
-          let fit' = reached_fits l o [] (own_reaches program launch buffers known index (index_of got m c) own
-          (p ++ Operand 0 ∷ []) n L vs f fs holds) (next_fits j l refl (next_fits i j refl fit)) in
+          let leads = own_reaches program launch buffers known index (index_of got m c) own
+          (p ++ Operand 0 ∷ []) n L vs f fs holds in
+          let fit' = reached_fits l o [] leads (next_fits j l refl (next_fits i j refl fit)) in
+          let to_o = then_further program launch buffers (steps_on program launch buffers i j l
+          (one_step program launch buffers i j refl) refl) leads in
+          let T' = in_order at (suc k) ss [] in
+          let behind_e : Keep (At at k) x ∷ T ≡ (Keep (At at k) x ∷ T') ++ rest =
+          ap (λ z. Keep (At at k) x ∷ z) (ordered at (suc k) ss) in
+          let behind_l : L ≡ (Finish p (Load site of r) 1 ∷ Keep (At at k) x ∷ T') ++ rest =
+          ap (λ z. Finish p (Load site of r) 1 ∷ z) behind_e in
           elim (peel program launch buffers i j to deeds refl h) [
-            | inl (q, z) ↦ stopped (LoadStep m c ∷ steps) got i i to deeds refl refl q z
-            | inr h1 ↦ elim (first program launch buffers n (f ∷ fs) (Evaluate p E ∷ Keep (At at k) x ∷ T)
+            | inl (q, z) ↦ stopped (LoadStep m c ∷ steps) got i i to deeds refl refl
+                (within_head at k (Declare x (Some E)) ss n vs (f ∷ fs)) (j, refl) q z h
+            | inr h1 ↦ elim (first program launch buffers n (f ∷ fs) (Evaluate p E) (Keep (At at k) x ∷ T)
                 (Evaluate (p ++ Operand 0 ∷ []) index ∷ L) vs vs to deeds refl h1) [
-                  | inl s ↦ stop (LoadStep m c ∷ steps) got i to deeds s.0 s.1 s.2
+                  | inl s ↦ stop_at (LoadStep m c ∷ steps) got i to deeds (Keep (At at k) x ∷ T')
+                      (Keep (At at k) x ∷ T) behind_e s h
                   | inr h2 ↦ elim (own_runs program launch buffers known index (index_of got m c) own
                       (p ++ Operand 0 ∷ []) n L vs f fs to deeds holds h2) [
-                        | inl s ↦ stop (LoadStep m c ∷ steps) got i to deeds s.0 s.1 s.2
+                        | inl s ↦ stop_at (LoadStep m c ∷ steps) got i to deeds
+                            (Finish p (Load site of r) 1 ∷ Keep (At at k) x ∷ T') L behind_l s h
                         | inr h3 ↦ elim (peel_loads o to deeds site (access_at program launch o of r (index_of got m c))
                             (λ bytes. it n (Keep (At at k) x ∷ T) (value_of_bytes of bytes ∷ vs) (f ∷ fs)) refl h3) [
-                              | inl (q, z) ↦ stopped (LoadStep m c ∷ steps) got i o to deeds refl refl q z
+                              | inl (q, z) ↦ subst (λ d. Al (LoadStep m c ∷ steps) got i d to) (sym z)
+                                  (subst (λ a. Al (LoadStep m c ∷ steps) got i [] a) (sym q)
+                                  (at_load r e site
+                                  (λ bytes. it n (Keep (At at k) x ∷ T) (value_of_bytes of bytes ∷ vs) (f ∷ fs))
+                                  is_element (goes_on_to i o
+                                  (Finish p (Load site of r) 1 ∷ Keep (At at k) x ∷ T') refl refl behind_l to_o) refl))
                               | inr (bytes, ds, once, h4, z) ↦ subst (λ d. Al (LoadStep m c ∷ steps) got i d to) (sym z)
-                                  (load r e site bytes is_element (computes_same helps i o refl refl) once
+                                  (load r e site bytes is_element (goes_on_to i o
+                                  (Finish p (Load site of r) 1 ∷ Keep (At at k) x ∷ T') refl refl behind_l to_o) once
                                   (keeping known (with_component got (first_at m) c (value_of_bytes of bytes)) steps ss
                                   x help fresh at k n (value_of_bytes of bytes ∷ vs) f fs to ds
                                   (once_fits o (it n (Keep (At at k) x ∷ T) (value_of_bytes of bytes ∷ vs) (f ∷ fs))
@@ -453,30 +538,50 @@ module _ (program : Program) (launch : Launch) (buffers : List (List ℕ)) (env 
           (p ++ Operand 0 ∷ []) n (Evaluate (p ++ Operand 1 ∷ []) value ∷ L) vs f fs holds)
           (own_reaches program launch buffers known value w own_value (p ++ Operand 1 ∷ []) n L (u ∷ vs) f fs holds) in
           let fit' = reached_fits l o [] leads (next_fits j l refl (next_fits i j refl fit)) in
-          elim (first program launch buffers n (f ∷ fs) (Run (At at k) (Do E) ∷ T) (Evaluate p E ∷ K) vs vs to deeds
+          let to_o = then_further program launch buffers (steps_on program launch buffers i j l
+          (one_step program launch buffers i j refl) refl) leads in
+          let T' = in_order at (suc k) ss [] in
+          let K' = Discard (At at k ++ OwnLeg 0 ∷ []) ∷ T' in
+          let L' = Finish p (Store site of r) 2 ∷ K' in
+          let behind_t : T ≡ T' ++ rest = ordered at (suc k) ss in
+          let behind_k : K ≡ K' ++ rest = ap (λ z. Discard (At at k ++ OwnLeg 0 ∷ []) ∷ z) behind_t in
+          let behind_l : L ≡ L' ++ rest = ap (λ z. Finish p (Store site of r) 2 ∷ z) behind_k in
+          let S = StoreStep m c y ∷ steps in
+          elim (first program launch buffers n (f ∷ fs) (Run (At at k) (Do E)) T (Evaluate p E ∷ K) vs vs to deeds
           refl
           h) [
-            | inl s ↦ stop (StoreStep m c y ∷ steps) got i to deeds s.0 s.1 s.2
-            | inr h1 ↦ elim (first program launch buffers n (f ∷ fs) (Evaluate p E ∷ K) (Evaluate (p ++ Operand 0 ∷ [])
+            | inl s ↦ stop_at S got i to deeds T' T behind_t s h
+            | inr h1 ↦ elim (first program launch buffers n (f ∷ fs) (Evaluate p E) K (Evaluate (p ++ Operand 0 ∷ [])
                 index ∷ Evaluate (p ++ Operand 1 ∷ []) value ∷ L) vs vs to deeds refl h1) [
-                  | inl s ↦ stop (StoreStep m c y ∷ steps) got i to deeds s.0 s.1 s.2
+                  | inl s ↦ stop_at S got i to deeds K' K behind_k s h
                   | inr h2 ↦ elim (own_runs program launch buffers known index u own_index (p ++ Operand 0 ∷ []) n
                       (Evaluate (p ++ Operand 1 ∷ []) value ∷ L) vs f fs to deeds holds h2) [
-                        | inl s ↦ stop (StoreStep m c y ∷ steps) got i to deeds s.0 s.1 s.2
+                        | inl s ↦ stop_at S got i to deeds (Evaluate (p ++ Operand 1 ∷ []) value ∷ L')
+                            (Evaluate (p ++ Operand 1 ∷ []) value ∷ L)
+                            (ap (λ z. Evaluate (p ++ Operand 1 ∷ []) value ∷ z) behind_l) s h
                         | inr h3 ↦ elim (own_runs program launch buffers known value w own_value (p ++ Operand 1 ∷ [])
                             n L
                             (u ∷ vs) f fs to deeds holds h3) [
-                              | inl s ↦ stop (StoreStep m c y ∷ steps) got i to deeds s.0 s.1 s.2
+                              | inl s ↦ stop_at S got i to deeds L' L behind_l s h
                               | inr h4 ↦ elim (peel_stores o to deeds site (object_at program launch o r) u
                                   (bytes_of of w) (it n K (w ∷ vs) (f ∷ fs)) refl h4) [
-                                    | inl (q, z) ↦ stopped (StoreStep m c y ∷ steps) got i o to deeds refl refl q z
+                                    | inl (q, z) ↦ subst (λ d. Al S got i d to) (sym z)
+                                        (subst (λ a. Al S got i [] a) (sym q) (at_store r e site
+                                        (it n K (w ∷ vs) (f ∷ fs)) is_element
+                                        (goes_on_to i o L' refl refl behind_l to_o) refl))
                                     | inr (ds, once, h5, z) ↦
                                         subst (λ d. Al (StoreStep m c y ∷ steps) got i d to) (sym z)
-                                        (store r e site is_element (computes_same helps i o refl refl) once
-                                        (elim (first program launch buffers n (f ∷ fs) K T (w ∷ vs) vs to ds refl h5) [
-                                          | inl s ↦ stop steps got (it n K (w ∷ vs) (f ∷ fs)) to ds s.0 s.1 s.2
-                                          | inr h6 ↦ ahead (computes_same helps (it n K (w ∷ vs) (f ∷ fs))
-                                              (it n T vs (f ∷ fs)) refl refl)
+                                        (store r e site is_element (goes_on_to i o L' refl refl behind_l to_o) once
+                                        (elim (first program launch buffers n (f ∷ fs)
+                                        (Discard (At at k ++ OwnLeg 0 ∷ [])) T T (w ∷ vs) vs to ds refl h5) [
+                                          | inl s ↦ stop_at steps got (it n K (w ∷ vs) (f ∷ fs)) to ds T' T behind_t s
+                                              h5
+                                          | inr h6 ↦ ahead (
+                                            computes_same helps (it n K (w ∷ vs) (f ∷ fs))
+                                                (it n T vs (f ∷ fs)) refl refl,
+                                            one_step program launch buffers
+                                                (it n K (w ∷ vs) (f ∷ fs)) (it n T vs (f ∷ fs)) refl,
+                                          )
                                               (others at (suc k) n vs f fs to ds (next_fits
                                               (it n K (w ∷ vs) (f ∷ fs)) (it n T vs (f ∷ fs)) refl (once_fits o
                                               (it n K (w ∷ vs) (f ∷ fs)) (Wrote site (object_at program launch o r) u
@@ -507,29 +612,44 @@ module _ (program : Program) (launch : Launch) (buffers : List (List ℕ)) (env 
           let a = it n K (w ∷ vs) (g ∷ fs) in
           let j = it n (Evaluate p E ∷ K) vs (f ∷ fs) in
           let l = it n (Evaluate (p ++ Operand 0 ∷ []) value ∷ L) vs (f ∷ fs) in
-          let fit' = reached_fits l o [] (own_reaches program launch buffers known value w own (p ++ Operand 0 ∷ []) n L
-          vs
-          f fs holds) (next_fits j l refl (next_fits i j refl fit)) in
+          let leads = own_reaches program launch buffers known value w own (p ++ Operand 0 ∷ []) n L vs f fs holds in
+          let fit' = reached_fits l o [] leads (next_fits j l refl (next_fits i j refl fit)) in
           let fit'' = next_fits a (it n T vs (g ∷ fs)) refl (next_fits o a refl fit') in
-          elim (first program launch buffers n (f ∷ fs) (Run (At at k) (Do E) ∷ T) (Evaluate p E ∷ K) vs vs to deeds
+          let to_a = steps_on program launch buffers i o a (then_further program launch buffers
+          (steps_on program launch buffers i j l (one_step program launch buffers i j refl) refl) leads) refl in
+          let T' = in_order at (suc k) ss [] in
+          let K' = Discard (At at k ++ OwnLeg 0 ∷ []) ∷ T' in
+          let L' = Finish p (Set x) 1 ∷ K' in
+          let behind_t : T ≡ T' ++ rest = ordered at (suc k) ss in
+          let behind_k : K ≡ K' ++ rest = ap (λ z. Discard (At at k ++ OwnLeg 0 ∷ []) ∷ z) behind_t in
+          let behind_l : L ≡ L' ++ rest = ap (λ z. Finish p (Set x) 1 ∷ z) behind_k in
+          let S = SetStep m c y ∷ steps in
+          elim (first program launch buffers n (f ∷ fs) (Run (At at k) (Do E)) T (Evaluate p E ∷ K) vs vs to deeds
           refl
           h) [
-            | inl s ↦ stop (SetStep m c y ∷ steps) got i to deeds s.0 s.1 s.2
-            | inr h1 ↦ elim (first program launch buffers n (f ∷ fs) (Evaluate p E ∷ K) (Evaluate (p ++ Operand 0 ∷ [])
+            | inl s ↦ stop_at S got i to deeds T' T behind_t s h
+            | inr h1 ↦ elim (first program launch buffers n (f ∷ fs) (Evaluate p E) K (Evaluate (p ++ Operand 0 ∷ [])
                 value ∷ L) vs vs to deeds refl h1) [
-                  | inl s ↦ stop (SetStep m c y ∷ steps) got i to deeds s.0 s.1 s.2
+                  | inl s ↦ stop_at S got i to deeds K' K behind_k s h
                   | inr h2 ↦ elim (own_runs program launch buffers known value w own (p ++ Operand 0 ∷ []) n L vs f fs
                       to
                       deeds holds h2) [
-                        | inl s ↦ stop (SetStep m c y ∷ steps) got i to deeds s.0 s.1 s.2
+                        | inl s ↦ stop_at S got i to deeds L' L behind_l s h
                         | inr h3 ↦ elim (peel program launch buffers o a to deeds refl h3) [
-                          | inl (q, z) ↦ stopped (SetStep m c y ∷ steps) got i o to deeds refl refl q z
-                          | inr h4 ↦ set of x is_component (set_variable helps n (Run (At at k) (Do E) ∷ T) K vs
-                              (w ∷ vs)
-                              f fs x w) (elim (first program launch buffers n (g ∷ fs) K T (w ∷ vs) vs to deeds refl
-                              h4) [
-                                | inl s ↦ stop steps got a to deeds s.0 s.1 s.2
-                                | inr h5 ↦ ahead (computes_same helps a (it n T vs (g ∷ fs)) refl refl)
+                          | inl (q, z) ↦ stopped S got i o to deeds refl refl (Finish p (Set x) 1, K', behind_l)
+                              (a, refl) q z h
+                          | inr h4 ↦ set of x is_component (record {
+                            does = to_a;
+                            changes = set_variable helps n (Run (At at k) (Do E) ∷ T) K vs (w ∷ vs) f fs x w;
+                            front = K';
+                            left = behind_k;
+                          }) (elim (first program launch buffers n (g ∷ fs)
+                              (Discard (At at k ++ OwnLeg 0 ∷ [])) T T (w ∷ vs) vs to deeds refl h4) [
+                                | inl s ↦ stop_at steps got a to deeds T' T behind_t s h4
+                                | inr h5 ↦ ahead (
+                                  computes_same helps a (it n T vs (g ∷ fs)) refl refl,
+                                  one_step program launch buffers a (it n T vs (g ∷ fs)) refl,
+                                )
                                     (others at (suc k) n vs g fs to deeds fit'' fn (still_holds known f x w fresh holds)
                                     h5)
                               ])
@@ -553,17 +673,29 @@ module _ (program : Program) (launch : Launch) (buffers : List (List ℕ)) (env 
           let o = it n K (w ∷ vs) (f ∷ fs) in
           let a = it n T vs (set_in f x w ∷ fs) in
           let j = it n (Evaluate p value ∷ K) vs (f ∷ fs) in
-          let fit' = reached_fits j o [] (own_reaches program launch buffers known value w own p n K vs f fs holds)
-          (next_fits i j refl fit) in
-          elim (first program launch buffers n (f ∷ fs) (Run (At at k) (Declare x (Some value)) ∷ T)
+          let leads = own_reaches program launch buffers known value w own p n K vs f fs holds in
+          let fit' = reached_fits j o [] leads (next_fits i j refl fit) in
+          let to_a = steps_on program launch buffers i o a (then_further program launch buffers
+          (one_step program launch buffers i j refl) leads) refl in
+          let T' = in_order at (suc k) ss [] in
+          let K' = Keep (At at k) x ∷ T' in
+          let behind_t : T ≡ T' ++ rest = ordered at (suc k) ss in
+          let behind_k : K ≡ K' ++ rest = ap (λ z. Keep (At at k) x ∷ z) behind_t in
+          let S = SetStep m c y ∷ steps in
+          elim (first program launch buffers n (f ∷ fs) (Run (At at k) (Declare x (Some value))) T
           (Evaluate p value ∷ K) vs vs to deeds refl h) [
-            | inl s ↦ stop (SetStep m c y ∷ steps) got i to deeds s.0 s.1 s.2
+            | inl s ↦ stop_at S got i to deeds T' T behind_t s h
             | inr h1 ↦ elim (own_runs program launch buffers known value w own p n K vs f fs to deeds holds h1) [
-              | inl s ↦ stop (SetStep m c y ∷ steps) got i to deeds s.0 s.1 s.2
+              | inl s ↦ stop_at S got i to deeds K' K behind_k s h
               | inr h2 ↦ elim (peel program launch buffers o a to deeds refl h2) [
-                | inl (q, z) ↦ stopped (SetStep m c y ∷ steps) got i o to deeds refl refl q z
-                | inr h3 ↦ set of x is_component (set_variable helps n (Run (At at k) (Declare x (Some value)) ∷ T) T vs
-                    vs f fs x w)
+                | inl (q, z) ↦ stopped S got i o to deeds refl refl (Keep (At at k) x, T', behind_k) (a, refl) q z
+                    h
+                | inr h3 ↦ set of x is_component (record {
+                  does = to_a;
+                  changes = set_variable helps n (Run (At at k) (Declare x (Some value)) ∷ T) T vs vs f fs x w;
+                  front = T';
+                  left = behind_t;
+                })
                     (others at (suc k) n vs (set_in f x w) fs to deeds (next_fits o a refl fit') fn
                     (still_holds known f x w fresh holds) h3)
               ]
@@ -574,7 +706,7 @@ module _ (program : Program) (launch : Launch) (buffers : List (List ℕ)) (env 
       pub follows : {known : List Known} {got : Got} {steps : List Step} {ss : Statements} →
           Emits env later helps result known got steps ss → Follows known got steps ss
       follows (end known got) = λ at k n vs f fs to deeds fit fn holds h.
-          behind (computes_same helps (it n rest vs (f ∷ fs)) (it n rest vs (f ∷ fs)) refl refl) refl h
+          behind (goes_on_to (it n rest vs (f ∷ fs)) (it n rest vs (f ∷ fs)) [] refl refl refl nothing) refl h
       follows (offset_line known got steps ss m r e x is_element spares help fresh lines) =
           evaluated (λ v. Unit {0}) known got (λ v. with_offset got (first_at m) v) (Offset m) steps ss x e spares help
           fresh

@@ -21,7 +21,7 @@ use Rattle.cl_short_vec.specs.Roles.{role_of}
 use Rattle.cl_short_vec.specs.Faults.{is_end, refusal_at, refusals, refusals_in}
 use Rattle.cl_short_vec.specs.Scalar.{scalar}
 use Rattle.cl_short_vec.specs.Unit.{is_declaration, declaration_lines, scalarised}
-use Rattle.cl_short_vec_correct.specs.Each.{DeclarationDoes, PartDoes, EachDoes, PartsDo}
+use Rattle.cl_short_vec_correct.specs.Each.{DeclarationDoes, PartDoes, EachDoes, PartsDo, ThroughParts, Throughout}
 
 -- ---- no refusals
 
@@ -171,7 +171,7 @@ module _ (P : Program) where
   moved names env env' t e d = subst (λ z. Does names z t) (sym e) d
 
   pub expression_does : (names : Names) (env : Env) (t : Syntax) → IsExpressionOf true t → Does names env t
-  unfolding EachDoes marked
+  unfolding Throughout marked
   expression_does names env (node forms.UnitNode w f l ps) h sites = absurd h
   expression_does names env (node forms.FunctionNode w f l ps) h sites = absurd h
   expression_does names env (node forms.BlockNode w f l ps) h sites = absurd h
@@ -190,7 +190,7 @@ module _ (P : Program) where
   pub if_does : (names : Names) (env : Env) (w : List ℕ) (f l : ℕ) (c a : Syntax) → IsExpressionOf true c →
       behind (apart env) (scalarised (marked names c)) ≡ apart env →
       Does (kinds.behind names c) (apart env) a → Does names env (node forms.IfNode w f l (more c (more a none)))
-  unfolding EachDoes PartsDo marked marked_parts behind_parts later inside
+  unfolding Throughout ThroughParts marked marked_parts behind_parts later inside
   if_does names env w f l c a h e k sites = (
     expression_does names (apart env) c h sites,
     (moved (kinds.behind names c) (apart env) (behind (apart env) (scalarised (marked names c))) a e k _, tt),
@@ -202,7 +202,7 @@ module _ (P : Program) where
       Does (kinds.behind (kinds.behind names c) a)
       (behind (apart env) (scalarised (marked (kinds.behind names c) a))) b →
       Does names env (node forms.IfNode w f l (more c (more a (more b none))))
-  unfolding EachDoes PartsDo marked marked_parts behind_parts later inside
+  unfolding Throughout ThroughParts marked marked_parts behind_parts later inside
   else_does names env w f l c a b h i e k k' sites =
       let n = kinds.behind names c in
       let x = behind (apart env) (scalarised (marked names c)) in
@@ -217,7 +217,7 @@ module _ (P : Program) where
   pub while_does : (names : Names) (env : Env) (w : List ℕ) (f l : ℕ) (c a : Syntax) → IsExpressionOf true c →
       behind (in_loop env) (scalarised (marked names c)) ≡ in_loop env →
       Does (kinds.behind names c) (in_loop env) a → Does names env (node forms.WhileNode w f l (more c (more a none)))
-  unfolding EachDoes PartsDo marked marked_parts behind_parts later inside
+  unfolding Throughout ThroughParts marked marked_parts behind_parts later inside
   while_does names env w f l c a h e k sites = (
     expression_does names (in_loop env) c h sites,
     (moved (kinds.behind names c) (in_loop env) (behind (in_loop env) (scalarised (marked names c))) a e k _, tt),
@@ -225,7 +225,7 @@ module _ (P : Program) where
 
   pub do_does : (names : Names) (env : Env) (w : List ℕ) (f l : ℕ) (a c : Syntax) → IsExpressionOf true c →
       Does names (in_loop env) a → Does names env (node forms.DoNode w f l (more a (more c none)))
-  unfolding EachDoes PartsDo marked marked_parts behind_parts later inside
+  unfolding Throughout ThroughParts marked marked_parts behind_parts later inside
   do_does names env w f l a c h k sites = (
     k sites,
     (
@@ -246,14 +246,14 @@ module _ (P : Program) where
   pub for_does : (names : Names) (env : Env) (w : List ℕ) (f l : ℕ) (d a : Syntax) →
       Does (kinds.behind names d) (for_env names env d) a →
       Does names env (node forms.ForNode w f l (more d (more a none)))
-  unfolding EachDoes PartsDo marked marked_parts behind_parts later inside
+  unfolding Throughout ThroughParts marked marked_parts behind_parts later inside
   for_does names env w f l d a k sites = (tt, (k _, tt))
 
   pub for1_does : (names : Names) (env : Env) (w : List ℕ) (f l : ℕ) (d e a : Syntax) → IsExpressionOf true e →
       behind (for_env names env d) (scalarised (marked (kinds.behind names d) e)) ≡ for_env names env d →
       Does (kinds.behind (kinds.behind names d) e) (for_env names env d) a →
       Does names env (node forms.ForNode w f l (more d (more e (more a none))))
-  unfolding EachDoes PartsDo marked marked_parts behind_parts later inside
+  unfolding Throughout ThroughParts marked marked_parts behind_parts later inside
   for1_does names env w f l d e a h i k sites =
       let n = kinds.behind names d in
       let x = for_env names env d in (
@@ -271,7 +271,7 @@ module _ (P : Program) where
       for_env names env d →
       Does (kinds.behind (kinds.behind (kinds.behind names d) c) e) (for_env names env d) a →
       Does names env (node forms.ForNode w f l (more d (more c (more e (more a none)))))
-  unfolding EachDoes PartsDo marked marked_parts behind_parts later inside
+  unfolding Throughout ThroughParts marked marked_parts behind_parts later inside
   for2_does names env w f l d c e a h h' i i' k sites =
       let n = kinds.behind names d in
       let m = kinds.behind n c in
@@ -293,7 +293,7 @@ module _ (P : Program) where
       PartsDoes forms.SwitchNode (marked_parts forms.SwitchNode (more v ss) (kinds.behind names v) false ss) false
       (at_labels env (scalarised (marked names v))) →
       Does names env (node forms.SwitchNode w f l (more v ss))
-  unfolding EachDoes PartsDo marked marked_parts behind_parts later inside
+  unfolding Throughout ThroughParts marked marked_parts behind_parts later inside
   switch_does names env w f l v ss h e k sites =
       let i = in_switch env in
       let v' = scalarised (marked names v) in
@@ -303,21 +303,21 @@ module _ (P : Program) where
       )
 
   pub no_arm_does : (env : Env) → PartsDoes forms.SwitchNode unmarked false env
-  unfolding PartsDo
+  unfolding ThroughParts
   no_arm_does env sites = tt
 
   pub arm_does : (all : Forest) (names : Names) (env : Env) (p : Syntax) (ps : Forest) → Does names env p →
       PartsDoes forms.SwitchNode (marked_parts forms.SwitchNode all (kinds.behind names p) false ps) false
       (on_labels env (scalarised (marked names p))) →
       PartsDoes forms.SwitchNode (marked_parts forms.SwitchNode all names false (more p ps)) false env
-  unfolding PartsDo marked_parts behind_parts later
+  unfolding ThroughParts marked_parts behind_parts later
   arm_does all names env p ps k q sites = (k sites, q _)
 
   pub case_does : (names : Names) (env : Env) (w : List ℕ) (f l : ℕ) (v a : Syntax) → IsExpressionOf true v →
       behind env (scalarised (marked names v)) ≡ env →
       Does (kinds.behind names v) (case_env env (scalarised (marked names v))) a →
       Does names env (node forms.CaseNode w f l (more v (more a none)))
-  unfolding EachDoes PartsDo marked marked_parts behind_parts later inside
+  unfolding Throughout ThroughParts marked marked_parts behind_parts later inside
   case_does names env w f l v a h e k sites =
       let v' = scalarised (marked names v) in (
         expression_does names env v h sites,
@@ -330,19 +330,19 @@ module _ (P : Program) where
 
   pub default_does : (names : Names) (env : Env) (w : List ℕ) (f l : ℕ) (a : Syntax) →
       Does names (default_env env) a → Does names env (node forms.DefaultNode w f l (more a none))
-  unfolding EachDoes PartsDo marked marked_parts behind_parts later inside
+  unfolding Throughout ThroughParts marked marked_parts behind_parts later inside
   default_does names env w f l a k sites = (k sites, tt)
 
   pub block_does : (names : Names) (env : Env) (w : List ℕ) (f l : ℕ) (ps : Forest) →
       in_block env ≡ opened (apart env) →
       PartsDoes forms.BlockNode (marked_parts forms.BlockNode ps names true ps) true (opened (apart env)) →
       Does names env (node forms.BlockNode w f l ps)
-  unfolding EachDoes marked inside
+  unfolding Throughout marked inside
   block_does names env w f l ps e k sites =
       subst (λ z. PartsDoes forms.BlockNode (marked_parts forms.BlockNode ps names true ps) true z) (sym e) k sites
 
   pub no_line_does : (front : Bool) (env : Env) → PartsDoes forms.BlockNode unmarked front env
-  unfolding PartsDo
+  unfolding ThroughParts
   no_line_does front env sites = tt
 
   -- a line that is a statement, and one that is a declaration
@@ -351,12 +351,12 @@ module _ (P : Program) where
       PartsDoes forms.BlockNode (marked_parts forms.BlockNode all (kinds.behind names p) false ps) false
       (behind env (scalarised (marked names p))) →
       PartsDoes forms.BlockNode (marked_parts forms.BlockNode all names front (more p ps)) front env
-  unfolding PartsDo marked_parts behind_parts later
+  unfolding ThroughParts marked_parts behind_parts later
   line_does front all names env p ps h k q sites =
       let m = marked names p in
       let z = statement_declares_not names p h in
       let ms = marked_parts forms.BlockNode all (kinds.behind names p) false ps in (
-        subst (λ x. PartDoes P forms.BlockNode front x (DeclarationDoes P env sites m) (EachDoes P m env sites))
+        subst (λ x. PartDoes forms.BlockNode front x (DeclarationDoes P env sites m) (EachDoes P m env sites))
             (sym z) (k sites),
         subst (λ x. PartsDoes forms.BlockNode ms false
             (behind_parts env forms.BlockNode front (if x then declaration_lines m else forest1 (scalarised m))))
@@ -368,12 +368,12 @@ module _ (P : Program) where
       PartsDoes forms.BlockNode (marked_parts forms.BlockNode all (kinds.behind names p) false ps) false
       (behind_parts env forms.BlockNode front (declaration_lines (marked names p))) →
       PartsDoes forms.BlockNode (marked_parts forms.BlockNode all names front (more p ps)) front env
-  unfolding PartsDo marked_parts
+  unfolding ThroughParts marked_parts
   declared_does front all names env p ps h k q sites =
       let m = marked names p in
       let z = declaration_declares names p h in
       let ms = marked_parts forms.BlockNode all (kinds.behind names p) false ps in (
-        subst (λ x. PartDoes P forms.BlockNode front x (DeclarationDoes P env sites m) (EachDoes P m env sites))
+        subst (λ x. PartDoes forms.BlockNode front x (DeclarationDoes P env sites m) (EachDoes P m env sites))
             (sym z) (k sites),
         subst (λ x. PartsDoes forms.BlockNode ms false
             (behind_parts env forms.BlockNode front (if x then declaration_lines m else forest1 (scalarised m))))
@@ -382,20 +382,20 @@ module _ (P : Program) where
 
   pub idle_does : (names : Names) (env : Env) (w : List ℕ) (f l : ℕ) →
       Does names env (node forms.SimpleNode w f l none)
-  unfolding EachDoes marked marked_parts
+  unfolding Throughout marked marked_parts
   idle_does names env w f l sites = tt
 
   pub break_does : (names : Names) (env : Env) (w : List ℕ) (f l : ℕ) (ps : Forest) →
       Does names env (node forms.BreakNode w f l ps)
-  unfolding EachDoes marked
+  unfolding Throughout marked
   break_does names env w f l ps sites = tt
 
   pub continue_does : (names : Names) (env : Env) (w : List ℕ) (f l : ℕ) (ps : Forest) →
       Does names env (node forms.ContinueNode w f l ps)
-  unfolding EachDoes marked
+  unfolding Throughout marked
   continue_does names env w f l ps sites = tt
 
   pub return_does : (names : Names) (env : Env) (w : List ℕ) (f l : ℕ) (ps : Forest) →
       Does names env (node forms.ReturnNode w f l ps)
-  unfolding EachDoes marked
+  unfolding Throughout marked
   return_does names env w f l ps sites = tt

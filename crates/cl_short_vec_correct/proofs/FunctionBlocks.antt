@@ -26,7 +26,7 @@ use Rattle.cl_short_vec.specs.Marks.{marked, marked_parts, kind_by}
 use Rattle.cl_short_vec.specs.Roles.{role_of}
 use Rattle.cl_short_vec.specs.Faults.{refusals}
 use Rattle.cl_short_vec.specs.Unit.{scalarised, all_scalarised, block_lines}
-use Rattle.cl_short_vec_correct.specs.Each.{EachDoes}
+use Rattle.cl_short_vec_correct.specs.Each.{Throughout}
 use Rattle.cl_short_vec_correct.proofs.Says.{AllOwn, says_nothing, owns_nothing}
 use Rattle.cl_short_vec_correct.proofs.Seen.{Intrinsics}
 use Rattle.cl_short_vec_correct.proofs.KnownNames.{known_same}
@@ -79,14 +79,14 @@ module _ (P : Program) (asked : Asked) (each : LinesDo P asked) where
   function_by : (names : Names) (u : Env) (w : List ℕ) (f l : ℕ) (parts : Forest) →
       PartsDoes P forms.FunctionNode (marked_parts forms.FunctionNode parts names true parts) true
       (in_definition u (name_in w)) → Does P names u (node forms.FunctionNode w f l parts)
-  unfolding EachDoes marked inside
+  unfolding Throughout marked inside
   function_by names u w f l parts d sites = d sites
 
   -- the block of a function shares the scope of its parameters
   body_does : (names : Names) (eb : Env) (w : List ℕ) (f l : ℕ) (lines : Forest) → eb.in_body ≡ true →
       PartsDoes P forms.BlockNode (marked_parts forms.BlockNode lines names true lines) true (body_env eb) →
       Does P names eb (node forms.BlockNode w f l lines)
-  unfolding EachDoes marked inside
+  unfolding Throughout marked inside
   body_does names eb w f l lines e d sites =
       subst (PartsDoes P forms.BlockNode (marked_parts forms.BlockNode lines names true lines) true)
       (sym (functions.body_is eb e)) d sites

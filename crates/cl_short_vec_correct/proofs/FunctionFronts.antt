@@ -25,7 +25,7 @@ use Rattle.cl_short_vec.specs.Faults.{refusals}
 use Rattle.cl_short_vec.specs.Unit.{scalarised, all_scalarised}
 use Rattle.cl_short_vec.proofs.Small.{marked_small}
 use Rattle.cl_short_vec_correct.proofs.FormUnits.{body_is, head_is, same_head, result_is, same_result, params_is, same_params}
-use Rattle.cl_short_vec_correct.specs.Each.{EachDoes, PartsDo}
+use Rattle.cl_short_vec_correct.specs.Each.{ThroughParts, Throughout}
 use Rattle.cl_short_vec_correct.proofs.Says.{AllOwn}
 use Rattle.cl_short_vec_correct.proofs.Seen.{Intrinsics}
 use Rattle.cl_short_vec_correct.proofs.Forms.{AllStay, Does, PartsDoes}
@@ -71,17 +71,17 @@ any_head asked e sites front g t ps h x = absurd h
 module _ (P : Program) (asked : Asked) where
   -- no statement stands in front of a block
   head_does : (names : Names) (e : Env) (t : Syntax) → IsHeadOf true t → Does P names e t
-  unfolding EachDoes marked
+  unfolding Throughout marked
   head_does names e (node forms.HeadNode w f l ps) h sites = tt
   head_does names e t h sites = absurd h
 
   result_does : (names : Names) (e : Env) (t : Syntax) → IsResult t → Does P names e t
-  unfolding EachDoes marked
+  unfolding Throughout marked
   result_does names e (node forms.ResultNode w f l ps) h sites = tt
   result_does names e t h sites = absurd h
 
   params_does : (names : Names) (e : Env) (t : Syntax) → IsParams t → Does P names e t
-  unfolding EachDoes marked
+  unfolding Throughout marked
   params_does names e (node forms.ParamsNode w f l ps) h sites = tt
   params_does names e t h sites = absurd h
 
@@ -114,7 +114,7 @@ module _ (P : Program) (asked : Asked) where
       (scalarised (marked (kinds.behind names r) p))) b →
       PartsDoes P forms.FunctionNode (marked_parts forms.FunctionNode all names front (more r (more p (more b none))))
       front e
-  unfolding PartsDo marked_parts behind_parts
+  unfolding ThroughParts marked_parts behind_parts
   definition_does e front names all r p b hr hp hr' hp' d sites =
       let n = kinds.behind names r in
       let m = kinds.behind n p in
@@ -174,7 +174,7 @@ module _ (P : Program) (asked : Asked) where
       Blocked (head_env e (scalarised (marked names t))) (meant e sites (scalarised (marked names t))).sites false
       (record g { kernel = g.kernel || is_kernel_head (scalarised (marked names t)) }) (kinds.behind names t) all ps →
       Blocked e sites front g names all (more t ps)
-  unfolding all_scalarised marked_parts PartsDo behind_parts
+  unfolding all_scalarised marked_parts ThroughParts behind_parts
   head_blocked e sites front g names all t ps h h' x =
       let n = kinds.behind names t in
       let t' = scalarised (marked names t) in

@@ -78,3 +78,9 @@ pub mod UnitWords
 pub mod Vectorless
 pub mod UnitForms
 pub mod Statements
+pub mod Within
+pub mod Owners
+pub mod StatementsStand
+pub mod UnitsStand
+pub mod Returns
+pub mod Lists

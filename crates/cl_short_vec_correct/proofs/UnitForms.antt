@@ -17,12 +17,14 @@ use Rattle.cl_short_vec.specs.Plain.{has_vectors}
 use Rattle.cl_short_vec.specs.Marks.{marked}
 use Rattle.cl_short_vec.specs.Faults.{refusals, told, refusal_of}
 use Rattle.cl_short_vec.specs.Unit.{scalarised, scalarised_of}
-use Rattle.cl_short_vec_correct.specs.Each.{EachDoes}
+use Rattle.cl_short_vec_correct.specs.Each.{EachDoes, SettingDoes, DeclaratorDoes, EachStands, SettingStands}
+use Rattle.cl_short_vec_correct.specs.Each.{DeclaratorStands}
 use Rattle.cl_short_vec_correct.proofs.LocalDeclarators.{locals}
 use Rattle.cl_short_vec_correct.proofs.Walk.{walk_lines}
 use Rattle.cl_short_vec_correct.proofs.FunctionBlocks.{LinesDo}
 use Rattle.cl_short_vec_correct.proofs.Units.{WordedUnit, unit_does}
-use Rattle.cl_short_vec_correct.proofs.Vectorless.{vectorless_does}
+use Rattle.cl_short_vec_correct.proofs.UnitsStand.{unit_stands}
+use Rattle.cl_short_vec_correct.proofs.Vectorless.{vectorless_claims}
 
 -- the lines of a function's block do their steps
 pub lines_do : (P : Program) (asked : Asked) → LinesDo P asked
@@ -51,4 +53,21 @@ form_does places kernel unit h wo r acc = by (has_vectors unit) refl r acc
     by true e r acc = unit_does places kernel unit h wo (nothing_told (refusals Free (marked no_names unit)) r) acc
         (lines_do _ _)
     by false e r acc =
-        vectorless_does (program_of (unit_meant places kernel unit)) unit (start_of places unit) [] e
+        vectorless_claims (SettingDoes (program_of (unit_meant places kernel unit)))
+        (DeclaratorDoes (program_of (unit_meant places kernel unit))) unit (start_of places unit) [] e
+
+-- and stands in its function
+pub form_stands : (places : List Place) (kernel : List ℕ) (unit : Syntax) → IsUnitOf true unit →
+    IsAccepted places kernel (scalarised_of unit) →
+    EachStands (program_of (unit_meant places kernel (scalarised_of unit))) (marked no_names unit)
+    (start_of places (scalarised_of unit)) []
+form_stands places kernel unit h acc = by (has_vectors unit) refl acc
+  where
+    by : (b : Bool) → has_vectors unit ≡ b →
+        IsAccepted places kernel (if b then scalarised (marked no_names unit) else unit) →
+        EachStands (program_of (unit_meant places kernel (if b then scalarised (marked no_names unit) else unit)))
+        (marked no_names unit) (start_of places (if b then scalarised (marked no_names unit) else unit)) []
+    by true e acc = unit_stands places kernel unit h acc
+    by false e acc =
+        vectorless_claims (SettingStands (program_of (unit_meant places kernel unit)))
+        (DeclaratorStands (program_of (unit_meant places kernel unit))) unit (start_of places unit) [] e

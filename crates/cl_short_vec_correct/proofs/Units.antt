@@ -33,7 +33,7 @@ use Rattle.cl_short_vec.specs.Faults.{refusals}
 use Rattle.cl_short_vec.specs.Unit.{scalarised, all_scalarised}
 use Rattle.cl_short_vec.proofs.Small.{SmallMark, SmallMarks, marked_small, nothing_small}
 use Rattle.cl_short_vec_correct.proofs.FormUnits.{function_is, prototype_is, whole_declaration, items_are}
-use Rattle.cl_short_vec_correct.specs.Each.{EachDoes, PartsDo}
+use Rattle.cl_short_vec_correct.specs.Each.{EachDoes, PartsDo, ThroughParts, Throughout}
 use Rattle.cl_short_vec_correct.proofs.Seen.{Intrinsics}
 use Rattle.cl_short_vec_correct.proofs.Forms.{Does}
 use Rattle.cl_short_vec_correct.proofs.UnitNames.{UnitNames, nothing_declared, names_behind, function_plain}
@@ -60,10 +60,10 @@ WordedUnit t = Unit {0}
 
 -- ---- items
 
-abbrev IsItemOf : Syntax → Type 0
+abbrev pub IsItemOf : Syntax → Type 0
 IsItemOf p = IsFunctionOf true p ⊎ (IsPrototypeOf true p ⊎ IsDeclarationOf true p)
 
-item_shape : (names : Names) (p : Syntax) → SmallMark (marked names p) → IsItemOf p →
+pub item_shape : (names : Names) (p : Syntax) → SmallMark (marked names p) → IsItemOf p →
     IsFunction (scalarised (marked names p)) ⊎ (IsPrototype (scalarised (marked names p)) ⊎
     IsDeclaration (scalarised (marked names p)))
 item_shape names p s (inl h) = inl (function_is p names s h)
@@ -79,12 +79,25 @@ item_names names p (inr (inr h)) r n = names_behind names p n (declaration_plain
 item_names names p (inl h) r n = absurd h
 item_names names p (inr (inl h)) r n = absurd h
 
-function_shape : (w : List ℕ) (f l : ℕ) (parts : Forest) → IsFunction (node forms.FunctionNode w f l parts) ⊎
+pub function_shape : (w : List ℕ) (f l : ℕ) (parts : Forest) → IsFunction (node forms.FunctionNode w f l parts) ⊎
     (IsPrototype (node forms.FunctionNode w f l parts) ⊎ IsDeclaration (node forms.FunctionNode w f l parts)) →
     BehindHeads IsDefinition parts
 function_shape w f l parts (inl h) = h
 function_shape w f l parts (inr (inl h)) = absurd h
 function_shape w f l parts (inr (inr h)) = absurd h
+
+-- the number of a definition that is the first behind others
+pub definition_number : (asked : Asked) (u : Env) (sites : List Place) (w : List ℕ) (f l : ℕ) (parts ps : Forest)
+    (done : List Signature) → BehindHeads IsDefinition parts →
+    SoundTree asked u roles.Other (node forms.FunctionNode w f l parts) →
+    u.functions ≡ done ++ definitions_in (more (node forms.FunctionNode w f l parts) ps) →
+    Each (λ (h : Signature). is_declared u h.name ≡ true) done →
+    (in_definition u (name_in w)).owner.number ≡ length done
+definition_number asked u sites w f l parts ps done h s e fm =
+    let fr = front_of asked u sites w f l parts h s in
+    let dk = definition_known u w parts done (definitions_in ps)
+    (function_new asked u sites roles.Other w f l parts fr s) fm e in
+    ap (number_in u) dk ∙ (let q : 0 + length done ≡ length done = omega arith in q)
 
 -- the function with the number of a definition has its variables
 function_stored : (P : Program) (asked : Asked) (u : Env) (front : Bool) (sites : List Place) (w : List ℕ) (f l : ℕ)
@@ -96,22 +109,19 @@ function_stored : (P : Program) (asked : Asked) (u : Env) (front : Bool) (sites 
     IsStored P (in_definition u (name_in w)).owner.number u w parts
 function_stored P asked u front sites w f l parts ps done h s e fm nu =
     let fr = front_of asked u sites w f l parts h s in
-    let dk = definition_known u w parts done (definitions_in ps)
-    (function_new asked u sites roles.Other w f l parts fr s) fm e in
-    let num : (in_definition u (name_in w)).owner.number ≡ length done =
-    ap (number_in u) dk ∙ (let q : 0 + length done ≡ length done = omega arith in q) in
+    let num = definition_number asked u sites w f l parts ps done h s e fm in
     subst (λ z. IsStored P z u w parts) (sym num)
     (numbered_behind asked u sites w f l parts fr P (length done) front ps nu).0
 
 module _ (P : Program) where
   -- no statement stands in a prototype or a declaration of the unit
   prototype_does : (names : Names) (u : Env) (p : Syntax) → IsPrototypeOf true p → Does P names u p
-  unfolding EachDoes marked
+  unfolding Throughout marked
   prototype_does names u (node forms.PrototypeNode w f l ps) h sites = tt
   prototype_does names u p h sites = absurd h
 
   outer_does : (names : Names) (u : Env) (p : Syntax) → IsDeclarationOf true p → Does P names u p
-  unfolding EachDoes marked
+  unfolding Throughout marked
   outer_does names u (node forms.DeclareNode w f l (more t ds)) h sites = tt
   outer_does names u p h sites = absurd h
 
@@ -156,7 +166,7 @@ module _ (P : Program) (asked : Asked) (gs : List Signature) (tabs : List Table)
       (functions_in (parts_meant u forms.UnitNode front sites
       (all_scalarised (marked_parts forms.UnitNode all names front items))).pieces) →
       PartsDo P (marked_parts forms.UnitNode all names front items) forms.UnitNode front u sites
-  unfolding PartsDo all_scalarised marked_parts behind_parts later parts_meant
+  unfolding ThroughParts all_scalarised marked_parts behind_parts later parts_meant
   items_do names u front b all none done sites h wo sm st un s o e d a k fl et fm nu = tt
   items_do names u front b all (more p ps) done sites h wo sm st un s o e d a k fl et fm nu =
       let n = kinds.behind names p in
@@ -177,7 +187,7 @@ module _ (P : Program) (asked : Asked) (gs : List Signature) (tabs : List Table)
 -- ---- units
 
 -- nothing is declared in front of a unit
-start_known : (places : List Place) (gs : List Signature) → Intrinsics (at_start places gs)
+pub start_known : (places : List Place) (gs : List Signature) → Intrinsics (at_start places gs)
 start_known places gs name i e = inr (ap known_as e)
 
 -- Each vector statement of a unit in which nothing is refused does its steps, where no node of the unit without vectors
@@ -188,7 +198,7 @@ pub unit_does : (places : List Place) (kernel : List ℕ) (unit : Syntax) → Is
     (asked_in places kernel (scalarised (marked no_names unit))) →
     EachDoes (program_of (unit_meant places kernel (scalarised (marked no_names unit)))) (marked no_names unit)
     (start_of places (scalarised (marked no_names unit))) []
-unfolding EachDoes scalarised marked inside
+unfolding Throughout scalarised marked inside
 unit_does places kernel (node forms.UnitNode w f l items) h wo r acc each =
     let ms = marked_parts forms.UnitNode items no_names true items in
     let made = all_scalarised ms in

@@ -7,7 +7,6 @@ use Rattle.wg_num.specs.declared.types.Place.{Place}
 use Rattle.wg_num.specs.declared.types.Bin.{Bin}
 use Rattle.wg_num.specs.declared.types.Bin.TheVariants as bins
 use Rattle.wg_num.specs.declared.types.Un.TheVariants as uns
-use Rattle.cl_model.specs.Tree.{Program}
 use Rattle.cl_tree.specs.declared.tree.Form.{Form}
 use Rattle.cl_tree.specs.declared.tree.Form.TheVariants as forms
 use Rattle.cl_tree.specs.Syntax.{Syntax, node, Forest, none, more}
@@ -39,8 +38,8 @@ use Rattle.cl_short_vec.specs.Plain.{is_about_vectors, has_vectors, have_vectors
 use Rattle.cl_short_vec.specs.Marks.{Mark, mark, Marks, unmarked, marking, tree_at, kind_at, front_kind, back_kind}
 use Rattle.cl_short_vec.specs.Marks.{vector_among, front_type, kind_by, marked, marked_parts}
 use Rattle.cl_short_vec.specs.Unit.{is_declaration}
-use Rattle.cl_short_vec_correct.specs.Each.{is_assignment, lines_for, WholeDoes, SimpleDoes, TypedDo, DeclarationDoes}
-use Rattle.cl_short_vec_correct.specs.Each.{ByForm, PartDoes, EachDoes, PartsDo}
+use Rattle.cl_short_vec_correct.specs.Each.{is_assignment, lines_for, OfWhole, OfSimple, OfTyped, OfDeclaration}
+use Rattle.cl_short_vec_correct.specs.Each.{ByForm, PartDoes, Throughout, ThroughParts, SettingClaim, DeclaratorClaim}
 
 -- ---- nothing is a vector
 
@@ -232,67 +231,67 @@ mutual
 
 -- ---- no vector statement
 
-by_form : (P : Program) (form : Form) (parts simple : Type 0) → parts → simple → ByForm P form parts simple
-by_form P forms.UnitNode parts simple p s = p
-by_form P forms.FunctionNode parts simple p s = p
-by_form P forms.BlockNode parts simple p s = p
-by_form P forms.IfNode parts simple p s = p
-by_form P forms.WhileNode parts simple p s = p
-by_form P forms.DoNode parts simple p s = p
-by_form P forms.ForNode parts simple p s = p
-by_form P forms.SwitchNode parts simple p s = p
-by_form P forms.CaseNode parts simple p s = p
-by_form P forms.DefaultNode parts simple p s = p
-by_form P forms.SimpleNode parts simple p s = s
-by_form P form parts simple p s = tt
+by_form : (form : Form) (parts simple : Type 0) → parts → simple → ByForm form parts simple
+by_form forms.UnitNode parts simple p s = p
+by_form forms.FunctionNode parts simple p s = p
+by_form forms.BlockNode parts simple p s = p
+by_form forms.IfNode parts simple p s = p
+by_form forms.WhileNode parts simple p s = p
+by_form forms.DoNode parts simple p s = p
+by_form forms.ForNode parts simple p s = p
+by_form forms.SwitchNode parts simple p s = p
+by_form forms.CaseNode parts simple p s = p
+by_form forms.DefaultNode parts simple p s = p
+by_form forms.SimpleNode parts simple p s = s
+by_form form parts simple p s = tt
 
-part_by : (P : Program) (form : Form) (front declares : Bool) (declaration each : Type 0) → declaration → each →
-    PartDoes P form front declares declaration each
-part_by P forms.BlockNode front true declaration each d e = d
-part_by P forms.BlockNode front false declaration each d e = e
-part_by P forms.ForNode true declares declaration each d e = tt
-part_by P forms.ForNode false declares declaration each d e = e
-part_by P form front declares declaration each d e = e
+part_by : (form : Form) (front declares : Bool) (declaration each : Type 0) → declaration → each →
+    PartDoes form front declares declaration each
+part_by forms.BlockNode front true declaration each d e = d
+part_by forms.BlockNode front false declaration each d e = e
+part_by forms.ForNode true declares declaration each d e = tt
+part_by forms.ForNode false declares declaration each d e = e
+part_by form front declares declaration each d e = e
 
 and_false : (a b : Bool) → b ≡ false → a && b ≡ true → ⊥
 and_false true b e h = false≢true (sym e ∙ h)
 and_false false b e h = false≢true h
 
-module _ (P : Program) where
-  whole_idle : (env : Env) (sites : List Place) (s : Span) (m : Mark) → NoVector m → WholeDoes P env sites s m
+module _ (S : SettingClaim) (D : DeclaratorClaim) where
+  whole_idle : (env : Env) (sites : List Place) (s : Span) (m : Mark) → NoVector m → OfWhole S D env sites s m
   whole_idle env sites s (mark t k (marking a (marking b unmarked))) h = λ e.
       absurd (and_false (is_assignment (form_of t)) (is_vector (kind_at a)) (ap is_vector (kind_other a h.2.0)) e)
   whole_idle env sites s (mark t k unmarked) h = tt
   whole_idle env sites s (mark t k (marking a unmarked)) h = tt
   whole_idle env sites s (mark t k (marking a (marking b (marking c cs)))) h = tt
 
-  simple_idle : (env : Env) (sites : List Place) (s : Span) (ms : Marks) → AllPlain ms → SimpleDoes P env sites s ms
+  simple_idle : (env : Env) (sites : List Place) (s : Span) (ms : Marks) → AllPlain ms → OfSimple S D env sites s ms
   simple_idle env sites s unmarked h = tt
   simple_idle env sites s (marking m unmarked) h = whole_idle env sites s m h.0
   simple_idle env sites s (marking m (marking n ns)) h = tt
 
-  declaration_idle : (env : Env) (sites : List Place) (m : Mark) → NoVector m → DeclarationDoes P env sites m
+  declaration_idle : (env : Env) (sites : List Place) (m : Mark) → NoVector m → OfDeclaration S D env sites m
   declaration_idle env sites (mark t k unmarked) h = tt
   declaration_idle env sites (mark t k (marking type ds)) h =
-      subst (λ o. TypedDo P o env sites type ds) (sym (tree_plain type h.2.0)) tt
+      subst (λ o. OfTyped S D o env sites type ds) (sym (tree_plain type h.2.0)) tt
 
   mutual
-    unfolding EachDoes PartsDo
+    unfolding Throughout ThroughParts
 
-    idle : (m : Mark) (env : Env) (sites : List Place) → NoVector m → EachDoes P m env sites
-    idle (mark t k ms) env sites h = by_form P (form_of t) _ _
+    idle : (m : Mark) (env : Env) (sites : List Place) → NoVector m → Throughout S D m env sites
+    idle (mark t k ms) env sites h = by_form (form_of t) _ _
         (idle_parts ms (form_of t) true (inside env (form_of t) (word_of t)) sites h.2) (simple_idle env sites _ ms h.2)
 
     idle_parts : (ms : Marks) (form : Form) (front : Bool) (env : Env) (sites : List Place) → AllPlain ms →
-        PartsDo P ms form front env sites
+        ThroughParts S D ms form front env sites
     idle_parts unmarked form front env sites h = tt
     idle_parts (marking m ms) form front env sites h = (
-      part_by P form front (is_declaration m) _ _ (declaration_idle env sites m h.0) (idle m env sites h.0),
+      part_by form front (is_declaration m) _ _ (declaration_idle env sites m h.0) (idle m env sites h.0),
       idle_parts ms form false (behind_parts env form front (lines_for form front m))
           (parts_meant env form front sites (lines_for form front m)).sites h.1,
     )
 
   -- a unit without vectors
-  pub vectorless_does : (t : Syntax) (env : Env) (sites : List Place) → has_vectors t ≡ false →
-      EachDoes P (marked no_names t) env sites
-  vectorless_does t env sites h = idle (marked no_names t) env sites (plain_marks t no_names h (λ q. refl))
+  pub vectorless_claims : (t : Syntax) (env : Env) (sites : List Place) → has_vectors t ≡ false →
+      Throughout S D (marked no_names t) env sites
+  vectorless_claims t env sites h = idle (marked no_names t) env sites (plain_marks t no_names h (λ q. refl))

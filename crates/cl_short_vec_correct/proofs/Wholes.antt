@@ -27,7 +27,7 @@ use Rattle.cl_short_vec.specs.Faults.{types_differ}
 use Rattle.cl_short_vec.specs.Scalar.{scalar}
 use Rattle.cl_short_vec.specs.Unit.{set_block, scalarised}
 use Rattle.cl_short_vec_correct.specs.Sources.{Sourced}
-use Rattle.cl_short_vec_correct.specs.Each.{EachDoes, SettingDoes}
+use Rattle.cl_short_vec_correct.specs.Each.{SettingDoes, Throughout}
 use Rattle.cl_short_vec_correct.proofs.Stands.{Stands, Ends, Locals}
 use Rattle.cl_short_vec_correct.proofs.Forms.{nothing_front, nothing_behind, not_nothing, expression_names, Does}
 
@@ -138,7 +138,7 @@ module _ (P : Program) (f : Function) (asked : Asked) (vars : List Variable) (ar
       SoundTree asked env role (scalarised (marked names (simple w f' l e))) →
       Ends P f asked vars arrs (behind env (scalarised (marked names (simple w f' l e)))) →
       Does P names env (simple w f' l e)
-  unfolding EachDoes marked marked_parts scalarised
+  unfolding Throughout marked marked_parts scalarised
   whole_does names env role w f' l (node forms.AssignNode w' x y (more a (more b none))) h so r st s e sites = λ q.
       let span : Span = record { first = f'; last = l } in
       let block = set_block span (operator_in (setting_in w')) (marked names a) (marked (kinds.behind names a) b) in

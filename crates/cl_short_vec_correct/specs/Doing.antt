@@ -2,6 +2,7 @@
 use Rattle.std.specs.Prelude.{◌≡◌, ℕ, suc, ◌+◌, ◌<◌, ◌≤◌, true, ℤ, pos, Bool, List, [], ◌∷◌, ◌++◌, length, Option}
 use Rattle.std.specs.Prelude.{Some, nat_eq, ◌&&◌}
 use Rattle.std.specs.Prelude.{map, slice_get, if◌then◌else◌}
+use Rattle.work_items.specs.Items.{Goes, Loads, Stores}
 use Rattle.work_items.specs.Histories.{Deed, Read, Wrote, History, DoesOnce}
 use Rattle.wg_num.specs.declared.types.IntType.{IntType}
 use Rattle.wg_num.specs.declared.types.IntType.TheVariants as types
@@ -124,9 +125,10 @@ Aside env later steps = (q : List ℕ) (of : IntType) (constant : Bool) (y : ℕ
 
 -- ---- what an item does
 
--- between what sets a variable, only helping variables are set
-abbrev pub Computes : (helps : ℕ → Type 0) → Item → Item → Type 0
-Computes helps = Sets helps sets_nothing
+-- The item is within a statement behind which these tasks are left: they are all still there, and something is to be
+-- done before them. So it did not leave the statement by a `break`, a `continue` or a `return`, and has not ended.
+abbrev pub IsWithin : List Task → Item → Type 0
+IsWithin rest i = (task : Task) × (tasks : List Task) × (i.tasks ≡ task ∷ (tasks ++ rest))
 
 module _ (program : Program) (launch : Launch) (buffers : List (List ℕ)) where
   abbrev pub Does : Item → List Deed → Item → Type 0
@@ -137,23 +139,38 @@ module _ (program : Program) (launch : Launch) (buffers : List (List ℕ)) where
       DoesOnce (lengths_of program launch buffers) (MayBeTold program launch buffers) (item_next program launch from)
       deed to
 
-  -- the item begins to evaluate the expression, and stands in it
-  pub record StandsIn (e : Expression) (from : Item) (deeds : List Deed) (to : Item) : Type 0 where
-    pub at : Point
-    pub rest : List Task
-    pub begins : from.tasks ≡ Evaluate at e ∷ rest
-    pub does : Does from deeds to
-    pub task : Task
-    pub tasks : List Task
-    pub stands : to.tasks ≡ task ∷ (tasks ++ rest)
+  -- the next step of the item is its own: it comes to no access, no barrier and no iteration
+  abbrev pub GoesOn : Item → Type 0
+  GoesOn i = (next : Item) × (item_next program launch i ≡ Goes next)
 
-  -- the item evaluates the expression, and is behind it with its value
-  pub record Evaluates (e : Expression) (from : Item) (deeds : List Deed) (to : Item) (v : ℤ) : Type 0 where
+  -- The item comes from one to the other by steps of its own without a deed: it makes no access, begins no iteration and
+  -- passes no barrier. It sets what is set there, and what is left behind the statement is still left.
+  pub record Advances (helps : ℕ → Type 0) (sets : ℕ → ℤ → Type 0) (rest : List Task) (from to : Item) : Type 0 where
+    pub does : Does from [] to
+    pub changes : Sets helps sets from to
+    pub front : List Task
+    pub left : to.tasks ≡ front ++ rest
+
+  -- between what sets a variable, only helping variables are set
+  abbrev pub Computes : (helps : ℕ → Type 0) → List Task → Item → Item → Type 0
+  Computes helps = Advances helps sets_nothing
+
+  -- within a statement behind which `rest` is left, the item begins to evaluate the expression, and stands in it
+  pub record StandsIn (rest : List Task) (e : Expression) (from : Item) (deeds : List Deed) (to : Item) : Type 0 where
     pub at : Point
-    pub rest : List Task
-    pub begins : from.tasks ≡ Evaluate at e ∷ rest
+    pub front : List Task
+    pub begins : from.tasks ≡ Evaluate at e ∷ (front ++ rest)
     pub does : Does from deeds to
-    pub behind : to.tasks ≡ rest
+    pub stands : IsWithin (front ++ rest) to
+
+  -- the item evaluates the expression there, and is behind it with its value
+  pub record Evaluates (rest : List Task) (e : Expression) (from : Item) (deeds : List Deed) (to : Item) (v : ℤ) :
+      Type 0 where
+    pub at : Point
+    pub front : List Task
+    pub begins : from.tasks ≡ Evaluate at e ∷ (front ++ rest)
+    pub does : Does from deeds to
+    pub behind : to.tasks ≡ front ++ rest
     pub value : last to.values ≡ v
 
   -- In the typed program of a unit without vectors: `env` is visible where the statement stands, `later` behind it.
@@ -163,37 +180,48 @@ module _ (program : Program) (launch : Launch) (buffers : List (List ℕ)) where
     -- Each number and each component of a variable is a value of its type.
     pub data Along (result : Leaves → Worth) (rest : List Task) : List Step → Got → Item → List Deed → Item →
         Type 0 where
-      -- the history ends between two steps
-      between : {steps : List Step} {got : Got} {from to : Item} → Computes helps from to →
-          Along result rest steps got from [] to
+      -- the history ends between two steps, within the statement, and the item goes on by itself
+      between : {steps : List Step} {got : Got} {from to : Item} → Computes helps rest from to → IsWithin rest to →
+          GoesOn to → Along result rest steps got from [] to
+      -- the history ends before the access of the next step
+      at_load : {m : Mark} {c : ℕ} {steps : List Step} {got : Got} {from to : Item} (r : Root) (e : Expression)
+          (site : ℕ) (after : List ℕ → Item) → IsElement env m r e → Computes helps rest from to →
+          item_next program launch to ≡
+          Loads site (access_at program launch to (type_in (kind_at m)) r (index_of got m c)) after →
+          Along result rest (Load m c ∷ steps) got from [] to
+      at_store : {m : Mark} {c j : ℕ} {steps : List Step} {got : Got} {from to : Item} (r : Root) (e : Expression)
+          (site : ℕ) (after : Item) → IsElement env m r e → Computes helps rest from to →
+          item_next program launch to ≡ Stores site (object_at program launch to r) (index_of got m c)
+          (bytes_of (type_in (kind_at m)) (result got.leaves j)) after →
+          Along result rest (Store m c j ∷ steps) got from [] to
       -- all steps are done, and the item goes on behind the statement
-      behind : {got : Got} {from mid to : Item} {deeds : List Deed} → Computes helps from mid → mid.tasks ≡ rest →
+      behind : {got : Got} {from mid to : Item} {deeds : List Deed} → Computes helps rest from mid → mid.tasks ≡ rest →
           Does mid deeds to → Along result rest [] got from deeds to
       -- an element's offset, and a number
       in_offset : {m : Mark} {steps : List Step} {got : Got} {from start to : Item} {deeds : List Deed} (r : Root)
-          (e : Expression) → IsElement env m r e → Computes helps from start → StandsIn e start deeds to →
+          (e : Expression) → IsElement env m r e → Computes helps rest from start → StandsIn rest e start deeds to →
           Along result rest (Offset m ∷ steps) got from deeds to
       offset : {m : Mark} {steps : List Step} {got : Got} {from start mid to : Item} {deeds more : List Deed}
-          (r : Root) (e : Expression) (v : ℤ) → IsElement env m r e → Computes helps from start →
-          Evaluates e start deeds mid v → Along result rest steps (with_offset got (first_at m) v) mid more to →
+          (r : Root) (e : Expression) (v : ℤ) → IsElement env m r e → Computes helps rest from start →
+          Evaluates rest e start deeds mid v → Along result rest steps (with_offset got (first_at m) v) mid more to →
           Along result rest (Offset m ∷ steps) got from (deeds ++ more) to
       in_number : {of : IntType} {m : Mark} {steps : List Step} {got : Got} {from start to : Item}
-          {deeds : List Deed} (e : Expression) → IsNumber env of m e → Computes helps from start →
-          StandsIn e start deeds to → Along result rest (Number of m ∷ steps) got from deeds to
+          {deeds : List Deed} (e : Expression) → IsNumber env of m e → Computes helps rest from start →
+          StandsIn rest e start deeds to → Along result rest (Number of m ∷ steps) got from deeds to
       number : {of : IntType} {m : Mark} {steps : List Step} {got : Got} {from start mid to : Item}
-          {deeds more : List Deed} (e : Expression) (v : ℤ) → IsNumber env of m e → Computes helps from start →
-          Evaluates e start deeds mid v → IsValue of v →
+          {deeds more : List Deed} (e : Expression) (v : ℤ) → IsNumber env of m e → Computes helps rest from start →
+          Evaluates rest e start deeds mid v → IsValue of v →
           Along result rest steps (with_number got (first_at m) v) mid more to →
           Along result rest (Number of m ∷ steps) got from (deeds ++ more) to
       -- a component of a variable
       copy : {of : IntType} {x : Named} {c : ℕ} {steps : List Step} {got : Got} {from mid to : Item}
-          {deeds : List Deed} (y : ℕ) → IsComponent env x c of y → Computes helps from mid →
+          {deeds : List Deed} (y : ℕ) → IsComponent env x c of y → Computes helps rest from mid →
           IsValue of ((frame_of mid.frames).variables y) → Along result rest steps
           (with_component got x.span.first c ((frame_of mid.frames).variables y)) mid deeds to →
           Along result rest (Copy of x c ∷ steps) got from deeds to
       -- one access, at the index of the component
       load : {m : Mark} {c : ℕ} {steps : List Step} {got : Got} {from start mid to : Item} {deeds : List Deed}
-          (r : Root) (e : Expression) (site : ℕ) (bytes : List ℕ) → IsElement env m r e → Computes helps from start →
+          (r : Root) (e : Expression) (site : ℕ) (bytes : List ℕ) → IsElement env m r e → Computes helps rest from start →
           Accesses start (Read site (access_at program launch start (type_in (kind_at m)) r (index_of got m c)) bytes)
           mid →
           Along result rest steps (with_component got (first_at m) c (value_of_bytes (type_in (kind_at m)) bytes)) mid
@@ -201,7 +229,7 @@ module _ (program : Program) (launch : Launch) (buffers : List (List ℕ)) where
           Along result rest (Load m c ∷ steps) got from
           (Read site (access_at program launch start (type_in (kind_at m)) r (index_of got m c)) bytes ∷ deeds) to
       store : {m : Mark} {c j : ℕ} {steps : List Step} {got : Got} {from start mid to : Item} {deeds : List Deed}
-          (r : Root) (e : Expression) (site : ℕ) → IsElement env m r e → Computes helps from start →
+          (r : Root) (e : Expression) (site : ℕ) → IsElement env m r e → Computes helps rest from start →
           Accesses start (Wrote site (object_at program launch start r) (index_of got m c)
           (bytes_of (type_in (kind_at m)) (result got.leaves j))) mid →
           Along result rest steps got mid deeds to → Along result rest (Store m c j ∷ steps) got from
@@ -209,7 +237,7 @@ module _ (program : Program) (launch : Launch) (buffers : List (List ℕ)) where
           (bytes_of (type_in (kind_at m)) (result got.leaves j)) ∷ deeds) to
       -- a component is set
       set : {x : Named} {c j : ℕ} {steps : List Step} {got : Got} {from mid to : Item} {deeds : List Deed}
-          (of : IntType) (y : ℕ) → IsComponent later x c of y → Sets helps (sets_one y (result got.leaves j)) from mid →
+          (of : IntType) (y : ℕ) → IsComponent later x c of y → Advances helps (sets_one y (result got.leaves j)) rest from mid →
           Along result rest steps got mid deeds to → Along result rest (Set x c j ∷ steps) got from deeds to
 
 -- this variable is declared there, with that type

@@ -1,6 +1,9 @@
--- The laws: what stands for a unit with vectors has the shape of units; statements that stand for the steps of a vector statement do these steps, in every launch, on all buffers,
--- in all histories; and so does what stands for each vector statement of a source.
-use Rattle.std.specs.Prelude.{◌≡◌, ℕ, List, [], None, true}
+-- The laws: what stands for a unit with vectors has the shape of units; statements that stand for the steps of a vector
+-- statement do these steps, in every launch, on all buffers, in all histories, and a `return` does none; and what stands
+-- for each vector statement of a source stands in its function and does them.
+use Rattle.std.specs.Prelude.{◌≡◌, ℕ, ◌<◌, List, [], ◌∷◌, None, Some, slice_get, true}
+use Rattle.work_items.specs.Items.{Goes}
+use Rattle.work_items.specs.Histories.{Deed}
 use Rattle.wg_num.specs.declared.types.Place.{Place}
 use Rattle.cl_token.specs.declared.token.Token.{Token}
 use Rattle.cl_token.specs.Cuts.{Cuts}
@@ -8,7 +11,10 @@ use Rattle.cl_prep.specs.declared.prep.Define.{Define}
 use Rattle.cl_prep.specs.Expands.{Expands}
 use Rattle.cl_tree.specs.Syntax.{Syntax}
 use Rattle.cl_tree.specs.Grammar.{SpellsUnit}
-use Rattle.cl_model.specs.Tree.{Program, Statements, Block, empty, also}
+use Rattle.cl_model.specs.Tree.{Program, Statements, Block, Return, empty, also}
+use Rattle.cl_model.specs.Sizes.{Launch}
+use Rattle.cl_model.specs.Task.{Point, Task, Run, Item}
+use Rattle.cl_model.specs.Steps.{item_next}
 use Rattle.cl_meaning.specs.Environment.{Env}
 use Rattle.cl_meaning.specs.Meant.{start_of, unit_meant}
 use Rattle.cl_limits.specs.Judged.{IsAccepted}
@@ -19,11 +25,12 @@ use Rattle.cl_short_vec.specs.Kinds.{no_names}
 use Rattle.cl_short_vec.specs.Marks.{marked}
 use Rattle.cl_short_vec.specs.Order.{Step}
 use Rattle.cl_short_vec.specs.Faults.{refusal_of}
+use Rattle.cl_short_vec.specs.Parts.{Assigned}
 use Rattle.cl_short_vec.specs.Unit.{scalarised_of}
-use Rattle.cl_short_vec_correct.specs.Values.{Leaves, Worth}
-use Rattle.cl_short_vec_correct.specs.Doing.{nothing_got, Helps, HasDeclared, DoSteps}
+use Rattle.cl_short_vec_correct.specs.Values.{Leaves, Worth, Vec, worth_of, set_worth}
+use Rattle.cl_short_vec_correct.specs.Doing.{Got, nothing_got, Helps, HasDeclared, DoSteps, Along}
 use Rattle.cl_short_vec_correct.specs.Emits.{Emits}
-use Rattle.cl_short_vec_correct.specs.Each.{EachDoes}
+use Rattle.cl_short_vec_correct.specs.Each.{EachIsDone}
 
 -- A unit of the wide shape stands for a unit of the narrow one.
 abbrev pub FormsShaped : Type 0
@@ -36,12 +43,27 @@ StepsDone = (program : Program) (env later : Env) (steps : List Step) (result : 
     HasDeclared program later → Emits env later (Helps env steps) result [] nothing_got steps ss →
     DoSteps program env later steps result ss × DoSteps program env later steps result (also (Block ss) empty)
 
--- In the program of an accepted source each vector statement does its steps, and their helping variables stand for
--- nothing that the source names.
+-- An item that stands before a `return` that ends it, behind which more is left to do, does no steps so.
+abbrev pub ReturnsRefused : Type 0
+ReturnsRefused = (program : Program) (launch : Launch) (buffers : List (List ℕ)) (env later : Env)
+    (all steps : List Step) (result : Leaves → Worth) (next : Task) (others : List Task) (got : Got)
+    (at : Point) (site : ℕ) (from to : Item) (deeds : List Deed) →
+    from.tasks ≡ Run at (Return site None) ∷ (next ∷ others) → item_next program launch from ≡ Goes to →
+    to.tasks ≡ [] → Along program launch buffers env later (Helps env all) result (next ∷ others) steps got from deeds to → ⊥
+
+-- In the program of an accepted source each vector statement stands in its function and does its steps, and their
+-- helping variables stand for nothing that the source names.
 abbrev pub StatementsDo : Type 0
 StatementsDo = (source : List ℕ) (tokens expanded : List Token) (defines : List Define) (unit : Syntax)
     (places : List Place) (kernel : List ℕ) → Cuts source tokens → DefinesFit defines →
     Expands tokens defines expanded → SpellsUnit unit expanded → refusal_of unit ≡ None →
     IsAccepted places kernel (scalarised_of unit) →
-    EachDoes (program_of (unit_meant places kernel (scalarised_of unit))) (marked no_names unit)
+    EachIsDone (program_of (unit_meant places kernel (scalarised_of unit))) (marked no_names unit)
     (start_of places (scalarised_of unit)) []
+
+-- The list of values of a vector expression has at each place what the component of that number is worth; and that is
+-- what a statement without an operator of its own sets or stores there.
+abbrev pub VectorsAre : Type 0
+VectorsAre = (leaves : Leaves) (n : ℕ) (a : Assigned) (j : ℕ) → j < n →
+    (slice_get (Vec leaves n a.value) j ≡ Some (worth_of leaves a.value j)) ×
+    (a.operator ≡ None → Some (set_worth a leaves j) ≡ slice_get (Vec leaves n a.value) j)

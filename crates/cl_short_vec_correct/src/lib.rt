@@ -2,7 +2,7 @@
 //! statement what that says.
 #![tactic(auto)]
 
-ghost use Rattle.cl_short_vec_correct.specs.Law.{FormsShaped, StatementsDo, StepsDone};
+ghost use Rattle.cl_short_vec_correct.specs.Law.{FormsShaped, ReturnsRefused, StatementsDo, StepsDone, VectorsAre};
 
 /// A unit of the wide shape, in which vectors and selections of their components stand, becomes a unit of the narrow
 /// shape, in which no selection stands, whether or not it is refused (OpenCL 1.2, sections 6.1.2 and 6.1.7; C99,
@@ -20,11 +20,23 @@ pub fn steps_law()
     ensures { StepsDone }
 {}
 
-/// In the typed program of each source that is accepted, every assignment to a vector and every initialiser of one does
-/// its steps so: the target's place, its old components, the leaves of the value from left to right, and then the
+/// An item that stands before a `return` that ends it, behind which more is left to do, does no steps so, whatever the
+/// steps are: what stands for a vector statement is not a `return`.
+pub fn returns_law()
+    ensures { ReturnsRefused }
+{}
+
+/// In the typed program of each source that is accepted, what stands for every assignment to a vector and every initialiser of
+/// one stands in the body of its function, and does its steps so: the target's place, its old components, the leaves of the value from left to right, and then the
 /// components of the target, with the values that the operators, the functions and lists in parentheses give on the
 /// components of the leaves (OpenCL 1.2, sections 6.1.6, 6.1.7, 6.2.6, 6.3 and 6.12.3). Its helping variables stand for
 /// nothing that the source can name. Numbers that are given for names are below 2 to the power 63.
 pub fn statements_law()
     ensures { StatementsDo }
+{}
+
+/// The list of values of a vector expression, from the values of its leaves, has the value of each component at its
+/// number, and that is what a statement sets or stores there, where it has no operator of its own.
+pub fn vectors_law()
+    ensures { VectorsAre }
 {}
