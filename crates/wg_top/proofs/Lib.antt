@@ -33,3 +33,8 @@ pub mod ExecOfSourceLemmas
 pub mod AskedLemmas
 pub mod MiddleLemmas
 pub mod PlanLemmas
+pub mod PromiseLaunches
+pub mod PromiseShown
+pub mod PromiseObjects
+pub mod PromiseCache
+pub mod PromiseLemmas

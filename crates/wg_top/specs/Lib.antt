@@ -15,3 +15,5 @@ pub mod Shown
 pub mod Sample
 pub mod Ends
 pub mod ExecOfSource
+pub mod Promise
+pub mod Linked

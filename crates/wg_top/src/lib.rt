@@ -18,6 +18,8 @@ ghost use Rattle.wg_top.specs.Ends.{usage_line, EndsUnasked, EndsBuilding, EndsE
 ghost use Rattle.wg_top.specs.ExecOfSource.{IsExecOfSource};
 ghost use Rattle.wg_top.specs.Shown.{showing};
 ghost use Rattle.wg_top.specs.Lines.{status_of};
+ghost use Rattle.wg_top.specs.Promise.{Promised};
+ghost use Rattle.wg_top.specs.Linked.{links};
 
 use crate::cached::run_cached;
 use crate::objects::{build_source, exec_object};
@@ -36,6 +38,7 @@ mod launches;
 mod lines;
 mod objects;
 mod programs;
+mod promise;
 mod reading;
 mod run;
 mod runnable;
@@ -44,6 +47,7 @@ mod shared;
 mod texts;
 
 pub use launches::has_room;
+pub use promise::promise_law;
 pub use run::run_source;
 
 /// Why a run is refused.
@@ -329,7 +333,14 @@ pub fn wgcc<S: Store, O: Sink, E: Sink>(
     out: &mut O,
     err: &mut E,
 ) -> u8
-    // How a command ends, with its cause, its files and its lines.
+    // What a user may rely on, on the model alone: no pass behind the typed program is reached from
+    // `Promised`.
+    ensures promise { Promised links (map string_bytes words.now)
+        (outside S.files S.faults S.misses O.written O.faults E.written E.faults store.old out.old err.old)
+        (outside S.files S.faults S.misses O.written O.faults E.written E.faults store.new out.new err.new)
+        result }
+
+    // How a command ends, with its cause, its files and its lines, and the group programs that ran.
     ensures ends { (request : Request) → AreWords (map string_bytes words.now) request → EndsAsked
         (outside S.files S.faults S.misses O.written O.faults E.written E.faults store.old out.old err.old)
         (outside S.files S.faults S.misses O.written O.faults E.written E.faults store.new out.new err.new)

@@ -8,6 +8,7 @@ use Rattle.wg_top.proofs.CompleteLemmas.{ends_clean, ends_loops}
 use Rattle.wg_top.proofs.AskedLemmas.{asked_complete, asked_exact}
 use Rattle.wg_top.proofs.ExecOfSourceLemmas.{exec_of_source}
 use Rattle.wg_top.proofs.HonestEndLemmas.{with_honest}
+use Rattle.wg_top.proofs.PromiseLemmas.{promise}
 use Rattle.wg_top.proofs.wgcc.Goals as goal
 
 pub returns-in-Ok-clause-ends : goal.returns-in-Ok-clause-ends
@@ -228,3 +229,55 @@ returns-in-Err-Memory-clause-cached g c =
 pub returns-in-Err-Usage-clause-cached : goal.returns-in-Err-Usage-clause-cached
 returns-in-Err-Usage-clause-cached g c =
     λ ask given told honest. absurd (c.read_words.ensures.usage (cc) given.taken)
+
+pub returns-in-Ok-clause-promise : goal.returns-in-Ok-clause-promise
+returns-in-Ok-clause-promise g c =
+    let old : Outside = (outside g.S.Store.files g.S.Store.faults g.S.Store.misses g.O.Sink.written g.O.Sink.faults
+    g.E.Sink.written g.E.Sink.faults c.args.store.now c.args.out.now c.args.err.now) in
+    let new : Outside = (outside g.S.Store.files g.S.Store.faults g.S.Store.misses g.O.Sink.written g.O.Sink.faults
+    g.E.Sink.written g.E.Sink.faults c.do_words.new.store c.do_words.new.out c.do_words.new.err) in
+    let request : Request = request_of c.in-Ok.asked in
+    record {
+      asked = λ other given. promise old new other c.do_words.result (as_asked old new
+          (map string_bytes c.args.words.now) request other c.do_words.result c.in-Ok.ensures.asked given.asks
+          c.do_words.ensures);
+      unasked = λ none. absurd (none request (record {
+        taken = c.in-Ok.ensures.taken;
+        asks = c.in-Ok.ensures.asked;
+      }));
+    }
+
+pub returns-in-Err-Memory-clause-promise : goal.returns-in-Err-Memory-clause-promise
+returns-in-Err-Memory-clause-promise g c =
+    let old : Outside = (outside g.S.Store.files g.S.Store.faults g.S.Store.misses g.O.Sink.written g.O.Sink.faults
+    g.E.Sink.written g.E.Sink.faults c.args.store.now c.args.out.now c.args.err.now) in
+    let new : Outside = (outside g.S.Store.files g.S.Store.faults g.S.Store.misses g.O.Sink.written g.O.Sink.faults
+    g.E.Sink.written g.E.Sink.faults c.args.store.now c.args.out.now c.say_error.new.sink) in
+    record {
+      asked = λ request given. promise old new request 8 (asked_memory old new request (record {
+        store_stays = refl;
+        out_stays = refl;
+        said = c.say_error.ensures.said;
+      }));
+      unasked = λ none. inr (
+        refl,
+        record {
+          store_stays = refl;
+          out_stays = refl;
+          said = c.say_error.ensures.said;
+        },
+      );
+    }
+
+pub returns-in-Err-Usage-clause-promise : goal.returns-in-Err-Usage-clause-promise
+returns-in-Err-Usage-clause-promise g c = record {
+  asked = λ request given. absurd (c.read_words.ensures.usage (cc) given.taken);
+  unasked = λ none. inl (
+    refl,
+    record {
+      store_stays = refl;
+      out_stays = refl;
+      said = c.say_usage.ensures.said;
+    },
+  );
+}
