@@ -1,10 +1,10 @@
 -- A source whose unit without vectors is accepted has a typed unit; the unit without vectors is what it should be, and
 -- in its program each vector statement stands in its function and does its steps.
-use Rattle.std.proofs.Common.{◌≡◌, ℕ, List, [], sym, subst}
+use Rattle.std.proofs.Common.{◌≡◌, ℕ, List, [], Result, Ok, Err, IfOk, sym, subst}
 use Rattle.wg_num.specs.declared.types.Place.{Place}
 use Rattle.cl_token.specs.declared.token.Token.{Token}
 use Rattle.cl_prep.specs.declared.prep.Define.{Define}
-use Rattle.cl_tree.specs.Syntax.{Syntax}
+use Rattle.cl_tree.specs.Syntax.{Syntax, view}
 use Rattle.cl_meaning.specs.Typed.{Unit'}
 use Rattle.cl_meaning.specs.Meant.{start_of, unit_meant}
 use Rattle.cl_limits.specs.Judged.{IsAccepted}
@@ -21,8 +21,11 @@ use Rattle.cl_short_vec_form.proofs.Long.{forms_long}
 use Rattle.cl_short_vec_kept.proofs.Units.{forms_keep}
 use Rattle.cl_short_vec_correct.specs.Each.{EachIsDone}
 use Rattle.cl_short_vec_correct.proofs.Statements.{statements_do}
+use Rattle.cl_front.specs.declared.front.SourceError.{SourceError}
+use Rattle.cl_front.specs.declared.typing.Source.{Source}
 use Rattle.cl_front.specs.Front.{IsSource, IsScalarSource}
 use Rattle.cl_front.specs.ScalarForm.{IsScalarFormOf}
+use Rattle.cl_front.specs.Forms.{SourcesFormed, TypedFormed}
 use Rattle.cl_front.specs.Typed.{places_of, HasTypedUnit}
 
 source_does : (source : List ℕ) (defines : List Define) (kernel : List ℕ) (expanded : List Token) (unit : Syntax)
@@ -63,6 +66,25 @@ has_typed source defines kernel expanded form places typed s p accepted means =
       is_source = s.is_source;
       accepted = accepted';
       means = means';
-      form = source_form source defines expanded s.unit s.is_source;
-      does = source_does source defines kernel expanded s.unit typed s.is_source accepted' means';
     }
+
+pub sources_formed : SourcesFormed
+sources_formed source defines expanded unit fit s = source_form source defines expanded unit s fit
+
+pub typed_formed : TypedFormed
+typed_formed source defines kernel typed fit h =
+    record {
+      form = source_form source defines h.expanded h.unit h.is_source fit;
+      does = source_does source defines kernel h.expanded h.unit typed h.is_source h.accepted h.means fit;
+    }
+
+pub scalar_formed : (source : List ℕ) (defines : List Define) (expanded : List Token) (form : Syntax) →
+    DefinesFit defines → (h : IsScalarSource source defines expanded form) → IsScalarFormOf h.unit form
+scalar_formed source defines expanded form fit h =
+    subst (IsScalarFormOf h.unit) (sym h.form_is) (source_form source defines expanded h.unit h.is_source fit)
+
+pub read_formed : (source : List ℕ) (defines : List Define) (r : Result Source SourceError) →
+    IfOk r (λ s. DefinesFit defines → (h : IsScalarSource source defines s.tokens.items (view s.unit)) →
+    IsScalarFormOf h.unit (view s.unit))
+read_formed source defines (Ok s) = λ fit h. scalar_formed source defines s.tokens.items (view s.unit) fit h
+read_formed source defines (Err e) = tt

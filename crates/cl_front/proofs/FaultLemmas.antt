@@ -26,8 +26,11 @@ use Rattle.cl_short_vec.specs.Unit.{scalarised_of}
 use Rattle.cl_short_vec_faults.specs.SoundBut.{is_of_size}
 use Rattle.cl_short_vec_faults.specs.UnitLaw.{NoFlags, PlainStands, FormStands}
 use Rattle.cl_short_vec_faults.proofs.UnitsStand.{units_stand}
-use Rattle.cl_front.proofs.DoesLemmas.{source_form}
+use Rattle.cl_front.proofs.DoesLemmas.{source_form, sources_formed, typed_formed}
 use Rattle.cl_front.specs.declared.condition.Condition.TheVariants as conditions
+use Rattle.cl_front.specs.declared.front.SourceError.{SourceError}
+use Rattle.cl_front.specs.declared.front.SourceError.TheVariants as sources
+use Rattle.cl_front.specs.Forms.{ErrorForm, FaultyFormed, FormsHold}
 use Rattle.cl_front.specs.Front.{IsSource, IsScalarSource, place_of_token}
 use Rattle.cl_front.specs.Typed.{places_of, IsFaulty}
 use Rattle.cl_front.proofs.SourceNames.{source_names, source_few}
@@ -96,6 +99,24 @@ is_faulty source defines kernel expanded form places k token place s p refused a
       refused = refused';
       condition_is = refl;
       place_is = at;
-      form = source_form source defines expanded s.unit s.is_source;
-      plain = source_plain source defines kernel expanded s.unit k token s.is_source refused';
     }
+
+pub faulty_formed : FaultyFormed
+faulty_formed source defines kernel condition place fit h =
+    record {
+      form = source_form source defines h.expanded h.unit h.is_source fit;
+      plain = source_plain source defines kernel h.expanded h.unit h.fault h.token h.is_source h.refused fit;
+    }
+
+pub error_formed : (source : List ℕ) (defines : List Define) (kernel : List ℕ) (e : SourceError) →
+    DefinesFit defines → ErrorForm source defines kernel e
+error_formed source defines kernel (sources.Refused condition place) fit =
+    faulty_formed source defines kernel condition place fit
+error_formed source defines kernel sources.Memory fit = tt
+
+pub forms_hold : FormsHold
+forms_hold = record {
+  sources = sources_formed;
+  typed = typed_formed;
+  faulty = faulty_formed;
+}

@@ -1,4 +1,5 @@
 pub mod Conditions
+pub mod Forms
 pub mod Front
 pub mod Law
 pub mod ScalarForm

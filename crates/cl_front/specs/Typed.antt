@@ -1,5 +1,5 @@
 -- What a source means for the name of a kernel: its typed unit, or the first fault of its unit.
-use Rattle.std.specs.Prelude.{◌≡◌, ◌⊎◌, ⊤, false, ℕ, List, [], map}
+use Rattle.std.specs.Prelude.{◌≡◌, ◌⊎◌, ⊤, ℕ, List, map}
 use Rattle.wg_num.specs.declared.types.Place.{Place}
 use Rattle.cl_token.specs.declared.token.Token.{Token}
 use Rattle.cl_token.specs.Places.{place_at}
@@ -7,46 +7,29 @@ use Rattle.cl_prep.specs.declared.prep.Define.{Define}
 use Rattle.cl_tree.specs.Syntax.{Syntax}
 use Rattle.cl_meaning.specs.declared.fault.Fault.{Fault}
 use Rattle.cl_meaning.specs.Typed.{Unit'}
-use Rattle.cl_meaning.specs.Meant.{start_of, unit_meant}
+use Rattle.cl_meaning.specs.Meant.{unit_meant}
 use Rattle.cl_limits.specs.Judged.{IsAccepted}
 use Rattle.cl_check.specs.Checked.{IsRefused}
-use Rattle.cl_check_sound.specs.Erased.{program_of}
-use Rattle.cl_check_sound.specs.Law.{DefinesFit}
-use Rattle.cl_short_vec.specs.Kinds.{no_names}
-use Rattle.cl_short_vec.specs.Marks.{marked}
 use Rattle.cl_short_vec.specs.Unit.{scalarised_of}
-use Rattle.cl_short_vec_faults.specs.SoundBut.{is_of_size}
-use Rattle.cl_short_vec_faults.specs.UnitLaw.{NoFlags, PlainStands}
-use Rattle.cl_short_vec_correct.specs.Each.{EachIsDone}
 use Rattle.cl_front.specs.declared.condition.Condition.{Condition}
 use Rattle.cl_front.specs.declared.condition.Condition.TheVariants as conditions
 use Rattle.cl_front.specs.declared.front.SourceError.{SourceError}
 use Rattle.cl_front.specs.declared.front.SourceError.TheVariants as errors
 use Rattle.cl_front.specs.Front.{IsSource, StandsAt, place_of_token}
-use Rattle.cl_front.specs.ScalarForm.{IsScalarFormOf}
 
 -- the place of each token
 abbrev pub places_of : List ℕ → List Token → List Place
 places_of source tokens = map (λ t. place_at source t.start) tokens
 
--- No node of the unit without vectors is at fault, the kernel is within the limits, and this is the typed unit. Where
--- each number that is given for a name fits a `long`, the unit without vectors is what it should be, and in its
--- program each vector statement of the unit stands in its function and does its steps.
+-- No node of the unit without vectors is at fault, the kernel is within the limits, and this is the typed unit.
 pub record HasTypedUnit (source : List ℕ) (defines : List Define) (kernel : List ℕ) (typed : Unit') : Type 0 where
   pub expanded : List Token
   pub unit : Syntax
   pub is_source : IsSource source defines expanded unit
   pub accepted : IsAccepted (places_of source expanded) kernel (scalarised_of unit)
   pub means : typed ≡ unit_meant (places_of source expanded) kernel (scalarised_of unit)
-  pub form : DefinesFit defines → IsScalarFormOf unit (scalarised_of unit)
-  pub does : DefinesFit defines → EachIsDone (program_of typed) (marked no_names unit)
-      (start_of (places_of source expanded) (scalarised_of unit)) []
 
--- The condition is the first fault of the unit without vectors, which is what it should be where each number that is
--- given for a name fits a `long`, and is reported at that place. Unless it is the length
--- of an array or a limit of size, the unit with a number in the place of each vector is at fault too, or a leaf of a
--- vector statement that should be a number is none; where no variable has the name of a memory fence, and each number
--- that is given for a name fits a `long`.
+-- The condition is the first fault of the unit without vectors, and is reported at that place.
 pub record IsFaulty (source : List ℕ) (defines : List Define) (kernel : List ℕ) (condition : Condition)
     (place : Place) : Type 0 where
   pub expanded : List Token
@@ -57,9 +40,6 @@ pub record IsFaulty (source : List ℕ) (defines : List Define) (kernel : List �
   pub refused : IsRefused (places_of source expanded) kernel (scalarised_of unit) fault token
   pub condition_is : condition ≡ conditions.Unit fault
   pub place_is : place ≡ place_of_token source expanded token
-  pub form : DefinesFit defines → IsScalarFormOf unit (scalarised_of unit)
-  pub plain : DefinesFit defines → NoFlags unit → is_of_size fault ≡ false →
-      PlainStands (places_of source expanded) kernel unit → ⊥
 
 -- the condition stands at that place: of the bytes, the macros, the grammar, the vectors, or the unit
 abbrev pub HasNoTypedUnit : List ℕ → List Define → (kernel : List ℕ) → Condition → Place → Type 0

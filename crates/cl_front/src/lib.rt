@@ -8,5 +8,5 @@ pub mod typing;
 
 pub use condition::Condition;
 pub use front::{SourceError, read_tokens, read_unit};
-pub use laws::program_law;
+pub use laws::{forms_law, program_law};
 pub use typing::{Source, compile, compile_kernel, read_source};

@@ -5,6 +5,9 @@ ghost use Rattle.cl_token.specs.Cuts.{limit};
 ghost use Rattle.cl_prep.specs.declared.prep.Define.{Define};
 ghost use Rattle.cl_tree.specs.Syntax.{view};
 ghost use Rattle.cl_tree.specs.Selections.{has_selection};
+ghost use Rattle.cl_check_sound.specs.Law.{DefinesFit};
+ghost use Rattle.cl_front.specs.Forms.{ErrorForm, TypedForm};
+ghost use Rattle.cl_front.specs.ScalarForm.{IsScalarFormOf};
 ghost use Rattle.cl_front.specs.Front.{IsRefusal, IsScalarSource, place_of_token};
 ghost use Rattle.cl_front.specs.Typed.{HasTypedUnit, IsKernelRefusal, IsUnitRefusal, places_of};
 ghost use Rattle.cl_front.specs.declared.front.SourceError.TheVariants as errors;
@@ -62,6 +65,9 @@ fn with_unit(
 pub fn read_source(alloc: Global, source: &[u8], defines: &Defines) -> Result<Source, SourceError>
     ensures is { IfOk result (λ s. IsScalarSource source.now defines.now.list.items s.tokens.items (view s.unit)) }
     ensures plain { IfOk result (λ s. has_selection (view s.unit) ≡ false) }
+    ensures form { IfOk result (λ s. DefinesFit defines.now.list.items →
+        (h : IsScalarSource source.now defines.now.list.items s.tokens.items (view s.unit)) →
+        IsScalarFormOf h.unit (view s.unit)) }
     ensures places { IfOk result (λ s. s.places.items ≡ places_of source.now s.tokens.items) }
     ensures end { IfOk result (λ s. s.end ≡ place_at source.now (length source.now)) }
     ensures err { IfErr result (λ e. IsRefusal source.now defines.now.list.items e) }
@@ -97,10 +103,14 @@ pub fn compile_kernel(alloc: Global, source: &Source, kernel: &[u8]) -> Result<P
         IsScalarSource bytes defines source.now.tokens.items (view source.now.unit) →
         source.now.places.items ≡ places_of bytes source.now.tokens.items →
         HasTypedUnit bytes defines kernel.now (unit_of p)) }
+    ensures form { IfOk result (λ p. (bytes : List ℕ) (defines : List Define) → DefinesFit defines →
+        (h : HasTypedUnit bytes defines kernel.now (unit_of p)) → TypedForm bytes defines kernel.now (unit_of p) h) }
     ensures err { IfErr result (λ e. (bytes : List ℕ) (defines : List Define) →
         IsScalarSource bytes defines source.now.tokens.items (view source.now.unit) →
         source.now.places.items ≡ places_of bytes source.now.tokens.items →
         source.now.end ≡ place_at bytes (length bytes) → IsUnitRefusal bytes defines kernel.now e) }
+    ensures err_form { IfErr result (λ e. (bytes : List ℕ) (defines : List Define) → DefinesFit defines →
+        ErrorForm bytes defines kernel.now e) }
 {
     match check(alloc, &source.unit, &source.places, kernel) {
         Ok(program) => Ok(program),
@@ -121,7 +131,12 @@ pub fn compile(
     kernel: &[u8],
 ) -> Result<Program, SourceError>
     ensures ok { IfOk result (λ p. HasTypedUnit source.now defines.now.list.items kernel.now (unit_of p)) }
+    ensures form { IfOk result (λ p. DefinesFit defines.now.list.items →
+        (h : HasTypedUnit source.now defines.now.list.items kernel.now (unit_of p)) →
+        TypedForm source.now defines.now.list.items kernel.now (unit_of p) h) }
     ensures err { IfErr result (IsKernelRefusal source.now defines.now.list.items kernel.now) }
+    ensures err_form { IfErr result (λ e. DefinesFit defines.now.list.items →
+        ErrorForm source.now defines.now.list.items kernel.now e) }
 {
     let read = match read_source(alloc, source, defines) {
         Ok(read) => read,
