@@ -17,7 +17,8 @@ use Rattle.cl_short_vec.specs.Order.{steps_of, under}
 use Rattle.cl_short_vec.specs.Parts.{Assigned, assigned_by, assigned_part, part_of}
 use Rattle.cl_short_vec.specs.Unit.{assigned_of}
 use Rattle.cl_short_vec_correct.specs.Emits.{Known}
-use Rattle.cl_short_vec_correct.specs.Values.{Leaves, worth_of, set_by, set_worth}
+use Rattle.cl_short_vec_correct.specs.Values.{Leaves, worth_of}
+use Rattle.cl_short_vec_correct.proofs.Worths.{set_by, set_worth}
 use Rattle.cl_short_vec_correct.proofs.Ready.{Helping}
 use Rattle.cl_short_vec_correct.proofs.Trees.{Typed, type_is, GivesBy, component_typed}
 use Rattle.cl_short_vec_correct.proofs.Seen.{Seen, joined_seen}

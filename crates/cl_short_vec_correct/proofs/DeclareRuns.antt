@@ -37,7 +37,7 @@ use Rattle.cl_short_vec.specs.Order.{Named, Step, Offset, Number, Copy, Load, Se
 use Rattle.cl_short_vec.specs.Parts.{Assigned, assigned_part}
 use Rattle.cl_short_vec.specs.Scalar.{scalar}
 use Rattle.cl_short_vec.specs.Unit.{set_line, lines_of}
-use Rattle.cl_short_vec_correct.specs.Values.{set_worth}
+use Rattle.cl_short_vec_correct.proofs.Worths.{set_worth}
 use Rattle.cl_short_vec_correct.specs.Doing.{Got, first_at}
 use Rattle.cl_short_vec_correct.specs.Sources.{is_sourced}
 use Rattle.cl_short_vec_correct.specs.Emits as emits

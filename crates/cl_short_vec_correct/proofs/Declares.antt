@@ -65,21 +65,22 @@ pub joined_lists : (type : Option Mark) (a : Assigned) (ss ts : List Step) →
 joined_lists type a [] ts = refl
 joined_lists type a (s ∷ ss) ts = ap (λ z. more (line_of type a s) z) (joined_lists type a ss ts)
 
--- ---- the steps of an expression set no variable
+-- ---- the steps of an expression set and store nothing
 
 abbrev pub TakesOnly : Step → Type 0
 TakesOnly (Set x c j) = ⊥
+TakesOnly (Store m c j) = ⊥
 TakesOnly s = Unit {0}
 
-each_joined : (a b : List Step) → Each TakesOnly a → Each TakesOnly b → Each TakesOnly (a ++ b)
+pub each_joined : (a b : List Step) → Each TakesOnly a → Each TakesOnly b → Each TakesOnly (a ++ b)
 each_joined [] b h k = k
 each_joined (s ∷ a) b h k = (h.0, each_joined a b h.1 k)
 
-loads_take : (m : Mark) (cs : List ℕ) → Each TakesOnly (loads m cs)
+pub loads_take : (m : Mark) (cs : List ℕ) → Each TakesOnly (loads m cs)
 loads_take m [] = tt
 loads_take m (c ∷ cs) = (tt, loads_take m cs)
 
-copies_take : (of : IntType) (x : Named) (cs : List ℕ) → Each TakesOnly (copies of x cs)
+pub copies_take : (of : IntType) (x : Named) (cs : List ℕ) → Each TakesOnly (copies of x cs)
 copies_take of x [] = tt
 copies_take of x (c ∷ cs) = (tt, copies_take of x cs)
 

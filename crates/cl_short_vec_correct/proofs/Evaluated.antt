@@ -151,7 +151,8 @@ module _ (program : Program) (launch : Launch) (buffers : List (List ℕ)) where
         | inl s ↦ inl s
         | inr g ↦ elim (own_runs known a u p (at ++ Operand 0 ∷ []) n (Evaluate (at ++ Operand 1 ∷ []) b ∷
             Finish at (Binary op of) 2 ∷ rest) vs f fs to deeds k g) [
-              | inl s ↦ inl (wider (Evaluate (at ++ Operand 1 ∷ []) b ∷ Finish at (Binary op of) 2 ∷ []) rest n (f ∷ fs) to deeds s)
+              | inl s ↦ inl (wider (Evaluate (at ++ Operand 1 ∷ []) b ∷ Finish at (Binary op of) 2 ∷ []) rest n (f ∷
+                  fs) to deeds s)
               | inr g ↦ elim (own_runs known b w q (at ++ Operand 1 ∷ []) n (Finish at (Binary op of) 2 ∷ rest) (u ∷ vs)
                   f fs to deeds k g) [
                     | inl s ↦ inl (wider (Finish at (Binary op of) 2 ∷ []) rest n (f ∷ fs) to deeds s)
@@ -167,7 +168,8 @@ module _ (program : Program) (launch : Launch) (buffers : List (List ℕ)) where
         | inl s ↦ inl s
         | inr h1 ↦ elim (own_runs known a u p (at ++ Operand 0 ∷ []) n (Evaluate (at ++ Operand 1 ∷ []) b ∷
             Finish at (Builtin g of) 2 ∷ rest) vs f fs to deeds k h1) [
-              | inl s ↦ inl (wider (Evaluate (at ++ Operand 1 ∷ []) b ∷ Finish at (Builtin g of) 2 ∷ []) rest n (f ∷ fs) to deeds s)
+              | inl s ↦ inl (wider (Evaluate (at ++ Operand 1 ∷ []) b ∷ Finish at (Builtin g of) 2 ∷ []) rest n (f ∷
+                  fs) to deeds s)
               | inr h2 ↦ elim (own_runs known b w q (at ++ Operand 1 ∷ []) n (Finish at (Builtin g of) 2 ∷ rest)
                   (u ∷ vs) f fs to deeds k h2) [
                     | inl s ↦ inl (wider (Finish at (Builtin g of) 2 ∷ []) rest n (f ∷ fs) to deeds s)
@@ -195,13 +197,16 @@ module _ (program : Program) (launch : Launch) (buffers : List (List ℕ)) where
         | inl s ↦ inl s
         | inr h1 ↦ elim (own_runs known a u p (at ++ Operand 0 ∷ []) n (Evaluate (at ++ Operand 1 ∷ []) b ∷
             Evaluate (at ++ Operand 2 ∷ []) c ∷ L) vs f fs to deeds k h1) [
-              | inl s ↦ inl (wider (Evaluate (at ++ Operand 1 ∷ []) b ∷ Evaluate (at ++ Operand 2 ∷ []) c ∷ Finish at (Builtin g of) 3 ∷ []) rest n (f ∷ fs) to deeds s)
+              | inl s ↦ inl (wider (Evaluate (at ++ Operand 1 ∷ []) b ∷ Evaluate (at ++ Operand 2 ∷ []) c ∷ Finish at
+                  (Builtin g of) 3 ∷ []) rest n (f ∷ fs) to deeds s)
               | inr h2 ↦ elim (own_runs known b w q (at ++ Operand 1 ∷ []) n (Evaluate (at ++ Operand 2 ∷ []) c ∷ L)
                   (u ∷ vs) f fs to deeds k h2) [
-                    | inl s ↦ inl (wider (Evaluate (at ++ Operand 2 ∷ []) c ∷ Finish at (Builtin g of) 3 ∷ []) rest n (f ∷ fs) to deeds s)
+                    | inl s ↦ inl (wider (Evaluate (at ++ Operand 2 ∷ []) c ∷ Finish at (Builtin g of) 3 ∷ []) rest n
+                        (f ∷ fs) to deeds s)
                     | inr h3 ↦ elim (own_runs known c x r (at ++ Operand 2 ∷ []) n L (w ∷ u ∷ vs) f fs to deeds k h3) [
                       | inl s ↦ inl (wider (Finish at (Builtin g of) 3 ∷ []) rest n (f ∷ fs) to deeds s)
-                      | inr h4 ↦ first n (f ∷ fs) (Finish at (Builtin g of) 3) rest rest (x ∷ w ∷ u ∷ vs) (builtin_of g of u w x ∷ vs) to deeds refl h4
+                      | inr h4 ↦ first n (f ∷ fs) (Finish at (Builtin g of) 3) rest rest (x ∷ w ∷ u ∷ vs) (builtin_of g
+                          of u w x ∷ vs) to deeds refl h4
                     ]
                   ]
             ]

@@ -163,6 +163,7 @@ module _ (program : Program) (launch : Launch) (buffers : List (List ℕ)) (env 
   pub ahead : {steps : List Step} {got : Got} {i j to : Item} {deeds : List Deed} → C i j → Al steps got j deeds to →
       Al steps got i deeds to
   ahead {i = i} {j = j} c (between {to = to} d w g) = between (advances_then sets_nothing i j to c d) w g
+  -- the history ends before an access
   ahead {i = i} {j = j} c (at_load {to = to} r e site after a d n) =
       at_load r e site after a (advances_then sets_nothing i j to c d) n
   ahead {i = i} {j = j} c (at_store {to = to} r e site after a d n) =
@@ -385,7 +386,8 @@ module _ (program : Program) (launch : Launch) (buffers : List (List ℕ)) (env 
           (one_step program launch buffers i j refl) in
           elim (peel program launch buffers i j to deeds refl h) [
             | inl (q, z) ↦
-                stopped (step ∷ steps) got i i to deeds refl refl (within_head at k (Declare x (Some e)) ss n vs (f ∷ fs))
+                stopped (step ∷ steps) got i i to deeds refl refl (within_head at k (Declare x (Some e)) ss n vs (f ∷
+                fs))
                 (j, refl) q z h
             | inr h1 ↦ elim (kept known e spares (At at k ++ Operand 0 ∷ []) n (Keep (At at k) x ∷ T) vs f fs to deeds
                 holds h1) [
@@ -433,7 +435,8 @@ module _ (program : Program) (launch : Launch) (buffers : List (List ℕ)) (env 
           ap (λ z. Keep (At at k) x ∷ z) (ordered at (suc k) ss) in
           elim (peel program launch buffers i j to deeds refl h) [
             | inl (q, z) ↦
-                stopped (Copy of m c ∷ steps) got i i to deeds refl refl (within_head at k (Declare x (Some e)) ss n vs (f ∷ fs))
+                stopped (Copy of m c ∷ steps) got i i to deeds refl refl (within_head at k (Declare x (Some e)) ss n vs
+                (f ∷ fs))
                 (j, refl) q z h
             | inr h1 ↦ elim (peel program launch buffers j o to deeds refl h1) [
               | inl (q, z) ↦
@@ -443,7 +446,8 @@ module _ (program : Program) (launch : Launch) (buffers : List (List ℕ)) (env 
                     ap (λ z. Evaluate (At at k ++ Operand 0 ∷ []) e ∷ z) behind_e,
                   ) (o, refl) q z h
               | inr h2 ↦ copy y is_component (goes_on_to i o (Keep (At at k) x ∷ T') refl refl behind_e
-                  (steps_on program launch buffers i j o (one_step program launch buffers i j refl) refl)) good (keeping known
+                  (steps_on program launch buffers i j o (one_step program launch buffers i j refl) refl)) good
+                  (keeping known
                   (with_component got m.span.first c (f.variables y)) steps ss x help fresh at k n
                   (f.variables y ∷ vs) f
                   fs to deeds fit' fn holds (others (f.variables y) good) h2)

@@ -24,7 +24,8 @@ use Rattle.cl_short_vec.specs.Marks.{unmarked, marking, marked, marked_parts}
 use Rattle.cl_short_vec.specs.Faults.{refusals}
 use Rattle.cl_short_vec.specs.Unit.{scalarised, all_scalarised}
 use Rattle.cl_short_vec.proofs.Small.{marked_small}
-use Rattle.cl_short_vec_correct.proofs.FormUnits.{body_is, head_is, same_head, result_is, same_result, params_is, same_params}
+use Rattle.cl_short_vec_correct.proofs.FormUnits.{body_is, head_is, same_head, result_is, same_result, params_is}
+use Rattle.cl_short_vec_correct.proofs.FormUnits.{same_params}
 use Rattle.cl_short_vec_correct.specs.Each.{ThroughParts, Throughout}
 use Rattle.cl_short_vec_correct.proofs.Says.{AllOwn}
 use Rattle.cl_short_vec_correct.proofs.Seen.{Intrinsics}

@@ -26,11 +26,13 @@ use Rattle.cl_short_vec.specs.Marks.{Mark, tree_at}
 use Rattle.cl_short_vec.specs.Order.{Named, Step, sets, steps_of, initial_steps}
 use Rattle.cl_short_vec.specs.Parts.{Assigned, assigned_part}
 use Rattle.cl_short_vec.specs.Unit.{lines_of, declared_name, declarator_lines}
-use Rattle.cl_short_vec_correct.specs.Values.{set_worth}
+use Rattle.cl_short_vec_correct.specs.Values.{nth, set_list}
+use Rattle.cl_short_vec_correct.proofs.Worths.{set_worth}
 use Rattle.cl_short_vec_correct.specs.Doing.{Got, nothing_got, leaves_among, Helps, Aside, HasDeclared}
 use Rattle.cl_short_vec_correct.specs.Emits.{Known, Emits}
 use Rattle.cl_short_vec_correct.specs.Each.{initial_of, DeclaratorDoes}
 use Rattle.cl_short_vec_correct.proofs.Does.{steps_done}
+use Rattle.cl_short_vec_correct.proofs.Listed.{does_other, vec_at, initial_below}
 use Rattle.cl_short_vec_correct.proofs.Adds.{IsOwn}
 use Rattle.cl_short_vec.proofs.OwnNames.{HasNoBlank}
 use Rattle.cl_short_vec_correct.proofs.LineWords.{has_point}
@@ -175,6 +177,9 @@ module _ (P : Program) (g : Function) (asked : Asked) (vars : List Variable) (ar
         DeclaratorDoes P start sites v type d (Some e)
     declarator_does declared sites = (
       aside,
-      (steps_done P start behind_lines steps (set_worth a) (all_lines (parts_meant start forms.BlockNode false sites
+      does_other P start behind_lines steps v.count (set_worth a)
+          (λ leaves. nth (set_list v.count a leaves)) _
+          (λ leaves j l. sym (vec_at leaves v.count a.value j l)) (initial_below v x e)
+          (steps_done P start behind_lines steps (set_worth a) (all_lines (parts_meant start forms.BlockNode false sites
           (declarator_lines v type d (Some e))).pieces) declared (initial_emits sites)).0,
     )

@@ -1,5 +1,6 @@
 -- What is visible behind the items of a unit without vectors.
-use Rattle.std.proofs.Common.{◌≡◌, ℕ, List, [], ◌∷◌, ◌++◌, map, length, append_assoc, None, Some, Bool, true, false, refl, ap}
+use Rattle.std.proofs.Common.{◌≡◌, ℕ, List, [], ◌∷◌, ◌++◌, map, length, append_assoc, None, Some, Bool, true, false}
+use Rattle.std.proofs.Common.{refl, ap}
 use Rattle.std.proofs.Common.{sym, ◌∙◌, subst, inl, inr, ◌⊎◌}
 use Rattle.std.specs.Str.{bytes_eq}
 use Rattle.wg_num.specs.declared.types.Place.{Place}
@@ -80,7 +81,8 @@ module _ (P : Program) (asked : Asked) (gs : List Signature) (tabs : List Table)
       (ap (definition_from (name_in w) 0) (sym (e ∙ d)) ∙ z))) q b
 
   function_leaves_it : (u : Env) (front : Bool) (sites : List Place) (w : List ℕ) (f l : ℕ) (parts ps : Forest)
-      (done : List Signature) → BehindHeads IsDefinition parts → SoundTree asked u roles.Other (node forms.FunctionNode w f l parts) →
+      (done : List Signature) → BehindHeads IsDefinition parts → SoundTree asked u roles.Other (node forms.FunctionNode
+      w f l parts) →
       OneScope u → u.functions ≡ gs →
       gs ≡ done ++ definitions_in (more (node forms.FunctionNode w f l parts) ps) → AtUnit P asked.missing u →
       Intrinsics u → Each (λ (h : Signature). is_declared u h.name ≡ true) done → Numbered P (length done) (functions_in

@@ -84,3 +84,6 @@ pub mod StatementsStand
 pub mod UnitsStand
 pub mod Returns
 pub mod Lists
+pub mod Listed
+pub mod Worths
+pub mod Barriers

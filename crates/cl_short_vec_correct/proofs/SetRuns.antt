@@ -23,7 +23,7 @@ use Rattle.cl_short_vec.specs.Nodes.{span_of, component_name}
 use Rattle.cl_short_vec.specs.Order.{Named, stores, sets, type_in}
 use Rattle.cl_short_vec.specs.Parts.{Assigned, assigned_part}
 use Rattle.cl_short_vec.specs.Unit.{set_line, store_line, lines_of}
-use Rattle.cl_short_vec_correct.specs.Values.{set_worth}
+use Rattle.cl_short_vec_correct.proofs.Worths.{set_worth}
 use Rattle.cl_short_vec_correct.specs.Doing.{Got, first_at}
 use Rattle.cl_short_vec_correct.specs.Emits as emits
 use Rattle.cl_short_vec_correct.specs.Emits.{Known, Fresh, Emits}

@@ -37,11 +37,13 @@ use Rattle.cl_short_vec.specs.Order.{named_by, is_element_in, target_steps, old_
 use Rattle.cl_short_vec.specs.Order.{setting_steps}
 use Rattle.cl_short_vec.specs.Parts.{Assigned, assigned_part}
 use Rattle.cl_short_vec.specs.Unit.{set_line, store_line, lines_of, assigned_of, set_block}
-use Rattle.cl_short_vec_correct.specs.Values.{set_worth}
+use Rattle.cl_short_vec_correct.specs.Values.{nth, set_list}
+use Rattle.cl_short_vec_correct.proofs.Worths.{set_worth}
 use Rattle.cl_short_vec_correct.specs.Doing.{Got, nothing_got, leaves_among, Helps, Aside, HasDeclared, DoSteps}
 use Rattle.cl_short_vec_correct.specs.Emits.{Known, Emits}
 use Rattle.cl_short_vec_correct.specs.Each.{SettingDoes}
 use Rattle.cl_short_vec_correct.proofs.Does.{steps_done}
+use Rattle.cl_short_vec_correct.proofs.Listed.{does_other, set_listed, setting_below}
 use Rattle.cl_short_vec.proofs.OwnNames.{HasNoBlank}
 use Rattle.cl_short_vec_correct.proofs.Pieces.{variable_behind}
 use Rattle.cl_short_vec_correct.proofs.Lines.{set_behind, store_behind, helped_behind}
@@ -356,8 +358,10 @@ module _ (P : Program) (g : Function) (asked : Asked) (vars : List Variable) (ar
         SettingDoes P start sites s o target value
     setting_does declared sites = (
       aside,
-      subst (λ z. DoSteps P start behind_block steps (set_worth a) z)
+      does_other P start behind_block steps (length cs) (set_worth a)
+          (λ leaves. nth (set_list (length cs) a leaves)) _ (set_listed o a) (setting_below o target value)
+          (subst (λ z. DoSteps P start behind_block steps (set_worth a) z)
           (sym (block_lines_meant start sites (codes "{ }") s.first s.last (lines_of None a steps) within.in_block))
           (steps_done P start behind_block steps (set_worth a) (all_lines (parts_meant (opened (apart start))
-          forms.BlockNode false sites (lines_of None a steps)).pieces) declared (setting_emits sites)).1,
+          forms.BlockNode false sites (lines_of None a steps)).pieces) declared (setting_emits sites)).1),
     )

@@ -12,6 +12,7 @@ statements_do source tokens expanded defines unit places kernel cuts fit expands
     let shape = spelled_wide unit expanded spelled (expanded_read source tokens expanded defines cuts fit expands) in
     record {
       does = form_does places kernel unit shape (worded_unit unit
-          (unit_words unit expanded spelled (expanded_plain source tokens expanded defines cuts expands))) stays accepted;
+          (unit_words unit expanded spelled (expanded_plain source tokens expanded defines cuts expands))) stays
+          accepted;
       stands = form_stands places kernel unit shape accepted;
     }

@@ -18,7 +18,8 @@ use Rattle.cl_meaning.specs.Expressions.{read}
 use Rattle.cl_meaning.specs.Visible.{inside, later, behind, behind_parts, kind_of, in_block, in_loop, in_switch, apart}
 use Rattle.cl_meaning.specs.Visible.{opened, visible_at}
 use Rattle.cl_meaning.specs.Meant.{meant, parts_meant, make}
-use Rattle.cl_check_sound.specs.Shape.{IsExpressionOf, IsStatementOf, AreStatementsOf, AreLinesOf, IsStatement, IsDeclarationOf}
+use Rattle.cl_check_sound.specs.Shape.{IsExpressionOf, IsStatementOf, AreStatementsOf, AreLinesOf, IsStatement}
+use Rattle.cl_check_sound.specs.Shape.{IsDeclarationOf}
 use Rattle.cl_check_sound.specs.Shape.{AreStatements}
 use Rattle.cl_short_vec.specs.declared.nodes.Span.{Span}
 use Rattle.cl_short_vec.specs.declared.types.Vector.{Vector}
@@ -37,7 +38,8 @@ use Rattle.cl_short_vec_correct.specs.Standing.{chosen, other, looped, switched}
 use Rattle.cl_short_vec_correct.specs.Each.{SettingStands, DeclaratorStands, EachStands, PartsStand, Throughout}
 use Rattle.cl_short_vec_correct.specs.Each.{ThroughParts, OfWhole, OfDeclarators, OfTyped, OfDeclaration}
 use Rattle.cl_short_vec_correct.specs.Each.{PartDoes, is_assignment}
-use Rattle.cl_short_vec_correct.proofs.Within.{followed_again, followed_nothing, past, itself, front_within, rest_within}
+use Rattle.cl_short_vec_correct.proofs.Within.{followed_again, followed_nothing, past, itself, front_within}
+use Rattle.cl_short_vec_correct.proofs.Within.{rest_within}
 use Rattle.cl_short_vec_correct.proofs.Within.{in_one, IsOne, AllOne, AllWithin, switch_all}
 use Rattle.cl_short_vec_correct.proofs.Owners.{Same, behind_same, later_same, parts_same, block_same}
 use Rattle.cl_short_vec_correct.proofs.FormUnits.{statement_is, statements_are}
@@ -281,7 +283,8 @@ module _ (P : Program) (body : Statements) where
   -- ---- statements
 
   mutual
-    unfolding Throughout ThroughParts scalarised all_scalarised block_lines loop_parts scalar marked marked_parts meant parts_meant make inside behind_parts later
+    unfolding Throughout ThroughParts scalarised all_scalarised block_lines loop_parts scalar marked marked_parts meant
+        parts_meant make inside behind_parts later
 
     pub stands : (t : Syntax) (names : Names) (env : Env) (sites : List Place) → SmallNames names →
         IsStatementOf true t → Of env → In env sites (scalarised (marked names t)) →

@@ -1,5 +1,6 @@
 -- Each vector statement of a unit does its steps, where the lines of its functions' blocks do.
-use Rattle.std.proofs.Common.{◌≡◌, ℕ, List, [], ◌++◌, map, length, ◌+◌, None, Some, Bool, true, false, refl, ap, sym, ◌∙◌, subst}
+use Rattle.std.proofs.Common.{◌≡◌, ℕ, List, [], ◌++◌, map, length, ◌+◌, None, Some, Bool, true, false, refl, ap, sym}
+use Rattle.std.proofs.Common.{◌∙◌, subst}
 use Rattle.std.proofs.Common.{inl, inr, ◌⊎◌, arith}
 use Rattle.wg_num.specs.declared.types.Place.{Place}
 use Rattle.cl_model.specs.Lists.{Each}
@@ -179,7 +180,8 @@ module _ (P : Program) (asked : Asked) (gs : List Signature) (tabs : List Table)
       (items_are forms.UnitNode all n false ps sm.1 h.1) x.0 x.1 o e d a k et fm nu in
       let et' = subst (λ (z : Env). Extends z.tables tabs) (unit_behind_next u front p' ps') et in (
         item_does names u front sites p ps' done h.0 wo.0 st.0 un x.0 o e d a k fl sh fm nu sites,
-        items_do n m false (Some (last_of p')) all ps it.before (meant u sites p').sites h.1 wo.1 sm.1 st.1 (item_names names p h.0 st.0 un)
+        items_do n m false (Some (last_of p')) all ps it.before (meant u sites p').sites h.1 wo.1 sm.1 st.1 (item_names
+            names p h.0 st.0 un)
             x.1 (it.grown.one o) (ap (λ (z : Env). z.functions) it.grown.frame ∙ e) it.definitions it.at it.known
             (ap (λ (z : Env). z.flags) it.grown.frame ∙ fl) et' it.firm' it.numbered,
       )

@@ -84,7 +84,8 @@ module _ (P : Program) where
       body_in (parts_meant env forms.FunctionNode front sites
       (all_scalarised (marked_parts forms.FunctionNode all names front ps))).pieces ≡ body →
       PartsStand P (marked_parts forms.FunctionNode all names front ps) forms.FunctionNode front env sites
-  unfolding Throughout ThroughParts scalarised all_scalarised block_lines marked marked_parts meant parts_meant make inside behind_parts
+  unfolding Throughout ThroughParts scalarised all_scalarised block_lines marked marked_parts meant parts_meant make
+      inside behind_parts
   parts_stand body none all names front env sites sm h o e = absurd h
   parts_stand body (more (node form w f l hs) none) all names front env sites sm (inl h) o e = absurd h.1
   parts_stand body (more (node form w f l hs) (more t ts)) all names front env sites sm (inl h) o e =
@@ -96,7 +97,8 @@ module _ (P : Program) where
             (behind_small names p sm) h.1 (ap (λ z. (function_at P z).body)
             (later_same forms.FunctionNode (behind env p') front p' (kind_of env p') ∙ behind_same env p') ∙ o) e,
       )
-  parts_stand body (more (node form w f l hs) (more p (more (node forms.BlockNode w' f' l' lines) none))) all names front
+  parts_stand body (more (node form w f l hs) (more p (more (node forms.BlockNode w' f' l' lines) none))) all names
+      front
       env sites sm (inr h) o e =
       let r = node form w f l hs in
       let n = kinds.behind names r in
@@ -203,7 +205,8 @@ module _ (P : Program) (asked : Asked) (gs : List Signature) (tabs : List Table)
       (items_are forms.UnitNode all n false ps sm.1 h.1) x.0 x.1 o e d a k et fm nu in
       let et' = subst (λ (z : Env). Extends z.tables tabs) (unit_behind_next u front p' ps') et in (
         item_stands names u front sites p ps' done sn h.0 x.0 e d sh fm nu,
-        items_stand n m false (Some (last_of p')) all ps it.before (meant u sites p').sites (behind_small names p sn) h.1
+        items_stand n m false (Some (last_of p')) all ps it.before (meant u sites p').sites (behind_small names p sn)
+            h.1
             sm.1 x.1 (it.grown.one o) (ap (λ (z : Env). z.functions) it.grown.frame ∙ e) it.definitions it.at it.known
             et' it.firm' it.numbered,
       )

@@ -35,7 +35,8 @@ use Rattle.cl_short_vec.specs.Parts.{assigned_part}
 use Rattle.cl_short_vec.specs.Unit.{assigned_of}
 use Rattle.cl_short_vec.proofs.Rows.{found}
 use Rattle.cl_short_vec_correct.specs.Emits.{Known}
-use Rattle.cl_short_vec_correct.specs.Values.{Leaves, set_worth}
+use Rattle.cl_short_vec_correct.specs.Values.{Leaves}
+use Rattle.cl_short_vec_correct.proofs.Worths.{set_worth}
 use Rattle.cl_short_vec_correct.specs.Each.{initial_of}
 use Rattle.cl_short_vec_correct.proofs.Whole.{WholeKind, WholeNames, mark_whole, marked_whole}
 use Rattle.cl_short_vec_correct.proofs.Trees.{Typed}

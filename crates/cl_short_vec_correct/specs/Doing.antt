@@ -143,8 +143,8 @@ module _ (program : Program) (launch : Launch) (buffers : List (List ℕ)) where
   abbrev pub GoesOn : Item → Type 0
   GoesOn i = (next : Item) × (item_next program launch i ≡ Goes next)
 
-  -- The item comes from one to the other by steps of its own without a deed: it makes no access, begins no iteration and
-  -- passes no barrier. It sets what is set there, and what is left behind the statement is still left.
+  -- The item comes from one to the other by steps of its own without a deed: it makes no access, begins no iteration
+  -- and passes no barrier. It sets what is set there, and what is left behind the statement is still left.
   pub record Advances (helps : ℕ → Type 0) (sets : ℕ → ℤ → Type 0) (rest : List Task) (from to : Item) : Type 0 where
     pub does : Does from [] to
     pub changes : Sets helps sets from to
@@ -221,7 +221,8 @@ module _ (program : Program) (launch : Launch) (buffers : List (List ℕ)) where
           Along result rest (Copy of x c ∷ steps) got from deeds to
       -- one access, at the index of the component
       load : {m : Mark} {c : ℕ} {steps : List Step} {got : Got} {from start mid to : Item} {deeds : List Deed}
-          (r : Root) (e : Expression) (site : ℕ) (bytes : List ℕ) → IsElement env m r e → Computes helps rest from start →
+          (r : Root) (e : Expression) (site : ℕ) (bytes : List ℕ) → IsElement env m r e →
+          Computes helps rest from start →
           Accesses start (Read site (access_at program launch start (type_in (kind_at m)) r (index_of got m c)) bytes)
           mid →
           Along result rest steps (with_component got (first_at m) c (value_of_bytes (type_in (kind_at m)) bytes)) mid
@@ -237,7 +238,8 @@ module _ (program : Program) (launch : Launch) (buffers : List (List ℕ)) where
           (bytes_of (type_in (kind_at m)) (result got.leaves j)) ∷ deeds) to
       -- a component is set
       set : {x : Named} {c j : ℕ} {steps : List Step} {got : Got} {from mid to : Item} {deeds : List Deed}
-          (of : IntType) (y : ℕ) → IsComponent later x c of y → Advances helps (sets_one y (result got.leaves j)) rest from mid →
+          (of : IntType) (y : ℕ) → IsComponent later x c of y →
+          Advances helps (sets_one y (result got.leaves j)) rest from mid →
           Along result rest steps got mid deeds to → Along result rest (Set x c j ∷ steps) got from deeds to
 
 -- this variable is declared there, with that type

@@ -1,6 +1,6 @@
 -- Each vector statement of a unit does its steps, where the unit without vectors stands for the unit, and its helping
 -- variables stand for nothing that the unit names.
-use Rattle.std.specs.Prelude.{◌≡◌, List, [], Option, None, Some, if◌then◌else◌, Bool, true, false, ◌&&◌}
+use Rattle.std.specs.Prelude.{◌≡◌, List, [], length, Option, None, Some, if◌then◌else◌, Bool, true, false, ◌&&◌}
 use Rattle.wg_num.specs.declared.types.Place.{Place}
 use Rattle.wg_num.specs.declared.types.Bin.{Bin}
 use Rattle.cl_model.specs.Tree.{Program}
@@ -20,13 +20,14 @@ use Rattle.cl_short_vec.specs.declared.types.Vector.{Vector}
 use Rattle.cl_short_vec.specs.Types.{vector_type}
 use Rattle.cl_short_vec.specs.Kinds.{is_vector}
 use Rattle.cl_short_vec.specs.Marks.{Mark, mark, Marks, unmarked, marking, tree_at, kind_at}
+use Rattle.cl_short_vec.specs.Faults.{components_of}
 use Rattle.cl_short_vec.specs.Nodes.{span_of}
 use Rattle.cl_short_vec.specs.Order.{setting_steps, initial_steps, operator_in}
 use Rattle.cl_short_vec.specs.Parts.{Assigned}
 use Rattle.cl_short_vec.specs.Scalar.{scalar}
 use Rattle.cl_short_vec.specs.Unit.{assigned_of, set_block, declared_name, name_span, initialiser, declarator_lines}
 use Rattle.cl_short_vec.specs.Unit.{is_declaration, block_line, scalarised}
-use Rattle.cl_short_vec_correct.specs.Values.{set_worth}
+use Rattle.cl_short_vec_correct.specs.Values.{nth, set_list}
 use Rattle.cl_short_vec_correct.specs.Doing.{Aside, DoSteps}
 use Rattle.cl_short_vec_correct.specs.Standing.{Within}
 
@@ -80,8 +81,8 @@ PartDoes forms.BlockNode front true declaration each = declaration
 PartDoes forms.ForNode true declares declaration each = Unit {0}
 PartDoes form front declares declaration each = each
 
--- In the unit without vectors, where `env` is visible and these sites stand before, each vector statement of a tree meets
--- the one claim, and each declarator of a vector variable the other.
+-- In the unit without vectors, where `env` is visible and these sites stand before, each vector statement of a tree
+-- meets the one claim, and each declarator of a vector variable the other.
 module _ (Setting : SettingClaim) (Declarator : DeclaratorClaim) where
   -- the whole expression of a statement with that span: of an assignment to a vector
   abbrev pub OfWhole : Env → List Place → Span → Mark → Type 0
@@ -128,7 +129,8 @@ module _ (program : Program) where
   -- a statement that sets a target to a value
   abbrev pub SettingDoes : SettingClaim
   SettingDoes env sites s o a b = Aside env (behind env (set_block s o a b)) (setting_steps o a b) ×
-      DoSteps program env (behind env (set_block s o a b)) (setting_steps o a b) (set_worth (assigned_of o a b))
+      DoSteps program env (behind env (set_block s o a b)) (setting_steps o a b)
+      (λ leaves. nth (set_list (length (components_of a)) (assigned_of o a b) leaves))
       (lines_of (meant env sites (set_block s o a b)).piece.what)
 
   -- a declarator of a vector variable, with its initialiser
@@ -138,7 +140,8 @@ module _ (program : Program) where
       Aside env (behind_parts env forms.BlockNode false (declarator_lines v type d (Some e)))
       (initial_steps v (declared_name (tree_at d)) e) ×
       DoSteps program env (behind_parts env forms.BlockNode false (declarator_lines v type d (Some e)))
-      (initial_steps v (declared_name (tree_at d)) e) (set_worth (initial_of v d e))
+      (initial_steps v (declared_name (tree_at d)) e)
+      (λ leaves. nth (set_list v.count (initial_of v d e) leaves))
       (all_lines (parts_meant env forms.BlockNode false sites (declarator_lines v type d (Some e))).pieces)
 
   -- what stands for each of them stands in the body of the function that is under way there

@@ -1,7 +1,7 @@
--- The laws: what stands for a unit with vectors has the shape of units; statements that stand for the steps of a vector
--- statement do these steps, in every launch, on all buffers, in all histories, and a `return` does none; and what stands
--- for each vector statement of a source stands in its function and does them.
-use Rattle.std.specs.Prelude.{◌≡◌, ℕ, ◌<◌, List, [], ◌∷◌, None, Some, slice_get, true}
+-- The laws: what stands for a unit with vectors has the shape of units; statements that stand for the steps of a
+-- vector statement do these steps, in every launch, on all buffers, in all histories, and a `return` or a barrier does
+-- none; and what stands for each vector statement of a source stands in its function and does them.
+use Rattle.std.specs.Prelude.{◌≡◌, ℕ, ◌<◌, List, [], ◌∷◌, ◌++◌, None, Some, slice_get, true}
 use Rattle.work_items.specs.Items.{Goes}
 use Rattle.work_items.specs.Histories.{Deed}
 use Rattle.wg_num.specs.declared.types.Place.{Place}
@@ -11,7 +11,7 @@ use Rattle.cl_prep.specs.declared.prep.Define.{Define}
 use Rattle.cl_prep.specs.Expands.{Expands}
 use Rattle.cl_tree.specs.Syntax.{Syntax}
 use Rattle.cl_tree.specs.Grammar.{SpellsUnit}
-use Rattle.cl_model.specs.Tree.{Program, Statements, Block, Return, empty, also}
+use Rattle.cl_model.specs.Tree.{Program, Statements, Block, Return, Barrier, empty, also}
 use Rattle.cl_model.specs.Sizes.{Launch}
 use Rattle.cl_model.specs.Task.{Point, Task, Run, Item}
 use Rattle.cl_model.specs.Steps.{item_next}
@@ -27,7 +27,7 @@ use Rattle.cl_short_vec.specs.Order.{Step}
 use Rattle.cl_short_vec.specs.Faults.{refusal_of}
 use Rattle.cl_short_vec.specs.Parts.{Assigned}
 use Rattle.cl_short_vec.specs.Unit.{scalarised_of}
-use Rattle.cl_short_vec_correct.specs.Values.{Leaves, Worth, Vec, worth_of, set_worth}
+use Rattle.cl_short_vec_correct.specs.Values.{Leaves, Worth, Vec, worth_of, set_list}
 use Rattle.cl_short_vec_correct.specs.Doing.{Got, nothing_got, Helps, HasDeclared, DoSteps, Along}
 use Rattle.cl_short_vec_correct.specs.Emits.{Emits}
 use Rattle.cl_short_vec_correct.specs.Each.{EachIsDone}
@@ -49,7 +49,15 @@ ReturnsRefused = (program : Program) (launch : Launch) (buffers : List (List ℕ
     (all steps : List Step) (result : Leaves → Worth) (next : Task) (others : List Task) (got : Got)
     (at : Point) (site : ℕ) (from to : Item) (deeds : List Deed) →
     from.tasks ≡ Run at (Return site None) ∷ (next ∷ others) → item_next program launch from ≡ Goes to →
-    to.tasks ≡ [] → Along program launch buffers env later (Helps env all) result (next ∷ others) steps got from deeds to → ⊥
+    to.tasks ≡ [] → Along program launch buffers env later (Helps env all) result (next ∷ others) steps got from deeds
+    to → ⊥
+
+-- An item that stands at a barrier of its own, behind which what stands for the statement may go on, does no steps so.
+abbrev pub BarriersRefused : Type 0
+BarriersRefused = (program : Program) (launch : Launch) (buffers : List (List ℕ)) (env later : Env)
+    (all steps : List Step) (result : Leaves → Worth) (front rest : List Task) (got : Got) (at : Point) (site : ℕ)
+    (from to : Item) (deeds : List Deed) → from.tasks ≡ Run at (Barrier site) ∷ (front ++ rest) →
+    Along program launch buffers env later (Helps env all) result rest steps got from deeds to → ⊥
 
 -- In the program of an accepted source each vector statement stands in its function and does its steps, and their
 -- helping variables stand for nothing that the source names.
@@ -61,9 +69,9 @@ StatementsDo = (source : List ℕ) (tokens expanded : List Token) (defines : Lis
     EachIsDone (program_of (unit_meant places kernel (scalarised_of unit))) (marked no_names unit)
     (start_of places (scalarised_of unit)) []
 
--- The list of values of a vector expression has at each place what the component of that number is worth; and that is
--- what a statement without an operator of its own sets or stores there.
+-- The list of values of a vector expression has at each place what the component of that number is worth; and that list
+-- is what a statement without an operator of its own sets or stores.
 abbrev pub VectorsAre : Type 0
 VectorsAre = (leaves : Leaves) (n : ℕ) (a : Assigned) (j : ℕ) → j < n →
     (slice_get (Vec leaves n a.value) j ≡ Some (worth_of leaves a.value j)) ×
-    (a.operator ≡ None → Some (set_worth a leaves j) ≡ slice_get (Vec leaves n a.value) j)
+    (a.operator ≡ None → set_list n a leaves ≡ Vec leaves n a.value)

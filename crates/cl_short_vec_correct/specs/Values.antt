@@ -1,6 +1,6 @@
 -- What a vector expression is worth, component by component, from what its leaves are worth: operators and functions
 -- on lists (OpenCL 1.2, sections 6.2.6, 6.3, 6.12.3). No variable without vectors is named here.
-use Rattle.std.specs.Prelude.{ℕ, ◌-◌, ℤ, pos, neg_ℤ, List, [], ◌∷◌, map, slice_get, slice_index, unwrap_or}
+use Rattle.std.specs.Prelude.{ℕ, ◌-◌, ℤ, pos, neg_ℤ, List, [], ◌∷◌, map, slice_get, unwrap_or}
 use Rattle.std.specs.Prelude.{nat_lt, Option, None, Some, if◌then◌else◌, Bool, true, false}
 use Rattle.wg_num.specs.declared.types.IntType.{IntType}
 use Rattle.wg_num.specs.declared.types.Bin.{Bin}
@@ -125,12 +125,20 @@ Vec leaves n m = map (worth_of leaves m) (numbers 0 1 n)
 
 -- ---- what a statement sets
 
--- behind an operator, the old components of the target, which are those of a leaf, are joined with the value
-abbrev pub set_by : Option Bin → Assigned → Leaves → Worth
-set_by None a leaves j = worth_of leaves a.value j
-set_by (Some op) a leaves j =
-    joined_value op a.of (leaves.component a.target.first (slice_index a.components j)) (worth_of leaves a.value j)
+-- an operator on the components of two vectors, one by one
+abbrev pub joined_list : Bin → IntType → List ℤ → List ℤ → List ℤ
+joined_list op of (u ∷ us) (v ∷ vs) = joined_value op of u v ∷ joined_list op of us vs
+joined_list op of us vs = []
 
--- the value of that number
-abbrev pub set_worth : Assigned → Leaves → Worth
-set_worth a leaves j = set_by a.operator a leaves j
+-- the old components of the target, which are those of a leaf
+abbrev pub old_list : Assigned → Leaves → List ℤ
+old_list a leaves = map (leaves.component a.target.first) a.components
+
+-- the components that a statement sets, in order: those of its value, with which behind an operator the old ones are
+-- joined
+abbrev pub set_list_by : Option Bin → ℕ → Assigned → Leaves → List ℤ
+set_list_by None n a leaves = Vec leaves n a.value
+set_list_by (Some op) n a leaves = joined_list op a.of (old_list a leaves) (Vec leaves n a.value)
+
+abbrev pub set_list : ℕ → Assigned → Leaves → List ℤ
+set_list n a leaves = set_list_by a.operator n a leaves

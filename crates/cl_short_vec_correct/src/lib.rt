@@ -2,7 +2,14 @@
 //! statement what that says.
 #![tactic(auto)]
 
-ghost use Rattle.cl_short_vec_correct.specs.Law.{FormsShaped, ReturnsRefused, StatementsDo, StepsDone, VectorsAre};
+ghost use Rattle.cl_short_vec_correct.specs.Law.{
+  BarriersRefused,
+  FormsShaped,
+  ReturnsRefused,
+  StatementsDo,
+  StepsDone,
+  VectorsAre,
+};
 
 /// A unit of the wide shape, in which vectors and selections of their components stand, becomes a unit of the narrow
 /// shape, in which no selection stands, whether or not it is refused (OpenCL 1.2, sections 6.1.2 and 6.1.7; C99,
@@ -26,17 +33,25 @@ pub fn returns_law()
     ensures { ReturnsRefused }
 {}
 
-/// In the typed program of each source that is accepted, what stands for every assignment to a vector and every initialiser of
-/// one stands in the body of its function, and does its steps so: the target's place, its old components, the leaves of the value from left to right, and then the
-/// components of the target, with the values that the operators, the functions and lists in parentheses give on the
-/// components of the leaves (OpenCL 1.2, sections 6.1.6, 6.1.7, 6.2.6, 6.3 and 6.12.3). Its helping variables stand for
-/// nothing that the source can name. Numbers that are given for names are below 2 to the power 63.
+/// An item that stands at a barrier does no steps so, whatever the steps are and whatever is left behind the barrier:
+/// what stands for a vector statement does not begin with one.
+pub fn barriers_law()
+    ensures { BarriersRefused }
+{}
+
+/// In the typed program of each source that is accepted, what stands for every assignment to a vector and every
+/// initialiser of one stands in the body of its function, and does its steps so: the target's place, its old
+/// components, the leaves of the value from left to right, and then the components of the target. What is set or stored
+/// is the list of values of the vector expression, from the values of its leaves by the operators, the functions and
+/// lists in parentheses, and behind an operator the old components joined with it (OpenCL 1.2, sections 6.1.6, 6.1.7,
+/// 6.2.6, 6.3 and 6.12.3). Its helping variables stand for nothing that the source can name. Numbers that are given for
+/// names are below 2 to the power 63.
 pub fn statements_law()
     ensures { StatementsDo }
 {}
 
 /// The list of values of a vector expression, from the values of its leaves, has the value of each component at its
-/// number, and that is what a statement sets or stores there, where it has no operator of its own.
+/// number, and is what a statement sets or stores, where it has no operator of its own.
 pub fn vectors_law()
     ensures { VectorsAre }
 {}
