@@ -2,10 +2,10 @@
 ghost use Rattle.std.specs.Prelude.{◌≡◌, ◌≤◌, ◌<◌, None, IfOk, vec_len};
 ghost use Rattle.wg_outside.specs.FolderStore.{new_counts};
 
-use crate::whole::write_whole;
+use crate::replace::save_file;
 use crate::{Failed, LoadError, Store, raise};
 use std::alloc::Global;
-use std::fs;
+use std::fs::{self, File};
 use std::io::{ErrorKind, Read};
 use std::marker::Model;
 use std::rt::Files;
@@ -74,13 +74,6 @@ fn load_file<R: Files>(rt: &R, alloc: Global, name: &str, most: u64) -> Result<V
     }
 }
 
-fn save_file<R: Files>(rt: &R, name: &str, bytes: &[u8]) -> bool {
-    match fs::create(rt, name) {
-        Ok(mut file) => write_whole(&mut file, bytes),
-        Err(_) => false,
-    }
-}
-
 impl<'a, R: Files> FolderStore<'a, R> {
     /// A store over the current folder, whose counts stand at 0.
     pub fn new(rt: &'a R) -> FolderStore<'a, R>
@@ -94,7 +87,7 @@ impl<'a, R: Files> FolderStore<'a, R> {
     }
 }
 
-impl<'a, R: Files> Store for FolderStore<'a, R> {
+impl<'a, R: Files<File = File>> Store for FolderStore<'a, R> {
     ghost files = { λ _. None };
 
     ghost faults = { λ s. s.faults };

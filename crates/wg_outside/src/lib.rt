@@ -16,6 +16,7 @@ mod folder_store;
 mod memory_sink;
 mod memory_store;
 mod pool;
+mod replace;
 mod std_sink;
 mod whole;
 
