@@ -245,6 +245,18 @@ def other_names(program, folder):
     return None if status == 0 and got == [ONE] else 'a pipe gets %r at status %d' % (got, status)
 
 
+def without_locks(program, folder):
+    """On a file system without locks a file is written in place, and nothing is left beside it."""
+    if shutil.which('strace') is None:
+        raise LeftOut('the command strace is not there')
+    files = {'k.cl': KERNEL, 'k.toml': launch(), 'a.out': OLD}
+    lay(folder, files)
+    status, _ = called(['strace', '-f', '-o', '/dev/null', '-e', 'trace=flock', '-e', 'inject=flock:error=ENOLCK',
+                        program, *RUN], folder)
+    found = files_in(folder)
+    return None if status == 0 and found == {**files, 'a.out': ONE} else 'status %d, files %s' % (status, sorted(found))
+
+
 def at_once(program, folder):
     """A hundred runs at once in one folder, over one cache, into one pipe: whole files and whole lines."""
     files = {'k.cl': KERNEL, 'k.toml': launch(other='b.out'), 'a.out': OLD}
@@ -267,7 +279,8 @@ def at_once(program, folder):
 
 LOOKS = [('killed at each system call of a save', killed), ('a limit on the size of files', limited),
          ('a full disk', full), ('folders and files that may not be written', other_folders),
-         ('saves to links, pipes and devices', other_names), ('a hundred runs at once', at_once)]
+         ('saves to links, pipes and devices', other_names), ('a file system without locks', without_locks),
+         ('a hundred runs at once', at_once)]
 
 
 def looked_at(program, look):

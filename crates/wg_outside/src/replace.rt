@@ -6,7 +6,7 @@ ghost use Rattle.std.specs.Prelude.{◌≡◌};
 
 use crate::whole::write_whole;
 use arrayvec::ArrayString;
-use std::fs::{self, File, Metadata, OpenFile, OpenOptions};
+use std::fs::{self, File, Metadata, OpenFile, OpenOptions, TryLockError};
 use std::io::ErrorKind;
 use std::os::unix::fs::MetadataExt;
 use std::rt::Files;
@@ -23,6 +23,17 @@ const LETTERS: [char; 16] = [
 const ROUNDS: u32 = 10_000;
 
 type Path = ArrayString<LONGEST_PATH>;
+
+// Whose a file beside is.
+#[derive(Clone, Copy)]
+enum Holder {
+    // This process holds its lock, and the path still leads to it.
+    Here,
+    // Another process holds it, or has renamed or removed it.
+    Elsewhere,
+    // The file system has no locks.
+    Nobody,
+}
 
 // What came of a save by a file beside the named one.
 #[derive(Clone, Copy)]
@@ -82,27 +93,51 @@ fn saved_beside<R: Files<File = File>>(
             let Some(path) = path_beside(name, letter) else {
                 return Outcome::InPlace;
             };
-            match OpenOptions::new()
-                .write(true)
-                .create_new(true)
-                .open(rt, path.as_str())
-            {
-                Ok(mut file) => {
-                    if is_held(rt, &file, path.as_str()) {
-                        let outcome = filled(rt, &mut file, path.as_str(), old, name, bytes);
-                        remove_left(rt, name);
-                        return outcome;
-                    }
-                }
-                Err(error) => match error.kind() {
-                    ErrorKind::AlreadyExists => remove_if_left(rt, path.as_str()),
-                    ErrorKind::PermissionDenied => return Outcome::InPlace,
-                    _ => return Outcome::Failed,
-                },
+            if let Some(outcome) = saved_by(rt, path.as_str(), name, old, bytes) {
+                return outcome;
             }
         }
     }
     Outcome::Failed
+}
+
+// Saves by the file beside at this path, or answers none if another process has it.
+fn saved_by<R: Files<File = File>>(
+    rt: &R,
+    path: &str,
+    name: &str,
+    old: Option<&Metadata>,
+    bytes: &[u8],
+) -> Option<Outcome> {
+    let mut file = match OpenOptions::new()
+        .write(true)
+        .create_new(true)
+        .open(rt, path)
+    {
+        Ok(file) => file,
+        Err(error) => {
+            return match error.kind() {
+                ErrorKind::AlreadyExists => {
+                    remove_if_left(rt, path);
+                    None
+                }
+                ErrorKind::PermissionDenied => Some(Outcome::InPlace),
+                _ => Some(Outcome::Failed),
+            };
+        }
+    };
+    match holder_of(rt, &file, path) {
+        Holder::Here => {
+            let outcome = filled(rt, &mut file, path, old, name, bytes);
+            remove_left(rt, name);
+            Some(outcome)
+        }
+        Holder::Elsewhere => None,
+        Holder::Nobody => {
+            let _ = fs::remove_file(rt, path);
+            Some(Outcome::InPlace)
+        }
+    }
 }
 
 // Fills the file beside and gives it the name, or removes it again.
@@ -147,21 +182,24 @@ fn takes_after<R: Files<File = File>>(
         && file.set_permissions(old.permissions()).is_ok()
 }
 
-// Whether this process holds the lock of the file, and the path still leads to it.
-fn is_held<R: Files<File = File>>(rt: &R, file: &File, path: &str) -> bool {
-    if file.try_lock().is_err() {
-        return false;
+// Takes the lock of the file, if it is free, and says whose the file at the path then is.
+fn holder_of<R: Files<File = File>>(rt: &R, file: &File, path: &str) -> Holder {
+    match file.try_lock() {
+        Ok(()) => {}
+        Err(TryLockError::WouldBlock) => return Holder::Elsewhere,
+        Err(TryLockError::Error(_)) => return Holder::Nobody,
     }
     match (file.metadata(), fs::symlink_metadata(rt, path)) {
-        (Ok(held), Ok(found)) => held.ino() == found.ino() && held.dev() == found.dev(),
-        _ => false,
+        (Ok(held), Ok(found)) if held.ino() == found.ino() && held.dev() == found.dev() =>
+            Holder::Here,
+        _ => Holder::Elsewhere,
     }
 }
 
 // Removes a file beside that no process holds: one that was ended has left it.
 fn remove_if_left<R: Files<File = File>>(rt: &R, path: &str) {
     if let Ok(file) = OpenOptions::new().write(true).open(rt, path) {
-        if is_held(rt, &file, path) {
+        if matches!(holder_of(rt, &file, path), Holder::Here) {
             let _ = fs::remove_file(rt, path);
         }
     }
