@@ -198,7 +198,7 @@ module _ (W H : ℕ) (twice : 2 ^ W ≡ H + H) (high : H ≡ 2 ^ (W - 1)) (big :
       (congruent_trans (residue_congruent (pos n) (modulus t) (some_modulus t))
       (congruent_sym (congruent_divides (modulus t) d.0 d.1 (mod_congruent n))))
 
-  masked : (t : IntType) (n : ℕ) → bit_and n (modulus t - 1) ≡ n % modulus t
+  pub masked : (t : IntType) (n : ℕ) → bit_and n (modulus t - 1) ≡ n % modulus t
   unfolding modulus
   masked t n = and_mask n (width_bits t)
 
@@ -464,7 +464,7 @@ module _ (W H : ℕ) (twice : 2 ^ W ≡ H + H) (high : H ≡ 2 ^ (W - 1)) (big :
       by false e = (0, ap (λ b. cond b (2 ^ (W - 1)) 0) e ∙ sym (zero-mul (2 ^ k)))
 
   -- a raised number shifted, and the bias shifted, differ by the shifted value
-  shr_raised : (x c m : ℕ) (v : ℤ) → 0 < m → pos x ≡ v +ℤ pos (c * m) → pos (x / m) -ℤ pos c ≡ shr_z v m
+  pub shr_raised : (x c m : ℕ) (v : ℤ) → 0 < m → pos x ≡ v +ℤ pos (c * m) → pos (x / m) -ℤ pos c ≡ shr_z v m
   shr_raised x c m (pos a) h e =
       let is : x ≡ a + c * m = omega (arith, ints, e) in
       let q : x / m ≡ a / m + c = ap (λ y. y / m) is ∙ add-mul-div_right a c h in
@@ -635,7 +635,7 @@ module _ (W H : ℕ) (twice : 2 ^ W ≡ H + H) (high : H ≡ 2 ^ (W - 1)) (big :
 
   -- ---- lanes of any bits
 
-  lane_back : (t : IntType) (z : ℤ) → FitsLane W t → IsValue t z → value_of t (lane W z) ≡ z
+  pub lane_back : (t : IntType) (z : ℤ) → FitsLane W t → IsValue t z → value_of t (lane W z) ≡ z
   unfolding value_of
   lane_back t z n v = ⊎_elim
       (λ e. let r = value_bool t z e v in ap (wrap_of t) (small_same (lane W z) z (lane_bound z) (lane_is z) r.0 r.1) ∙

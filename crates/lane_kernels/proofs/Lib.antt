@@ -1,6 +1,10 @@
 pub mod AccessLaws
+mod BitLaws
 pub mod ConvertLaws
 pub mod DivisionLaws
+mod FunctionLaws
 pub mod LaneLaws
 pub mod ListLaws
 pub mod ShiftLaws
+mod NumberLaws
+mod SumLaws

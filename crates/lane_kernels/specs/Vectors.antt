@@ -1,11 +1,13 @@
 -- What the vector operations do in a lane of W bits, as the code writes them.
 use Rattle.std.specs.Prelude.{ℕ, ◌+◌, ◌-◌, ◌*◌, ◌/◌, ◌%◌, ◌^◌, ◌≡◌, ◌⊎◌, if◌then◌else◌, nat_lt, nat_le, nat_eq}
-use Rattle.std.specs.Prelude.{Bool, List, ◌&&◌}
+use Rattle.std.specs.Prelude.{Bool, List, ◌&&◌, bit_and, min, max}
 use Rattle.std.specs.Int.{from_bool}
 use Rattle.std.specs.List.{list_all}
 use Rattle.std.specs.Simd.Lanes.{number_l, chunk}
 use Rattle.wg_num.specs.declared.types.IntType.{IntType}
-use Rattle.wg_num.specs.Wrap.{is_signed}
+use Rattle.wg_num.specs.declared.types.Fun.{Fun}
+use Rattle.wg_num.specs.Wrap.{is_signed, width_bits, modulus, half}
+use Rattle.lane_values.specs.Lanes.{builtin_lane, extended}
 use Rattle.lane_values.specs.Access.{is_within}
 
 -- two to the width less one for a signed type: added to a lane it makes the order of values that of numbers
@@ -67,3 +69,45 @@ lesser_lane W bias p q = if nat_lt (raised W bias q) (raised W bias p) then q el
 
 abbrev pub greater_lane : ℕ → ℕ → ℕ → ℕ → ℕ
 greater_lane W bias p q = if nat_lt (raised W bias q) (raised W bias p) then p else q
+
+-- the low bits of a lane, as many as the type has
+abbrev pub held_bits : IntType → ℕ → ℕ
+held_bits t p = bit_and p (modulus t - 1)
+
+-- these bits rotated left by k, by a shift to either side; the bits above the type's are any
+abbrev pub turned_lane : ℕ → IntType → ℕ → ℕ → ℕ
+turned_lane W t p k =
+    (held_bits t p * 2 ^ k % 2 ^ W + held_bits t p / 2 ^ ((width_bits t - 1 + (2 ^ W - k)) % 2 ^ W) / 2 ^ 1) % 2 ^ W
+
+-- a built-in function of one lane, and of two: what it does not take is 0
+abbrev pub one_lane : ℕ → Fun → IntType → ℕ → ℕ
+one_lane W f t p = builtin_lane W f t p 0 0
+
+abbrev pub pair_lane : ℕ → Fun → IntType → ℕ → ℕ → ℕ
+pair_lane W f t p q = builtin_lane W f t p q 0
+
+-- the number of a lane that is read as a value of the type, raised by the bias; and what it stands for, as a lane
+abbrev pub raised_value : ℕ → IntType → ℕ → ℕ
+raised_value W t p = raised W (bias_of W t) (extended W t p)
+
+abbrev pub lowered_lane : ℕ → IntType → ℕ → ℕ
+lowered_lane W t m = (m + (2 ^ W - bias_of W t)) % 2 ^ W
+
+-- a raised number held between the ends of the type
+abbrev pub held_raised : ℕ → IntType → ℕ → ℕ → ℕ
+held_raised W t top m = max (min m (bias_of W t + top)) (bias_of W t - half t)
+
+-- how far apart two numbers are
+abbrev pub apart : ℕ → ℕ → ℕ
+apart p q = (p - q) + (q - p)
+
+-- a sum that stops at the greatest number of W bits
+abbrev pub sum_below : ℕ → ℕ → ℕ → ℕ
+sum_below W p q = min (p + q) (2 ^ W - 1)
+
+-- what two raised numbers add up to, and the first without the second, raised as they are
+abbrev pub raised_sum : ℕ → ℕ → ℕ → ℕ → ℕ
+raised_sum W bias p q = sum_below W p (q - bias) - (bias - q)
+
+abbrev pub raised_rest : ℕ → ℕ → ℕ → ℕ → ℕ
+raised_rest W bias p q = sum_below W p (bias - q) - (q - bias)

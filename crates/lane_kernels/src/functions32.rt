@@ -1,10 +1,13 @@
-//! The built-in functions on narrow lanes, lane by lane.
+//! The built-in functions on narrow lanes.
 ghost use Rattle.std.specs.Prelude.{◌≡◌, ◌≤◌, ◌+◌, ◌%◌, ◌^◌};
 ghost use Rattle.std.specs.Simd.Lanes.{zip2};
+ghost use Rattle.wg_num.specs.declared.types.Fun.TheVariants.{Clamp};
 ghost use Rattle.lane_kernels.specs.Vectors.{lesser_lane, greater_lane};
 ghost use Rattle.lane_values.specs.Lanes.{FitsLane, lane, builtin_lane, zip3};
 
+use crate::bits32::{ones_in32, rotated32, zeros_above32};
 use crate::lanes32::{bias, extend32};
+use crate::sums32::{distances32, halves_down32, halves_up32, held_rests32, held_sums32, sizes32};
 use crate::tally::Tally;
 use std::simd::prelude::*;
 use wg_num::{Fun, IntType, builtin, value};
@@ -63,6 +66,49 @@ fn each32<const W: usize>(
     Simd::from_array(lanes)
 }
 
+/// `clamp`.
+fn clamped32<const W: usize>(
+    t: IntType,
+    a: Simd<u32, W>,
+    b: Simd<u32, W>,
+    c: Simd<u32, W>,
+) -> Simd<u32, W>
+    requires { FitsLane 32 t }
+    ensures { result ≡ zip3 (builtin_lane 32 Clamp t) a.entry b.entry c.entry }
+{
+    let lift = bias(t);
+    let raised = greater(lift, extend32(t, a), extend32(t, b));
+    lesser(lift, raised, extend32(t, c))
+}
+
+/// The functions but `min` and `max`; out of line, so that those stay short.
+#[inline(never)]
+fn others32<const W: usize>(
+    f: Fun,
+    t: IntType,
+    a: Simd<u32, W>,
+    b: Simd<u32, W>,
+    c: Simd<u32, W>,
+) -> [u32; W]
+    requires fits { FitsLane 32 t }
+    requires lanes { W ≤ 64 }
+    ensures { result ≡ zip3 (builtin_lane 32 f t) a.entry b.entry c.entry }
+{
+    match f {
+        Fun::Rotate => rotated32(t, a, b).to_array(),
+        Fun::Abs => sizes32(t, a).to_array(),
+        Fun::AbsDiff => distances32(t, a, b).to_array(),
+        Fun::AddSat => held_sums32(t, a, b).to_array(),
+        Fun::SubSat => held_rests32(t, a, b).to_array(),
+        Fun::Clz => zeros_above32(t, a).to_array(),
+        Fun::Popcount => ones_in32(t, a).to_array(),
+        Fun::Hadd => halves_down32(t, a, b).to_array(),
+        Fun::Rhadd => halves_up32(t, a, b).to_array(),
+        Fun::Clamp => clamped32(t, a, b, c).to_array(),
+        _ => each32(f, t, a, b, c).to_array(),
+    }
+}
+
 /// The function on each lane, which is read as the value of the type that its bits have; lanes that
 /// the function does not take are ignored.
 pub fn builtin32<const W: usize>(
@@ -86,5 +132,5 @@ pub fn builtin32<const W: usize>(
     if let Fun::Max = f {
         return greater(lift, extend32(t, a), extend32(t, b));
     }
-    each32(f, t, a, b, c)
+    Simd::from_array(others32(f, t, a, b, c))
 }

@@ -1,10 +1,13 @@
-//! The built-in functions on wide lanes, lane by lane.
+//! The built-in functions on wide lanes.
 ghost use Rattle.std.specs.Prelude.{◌≡◌, ◌≤◌, ◌+◌, ◌%◌, ◌^◌};
 ghost use Rattle.std.specs.Simd.Lanes.{zip2};
+ghost use Rattle.wg_num.specs.declared.types.Fun.TheVariants.{Clamp};
 ghost use Rattle.lane_kernels.specs.Vectors.{lesser_lane, greater_lane};
 ghost use Rattle.lane_values.specs.Lanes.{FitsLane, lane, builtin_lane, zip3};
 
+use crate::bits64::{ones_in64, rotated64, zeros_above64};
 use crate::lanes64::{bias, extend64};
+use crate::sums64::{distances64, halves_down64, halves_up64, held_rests64, held_sums64, sizes64};
 use crate::tally::Tally;
 use std::simd::prelude::*;
 use wg_num::{Fun, IntType, builtin, value};
@@ -59,6 +62,49 @@ fn each64<const W: usize>(
     Simd::from_array(lanes)
 }
 
+/// `clamp`.
+fn clamped64<const W: usize>(
+    t: IntType,
+    a: Simd<u64, W>,
+    b: Simd<u64, W>,
+    c: Simd<u64, W>,
+) -> Simd<u64, W>
+    requires { FitsLane 64 t }
+    ensures { result ≡ zip3 (builtin_lane 64 Clamp t) a.entry b.entry c.entry }
+{
+    let lift = bias(t);
+    let raised = greater(lift, extend64(t, a), extend64(t, b));
+    lesser(lift, raised, extend64(t, c))
+}
+
+/// The functions but `min` and `max`; out of line, so that those stay short.
+#[inline(never)]
+fn others64<const W: usize>(
+    f: Fun,
+    t: IntType,
+    a: Simd<u64, W>,
+    b: Simd<u64, W>,
+    c: Simd<u64, W>,
+) -> [u64; W]
+    requires fits { FitsLane 64 t }
+    requires lanes { W ≤ 64 }
+    ensures { result ≡ zip3 (builtin_lane 64 f t) a.entry b.entry c.entry }
+{
+    match f {
+        Fun::Rotate => rotated64(t, a, b).to_array(),
+        Fun::Abs => sizes64(t, a).to_array(),
+        Fun::AbsDiff => distances64(t, a, b).to_array(),
+        Fun::AddSat => held_sums64(t, a, b).to_array(),
+        Fun::SubSat => held_rests64(t, a, b).to_array(),
+        Fun::Clz => zeros_above64(t, a).to_array(),
+        Fun::Popcount => ones_in64(t, a).to_array(),
+        Fun::Hadd => halves_down64(t, a, b).to_array(),
+        Fun::Rhadd => halves_up64(t, a, b).to_array(),
+        Fun::Clamp => clamped64(t, a, b, c).to_array(),
+        _ => each64(f, t, a, b, c).to_array(),
+    }
+}
+
 /// The function on each lane, which is read as the value of the type that its bits have; lanes that
 /// the function does not take are ignored.
 pub fn builtin64<const W: usize>(
@@ -82,5 +128,5 @@ pub fn builtin64<const W: usize>(
     if let Fun::Max = f {
         return greater(lift, extend64(t, a), extend64(t, b));
     }
-    each64(f, t, a, b, c)
+    Simd::from_array(others64(f, t, a, b, c))
 }

@@ -15,7 +15,7 @@ use wg_num::{Bin, IntType, Un};
 
 /// How many values of the type are negative.
 #[tactic(auto, unfolding(wg_num::specs::Wrap::half))]
-fn half_of(t: IntType) -> u32
+pub(crate) fn half_of(t: IntType) -> u32
     requires { FitsLane 32 t }
     ensures { result ≡ half t }
 {
@@ -29,7 +29,7 @@ fn half_of(t: IntType) -> u32
 
 /// The bits that a value of the type takes.
 #[tactic(auto, unfolding(wg_num::specs::Wrap::modulus))]
-fn low_bits(t: IntType) -> u32
+pub(crate) fn low_bits(t: IntType) -> u32
     requires { FitsLane 32 t }
     ensures { result ≡ modulus t - 1 }
 {
@@ -162,7 +162,7 @@ fn rests<const W: usize>(bias: u32, a: Simd<u32, W>, b: Simd<u32, W>) -> [u32; W
 }
 
 /// The bits of a shift's amount.
-fn amount_bits(t: IntType) -> u32
+pub(crate) fn amount_bits(t: IntType) -> u32
     requires { FitsLane 32 t }
     ensures { result ≡ width_bits t - 1 }
 {
@@ -173,7 +173,7 @@ fn amount_bits(t: IntType) -> u32
     }
 }
 
-fn amounts<const W: usize>(t: IntType, b: Simd<u32, W>) -> Simd<u32, W>
+pub(crate) fn amounts<const W: usize>(t: IntType, b: Simd<u32, W>) -> Simd<u32, W>
     requires { FitsLane 32 t }
     ensures { result ≡ map (λ q. q % width_bits t) b.entry }
 {

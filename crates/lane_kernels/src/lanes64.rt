@@ -15,7 +15,7 @@ use wg_num::{Bin, IntType, Un};
 
 /// How many values of the type are negative.
 #[tactic(auto, unfolding(wg_num::specs::Wrap::half))]
-fn half_of(t: IntType) -> u64
+pub(crate) fn half_of(t: IntType) -> u64
     requires { FitsLane 64 t }
     ensures { result ≡ half t }
 {
@@ -30,7 +30,7 @@ fn half_of(t: IntType) -> u64
 
 /// The bits that a value of the type takes.
 #[tactic(auto, unfolding(wg_num::specs::Wrap::modulus))]
-fn low_bits(t: IntType) -> u64
+pub(crate) fn low_bits(t: IntType) -> u64
     requires { FitsLane 64 t }
     ensures { result ≡ modulus t - 1 }
 {
@@ -164,7 +164,7 @@ fn rests<const W: usize>(bias: u64, a: Simd<u64, W>, b: Simd<u64, W>) -> [u64; W
 }
 
 /// The bits of a shift's amount.
-fn amount_bits(t: IntType) -> u64
+pub(crate) fn amount_bits(t: IntType) -> u64
     requires { FitsLane 64 t }
     ensures { result ≡ width_bits t - 1 }
 {
@@ -176,7 +176,7 @@ fn amount_bits(t: IntType) -> u64
     }
 }
 
-fn amounts<const W: usize>(t: IntType, b: Simd<u64, W>) -> Simd<u64, W>
+pub(crate) fn amounts<const W: usize>(t: IntType, b: Simd<u64, W>) -> Simd<u64, W>
     requires { FitsLane 64 t }
     ensures { result ≡ map (λ q. q % width_bits t) b.entry }
 {
@@ -185,7 +185,7 @@ fn amounts<const W: usize>(t: IntType, b: Simd<u64, W>) -> Simd<u64, W>
 
 /// The entry that all lanes have, if they have one; with more than 64 lanes they are not compared.
 #[inline(always)]
-fn shared_lane<const W: usize>(b: Simd<u64, W>) -> Option<u64>
+pub(crate) fn shared_lane<const W: usize>(b: Simd<u64, W>) -> Option<u64>
     ensures { IfSome result (λ d. b.entry ≡ replicate W d) }
 {
     let first = match b.to_array().first() {

@@ -5,12 +5,16 @@
 pub mod access;
 pub mod access32;
 pub mod access64;
+mod bits32;
+mod bits64;
 pub mod convert;
 pub mod functions32;
 pub mod functions64;
 pub mod lanes32;
 pub mod lanes64;
 pub mod masks;
+mod sums32;
+mod sums64;
 pub mod tally;
 
 pub use access32::{gather32, scatter32, whole32};

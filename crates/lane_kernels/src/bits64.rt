@@ -1,0 +1,67 @@
+//! Built-in functions on the bits of wide lanes.
+ghost use Rattle.std.specs.Prelude.{◌≡◌, ◌<◌, ◌%◌, map};
+ghost use Rattle.std.specs.Simd.Lanes.{zip2, Each1};
+ghost use Rattle.wg_num.specs.Wrap.{width_bits};
+ghost use Rattle.wg_num.specs.declared.types.Fun.TheVariants.{Rotate, Clz, Popcount};
+ghost use Rattle.lane_values.specs.Lanes.{FitsLane};
+ghost use Rattle.lane_kernels.specs.Vectors.{turned_lane, one_lane, pair_lane};
+
+use crate::lanes64::{amount_bits, amounts, extend64, low_bits, shared_lane};
+use std::simd::prelude::*;
+use wg_num::IntType;
+
+/// The low bits of each lane, as many as the type has, rotated left within so many; the bits above are any.
+#[inline(always)]
+fn turned<const W: usize>(t: IntType, a: Simd<u64, W>, amount: Simd<u64, W>) -> Simd<u64, W>
+    requires fits { FitsLane 64 t }
+    requires amount { Each1 (λ k. k < width_bits t) amount }
+    ensures { result ≡ zip2 (turned_lane 64 t) a.entry amount.entry }
+{
+    let held = a & Simd::splat(low_bits(t));
+    let rest = Simd::splat(amount_bits(t)) - amount;
+    (held << amount) + ((held >> rest) >> Simd::splat(1))
+}
+
+/// `rotate` by the amount beside each lane; out of line, so that it is not one with a rotation of all lanes alike.
+#[inline(never)]
+fn turned_each<const W: usize>(t: IntType, a: Simd<u64, W>, b: Simd<u64, W>) -> [u64; W]
+    requires { FitsLane 64 t }
+    ensures { result ≡ zip2 (λ p q. turned_lane 64 t p (q % width_bits t)) a.entry b.entry }
+{
+    turned(t, a, amounts(t, b)).to_array()
+}
+
+/// `rotate`.
+pub(crate) fn rotated64<const W: usize>(
+    t: IntType,
+    a: Simd<u64, W>,
+    b: Simd<u64, W>,
+) -> Simd<u64, W>
+    requires { FitsLane 64 t }
+    ensures { result ≡ zip2 (pair_lane 64 Rotate t) a.entry b.entry }
+{
+    let held = extend64(t, a);
+    let amount = extend64(t, b);
+    if let Some(k) = shared_lane(amount) {
+        return extend64(t, turned(t, held, Simd::splat(k & amount_bits(t))));
+    }
+    extend64(t, Simd::from_array(turned_each(t, held, amount)))
+}
+
+/// `clz`.
+pub(crate) fn zeros_above64<const W: usize>(t: IntType, a: Simd<u64, W>) -> Simd<u64, W>
+    requires { FitsLane 64 t }
+    ensures { result ≡ map (one_lane 64 Clz t) a.entry }
+{
+    let held = extend64(t, a) & Simd::splat(low_bits(t));
+    extend64(t, held.leading_zeros() - Simd::splat(63 - amount_bits(t)))
+}
+
+/// `popcount`.
+pub(crate) fn ones_in64<const W: usize>(t: IntType, a: Simd<u64, W>) -> Simd<u64, W>
+    requires { FitsLane 64 t }
+    ensures { result ≡ map (one_lane 64 Popcount t) a.entry }
+{
+    let held = extend64(t, a) & Simd::splat(low_bits(t));
+    extend64(t, held.count_ones())
+}
