@@ -29,7 +29,7 @@ wide_modulus : (t : IntType) → width_bits t ≡ 64 → modulus t ≡ 2 ^ 64
 unfolding modulus
 wide_modulus t h = ap (λ w. 2 ^ w) h
 
-wrap_wide : (t : IntType) (z : ℤ) → width_bits t ≡ 64 → IsCongruent (2 ^ 64) (wrap_of t z) z
+pub wrap_wide : (t : IntType) (z : ℤ) → width_bits t ≡ 64 → IsCongruent (2 ^ 64) (wrap_of t z) z
 wrap_wide t z h = subst (λ m. IsCongruent m (wrap_of t z) z) (wide_modulus t h) (wrap_congruent t z (wide_whole t h))
 
 pub lane_widen : (to from : IntType) → width_bits to ≡ 64 → FitsLane 32 from → (p : ℕ) → IsLane 32 from p

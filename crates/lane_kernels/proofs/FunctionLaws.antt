@@ -5,8 +5,8 @@ use Rattle.std.specs.Int.{int_max, int_min}
 use Rattle.std.proofs.lemmas.Int.{ints, clamps}
 use Rattle.std.specs.Simd.Lanes.{zip2}
 use Rattle.wg_num.specs.declared.types.IntType.{IntType}
-use Rattle.wg_num.specs.declared.types.Fun.TheVariants.{Abs, AbsDiff, AddSat, Clamp, Clz, Hadd, Max, Popcount}
-use Rattle.wg_num.specs.declared.types.Fun.TheVariants.{Rhadd, Rotate, SubSat}
+use Rattle.wg_num.specs.declared.types.Fun.TheVariants.{Abs, AbsDiff, AddSat, Clamp, Clz, Hadd, Max, Min, Popcount}
+use Rattle.wg_num.specs.declared.types.Fun.TheVariants.{MulHi, Rhadd, Rotate, SubSat}
 use Rattle.wg_num.specs.Wrap.{IsValue, value_of, wrap_of}
 use Rattle.wg_num.specs.Builtins.{builtin_of}
 use Rattle.wg_num.proofs.WrapLaws.{IsValue-value, wrap_value}
@@ -50,6 +50,18 @@ hadd_takes_two W t p q r = refl
 pub rhadd_takes_two : (W : ℕ) (t : IntType) (p q r : ℕ) → pair_lane W Rhadd t p q ≡ builtin_lane W Rhadd t p q r
 unfolding builtin_of
 rhadd_takes_two W t p q r = refl
+
+pub mul_hi_takes_two : (W : ℕ) (t : IntType) (p q r : ℕ) → pair_lane W MulHi t p q ≡ builtin_lane W MulHi t p q r
+unfolding builtin_of
+mul_hi_takes_two W t p q r = refl
+
+pub min_takes_two : (W : ℕ) (t : IntType) (p q r : ℕ) → pair_lane W Min t p q ≡ builtin_lane W Min t p q r
+unfolding builtin_of
+min_takes_two W t p q r = refl
+
+pub max_takes_two : (W : ℕ) (t : IntType) (p q r : ℕ) → pair_lane W Max t p q ≡ builtin_lane W Max t p q r
+unfolding builtin_of
+max_takes_two W t p q r = refl
 
 pub map_as_zip3 : (f : ℕ → ℕ) (h : ℕ → ℕ → ℕ → ℕ) → ((p q r : ℕ) → f p ≡ h p q r) → (n : ℕ) (a b c : List ℕ) →
     length a ≡ n → length b ≡ n → length c ≡ n → map f a ≡ zip3 h a b c

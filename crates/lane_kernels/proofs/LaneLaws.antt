@@ -481,12 +481,12 @@ module _ (W H : ℕ) (twice : 2 ^ W ≡ H + H) (high : H ≡ 2 ^ (W - 1)) (big :
       let q : x / m ≡ d = ap (λ y. y / m) is ∙ div-mul-add d m (m - 1 - n % m) (omega (arith, r)) in
       omega (arith, ints, q, sum)
 
-  shr_small : (v : ℤ) (m : ℕ) → pos 0 ≤ℤ v → v ≤ℤ pos 1 → (pos 0 ≤ℤ shr_z v m) × (shr_z v m ≤ℤ pos 1)
+  pub shr_small : (v : ℤ) (m : ℕ) → pos 0 ≤ℤ v → v ≤ℤ pos 1 → (pos 0 ≤ℤ shr_z v m) × (shr_z v m ≤ℤ pos 1)
   shr_small (pos a) m lo hi = (omega (arith, ints), omega (arith, ints, div-le_self a m))
   shr_small (negsuc a) m lo hi = absurd (omega (arith, ints))
 
   -- a number of 32 bits that is congruent to 0 or 1 is that number
-  small_same : (r : ℕ) (z : ℤ) → r < 2 ^ W → IsCongruent (2 ^ W) (pos r) z → pos 0 ≤ℤ z → z ≤ℤ pos 1 → pos r ≡ z
+  pub small_same : (r : ℕ) (z : ℤ) → r < 2 ^ W → IsCongruent (2 ^ W) (pos r) z → pos 0 ≤ℤ z → z ≤ℤ pos 1 → pos r ≡ z
   small_same r (pos a) h e lo hi =
       ap pos (sym (residue_unique r (pos a) (2 ^ W) h e) ∙
       residue_unique a (pos a) (2 ^ W) (omega (arith, ints)) (congruent_refl (2 ^ W) (pos a)))

@@ -3,8 +3,10 @@ mod BitLaws
 pub mod ConvertLaws
 pub mod DivisionLaws
 mod FunctionLaws
+mod HighLaws
 pub mod LaneLaws
 pub mod ListLaws
 pub mod ShiftLaws
 mod NumberLaws
+mod ProductLaws
 mod SumLaws

@@ -5,6 +5,7 @@ use Rattle.std.specs.Int.{from_bool}
 use Rattle.std.specs.List.{list_all}
 use Rattle.std.specs.Simd.Lanes.{number_l, chunk}
 use Rattle.wg_num.specs.declared.types.IntType.{IntType}
+use Rattle.wg_num.specs.declared.types.IntType.TheVariants.{Long, Ulong}
 use Rattle.wg_num.specs.declared.types.Fun.{Fun}
 use Rattle.wg_num.specs.Wrap.{is_signed, width_bits, modulus, half}
 use Rattle.lane_values.specs.Lanes.{builtin_lane, extended}
@@ -111,3 +112,25 @@ raised_sum W bias p q = sum_below W p (q - bias) - (bias - q)
 
 abbrev pub raised_rest : ℕ → ℕ → ℕ → ℕ → ℕ
 raised_rest W bias p q = sum_below W p (bias - q) - (q - bias)
+
+-- the type of 64 bits that has the products of values of a type of at most 32
+abbrev pub wide_of : IntType → IntType
+wide_of t = if is_signed t then Long else Ulong
+
+-- the high half of a product of 64 bits, from products of halves, each cut to 64 bits
+abbrev pub cut : ℕ → ℕ
+cut x = x % 2 ^ 64
+
+abbrev pub middle_lane : ℕ → ℕ → ℕ
+middle_lane p q =
+    cut (cut (cut ((p % 2 ^ 32) * (q % 2 ^ 32)) / 2 ^ 32 + cut ((p / 2 ^ 32) * (q % 2 ^ 32)) % 2 ^ 32) +
+    cut ((p % 2 ^ 32) * (q / 2 ^ 32)) % 2 ^ 32)
+
+abbrev pub high_product_lane : ℕ → ℕ → ℕ
+high_product_lane p q =
+    cut (cut (cut (cut ((p / 2 ^ 32) * (q / 2 ^ 32)) + cut ((p / 2 ^ 32) * (q % 2 ^ 32)) / 2 ^ 32) +
+    cut ((p % 2 ^ 32) * (q / 2 ^ 32)) / 2 ^ 32) + middle_lane p q / 2 ^ 32)
+
+-- q where p stands for a negative number, and else 0
+abbrev pub negative_part : ℕ → ℕ → ℕ → ℕ
+negative_part bias p q = if nat_lt (raised 64 bias p) bias then q else 0

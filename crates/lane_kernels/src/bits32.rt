@@ -32,36 +32,35 @@ fn turned_each<const W: usize>(t: IntType, a: Simd<u32, W>, b: Simd<u32, W>) -> 
 }
 
 /// `rotate`.
-pub(crate) fn rotated32<const W: usize>(
-    t: IntType,
-    a: Simd<u32, W>,
-    b: Simd<u32, W>,
-) -> Simd<u32, W>
+#[inline(never)]
+pub(crate) fn rotated32<const W: usize>(t: IntType, a: Simd<u32, W>, b: Simd<u32, W>) -> [u32; W]
     requires { FitsLane 32 t }
     ensures { result ≡ zip2 (pair_lane 32 Rotate t) a.entry b.entry }
 {
     let held = extend32(t, a);
     let amount = extend32(t, b);
     if let Some(k) = shared_lane(amount) {
-        return extend32(t, turned(t, held, Simd::splat(k & amount_bits(t))));
+        return extend32(t, turned(t, held, Simd::splat(k & amount_bits(t)))).to_array();
     }
-    extend32(t, Simd::from_array(turned_each(t, held, amount)))
+    extend32(t, Simd::from_array(turned_each(t, held, amount))).to_array()
 }
 
 /// `clz`.
-pub(crate) fn zeros_above32<const W: usize>(t: IntType, a: Simd<u32, W>) -> Simd<u32, W>
+#[inline(never)]
+pub(crate) fn zeros_above32<const W: usize>(t: IntType, a: Simd<u32, W>) -> [u32; W]
     requires { FitsLane 32 t }
     ensures { result ≡ map (one_lane 32 Clz t) a.entry }
 {
     let held = extend32(t, a) & Simd::splat(low_bits(t));
-    extend32(t, held.leading_zeros() - Simd::splat(31 - amount_bits(t)))
+    extend32(t, held.leading_zeros() - Simd::splat(31 - amount_bits(t))).to_array()
 }
 
 /// `popcount`.
-pub(crate) fn ones_in32<const W: usize>(t: IntType, a: Simd<u32, W>) -> Simd<u32, W>
+#[inline(never)]
+pub(crate) fn ones_in32<const W: usize>(t: IntType, a: Simd<u32, W>) -> [u32; W]
     requires { FitsLane 32 t }
     ensures { result ≡ map (one_lane 32 Popcount t) a.entry }
 {
     let held = extend32(t, a) & Simd::splat(low_bits(t));
-    extend32(t, held.count_ones())
+    extend32(t, held.count_ones()).to_array()
 }

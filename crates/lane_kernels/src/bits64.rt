@@ -32,36 +32,35 @@ fn turned_each<const W: usize>(t: IntType, a: Simd<u64, W>, b: Simd<u64, W>) -> 
 }
 
 /// `rotate`.
-pub(crate) fn rotated64<const W: usize>(
-    t: IntType,
-    a: Simd<u64, W>,
-    b: Simd<u64, W>,
-) -> Simd<u64, W>
+#[inline(never)]
+pub(crate) fn rotated64<const W: usize>(t: IntType, a: Simd<u64, W>, b: Simd<u64, W>) -> [u64; W]
     requires { FitsLane 64 t }
     ensures { result ≡ zip2 (pair_lane 64 Rotate t) a.entry b.entry }
 {
     let held = extend64(t, a);
     let amount = extend64(t, b);
     if let Some(k) = shared_lane(amount) {
-        return extend64(t, turned(t, held, Simd::splat(k & amount_bits(t))));
+        return extend64(t, turned(t, held, Simd::splat(k & amount_bits(t)))).to_array();
     }
-    extend64(t, Simd::from_array(turned_each(t, held, amount)))
+    extend64(t, Simd::from_array(turned_each(t, held, amount))).to_array()
 }
 
 /// `clz`.
-pub(crate) fn zeros_above64<const W: usize>(t: IntType, a: Simd<u64, W>) -> Simd<u64, W>
+#[inline(never)]
+pub(crate) fn zeros_above64<const W: usize>(t: IntType, a: Simd<u64, W>) -> [u64; W]
     requires { FitsLane 64 t }
     ensures { result ≡ map (one_lane 64 Clz t) a.entry }
 {
     let held = extend64(t, a) & Simd::splat(low_bits(t));
-    extend64(t, held.leading_zeros() - Simd::splat(63 - amount_bits(t)))
+    extend64(t, held.leading_zeros() - Simd::splat(63 - amount_bits(t))).to_array()
 }
 
 /// `popcount`.
-pub(crate) fn ones_in64<const W: usize>(t: IntType, a: Simd<u64, W>) -> Simd<u64, W>
+#[inline(never)]
+pub(crate) fn ones_in64<const W: usize>(t: IntType, a: Simd<u64, W>) -> [u64; W]
     requires { FitsLane 64 t }
     ensures { result ≡ map (one_lane 64 Popcount t) a.entry }
 {
     let held = extend64(t, a) & Simd::splat(low_bits(t));
-    extend64(t, held.count_ones())
+    extend64(t, held.count_ones()).to_array()
 }

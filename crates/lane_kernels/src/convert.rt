@@ -45,6 +45,22 @@ pub fn convert64<const W: usize>(
     extend64(to, extend64(from, a))
 }
 
+/// Narrow lanes, read as values of `from`, as wide lanes.
+#[inline(always)]
+pub(crate) fn widened<const W: usize>(to: IntType, a: Simd<u32, W>, from: IntType) -> Simd<u64, W>
+    requires to { width_bits to ≡ 64 }
+    requires from { FitsLane 32 from }
+    ensures { result ≡ map (convert_lane 64 to from) a.entry }
+{
+    let held = extend32(from, a);
+    let lift = bias(from);
+    if lift == 0 {
+        return held.cast::<u64>();
+    }
+    let raised = held + Simd::splat(lift);
+    raised.cast::<u64>() - Simd::splat(lift as u64)
+}
+
 /// From narrow lanes to wide ones.
 pub fn widen<const W: usize>(
     to: IntType,
@@ -59,13 +75,7 @@ pub fn widen<const W: usize>(
     ensures counted { tally.new ≡ (tally.old + 1) % 2 ^ 64 }
 {
     tally.raise();
-    let held = extend32(from, a);
-    let lift = bias(from);
-    if lift == 0 {
-        return held.cast::<u64>();
-    }
-    let raised = held + Simd::splat(lift);
-    raised.cast::<u64>() - Simd::splat(lift as u64)
+    widened(to, a, from)
 }
 
 /// The low 32 bits, or for `Bool` whether there is a bit.
@@ -79,6 +89,16 @@ fn low_halves<const W: usize>(to: IntType, a: Simd<u64, W>) -> Simd<u32, W>
         return set.cast::<u32>();
     }
     (a & Simd::splat(0xffff_ffff)).cast::<u32>()
+}
+
+/// Wide lanes, read as values of `from`, as narrow lanes.
+#[inline(always)]
+pub(crate) fn narrowed<const W: usize>(to: IntType, a: Simd<u64, W>, from: IntType) -> Simd<u32, W>
+    requires to { FitsLane 32 to }
+    requires from { width_bits from ≡ 64 }
+    ensures { result ≡ map (convert_lane 32 to from) a.entry }
+{
+    extend32(to, low_halves(to, extend64(from, a)))
 }
 
 /// From wide lanes to narrow ones.
@@ -95,5 +115,5 @@ pub fn narrow<const W: usize>(
     ensures counted { tally.new ≡ (tally.old + 1) % 2 ^ 64 }
 {
     tally.raise();
-    extend32(to, low_halves(to, extend64(from, a)))
+    narrowed(to, a, from)
 }

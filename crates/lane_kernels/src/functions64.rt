@@ -1,28 +1,23 @@
-//! The built-in functions on wide lanes.
+//! The built-in functions on wide lanes. All but the shortest are out of line, so that they do not swell the caller.
 ghost use Rattle.std.specs.Prelude.{◌≡◌, ◌≤◌, ◌+◌, ◌%◌, ◌^◌};
 ghost use Rattle.std.specs.Simd.Lanes.{zip2};
-ghost use Rattle.wg_num.specs.declared.types.Fun.TheVariants.{Clamp};
-ghost use Rattle.lane_kernels.specs.Vectors.{lesser_lane, greater_lane};
+ghost use Rattle.wg_num.specs.declared.types.Fun.TheVariants.{Clamp, Max, Min};
+ghost use Rattle.lane_kernels.specs.Vectors.{greater_lane, lesser_lane, pair_lane};
 ghost use Rattle.lane_values.specs.Lanes.{FitsLane, lane, builtin_lane, zip3};
 
 use crate::bits64::{ones_in64, rotated64, zeros_above64};
 use crate::lanes64::{bias, extend64};
+use crate::products64::high_halves64;
 use crate::sums64::{distances64, halves_down64, halves_up64, held_rests64, held_sums64, sizes64};
 use crate::tally::Tally;
 use std::simd::prelude::*;
-use wg_num::{Fun, IntType, builtin, value};
+use wg_num::{Fun, IntType};
 
 /// The lane of a number: its low 64 bits in two's complement.
 pub fn lane_of64(z: i128) -> u64
     ensures { result ≡ lane 64 z }
 {
     z.rem_euclid(0x1_0000_0000_0000_0000) as u64
-}
-
-fn builtin_at64(f: Fun, t: IntType, p: u64, q: u64, r: u64) -> u64
-    ensures { result ≡ builtin_lane 64 f t p q r }
-{
-    lane_of64(builtin(f, t, [value(t, p), value(t, q), value(t, r)]))
 }
 
 /// The lane of the lesser value of two lanes that hold values of the type.
@@ -41,68 +36,36 @@ fn greater<const W: usize>(bias: u64, a: Simd<u64, W>, b: Simd<u64, W>) -> Simd<
     (b + raise).simd_lt(a + raise).select(a, b)
 }
 
-/// The function on each lane by itself.
-fn each64<const W: usize>(
-    f: Fun,
-    t: IntType,
-    a: Simd<u64, W>,
-    b: Simd<u64, W>,
-    c: Simd<u64, W>,
-) -> Simd<u64, W>
-    requires { W ≤ 64 }
-    ensures { result ≡ zip3 (builtin_lane 64 f t) a.entry b.entry c.entry }
+/// `min`.
+fn least64<const W: usize>(t: IntType, a: Simd<u64, W>, b: Simd<u64, W>) -> Simd<u64, W>
+    requires { FitsLane 64 t }
+    ensures { result ≡ zip2 (pair_lane 64 Min t) a.entry b.entry }
 {
-    let first = a.to_array();
-    let second = b.to_array();
-    let third = c.to_array();
-    let mut lanes = [0u64; W];
-    for i in 0..W {
-        lanes[i] = builtin_at64(f, t, first[i], second[i], third[i]);
-    }
-    Simd::from_array(lanes)
+    lesser(bias(t), extend64(t, a), extend64(t, b))
+}
+
+/// `max`.
+fn greatest64<const W: usize>(t: IntType, a: Simd<u64, W>, b: Simd<u64, W>) -> Simd<u64, W>
+    requires { FitsLane 64 t }
+    ensures { result ≡ zip2 (pair_lane 64 Max t) a.entry b.entry }
+{
+    greater(bias(t), extend64(t, a), extend64(t, b))
 }
 
 /// `clamp`.
+#[inline(never)]
 fn clamped64<const W: usize>(
     t: IntType,
     a: Simd<u64, W>,
     b: Simd<u64, W>,
     c: Simd<u64, W>,
-) -> Simd<u64, W>
+) -> [u64; W]
     requires { FitsLane 64 t }
     ensures { result ≡ zip3 (builtin_lane 64 Clamp t) a.entry b.entry c.entry }
 {
     let lift = bias(t);
     let raised = greater(lift, extend64(t, a), extend64(t, b));
-    lesser(lift, raised, extend64(t, c))
-}
-
-/// The functions but `min` and `max`; out of line, so that those stay short.
-#[inline(never)]
-fn others64<const W: usize>(
-    f: Fun,
-    t: IntType,
-    a: Simd<u64, W>,
-    b: Simd<u64, W>,
-    c: Simd<u64, W>,
-) -> [u64; W]
-    requires fits { FitsLane 64 t }
-    requires lanes { W ≤ 64 }
-    ensures { result ≡ zip3 (builtin_lane 64 f t) a.entry b.entry c.entry }
-{
-    match f {
-        Fun::Rotate => rotated64(t, a, b).to_array(),
-        Fun::Abs => sizes64(t, a).to_array(),
-        Fun::AbsDiff => distances64(t, a, b).to_array(),
-        Fun::AddSat => held_sums64(t, a, b).to_array(),
-        Fun::SubSat => held_rests64(t, a, b).to_array(),
-        Fun::Clz => zeros_above64(t, a).to_array(),
-        Fun::Popcount => ones_in64(t, a).to_array(),
-        Fun::Hadd => halves_down64(t, a, b).to_array(),
-        Fun::Rhadd => halves_up64(t, a, b).to_array(),
-        Fun::Clamp => clamped64(t, a, b, c).to_array(),
-        _ => each64(f, t, a, b, c).to_array(),
-    }
+    lesser(lift, raised, extend64(t, c)).to_array()
 }
 
 /// The function on each lane, which is read as the value of the type that its bits have; lanes that
@@ -121,12 +84,19 @@ pub fn builtin64<const W: usize>(
     ensures counted { tally.new ≡ (tally.old + 1) % 2 ^ 64 }
 {
     tally.raise();
-    let lift = bias(t);
-    if let Fun::Min = f {
-        return lesser(lift, extend64(t, a), extend64(t, b));
+    match f {
+        Fun::Min => least64(t, a, b),
+        Fun::Max => greatest64(t, a, b),
+        Fun::Clamp => Simd::from_array(clamped64(t, a, b, c)),
+        Fun::Rotate => Simd::from_array(rotated64(t, a, b)),
+        Fun::Abs => Simd::from_array(sizes64(t, a)),
+        Fun::AbsDiff => Simd::from_array(distances64(t, a, b)),
+        Fun::AddSat => Simd::from_array(held_sums64(t, a, b)),
+        Fun::SubSat => Simd::from_array(held_rests64(t, a, b)),
+        Fun::Hadd => Simd::from_array(halves_down64(t, a, b)),
+        Fun::Rhadd => Simd::from_array(halves_up64(t, a, b)),
+        Fun::MulHi => Simd::from_array(high_halves64(t, a, b)),
+        Fun::Clz => Simd::from_array(zeros_above64(t, a)),
+        Fun::Popcount => Simd::from_array(ones_in64(t, a)),
     }
-    if let Fun::Max = f {
-        return greater(lift, extend64(t, a), extend64(t, b));
-    }
-    Simd::from_array(others64(f, t, a, b, c))
 }

@@ -299,7 +299,12 @@ fn numbers64<const W: usize>(op: Bin, t: IntType, a: Simd<u64, W>, b: Simd<u64, 
 
 /// The operator on lanes that hold values of the type.
 #[inline(always)]
-fn values64<const W: usize>(op: Bin, t: IntType, a: Simd<u64, W>, b: Simd<u64, W>) -> Simd<u64, W>
+pub(crate) fn values64<const W: usize>(
+    op: Bin,
+    t: IntType,
+    a: Simd<u64, W>,
+    b: Simd<u64, W>,
+) -> Simd<u64, W>
     requires narrow { FitsLane 64 t }
     requires left { Each1 (IsLane 64 t) a }
     requires right { is_shift op ≡ false → Each1 (IsLane 64 t) b }

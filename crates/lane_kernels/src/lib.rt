@@ -13,6 +13,8 @@ pub mod functions64;
 pub mod lanes32;
 pub mod lanes64;
 pub mod masks;
+mod products32;
+mod products64;
 mod sums32;
 mod sums64;
 pub mod tally;

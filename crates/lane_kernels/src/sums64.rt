@@ -67,51 +67,47 @@ fn lowered<const W: usize>(t: IntType, a: Simd<u64, W>) -> Simd<u64, W>
 }
 
 /// `abs`.
-pub(crate) fn sizes64<const W: usize>(t: IntType, a: Simd<u64, W>) -> Simd<u64, W>
+#[inline(never)]
+pub(crate) fn sizes64<const W: usize>(t: IntType, a: Simd<u64, W>) -> [u64; W]
     requires { FitsLane 64 t }
     ensures { result ≡ map (one_lane 64 Abs t) a.entry }
 {
-    apart(raised(t, a), Simd::splat(bias(t)))
+    apart(raised(t, a), Simd::splat(bias(t))).to_array()
 }
 
 /// `abs_diff`.
-pub(crate) fn distances64<const W: usize>(
-    t: IntType,
-    a: Simd<u64, W>,
-    b: Simd<u64, W>,
-) -> Simd<u64, W>
+#[inline(never)]
+pub(crate) fn distances64<const W: usize>(t: IntType, a: Simd<u64, W>, b: Simd<u64, W>) -> [u64; W]
     requires { FitsLane 64 t }
     ensures { result ≡ zip2 (pair_lane 64 AbsDiff t) a.entry b.entry }
 {
-    apart(raised(t, a), raised(t, b))
+    apart(raised(t, a), raised(t, b)).to_array()
 }
 
 /// `hadd`.
+#[inline(never)]
 pub(crate) fn halves_down64<const W: usize>(
     t: IntType,
     a: Simd<u64, W>,
     b: Simd<u64, W>,
-) -> Simd<u64, W>
+) -> [u64; W]
     requires { FitsLane 64 t }
     ensures { result ≡ zip2 (pair_lane 64 Hadd t) a.entry b.entry }
 {
     let x = raised(t, a);
     let y = raised(t, b);
-    lowered(t, least(x, y) + (apart(x, y) >> Simd::splat(1)))
+    lowered(t, least(x, y) + (apart(x, y) >> Simd::splat(1))).to_array()
 }
 
 /// `rhadd`.
-pub(crate) fn halves_up64<const W: usize>(
-    t: IntType,
-    a: Simd<u64, W>,
-    b: Simd<u64, W>,
-) -> Simd<u64, W>
+#[inline(never)]
+pub(crate) fn halves_up64<const W: usize>(t: IntType, a: Simd<u64, W>, b: Simd<u64, W>) -> [u64; W]
     requires { FitsLane 64 t }
     ensures { result ≡ zip2 (pair_lane 64 Rhadd t) a.entry b.entry }
 {
     let x = raised(t, a);
     let y = raised(t, b);
-    lowered(t, most(x, y) - (apart(x, y) >> Simd::splat(1)))
+    lowered(t, most(x, y) - (apart(x, y) >> Simd::splat(1))).to_array()
 }
 
 /// The greatest value of the type.
@@ -157,27 +153,21 @@ fn raised_rests<const W: usize>(bias: u64, a: Simd<u64, W>, b: Simd<u64, W>) -> 
 }
 
 /// `add_sat`.
-pub(crate) fn held_sums64<const W: usize>(
-    t: IntType,
-    a: Simd<u64, W>,
-    b: Simd<u64, W>,
-) -> Simd<u64, W>
+#[inline(never)]
+pub(crate) fn held_sums64<const W: usize>(t: IntType, a: Simd<u64, W>, b: Simd<u64, W>) -> [u64; W]
     requires { FitsLane 64 t }
     ensures { result ≡ zip2 (pair_lane 64 AddSat t) a.entry b.entry }
 {
     let sum = raised_sums(bias(t), raised(t, a), raised(t, b));
-    held(t, sum, highest_of(t))
+    held(t, sum, highest_of(t)).to_array()
 }
 
 /// `sub_sat`.
-pub(crate) fn held_rests64<const W: usize>(
-    t: IntType,
-    a: Simd<u64, W>,
-    b: Simd<u64, W>,
-) -> Simd<u64, W>
+#[inline(never)]
+pub(crate) fn held_rests64<const W: usize>(t: IntType, a: Simd<u64, W>, b: Simd<u64, W>) -> [u64; W]
     requires { FitsLane 64 t }
     ensures { result ≡ zip2 (pair_lane 64 SubSat t) a.entry b.entry }
 {
     let rest = raised_rests(bias(t), raised(t, a), raised(t, b));
-    held(t, rest, highest_of(t))
+    held(t, rest, highest_of(t)).to_array()
 }

@@ -4,10 +4,10 @@ use Rattle.lane_values.specs.Lanes.{extended, convert_lane}
 use Rattle.lane_kernels.specs.Vectors.{bias_of}
 use Rattle.lane_kernels.proofs.ConvertLaws.{widen_extended, widen_plain}
 use Rattle.lane_kernels.proofs.ListLaws.{map_id, map_of_map, same_map, widened, add_in, sub_in}
-use Rattle.lane_kernels.proofs.convert.widen.Goals as goal
+use Rattle.lane_kernels.proofs.convert.widened.Goals as goal
 
-pub returns-clause-lanes : goal.returns-clause-lanes
-returns-clause-lanes g c =
+pub returns : goal.returns
+returns g c =
     let to = c.args.to in
     let from = c.args.from in
     let b = bias_of 32 from in
@@ -19,8 +19,8 @@ returns-clause-lanes g c =
     ∙ same_map (λ p. sub_in 64 (add_in 32 (extended 32 from p) b) b) (convert_lane 64 to from)
     (widen_extended to from c.requires.to c.requires.from) c.args.a
 
-pub returns-then-lift-eq0-clause-lanes : goal.returns-then-lift-eq0-clause-lanes
-returns-then-lift-eq0-clause-lanes g c =
+pub returns-then-lift-eq0 : goal.returns-then-lift-eq0
+returns-then-lift-eq0 g c =
     let to = c.args.to in
     let from = c.args.from in
     map_id c.extend32-held.result ∙ c.extend32-held.ensures

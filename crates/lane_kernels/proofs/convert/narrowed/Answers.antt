@@ -4,10 +4,10 @@ use Rattle.wg_num.specs.Wrap.{is_bool}
 use Rattle.lane_values.specs.Lanes.{extended, convert_lane}
 use Rattle.lane_kernels.proofs.ConvertLaws.{narrow_extended}
 use Rattle.lane_kernels.proofs.ListLaws.{map_of_map, same_map}
-use Rattle.lane_kernels.proofs.convert.narrow.Goals as goal
+use Rattle.lane_kernels.proofs.convert.narrowed.Goals as goal
 
-pub returns-clause-lanes : goal.returns-clause-lanes
-returns-clause-lanes g c =
+pub returns : goal.returns
+returns g c =
     let to = c.args.to in
     let from = c.args.from in
     let low = λ (x : ℕ). cond (is_bool to) (from_bool (not (nat_eq x 0))) (x % 2 ^ 32) in

@@ -1,0 +1,20 @@
+use Rattle.std.proofs.Common.{◌^◌, ◌∙◌, ap, ap₂, refl, arith}
+use Rattle.std.specs.Simd.Lanes.{zip2}
+use Rattle.wg_num.specs.declared.types.Fun.TheVariants.{Min}
+use Rattle.lane_values.specs.Lanes.{extended}
+use Rattle.lane_kernels.specs.Vectors.{bias_of, lesser_lane, pair_lane}
+use Rattle.lane_kernels.proofs.LaneLaws as K
+use Rattle.lane_kernels.proofs.ListLaws.{zip2-maps, zip2_same}
+use Rattle.lane_kernels.proofs.functions32.least32.Goals as goal
+
+pub returns : goal.returns
+returns g c =
+    let t = c.args.t in
+    let a = c.args.a in
+    let b = c.args.b in
+    c.lesser.ensures
+    ∙ ap (λ k. zip2 (lesser_lane 32 k) c.extend32.result c.extend32-2.result) c.bias.ensures
+    ∙ ap₂ (zip2 (lesser_lane 32 (bias_of 32 t))) c.extend32.ensures c.extend32-2.ensures
+    ∙ zip2-maps (lesser_lane 32 (bias_of 32 t)) (extended 32 t) (extended 32 t) a b
+    ∙ zip2_same _ (pair_lane 32 Min t) (λ p q. K.lane_lesser 32 (2 ^ 31) refl refl (omega arith) (omega arith)
+    t c.requires p q 0) a b
