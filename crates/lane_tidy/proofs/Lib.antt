@@ -4,11 +4,13 @@ pub mod Choosing
 pub mod Copying
 pub mod Ending
 pub mod Frames
+pub mod Holding
 pub mod Hoisting
 pub mod Joining
 pub mod Keeping
 pub mod Knowing
 pub mod Leaving
+pub mod Making
 pub mod Moving
 pub mod Plainly
 pub mod Planned
@@ -16,3 +18,4 @@ pub mod Sharing
 pub mod Sound
 pub mod Tests
 pub mod Tidying
+pub mod Typing

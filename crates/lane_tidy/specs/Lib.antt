@@ -11,4 +11,5 @@ pub mod Reads
 pub mod Ready
 pub mod Same
 pub mod Tidied
+pub mod Typed
 pub mod Unread
