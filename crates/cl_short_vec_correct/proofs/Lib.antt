@@ -87,3 +87,4 @@ pub mod Lists
 pub mod Listed
 pub mod Worths
 pub mod Barriers
+pub mod Offsets

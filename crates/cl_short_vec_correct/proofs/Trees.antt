@@ -142,15 +142,15 @@ mask_typed env known of s =
 
 -- ---- parentheses and casts
 
-paren_kind : (env : Env) (s : Span) (t : Syntax) → kind_of env (paren_at s t) ≡ kind_of env t
+pub paren_kind : (env : Env) (s : Span) (t : Syntax) → kind_of env (paren_at s t) ≡ kind_of env t
 unfolding kind_of kinds_of kind_step inside
 paren_kind env s t = refl
 
-paren_leaves : (env : Env) (s : Span) (t : Syntax) → behind env (paren_at s t) ≡ closed env (behind env t)
+pub paren_leaves : (env : Env) (s : Span) (t : Syntax) → behind env (paren_at s t) ≡ closed env (behind env t)
 unfolding behind behind_parts left restored inside later
 paren_leaves env s t = refl
 
-paren_what : (env : Env) (sites : List Place) (s : Span) (t : Syntax) →
+pub paren_what : (env : Env) (sites : List Place) (s : Span) (t : Syntax) →
     (meant env sites (paren_at s t)).piece.what ≡ (meant env sites t).piece.what
 unfolding meant parts_meant make inside
 paren_what env sites s t = refl
@@ -165,21 +165,21 @@ paren_typed env known s t of v h = record {
   worth = λ sites. subst (λ z. Own known (read z) v) (sym (paren_what env sites s t)) (h.worth sites);
 }
 
-type_leaves : (env : Env) (of : IntType) (s : Span) → behind env (typed_at of s) ≡ env
+pub type_leaves : (env : Env) (of : IntType) (s : Span) → behind env (typed_at of s) ≡ env
 unfolding behind behind_parts left restored inside
 type_leaves env of s = closed_same env
 
-cast_kinds : (env : Env) (of : IntType) (s : Span) (t : Syntax) → kind_of env (cast_at of s t) ≡
+pub cast_kinds : (env : Env) (of : IntType) (s : Span) (t : Syntax) → kind_of env (cast_at of s t) ≡
     on_one (kind_of (behind env (typed_at of s)) (paren_at s t)) (cast_kind (declared_in (typed_at of s)))
 unfolding kind_of kinds_of kind_step inside later
 cast_kinds env of s t = refl
 
-cast_leaves : (env : Env) (of : IntType) (s : Span) (t : Syntax) →
+pub cast_leaves : (env : Env) (of : IntType) (s : Span) (t : Syntax) →
     behind env (cast_at of s t) ≡ closed env (behind (behind env (typed_at of s)) (paren_at s t))
 unfolding behind behind_parts left restored inside later
 cast_leaves env of s t = refl
 
-cast_what : (env : Env) (sites : List Place) (of : IntType) (s : Span) (t : Syntax) →
+pub cast_what : (env : Env) (sites : List Place) (of : IntType) (s : Span) (t : Syntax) →
     (meant env sites (cast_at of s t)).piece.what ≡
     (cast_made (meant (behind env (typed_at of s)) sites (paren_at s t)).sites (declared_in (typed_at of s))
     ((meant env sites (typed_at of s)).piece ∷

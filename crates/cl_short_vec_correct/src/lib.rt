@@ -4,7 +4,10 @@
 
 ghost use Rattle.cl_short_vec_correct.specs.Law.{
   BarriersRefused,
+  ContentsStand,
   FormsShaped,
+  NumbersScaled,
+  OffsetsScaled,
   ReturnsRefused,
   StatementsDo,
   StepsDone,
@@ -37,6 +40,15 @@ pub fn returns_law()
 /// what stands for a vector statement does not begin with one.
 pub fn barriers_law()
     ensures { BarriersRefused }
+{}
+
+/// Where an element of vectors stands: a number that counts vectors is taken as a `long` times the number of their
+/// components, which wraps at 64 bits; so `p[i]` stands that far behind what `p` points to, and `*p` stands where `p`
+/// points to (OpenCL 1.2, section 6.1.5).
+pub fn offsets_law()
+    ensures scaled { NumbersScaled }
+    ensures indexed { OffsetsScaled }
+    ensures pointed { ContentsStand }
 {}
 
 /// In the typed program of each source that is accepted, what stands for every assignment to a vector and every
