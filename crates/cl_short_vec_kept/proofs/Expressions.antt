@@ -25,7 +25,8 @@ use Rattle.cl_short_vec.specs.Types.{picked, selection_in}
 use Rattle.cl_short_vec.specs.Kinds.{Names, is_vector, later, prefix_kind, postfix_kind}
 use Rattle.cl_short_vec.specs.Marks.{Mark, mark, unmarked, marking, kind_at, kind_by, marked, marked_parts}
 use Rattle.cl_short_vec.specs.Marks.{front_type}
-use Rattle.cl_short_vec.specs.Roles.{used_in, is_place, is_element, role_of, paren_role, selected_role, operand_role, back_form}
+use Rattle.cl_short_vec.specs.Roles.{used_in, is_place, is_element, role_of, paren_role, selected_role, operand_role}
+use Rattle.cl_short_vec.specs.Roles.{back_form}
 use Rattle.cl_short_vec.specs.Roles.{is_paren, element_by}
 use Rattle.cl_short_vec.specs.Faults.{refusals, components_of, picked_by, selected_in, chosen}
 use Rattle.cl_short_vec.specs.Order.{is_through}

@@ -1,10 +1,10 @@
 -- What of a unit stays in the unit without vectors. The two differ in these points alone: declarations of vectors and
--- vector statements are replaced, a selection of one component is that component's variable or element, and a number
--- beside a pointer to vectors is counted in components. Any other node is itself.
+-- vector statements are replaced by lines that declare or assign, a selection of one component is that component's
+-- variable or element, and a number beside a pointer to vectors is counted in components. Any other node is itself.
 use Rattle.std.specs.Prelude.{◌≡◌, ◌⊎◌, ℕ, Option, None, Some, Bool, true, false, ◌&&◌, codes}
 use Rattle.cl_tree.specs.declared.tree.Form.{Form}
 use Rattle.cl_tree.specs.declared.tree.Form.TheVariants as forms
-use Rattle.cl_tree.specs.Syntax.{Syntax, Forest, none, more, joined}
+use Rattle.cl_tree.specs.Syntax.{Syntax, node, Forest, none, more, joined}
 use Rattle.cl_tree.specs.Nodes.{forest1, forest2}
 use Rattle.cl_meaning.specs.Spelling.{name_in, setting_in, prefix_in, postfix_in}
 use Rattle.cl_meaning.specs.Declarations.{form_of, word_of}
@@ -139,10 +139,20 @@ abbrev pub sets_whole : Marks → Bool
 sets_whole (marking (mark t k parts) unmarked) = sets_by (form_of t) parts
 sets_whole ms = false
 
--- a simple statement: a block where it sets a vector, and else itself
+-- a line that declares or assigns: it is no jump, no loop, no choice, no block and no barrier
+abbrev pub DeclaresOrAssigns : Syntax → Type 0
+DeclaresOrAssigns (node forms.DeclareNode w f l parts) = Unit {0}
+DeclaresOrAssigns (node forms.SimpleNode w f l (more (node forms.AssignNode w' f' l' parts) none)) = Unit {0}
+DeclaresOrAssigns t = ⊥
+
+abbrev pub AllDeclareOrAssign : Forest → Type 0
+AllDeclareOrAssign none = Unit {0}
+AllDeclareOrAssign (more u us) = DeclaresOrAssigns u × AllDeclareOrAssign us
+
+-- a simple statement: a block of such lines where it sets a vector, and else itself
 abbrev pub SimpleStays : Syntax → Kind → Marks → Syntax → Type 0
-SimpleStays t k ms u = ((sets_whole ms ≡ true) ×
-    ((lines : Forest) × (u ≡ at forms.BlockNode (codes "{ }") (span_of t) lines))) ⊎
+SimpleStays t k ms u = ((sets_whole ms ≡ true) × ((lines : Forest) × AllDeclareOrAssign lines ×
+    (u ≡ at forms.BlockNode (codes "{ }") (span_of t) lines))) ⊎
     ((sets_whole ms ≡ false) × Stays (mark t k ms) u)
 
 -- the type in front of some declarators is a vector's
@@ -193,11 +203,13 @@ abbrev mutual
   AllStayTrees (marking m ms) none = ⊥
   AllStayTrees (marking m ms) (more u us) = StaysTree m u × AllStayTrees ms us
 
-  -- the lines of a block: for each one the line that stands for it, but for a declaration of vectors
+  -- the lines of a block: for each one the line that stands for it, and for a declaration of vectors several that
+  -- declare or assign
   pub LinesStay : Marks → Forest → Type 0
   LinesStay unmarked us = us ≡ none
   LinesStay (marking m ms) us = (xs : Forest) × (rest : Forest) × (us ≡ joined xs rest) ×
-      ((declares_vectors m ≡ true) ⊎ ((u : Syntax) × (xs ≡ forest1 u) × StaysTree m u)) × LinesStay ms rest
+      (((declares_vectors m ≡ true) × AllDeclareOrAssign xs) ⊎
+      ((u : Syntax) × (xs ≡ forest1 u) × StaysTree m u)) × LinesStay ms rest
 
   -- the parts of a `for`: its first part is a declaration, or a statement that sets no vector
   pub LoopStays : Marks → Forest → Type 0
