@@ -1,4 +1,5 @@
-//! The built-in functions on narrow lanes. All but the shortest are out of line, so that they do not swell the caller.
+//! The built-in functions on narrow lanes. All but the shortest are out of line and answer arrays; `min` and `max`,
+//! which kernels use most, come before them, so that their answers stay vectors.
 ghost use Rattle.std.specs.Prelude.{◌≡◌, ◌≤◌, ◌+◌, ◌%◌, ◌^◌};
 ghost use Rattle.std.specs.Simd.Lanes.{zip2};
 ghost use Rattle.wg_num.specs.declared.types.Fun.TheVariants.{Clamp, Max, Min};
@@ -68,6 +69,35 @@ fn clamped32<const W: usize>(
     lesser(lift, raised, extend32(t, c)).to_array()
 }
 
+/// The function on each lane, as an array.
+fn lanes_of32<const W: usize>(
+    f: Fun,
+    t: IntType,
+    a: Simd<u32, W>,
+    b: Simd<u32, W>,
+    c: Simd<u32, W>,
+) -> [u32; W]
+    requires fits { FitsLane 32 t }
+    requires lanes { W ≤ 64 }
+    ensures { result ≡ zip3 (builtin_lane 32 f t) a.entry b.entry c.entry }
+{
+    match f {
+        Fun::Min => least32(t, a, b).to_array(),
+        Fun::Max => greatest32(t, a, b).to_array(),
+        Fun::Clamp => clamped32(t, a, b, c),
+        Fun::Rotate => rotated32(t, a, b),
+        Fun::Abs => sizes32(t, a),
+        Fun::AbsDiff => distances32(t, a, b),
+        Fun::AddSat => held_sums32(t, a, b),
+        Fun::SubSat => held_rests32(t, a, b),
+        Fun::Hadd => halves_down32(t, a, b),
+        Fun::Rhadd => halves_up32(t, a, b),
+        Fun::MulHi => high_halves32(t, a, b),
+        Fun::Clz => zeros_above32(t, a),
+        Fun::Popcount => ones_in32(t, a),
+    }
+}
+
 /// The function on each lane, which is read as the value of the type that its bits have; lanes that
 /// the function does not take are ignored.
 pub fn builtin32<const W: usize>(
@@ -84,19 +114,11 @@ pub fn builtin32<const W: usize>(
     ensures counted { tally.new ≡ (tally.old + 1) % 2 ^ 64 }
 {
     tally.raise();
-    match f {
-        Fun::Min => least32(t, a, b),
-        Fun::Max => greatest32(t, a, b),
-        Fun::Clamp => Simd::from_array(clamped32(t, a, b, c)),
-        Fun::Rotate => Simd::from_array(rotated32(t, a, b)),
-        Fun::Abs => Simd::from_array(sizes32(t, a)),
-        Fun::AbsDiff => Simd::from_array(distances32(t, a, b)),
-        Fun::AddSat => Simd::from_array(held_sums32(t, a, b)),
-        Fun::SubSat => Simd::from_array(held_rests32(t, a, b)),
-        Fun::Hadd => Simd::from_array(halves_down32(t, a, b)),
-        Fun::Rhadd => Simd::from_array(halves_up32(t, a, b)),
-        Fun::MulHi => Simd::from_array(high_halves32(t, a, b)),
-        Fun::Clz => Simd::from_array(zeros_above32(t, a)),
-        Fun::Popcount => Simd::from_array(ones_in32(t, a)),
+    if let Fun::Min = f {
+        return least32(t, a, b);
     }
+    if let Fun::Max = f {
+        return greatest32(t, a, b);
+    }
+    Simd::from_array(lanes_of32(f, t, a, b, c))
 }

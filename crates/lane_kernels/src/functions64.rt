@@ -1,4 +1,5 @@
-//! The built-in functions on wide lanes. All but the shortest are out of line, so that they do not swell the caller.
+//! The built-in functions on wide lanes. All but the shortest are out of line and answer arrays; `min` and `max`,
+//! which kernels use most, come before them, so that their answers stay vectors.
 ghost use Rattle.std.specs.Prelude.{◌≡◌, ◌≤◌, ◌+◌, ◌%◌, ◌^◌};
 ghost use Rattle.std.specs.Simd.Lanes.{zip2};
 ghost use Rattle.wg_num.specs.declared.types.Fun.TheVariants.{Clamp, Max, Min};
@@ -68,6 +69,35 @@ fn clamped64<const W: usize>(
     lesser(lift, raised, extend64(t, c)).to_array()
 }
 
+/// The function on each lane, as an array.
+fn lanes_of64<const W: usize>(
+    f: Fun,
+    t: IntType,
+    a: Simd<u64, W>,
+    b: Simd<u64, W>,
+    c: Simd<u64, W>,
+) -> [u64; W]
+    requires fits { FitsLane 64 t }
+    requires lanes { W ≤ 64 }
+    ensures { result ≡ zip3 (builtin_lane 64 f t) a.entry b.entry c.entry }
+{
+    match f {
+        Fun::Min => least64(t, a, b).to_array(),
+        Fun::Max => greatest64(t, a, b).to_array(),
+        Fun::Clamp => clamped64(t, a, b, c),
+        Fun::Rotate => rotated64(t, a, b),
+        Fun::Abs => sizes64(t, a),
+        Fun::AbsDiff => distances64(t, a, b),
+        Fun::AddSat => held_sums64(t, a, b),
+        Fun::SubSat => held_rests64(t, a, b),
+        Fun::Hadd => halves_down64(t, a, b),
+        Fun::Rhadd => halves_up64(t, a, b),
+        Fun::MulHi => high_halves64(t, a, b),
+        Fun::Clz => zeros_above64(t, a),
+        Fun::Popcount => ones_in64(t, a),
+    }
+}
+
 /// The function on each lane, which is read as the value of the type that its bits have; lanes that
 /// the function does not take are ignored.
 pub fn builtin64<const W: usize>(
@@ -84,19 +114,11 @@ pub fn builtin64<const W: usize>(
     ensures counted { tally.new ≡ (tally.old + 1) % 2 ^ 64 }
 {
     tally.raise();
-    match f {
-        Fun::Min => least64(t, a, b),
-        Fun::Max => greatest64(t, a, b),
-        Fun::Clamp => Simd::from_array(clamped64(t, a, b, c)),
-        Fun::Rotate => Simd::from_array(rotated64(t, a, b)),
-        Fun::Abs => Simd::from_array(sizes64(t, a)),
-        Fun::AbsDiff => Simd::from_array(distances64(t, a, b)),
-        Fun::AddSat => Simd::from_array(held_sums64(t, a, b)),
-        Fun::SubSat => Simd::from_array(held_rests64(t, a, b)),
-        Fun::Hadd => Simd::from_array(halves_down64(t, a, b)),
-        Fun::Rhadd => Simd::from_array(halves_up64(t, a, b)),
-        Fun::MulHi => Simd::from_array(high_halves64(t, a, b)),
-        Fun::Clz => Simd::from_array(zeros_above64(t, a)),
-        Fun::Popcount => Simd::from_array(ones_in64(t, a)),
+    if let Fun::Min = f {
+        return least64(t, a, b);
     }
+    if let Fun::Max = f {
+        return greatest64(t, a, b);
+    }
+    Simd::from_array(lanes_of64(f, t, a, b, c))
 }
