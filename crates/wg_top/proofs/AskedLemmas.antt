@@ -8,12 +8,15 @@ use Rattle.launch_file.specs.Texts.{Text}
 use Rattle.cl_meaning.specs.Typed.{Unit'}
 use Rattle.wg_top.specs.declared.RunError.{RunError}
 use Rattle.wg_top.specs.declared.RunError.TheVariants.{Failed, Absent, Source, Launch, Memory}
-use Rattle.wg_top.specs.Causes.{Standing, RunRead, Finds, ReadingFinds, Cause, ReadingCause, IsReadable, AcceptedRun}
+use Rattle.wg_top.specs.Causes.{Standing, RunRead, ReadingFinds, ReadingCause, IsReadable}
+use Rattle.wg_top.specs.CompiledCauses.{Finds, Cause, AcceptedRun}
 use Rattle.wg_top.specs.Lines.{status_of}
-use Rattle.wg_top.specs.Shown.{Showing, plan_shown, code_shown}
-use Rattle.wg_top.specs.Sample.{sample_files, sample_ask, SampleCause}
-use Rattle.wg_top.specs.Ends.{SinkStanding, Outside, ShownRead, EndsShowing, EndsSample, EndsAsked, AcceptedFor}
-use Rattle.wg_top.specs.Ends.{FindsFor, NoStoreFault}
+use Rattle.wg_top.specs.Shown.{Showing}
+use Rattle.wg_top.specs.CompiledShown.{plan_shown, code_shown}
+use Rattle.wg_top.specs.Sample.{sample_files, sample_ask}
+use Rattle.wg_top.specs.CompiledSample.{SampleCause}
+use Rattle.wg_top.specs.Outside.{SinkStanding, Outside}
+use Rattle.wg_top.specs.Ends.{ShownRead, EndsShowing, EndsSample, EndsAsked, AcceptedFor, FindsFor, NoStoreFault}
 use Rattle.wg_top.proofs.CauseLemmas.{reading_cause}
 use Rattle.wg_top.proofs.BuildLemmas.{build_complete, build_exact}
 use Rattle.wg_top.proofs.ExecLemmas.{exec_complete, exec_exact}
@@ -79,8 +82,8 @@ reading_finds files ask (Launch first) finds = inl finds
 reading_finds files ask _ finds = absurd finds
 
 -- and of nothing that was read
-not_read : (fs : FileMap) (ask : Files) (text : Text) (s : List Unit') (e : RunError) → RunRead (Some fs) ask text s →
-    ReadingFinds (Some fs) ask e → ⊥
+pub not_read : (fs : FileMap) (ask : Files) (text : Text) (s : List Unit') (e : RunError) →
+    RunRead (Some fs) ask text s → ReadingFinds (Some fs) ask e → ⊥
 not_read fs ask text s Absent read finds = elim finds [
   | inl first ↦ lacks_loaded fs ask.source 262145 read.source_bytes first read.source_loaded
   | inr second ↦ lacks_loaded fs ask.launch 1048577 read.launch_bytes second.2 read.launch_loaded

@@ -19,7 +19,8 @@ use Rattle.launch_file.specs.Values.{HasOneLength}
 use Rattle.launch_file.proofs.Accepted.{accepts}
 use Rattle.wg_top.specs.Units.{or_later}
 use Rattle.wg_top.specs.Programs.{Runs, needs_refusal}
-use Rattle.wg_top.specs.Launches.{IsReady, AllFit}
+use Rattle.wg_top.specs.Launches.{IsReady}
+use Rattle.wg_top.specs.CompiledLaunches.{AllFit}
 use Rattle.wg_top.proofs.FitLemmas.{AreSmall, fits_kernel}
 
 -- the offsets of a bound launch

@@ -17,9 +17,11 @@ use Rattle.wg_top.specs.declared.RunError.{RunError}
 use Rattle.wg_top.specs.declared.RunError.TheVariants.{Failed, Absent, Source, Launch, Memory}
 use Rattle.wg_top.specs.Causes.{Standing}
 use Rattle.wg_top.specs.Lines.{status_of}
-use Rattle.wg_top.specs.Objects.{first_kernel, IsFirstFault, BuildRead, BuildRefused, BuildUnread, IsMadeText, IsBuilt}
-use Rattle.wg_top.specs.Objects.{BuildFinds, BuildCause, BuildAccepted, LacksBuild}
-use Rattle.wg_top.specs.Ends.{Outside, EndsBuilding}
+use Rattle.wg_top.specs.Objects.{first_kernel, IsFirstFault, BuildRead, BuildRefused, BuildUnread, BuildFinds}
+use Rattle.wg_top.specs.Objects.{BuildCause, BuildAccepted, LacksBuild}
+use Rattle.wg_top.specs.CompiledObjects.{IsMadeText, IsBuilt}
+use Rattle.wg_top.specs.Outside.{Outside}
+use Rattle.wg_top.specs.Ends.{EndsBuilding}
 use Rattle.wg_top.proofs.CompleteLemmas.{start_is, not_lacked}
 use Rattle.wg_top.proofs.ExactLemmas.{lacks_loaded, same_start}
 

@@ -31,19 +31,19 @@ use Rattle.wg_top.specs.declared.RunError.TheVariants.{NotObject}
 use Rattle.wg_top.specs.declared.Summary.{Summary}
 use Rattle.wg_top.specs.declared.cached.Held.{Held}
 use Rattle.wg_top.specs.declared.runnable.Runnable.{Runnable}
-use Rattle.wg_top.specs.Causes.{Standing, HasNoFewer, SourceLoaded, LacksText}
+use Rattle.wg_top.specs.Causes.{Standing, HasNoFewer, SourceLoaded, LacksText, NoCacheName}
 use Rattle.wg_top.specs.Given.{IsText}
 use Rattle.wg_top.specs.Stages.{SourceCause, TextRead, LaunchCause, TypedCause}
-use Rattle.wg_top.specs.Programs.{Runs, runs_of, HasKinds, runs_refusal, AreStopped, AreRun, RunsBindCause, RunsCause}
-use Rattle.wg_top.specs.Programs.{RunsLeave}
-use Rattle.wg_top.specs.Objects.{object_runs}
+use Rattle.wg_top.specs.Programs.{Runs, runs_of, HasKinds, runs_refusal, AreStopped, AreRun, RunsBindCause}
+use Rattle.wg_top.specs.Programs.{RunsCause, RunsLeave}
+use Rattle.wg_top.specs.CompiledObjects.{object_runs}
 use Rattle.wg_top.specs.Cached.{IsFound, IsNotFound, IsFresh, RunsKernel, RunKernels, AreKept, kept_names}
-use Rattle.wg_top.specs.Cached.{NoCacheName}
 use Rattle.wg_top.specs.Cached.{CachedRead, CachedTaken, CachedDone, IsLaunchFault, CachedFault, CachedLacksBuffer}
 use Rattle.wg_top.specs.Cached.{CachedStopped, CachedCause, CachedLeaves, CachedSaveStopped, cache_name}
 use Rattle.wg_top.specs.Holding.{HasObject, IsHeld, IsNamedIn, IsRunnable, AreRunnables, HoldCause, HoldingCause}
 use Rattle.wg_top.specs.Holding.{kept_of, AreSaved, AreSavedUpTo, HeldDone, HeldCause, HeldLeaves}
 use Rattle.wg_top.proofs.CauseLemmas.{rose_over, launch_cause}
+use Rattle.wg_top.proofs.RunLemmas.{numbers_fit}
 use Rattle.wg_top.proofs.ObjectLemmas.{runs_is, object_kinds}
 use Rattle.wg_top.proofs.ProgramLemmas.{split_of}
 use Rattle.wg_top.proofs.CachedLemmas.{IsAmong, among_names, names_among, all_kept, launch_there}
@@ -88,6 +88,9 @@ cached_read old mid ask bytes held text loaded is same fine read = record {
   launch_loaded = subst (λ (f : Option FileMap). HasFileStart f ask.launch 1048577 read.bytes) same read.loaded;
   reads = read.reads;
   numbers = are_defines text.defines.list.items fine.numbers;
+  fit = numbers_fit text.defines.list.items fine.numbers;
+  width = text.lanes;
+  lanes_are = refl;
   some = (let long = length-map text.list.items part_of in let one = fine.some in omega (arith, long, one));
 }
 

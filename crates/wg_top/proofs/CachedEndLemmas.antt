@@ -9,7 +9,8 @@ use Rattle.wg_top.specs.declared.RunError.TheVariants.{NotObject}
 use Rattle.wg_top.specs.Causes.{Standing}
 use Rattle.wg_top.specs.Lines.{error_line, done_line}
 use Rattle.wg_top.specs.Cached.{CachedCause, CachedLeaves}
-use Rattle.wg_top.specs.Ends.{Outside, EndsCached, EndsSaying, SaysLine, KeepsOut}
+use Rattle.wg_top.specs.Outside.{Outside, EndsSaying}
+use Rattle.wg_top.specs.Ends.{EndsCached, SaysLine, KeepsOut}
 use Rattle.wg_top.proofs.ObjectEndLemmas.{above, one_is, nine_is, not_one}
 
 cached_rose : (old new : Standing) (ask : Files) (e : RunError) → CachedCause old new ask e → e ≡ Failed →

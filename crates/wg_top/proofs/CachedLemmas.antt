@@ -23,7 +23,8 @@ use Rattle.wg_object.specs.View.{object_of}
 use Rattle.wg_top.specs.declared.cached.Held.{Held}
 use Rattle.wg_top.specs.declared.runnable.Runnable.{Runnable}
 use Rattle.wg_top.specs.Cached.{kernel_key, cache_name, IsFound, IsFresh, IsKept, AreKept, kept_names, HoldsKept}
-use Rattle.wg_top.specs.Cached.{HoldsEntry, NoCacheName}
+use Rattle.wg_top.specs.Cached.{HoldsEntry}
+use Rattle.wg_top.specs.Causes.{NoCacheName}
 use Rattle.wg_top.specs.Holding.{HasObject, IsHeld, IsNamedIn, IsEntryFor, AreRunnables, IsHeldOnce, IsSavedSo}
 use Rattle.wg_top.specs.Holding.{kept_with, kept_of, AreSaved, AreSavedUpTo}
 use Rattle.wg_top.proofs.ProgramLemmas.{more_of}

@@ -7,14 +7,15 @@ use Rattle.buffer_io.specs.Loads.{LacksOneFile}
 use Rattle.command_words.specs.Command.{Files}
 use Rattle.launch_file.specs.Binding.{loads_of}
 use Rattle.launch_file.specs.Texts.{Text}
+use Rattle.cl_check_sound.specs.Law.{DefinesFit}
 use Rattle.wg_top.specs.declared.RunError.{RunError}
 use Rattle.wg_top.specs.declared.RunError.TheVariants.{Failed, Absent, Source, Launch, Range, Parted, Turns, Memory}
 use Rattle.wg_top.specs.declared.RunError.TheVariants.{NotObject}
 use Rattle.wg_top.specs.declared.Summary.{Summary}
 use Rattle.cl_meaning.specs.Typed.{Unit'}
 use Rattle.cl_front.specs.Front.{HasUnit}
-use Rattle.wg_top.specs.Causes.{Standing, HasNoFewer, SourceLoaded, RunRead, StopsIn, RunStops, Cause}
-use Rattle.wg_top.specs.Causes.{ReadingCause, LeavesFiles, SaveStopped, IsRun, IsDone}
+use Rattle.wg_top.specs.Causes.{Standing, HasNoFewer, SourceLoaded, RunRead, ReadingCause}
+use Rattle.wg_top.specs.CompiledCauses.{StopsIn, RunStops, Cause, LeavesFiles, SaveStopped, IsRun, IsDone}
 use Rattle.wg_top.specs.Units.{HaveTypedUnits}
 use Rattle.wg_top.specs.Stages.{SourceCause, TextRead, LaunchCause, ProgramCause, BackCause, LeavesOthers}
 
@@ -96,9 +97,15 @@ program_cause old new ask bytes text _ read loaded c = absurd c
 
 -- a launch that is not done, on the files of before
 stops : (files later : Option FileMap) (ask : Files) (text : Text) (s : List Unit') (e : RunError) →
-    RunRead files ask text s → later ≡ files → StopsIn later text s e → RunStops files ask e
-stops files later ask text s e read same c =
-    record { text = text; units = s; read = read; stops = subst (λ (f : Option FileMap). StopsIn f text s e) same c }
+    RunRead files ask text s → DefinesFit text.defines → later ≡ files → StopsIn later text s e → RunStops files ask e
+stops files later ask text s e read fit same c =
+    record {
+      text = text;
+      units = s;
+      read = read;
+      fit = fit;
+      stops = subst (λ (f : Option FileMap). StopsIn f text s e) same c;
+    }
 
 -- a refusal while all is read is one of the run
 pub reading_cause : (old new : Standing) (ask : Files) (e : RunError) → ReadingCause old new ask e → Cause old new ask e
@@ -111,11 +118,11 @@ reading_cause old new ask _ c = absurd c
 
 -- a refusal once all is read
 pub back_cause : (old mid new : Standing) (ask : Files) (text : Text) (s : List Unit') (e : RunError) →
-    RunRead old.files ask text s → mid.files ≡ old.files → HasNoFewer old mid → HasNoFewer mid new →
-    BackCause mid new text s e → Cause old new ask e
-back_cause old mid new ask text s Failed read same before after c =
+    RunRead old.files ask text s → DefinesFit text.defines → mid.files ≡ old.files → HasNoFewer old mid →
+    HasNoFewer mid new → BackCause mid new text s e → Cause old new ask e
+back_cause old mid new ask text s Failed read fit same before after c =
     rose_over old.faults mid.faults new.faults before.faults after.faults c
-back_cause old mid new ask text s Absent read same before after c = (
+back_cause old mid new ask text s Absent read fit same before after c = (
   rose_over old.misses mid.misses new.misses before.misses after.misses c.0,
   inr (
     text,
@@ -124,45 +131,49 @@ back_cause old mid new ask text s Absent read same before after c = (
     subst (λ (f : Option FileMap). LacksOneFile f (loads_of text.buffers)) same c.2,
   ),
 )
-back_cause old mid new ask text s (Launch first) read same before after c =
+back_cause old mid new ask text s (Launch first) read fit same before after c =
     inr (record { text = text; units = s; read = read; refused = c })
-back_cause old mid new ask text s (Range number several group item place) read same before after c =
-    stops old.files mid.files ask text s (Range number several group item place) read same c
-back_cause old mid new ask text s (Parted number several group item place) read same before after c =
-    stops old.files mid.files ask text s (Parted number several group item place) read same c
-back_cause old mid new ask text s (Turns number several) read same before after c =
-    stops old.files mid.files ask text s (Turns number several) read same c
-back_cause old mid new ask text s Memory read same before after c = tt
-back_cause old mid new ask text s _ read same before after c = absurd c
+back_cause old mid new ask text s (Range number several group item place) read fit same before after c =
+    stops old.files mid.files ask text s (Range number several group item place) read fit same c
+back_cause old mid new ask text s (Parted number several group item place) read fit same before after c =
+    stops old.files mid.files ask text s (Parted number several group item place) read fit same c
+back_cause old mid new ask text s (Turns number several) read fit same before after c =
+    stops old.files mid.files ask text s (Turns number several) read fit same c
+back_cause old mid new ask text s Memory read fit same before after c = tt
+back_cause old mid new ask text s _ read fit same before after c = absurd c
 
 -- which files a refusal leaves once all is read
 pub leaves_files : (old mid new : Standing) (ask : Files) (text : Text) (s : List Unit') (e : RunError) →
-    RunRead old.files ask text s → mid.files ≡ old.files → LeavesOthers mid new text s e → LeavesFiles old new ask e
-leaves_files old mid new ask text s Failed read same left = elim left [
+    RunRead old.files ask text s → DefinesFit text.defines → mid.files ≡ old.files → LeavesOthers mid new text s e →
+    LeavesFiles old new ask e
+leaves_files old mid new ask text s Failed read fit same left = elim left [
   | inl all ↦ inl (all ∙ same)
   | inr stopped ↦ inr (record {
     text = text;
     units = s;
     read = read;
+    fit = fit;
     stopped = subst (λ (f : Option FileMap). SaveStopped f new.files text s) same stopped;
   })
 ]
-leaves_files old mid new ask text s Absent read same left = left ∙ same
-leaves_files old mid new ask text s (Source condition place) read same left = left ∙ same
-leaves_files old mid new ask text s (Launch first) read same left = left ∙ same
-leaves_files old mid new ask text s (Range number several group item place) read same left = left ∙ same
-leaves_files old mid new ask text s (Parted number several group item place) read same left = left ∙ same
-leaves_files old mid new ask text s (Turns number several) read same left = left ∙ same
-leaves_files old mid new ask text s Memory read same left = left ∙ same
-leaves_files old mid new ask text s NotObject read same left = left ∙ same
+leaves_files old mid new ask text s Absent read fit same left = left ∙ same
+leaves_files old mid new ask text s (Source condition place) read fit same left = left ∙ same
+leaves_files old mid new ask text s (Launch first) read fit same left = left ∙ same
+leaves_files old mid new ask text s (Range number several group item place) read fit same left = left ∙ same
+leaves_files old mid new ask text s (Parted number several group item place) read fit same left = left ∙ same
+leaves_files old mid new ask text s (Turns number several) read fit same left = left ∙ same
+leaves_files old mid new ask text s Memory read fit same left = left ∙ same
+leaves_files old mid new ask text s NotObject read fit same left = left ∙ same
 
 -- a run that is done
 pub is_done : (old mid new : Option FileMap) (ask : Files) (text : Text) (s : List Unit') (summary : Summary) →
-    RunRead old ask text s → mid ≡ old → IsRun mid new text s summary → IsDone old new ask summary
-is_done old mid new ask text s summary read same run = record {
+    RunRead old ask text s → DefinesFit text.defines → mid ≡ old → IsRun mid new text s summary →
+    IsDone old new ask summary
+is_done old mid new ask text s summary read fit same run = record {
   text = text;
   units = s;
   read = read;
+  fit = fit;
   run = subst (λ (f : Option FileMap). IsRun f new text s summary) same run;
 }
 

@@ -8,8 +8,9 @@ use Rattle.lane_code.specs.declared.end.RunEnd.TheVariants as run
 use Rattle.lane_code.specs.Program.{Plain}
 use Rattle.wg_top.specs.declared.RunError.{RunError}
 use Rattle.wg_top.specs.declared.RunError.TheVariants as error
-use Rattle.wg_top.specs.Launches.{LaunchesRan}
-use Rattle.wg_top.specs.Outcomes.{AreDone, EndBehind, IsOutcomeOf, RanInOutcomes, EndsInOutcome, StopsAsOutcome}
+use Rattle.wg_top.specs.CompiledLaunches.{LaunchesRan}
+use Rattle.wg_top.specs.Outcomes.{AreDone, EndBehind, IsOutcomeOf}
+use Rattle.wg_top.specs.CompiledOutcomes.{RanInOutcomes, EndsInOutcome, StopsAsOutcome}
 
 -- the group programs ran
 pub launches_ran : (ps : List Plain) (gs : List Program) (launches : List Launch) (before after : List (List ℕ)) →

@@ -9,7 +9,8 @@ use Rattle.cl_model.proofs.CleanLaunches.{all_agree}
 use Rattle.cl_meaning.specs.Typed.{Unit'}
 use Rattle.wg_top.specs.declared.RunError.{RunError}
 use Rattle.wg_top.specs.declared.RunError.TheVariants as error
-use Rattle.wg_top.specs.Outcomes.{AreMade, models_in, AreDone, EndBehind, IsOutcomeOf, AreClean, EachLeaves, AllLeave}
+use Rattle.wg_top.specs.CompiledOutcomes.{AreMade}
+use Rattle.wg_top.specs.Outcomes.{models_in, AreDone, EndBehind, IsOutcomeOf, AreClean, EachLeaves, AllLeave}
 
 -- each program is valid
 abbrev AllValid : List Program → Type 0

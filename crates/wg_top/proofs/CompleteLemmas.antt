@@ -18,18 +18,19 @@ use Rattle.cl_front.specs.declared.condition.Condition.{Condition}
 use Rattle.cl_front.specs.Front.{HasUnit}
 use Rattle.lane_code.specs.declared.end.RunEnd.TheVariants as run
 use Rattle.lane_code.specs.Program.{Plain}
-use Rattle.wg_top.specs.Units.{programs_in}
+use Rattle.wg_top.specs.CompiledLaunches.{programs_in, LaunchesRan, EndsSo}
 use Rattle.wg_top.specs.Units.{HaveTypedUnits, bind_refusal}
-use Rattle.wg_top.specs.Launches.{launches_in, LaunchesRan, EndsSo}
+use Rattle.wg_top.specs.Launches.{launches_in}
 use Rattle.wg_top.specs.Stages.{BackCause}
-use Rattle.wg_top.specs.Causes.{Standing, HasNoFewer, ReadingFinds, Cause, BuffersLoaded, RunRead, RunStopped, RunStops}
-use Rattle.wg_top.specs.Causes.{StopsIn}
-use Rattle.wg_top.specs.Causes.{IsRun, IsDone, IsReadable, IsTaken, Accepted, AcceptedClean, AcceptedRun, LeavesClean}
-use Rattle.wg_top.specs.Causes.{HasLoops, LacksText, LacksName, IsSourceFault}
+use Rattle.cl_check_sound.specs.Law.{DefinesFit}
+use Rattle.wg_top.specs.Causes.{Standing, HasNoFewer, ReadingFinds, BuffersLoaded, RunRead, IsReadable, IsTaken}
+use Rattle.wg_top.specs.Causes.{AcceptedClean, LeavesClean, HasLoops, LacksText, LacksName, IsSourceFault}
+use Rattle.wg_top.specs.CompiledCauses.{Cause, RunStopped, RunStops, StopsIn, IsRun, IsDone, Accepted, AcceptedRun}
 use Rattle.wg_top.specs.Loops.{HaveNoLoop}
 use Rattle.wg_top.specs.Outcomes.{models_in, AreClean}
 use Rattle.wg_top.specs.Lines.{status_of}
-use Rattle.wg_top.specs.Ends.{Outside, Ends, EndsClean}
+use Rattle.wg_top.specs.Outside.{Outside, EndsClean}
+use Rattle.wg_top.specs.Ends.{Ends}
 use Rattle.cl_front.proofs.FrontLemmas.{refused_or_unit}
 use Rattle.wg_top.specs.declared.Summary.{Summary}
 use Rattle.wg_top.proofs.LaunchLemmas.{done_only}
@@ -283,22 +284,23 @@ memory_clean old new ask text s e all quiet cause =
 
 -- the same of a run that was read, by its answer
 pub run_clean : (old mid new : Option FileMap) (ask : Files) (read_text : Text) (units : List Unit')
-    (r : Result Summary RunError) → RunRead old ask read_text units → mid ≡ old → IfOk r (IsRun mid new read_text units)
-    → IfOk r (λ summary. (text : Text) (s : List Unit') → AcceptedClean old ask text s → LeavesClean old new text s)
-run_clean old mid new ask read_text units (Ok summary) read same run =
-    λ text s all. done_clean old new ask text s summary all (is_done old mid new ask read_text units summary read same
-    run)
-run_clean old mid new ask read_text units (Err e) read same run = tt
+    (r : Result Summary RunError) → RunRead old ask read_text units → DefinesFit read_text.defines → mid ≡ old →
+    IfOk r (IsRun mid new read_text units) →
+    IfOk r (λ summary. (text : Text) (s : List Unit') → AcceptedClean old ask text s → LeavesClean old new text s)
+run_clean old mid new ask read_text units (Ok summary) read fit same run =
+    λ text s all. done_clean old new ask text s summary all (is_done old mid new ask read_text units summary read fit
+    same run)
+run_clean old mid new ask read_text units (Err e) read fit same run = tt
 
 pub run_memory : (old mid new : Standing) (ask : Files) (read_text : Text) (units : List Unit')
-    (r : Result Summary RunError) → RunRead old.files ask read_text units → mid.files ≡ old.files → HasNoFewer old mid →
-    HasNoFewer mid new → IfErr r (BackCause mid new read_text units)
+    (r : Result Summary RunError) → RunRead old.files ask read_text units → DefinesFit read_text.defines →
+    mid.files ≡ old.files → HasNoFewer old mid → HasNoFewer mid new → IfErr r (BackCause mid new read_text units)
     → IfErr r (λ e. (text : Text) (s : List Unit') → AcceptedClean old.files ask text s →
     (Rose old.faults new.faults → ⊥) → e ≡ Memory)
-run_memory old mid new ask read_text units (Ok summary) read same before after cause = tt
-run_memory old mid new ask read_text units (Err e) read same before after cause =
+run_memory old mid new ask read_text units (Ok summary) read fit same before after cause = tt
+run_memory old mid new ask read_text units (Err e) read fit same before after cause =
     λ text s all quiet. memory_clean old new ask text s e all quiet (back_cause old mid new ask read_text units e read
-    same before after cause)
+    fit same before after cause)
 
 pub ends_clean : (old new : Outside) (ask : Files) (text : Text) (s : List Unit') (n : ℕ) → Ends old new ask n →
     AcceptedClean old.store.files ask text s → (Rose old.store.faults new.store.faults → ⊥) →

@@ -5,12 +5,14 @@ use Rattle.wg_top.specs.declared.RunError.{RunError}
 use Rattle.wg_outside.specs.Counts.{Rose}
 use Rattle.wg_top.specs.declared.RunError.TheVariants.{Failed, Absent, Source, Launch, Range, Parted, Turns, Memory}
 use Rattle.wg_top.specs.declared.RunError.TheVariants.{NotObject}
-use Rattle.wg_top.specs.Causes.{Standing, Cause, LeavesFiles}
+use Rattle.wg_top.specs.Causes.{Standing}
+use Rattle.wg_top.specs.CompiledCauses.{Cause, LeavesFiles}
 use Rattle.wg_top.specs.Lines.{error_line, done_line, sample_line, status_of}
 use Rattle.command_words.specs.Command.{Files, Request, run, cached, plan, code, sample, build, exec}
-use Rattle.wg_top.specs.Shown.{Showing, plan_shown, code_shown}
-use Rattle.wg_top.specs.Ends.{SinkStanding, Outside, Ends, EndsShowing, EndsSample, EndsAsked, EndsSaying, SaysLine}
-use Rattle.wg_top.specs.Ends.{KeepsOut}
+use Rattle.wg_top.specs.Shown.{Showing}
+use Rattle.wg_top.specs.CompiledShown.{plan_shown, code_shown}
+use Rattle.wg_top.specs.Outside.{SinkStanding, Outside, EndsSaying}
+use Rattle.wg_top.specs.Ends.{Ends, EndsShowing, EndsSample, EndsAsked, SaysLine, KeepsOut}
 use Rattle.wg_top.proofs.CauseLemmas.{reading_cause}
 use Rattle.wg_top.proofs.ObjectEndLemmas.{build_failed, build_absent, build_no_save, build_quiet, build_line, build_out}
 use Rattle.wg_top.proofs.ObjectEndLemmas.{build_no_usage, build_memory, exec_failed, exec_absent, exec_no_save}

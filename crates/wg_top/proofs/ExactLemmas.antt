@@ -22,13 +22,15 @@ use Rattle.cl_model.specs.Sizes.{Launch as ModelLaunch}
 use Rattle.lane_code.specs.declared.end.RunEnd.{RunEnd}
 use Rattle.lane_code.specs.declared.end.RunEnd.TheVariants as run
 use Rattle.lane_code.specs.Program.{Plain}
-use Rattle.wg_top.specs.Units.{programs_in}
+use Rattle.wg_top.specs.CompiledLaunches.{programs_in, LaunchesRan, EndsBehind, EndsSo}
 use Rattle.wg_top.specs.Units.{bind_refusal}
-use Rattle.wg_top.specs.Launches.{launches_in, LaunchesRan, EndsBehind, EndsSo}
+use Rattle.wg_top.specs.Launches.{launches_in}
 use Rattle.wg_top.specs.Causes.{Standing, SourceLoaded, LaunchLoaded, RunRead, RunBound, BuffersLoaded, TextRefused}
-use Rattle.wg_top.specs.Causes.{BindRefused, SourceRefused, RunStopped, Finds, Cause, HasRun, IsDone}
+use Rattle.wg_top.specs.Causes.{BindRefused, SourceRefused}
+use Rattle.wg_top.specs.CompiledCauses.{RunStopped, Finds, Cause, HasRun, IsDone}
 use Rattle.wg_top.specs.Lines.{status_of}
-use Rattle.wg_top.specs.Ends.{Outside, Ends}
+use Rattle.wg_top.specs.Outside.{Outside}
+use Rattle.wg_top.specs.Ends.{Ends}
 use Rattle.wg_top.specs.Outcomes.{models_in}
 use Rattle.wg_top.proofs.ChainLemmas.{launches_ran}
 use Rattle.wg_top.proofs.CompleteLemmas.{same_text, same_units, no_fault, none_refused, stopped_of, not_failed}
@@ -91,7 +93,7 @@ source_differs fs ask condition place text s refused read =
     no_fault refused.source_bytes read.source_bytes refused.text text s condition place bytes same refused.fault
     read.unit read.compiled
 
-two_texts : (fs : FileMap) (ask : Files) (text other : Text) (s t : List Unit') → RunRead (Some fs) ask text s →
+pub two_texts : (fs : FileMap) (ask : Files) (text other : Text) (s t : List Unit') → RunRead (Some fs) ask text s →
     RunRead (Some fs) ask other t → text ≡ other
 two_texts fs ask text other s t a b =
     same_text a.launch_bytes b.launch_bytes ask text other (same_start fs ask.launch 1048577 a.launch_bytes
@@ -103,7 +105,7 @@ two_units fs ask text other s t a b =
     same_units a.source_bytes b.source_bytes text other s t (same_start fs ask.source 262145 a.source_bytes
     b.source_bytes a.source_loaded b.source_loaded) (two_texts fs ask text other s t a b) a.compiled b.compiled
 
-bind_differs : (fs : FileMap) (ask : Files) (first : Refusal) (text : Text) (s : List Unit') →
+pub bind_differs : (fs : FileMap) (ask : Files) (first : Refusal) (text : Text) (s : List Unit') →
     BindRefused (Some fs) ask first → RunBound (Some fs) ask text s → ⊥
 bind_differs fs ask first text s refused bound =
     let e : Some first ≡ None = sym refused.refused ∙

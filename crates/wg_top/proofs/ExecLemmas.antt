@@ -19,13 +19,14 @@ use Rattle.wg_top.specs.declared.RunError.TheVariants.{NotObject}
 use Rattle.wg_top.specs.declared.Summary.{Summary}
 use Rattle.wg_top.specs.Causes.{Standing, BuffersLoaded}
 use Rattle.wg_top.specs.Lines.{status_of}
-use Rattle.wg_top.specs.Launches.{launches_in, LaunchesRan}
+use Rattle.wg_top.specs.Launches.{launches_in}
+use Rattle.wg_top.specs.CompiledLaunches.{LaunchesRan}
 use Rattle.wg_top.specs.Programs.{runs_refusal, programs_of, AreStopped}
-use Rattle.wg_top.specs.Objects.{runs_each, NameKernel, ExecRead, ExecTaken, ExecUnread, IsNoObject, NamesOther}
-use Rattle.wg_top.specs.Objects.{LacksExec}
-use Rattle.wg_top.specs.Objects.{ExecStopped, TakingFinds, TakenFinds, ExecFinds, ExecCause}
-use Rattle.wg_top.specs.Objects.{ExecDone, ExecAccepted}
-use Rattle.wg_top.specs.Ends.{Outside, EndsExec}
+use Rattle.wg_top.specs.CompiledObjects.{runs_each, NameKernel, ExecTaken, IsNoObject, NamesOther, ExecStopped}
+use Rattle.wg_top.specs.CompiledObjects.{TakingFinds, TakenFinds, ExecFinds, ExecCause, ExecDone, ExecAccepted}
+use Rattle.wg_top.specs.Objects.{ExecRead, ExecUnread, LacksExec}
+use Rattle.wg_top.specs.Outside.{Outside}
+use Rattle.wg_top.specs.Ends.{EndsExec}
 use Rattle.wg_top.proofs.CompleteLemmas.{not_lacked, none_refused}
 use Rattle.wg_top.proofs.ExactLemmas.{lacks_loaded, same_start}
 use Rattle.wg_top.proofs.EndLemmas.{status_above}

@@ -14,17 +14,20 @@ use Rattle.wg_top.specs.declared.RunError.{RunError}
 use Rattle.wg_top.specs.declared.RunError.TheVariants.{Failed, Absent, Source, Launch, Range, Parted, Turns, Memory}
 use Rattle.wg_top.specs.declared.RunError.TheVariants.{NotObject}
 use Rattle.wg_top.specs.declared.Summary.{Summary}
-use Rattle.wg_top.specs.Units.{needs_in, bind_refusal, programs_in}
+use Rattle.wg_top.specs.Units.{needs_in, bind_refusal}
+use Rattle.wg_top.specs.CompiledLaunches.{programs_in}
 use Rattle.wg_top.specs.Launches.{launches_in}
 use Rattle.wg_top.specs.Outcomes.{models_in}
 use Rattle.wg_top.specs.Loops.{HaveNoLoop}
-use Rattle.wg_top.specs.Causes.{Standing, IsRun, IsStopped, StopsIn}
+use Rattle.wg_top.specs.Causes.{Standing}
+use Rattle.wg_top.specs.CompiledCauses.{IsRun, IsStopped, StopsIn}
 use Rattle.wg_top.specs.Programs.{Runs, HaveRun, AreRun, AreStopped, AreSaveStopped, RunsCause, RunsLeave}
 use Rattle.wg_top.specs.Stages.{BackCause, LeavesOthers}
-use Rattle.wg_top.specs.Objects.{CompilesTo, needs_of_object, object_runs, runs_each, ExecTaken, ExecCause}
-use Rattle.wg_top.specs.Objects.{ExecLeaves, TakingCause, TakingFinds}
+use Rattle.wg_top.specs.CompiledObjects.{CompilesTo, needs_of_object, object_runs, runs_each, ExecTaken, ExecCause}
+use Rattle.wg_top.specs.CompiledObjects.{ExecLeaves, TakingCause, TakingFinds}
 use Rattle.wg_top.specs.Lines.{error_line, status_of}
-use Rattle.wg_top.specs.Ends.{Outside, Says, EndsExec, EndsClean}
+use Rattle.wg_top.specs.Outside.{Outside, Says, EndsClean}
+use Rattle.wg_top.specs.Ends.{EndsExec}
 use Rattle.wg_top.specs.ExecOfSource.{IsOfSource, EndsUnits, EndsUntaken, EndsTaken, IsReadableOfSource}
 use Rattle.wg_top.specs.ExecOfSource.{AcceptedOfSource, CleanOfSource, UnitsFind, ObjectHasLoops, IsExecOfSource}
 use Rattle.wg_top.proofs.ChainLemmas.{launches_ran}
@@ -421,7 +424,7 @@ refused_loops old new text units Memory n is cause seven free = omega arith
 refused_loops old new text units NotObject n is cause seven free = omega arith
 refused_loops old new text units (Source condition place) n is cause seven free = omega arith
 
-units_loops : (old new : Outside) (file : List ℕ) (text : Text) (units : List Unit') (n : ℕ) →
+pub units_loops : (old new : Outside) (file : List ℕ) (text : Text) (units : List Unit') (n : ℕ) →
     EndsUnits old new file text units n → n ≡ 7 → HaveNoLoop (models_in units) → ⊥
 units_loops old new file text units n (inl d) seven free = omega (arith, d.status_is, seven)
 units_loops old new file text units n (inr (inl u)) seven free = omega (arith, u.status_is, seven)

@@ -9,7 +9,8 @@ use Rattle.launch_file.specs.declared.refusal.Refusal.{Refusal}
 use Rattle.lane_code.specs.Program.{Plain}
 use Rattle.wg_top.specs.declared.RunError.{RunError}
 use Rattle.wg_top.specs.Causes.{BuffersLoaded}
-use Rattle.wg_top.specs.Launches.{launches_in, LaunchesRan, EndsSo}
+use Rattle.wg_top.specs.Launches.{launches_in}
+use Rattle.wg_top.specs.CompiledLaunches.{LaunchesRan, EndsSo}
 use Rattle.wg_top.specs.Lines.{status_of}
 use Rattle.wg_top.proofs.CompleteLemmas.{none_refused}
 use Rattle.wg_top.proofs.ExactLemmas.{lacks_started, same_before, one_refusal}

@@ -10,17 +10,19 @@ use Rattle.wg_top.specs.declared.RunError.{RunError}
 use Rattle.wg_top.specs.declared.RunError.TheVariants.{Failed, Absent, Source, Launch, Range, Parted, Turns, Memory}
 use Rattle.wg_top.specs.declared.RunError.TheVariants.{NotObject}
 use Rattle.wg_top.specs.declared.Summary.{Summary}
-use Rattle.wg_top.specs.Causes.{Standing, BuffersLoaded, RunRead, Finds, IsReadable}
-use Rattle.wg_top.specs.Causes.{Accepted, AcceptedClean, HasLoops, HasRun, LacksText, SourceRefused}
+use Rattle.wg_top.specs.Causes.{Standing, BuffersLoaded, RunRead, IsReadable, AcceptedClean, HasLoops, LacksText}
+use Rattle.wg_top.specs.Causes.{SourceRefused, NoCacheName}
+use Rattle.wg_top.specs.CompiledCauses.{Finds, Accepted, HasRun}
 use Rattle.wg_top.specs.Launches.{launches_in}
 use Rattle.wg_top.specs.Outcomes.{models_in, AreClean}
-use Rattle.wg_top.specs.Units.{programs_in}
+use Rattle.wg_top.specs.CompiledLaunches.{programs_in}
 use Rattle.wg_top.specs.Lines.{status_of}
-use Rattle.wg_top.specs.Cached.{Honest, NoCacheName, CachedRead, CachedDone, CachedCause, CachedLeaves, CachedFinds}
+use Rattle.wg_top.specs.Cached.{Honest, CachedRead, CachedDone, CachedCause, CachedLeaves, CachedFinds}
 use Rattle.wg_top.specs.Cached.{CachedAccepted, SavesUnderCacheName}
-use Rattle.wg_top.specs.Ends.{Outside, EndsCached}
-use Rattle.wg_top.specs.Honest.{HonestRun, HonestLeaves, EndsHonestDone, EndsHonestRefused}
-use Rattle.wg_top.specs.Honest.{CachedLeavesClean, EndsCachedClean, WithHonestFiles}
+use Rattle.wg_top.specs.Outside.{Outside}
+use Rattle.wg_top.specs.Ends.{EndsCached}
+use Rattle.wg_top.specs.Honest.{HonestRun, HonestLeaves, EndsHonest, CachedLeavesClean, EndsCachedClean}
+use Rattle.wg_top.specs.Honest.{WithHonestFiles}
 use Rattle.wg_top.proofs.ChainLemmas.{are_done}
 use Rattle.wg_top.proofs.CleanLemmas.{leaves_clean}
 use Rattle.wg_top.proofs.CompleteLemmas.{not_failed, run_complete, same_read, memory_clean, refused_loops, same_text}
@@ -181,33 +183,38 @@ cached_complete old new ask n ends all quiet out_quiet =
 
 module _ (old new : Outside) (ask : Files) (n : ℕ) (told : is_some old.store.files ≡ true)
     (honest : Honest old.store.files) where
-  ends_honest : EndsCached old new ask n → EndsHonestDone old new ask n ⊎ EndsHonestRefused old new ask n
+  ends_honest : EndsCached old new ask n → EndsHonest old new ask n
   ends_honest (inl d) =
       inl (record {
         summary = d.summary;
-        status_is = inl d.status_is;
+        status_is = d.status_is;
         done = honest_done old.store new.store ask told honest d.summary d.done;
+        said = d.said;
+        err_stays = d.err_stays;
       })
   ends_honest (inr (inl d)) =
-      inl (record {
+      inr (inl (record {
         summary = d.summary;
-        status_is = inr (d.status_is, d.failed);
+        status_is = d.status_is;
         done = honest_done old.store new.store ask told honest d.summary d.done;
-      })
+        failed = d.failed;
+        part = d.part;
+        said = d.said;
+      }))
   ends_honest (inr (inr r)) =
-      inr (record {
+      inr (inr (record {
         error = r.error;
         status_is = r.status_is;
         cause = honest_cause old.store new.store ask told honest r.error r.cause;
         leaves = honest_leaves old.store new.store ask told honest r.error r.leaves;
-      })
+        said = r.said;
+        out_stays = r.out_stays;
+      }))
 
-  honest_loops : EndsHonestDone old new ask n ⊎ EndsHonestRefused old new ask n → n ≡ 7 → HasLoops old.store.files ask
-  honest_loops (inl d) seven = absurd (elim (d.status_is) [
-    | inl zero ↦ omega (arith, zero, seven)
-    | inr one ↦ omega (arith, one.0, seven)
-  ])
-  honest_loops (inr r) seven = elim (r.cause) [
+  honest_loops : EndsHonest old new ask n → n ≡ 7 → HasLoops old.store.files ask
+  honest_loops (inl d) seven = absurd (omega (arith, d.status_is, seven))
+  honest_loops (inr (inl d)) seven = absurd (omega (arith, d.status_is, seven))
+  honest_loops (inr (inr r)) seven = elim (r.cause) [
     | inl cause ↦ refused_loops old.store new.store ask r.error n r.status_is cause seven
     | inr named ↦
         let four : n ≡ 4 = r.status_is ∙ ap status_of named.0 in absurd (omega (arith, four, seven))
@@ -237,25 +244,22 @@ module _ (old new : Outside) (ask : Files) (n : ℕ) (told : is_some old.store.f
 
   ends_clean : (text : Text) (units : List Unit') → AcceptedClean old.store.files ask text units →
       NoCacheName text.buffers → (Rose old.store.faults new.store.faults → ⊥) →
-      (Rose old.out.faults new.out.faults → ⊥) → EndsHonestDone old new ask n ⊎ EndsHonestRefused old new ask n →
+      (Rose old.out.faults new.out.faults → ⊥) → EndsHonest old new ask n →
       EndsCachedClean old.store.files new.store.files text units n
   ends_clean text units all plain quiet out_quiet (inl d) =
       let same = same_read old.store.files ask text d.done.text units d.done.units all.taken.readable d.done.read in
-      elim (d.status_is) [
-        | inl zero ↦
-            inl (
-              zero,
-              (
-                d.done.source,
-                clean_run text units d.done.source d.summary all.clean
-                    (subst (λ (us : List Unit'). HonestRun old.store.files new.store.files d.done.source text us
-                    d.summary) same.1 (subst (λ (t : Text). HonestRun old.store.files new.store.files d.done.source t
-                    d.done.units d.summary) same.0 d.done.run)),
-              ),
-            )
-        | inr one ↦ absurd (out_quiet one.1)
-      ]
-  ends_clean text units all plain quiet out_quiet (inr r) = elim (r.cause) [
+      inl (
+        d.status_is,
+        (
+          d.done.source,
+          clean_run text units d.done.source d.summary all.clean
+              (subst (λ (us : List Unit'). HonestRun old.store.files new.store.files d.done.source text us
+              d.summary) same.1 (subst (λ (t : Text). HonestRun old.store.files new.store.files d.done.source t
+              d.done.units d.summary) same.0 d.done.run)),
+        ),
+      )
+  ends_clean text units all plain quiet out_quiet (inr (inl d)) = absurd (out_quiet d.failed)
+  ends_clean text units all plain quiet out_quiet (inr (inr r)) = elim (r.cause) [
     | inl cause ↦
         let is = memory_clean old.store new.store ask text units r.error all quiet cause in
         inr (r.status_is ∙ ap status_of is, memory_leaves r.error is r.leaves)

@@ -4,6 +4,8 @@ use Rattle.std.proofs.Common.{sym, ◌∙◌, ap, subst, arith}
 use Rattle.std.specs.Prelude.{◌⊎◌, is_some, true, IfSome}
 use Rattle.std.proofs.lemmas.List.Elements.{Contains-append_cases}
 use Rattle.wg_num.specs.declared.types.Place.{Place}
+use Rattle.wg_num.specs.declared.types.Width.{Width}
+use Rattle.wg_num.specs.Operators.{lanes_of}
 use Rattle.wg_outside.specs.Files.{FileMap, told_file}
 use Rattle.cl_prep.specs.declared.prep.Define.{Define}
 use Rattle.cl_meaning.specs.Typed.{Unit'}
@@ -27,10 +29,9 @@ use Rattle.wg_top.specs.declared.Summary.{Summary}
 use Rattle.wg_top.specs.Units.{HaveTypedUnits, IsFirstRefused, bind_refusal}
 use Rattle.wg_top.specs.Causes.{Standing, RunRead, IsSourceFault, SourceRefused}
 use Rattle.wg_top.specs.Programs.{Runs, runs_refusal}
-use Rattle.wg_top.specs.Objects.{CompilesTo}
-use Rattle.wg_top.specs.Cached.{Honest, IsFound, IsFresh, RunsKernel, RunKernels, IsKept, kernel_key}
-use Rattle.wg_top.specs.Cached.{CachedTaken, CachedDone, CachedFault, CachedCause}
-use Rattle.wg_top.specs.Cached.{CachedLeaves, kept_names}
+use Rattle.wg_top.specs.CompiledObjects.{CompilesTo}
+use Rattle.wg_top.specs.Cached.{Honest, IsFound, IsFresh, RunsKernel, RunKernels, IsKept, kernel_key, CachedTaken}
+use Rattle.wg_top.specs.Cached.{CachedDone, CachedFault, CachedCause, CachedLeaves, kept_names}
 use Rattle.wg_top.specs.Honest.{HonestDone, HonestCause, HonestLeaves}
 use Rattle.wg_top.proofs.ExecOfSourceLemmas.{one_run}
 use Rattle.wg_top.proofs.OutcomeLemmas.{IsRunFor, AreRunsFor, same_refusal}
@@ -41,12 +42,18 @@ use Rattle.wg_top.proofs.CachedLemmas.{among_or_not, among_names, names_among, n
 -- ---- the unit of a kernel that is run
 
 -- an entry that was found is of an object that the source is compiled to
-entry_honest : (files : Option FileMap) (source : List ℕ) (text : Text) (kernel : List ℕ) (o : PlainObject) →
-    is_some files ≡ true → Honest files → AreDefines text.defines → IsFound files source text kernel o →
-    CompilesTo source text.defines kernel text.lanes o
-entry_honest None source text kernel o told honest fit found = absurd (let never : ⊥ = cc told in never)
-entry_honest (Some fs) source text kernel o told honest fit found =
-    honest source text.defines kernel text.lanes found.0 o fit (ap Some found.1) found.2
+entry_honest : (files : Option FileMap) (source : List ℕ) (text : Text) (kernel : List ℕ) (o : PlainObject)
+    (width : Width) → text.lanes ≡ lanes_of width → is_some files ≡ true → Honest files → AreDefines text.defines →
+    IsFound files source text kernel o → CompilesTo source text.defines kernel text.lanes o
+entry_honest None source text kernel o width are told honest fit found = absurd (let never : ⊥ = cc told in never)
+entry_honest (Some fs) source text kernel o width are told honest fit found =
+    let there : told_file (Some fs) (key_name (key_bytes source text.defines kernel text.lanes)) ≡
+    Some (Some found.0) = ap Some found.1 in
+    subst (λ (n : ℕ). CompilesTo source text.defines kernel n o) (sym are)
+    (honest source text.defines kernel width found.0 o fit
+    (subst (λ (n : ℕ). told_file (Some fs) (key_name (key_bytes source text.defines kernel n)) ≡
+    Some (Some found.0)) are there)
+    (subst (λ (n : ℕ). IsEntryOf found.0 (key_bytes source text.defines kernel n) o) are found.2))
 
 -- the typed unit of a kernel, whose program is run
 record HasUnitFor (source : List ℕ) (text : Text) (kernel : List ℕ) (r : Runs) : Type 0 where
@@ -55,10 +62,11 @@ record HasUnitFor (source : List ℕ) (text : Text) (kernel : List ℕ) (r : Run
   runs : IsRunFor text.lanes typed r
 
 module _ (files : Option FileMap) (source : List ℕ) (text : Text) (told : is_some files ≡ true)
-    (honest : Honest files) (fit : AreDefines text.defines) where
+    (honest : Honest files) (fit : AreDefines text.defines) (width : Width)
+    (are : text.lanes ≡ lanes_of width) where
   compiles : (kernel : List ℕ) (o : PlainObject) → IsFound files source text kernel o ⊎
       IsFresh files source text kernel o → CompilesTo source text.defines kernel text.lanes o
-  compiles kernel o (inl found) = entry_honest files source text kernel o told honest fit found
+  compiles kernel o (inl found) = entry_honest files source text kernel o width are told honest fit found
   compiles kernel o (inr fresh) = fresh.compiles
 
   unit_for : (kernel : List ℕ) (r : Runs) → RunsKernel files source text kernel r →
@@ -99,7 +107,8 @@ record IsTakenFor (files : Option FileMap) (ask : Files) (text : Text) (rs : Lis
 taken_for : (files : Option FileMap) (ask : Files) (source : List ℕ) (text : Text) (rs : List Runs) →
     is_some files ≡ true → Honest files → CachedTaken files ask source text rs → IsTakenFor files ask text rs
 taken_for files ask source text rs told honest taken =
-    let x = units_for files source text told honest taken.read.numbers text.list rs taken.chosen in
+    let x = units_for files source text told honest taken.read.numbers taken.read.width taken.read.lanes_are
+    text.list rs taken.chosen in
     record {
       units = x.0;
       read = record {
@@ -126,7 +135,8 @@ module _ (old new : Standing) (ask : Files) (told : is_some old.files ≡ true) 
       SourceRefused old.files ask condition place
   fault_for condition place x =
       let f = x.fault in
-      let earlier = units_for old.files x.source x.text told honest x.read.numbers f.earlier f.kernels f.chosen in
+      let earlier = units_for old.files x.source x.text told honest x.read.numbers x.read.width x.read.lanes_are
+      f.earlier f.kernels f.chosen in
       record {
         text = x.text;
         source_bytes = x.source;
@@ -194,6 +204,7 @@ module _ (old new : Standing) (ask : Files) (told : is_some old.files ≡ true) 
         text = c.text;
         units = t.units;
         read = t.read;
+        fit = c.taken.read.fit;
         stops = back_for old new c.text t.units c.kernels t.runs (Range number several group item place) c.stopped;
       })
   honest_cause (Parted number several group item place) c =
@@ -202,6 +213,7 @@ module _ (old new : Standing) (ask : Files) (told : is_some old.files ≡ true) 
         text = c.text;
         units = t.units;
         read = t.read;
+        fit = c.taken.read.fit;
         stops = back_for old new c.text t.units c.kernels t.runs (Parted number several group item place) c.stopped;
       })
   honest_cause (Turns number several) c =
@@ -210,6 +222,7 @@ module _ (old new : Standing) (ask : Files) (told : is_some old.files ≡ true) 
         text = c.text;
         units = t.units;
         read = t.read;
+        fit = c.taken.read.fit;
         stops = back_for old new c.text t.units c.kernels t.runs (Turns number several) c.stopped;
       })
   honest_cause Memory c = inl tt
@@ -295,19 +308,19 @@ told_bytes (Some f) kept bytes holds is =
 
 pub stays_honest : (old new : Option FileMap) (ask : Files) (summary : Summary) → Honest old →
     CachedDone old new ask summary → Honest new
-stays_honest old new ask summary honest d = λ source defines kernel lanes bytes o fits told is.
-    let name = key_name (key_bytes source defines kernel lanes) in
+stays_honest old new ask summary honest d = λ source defines kernel width bytes o fits told is.
+    let name = key_name (key_bytes source defines kernel (lanes_of width)) in
     elim (among_or_not d.kept name) [
       | inl among ↦
           let x = d.kept_there name (among_names d.kept name among) in
           let same : x.bytes ≡ bytes = told_bytes (told_file new name) x.bytes bytes x.holds told in
-          kept_honest old d.source d.text name x.bytes source defines kernel lanes o d.taken.read.numbers fits x.is_kept
-          (subst (λ (bs : List ℕ). IsEntryOf bs (key_bytes source defines kernel lanes) o) (sym same) is)
+          kept_honest old d.source d.text name x.bytes source defines kernel (lanes_of width) o
+          d.taken.read.numbers fits x.is_kept (subst (λ (bs : List ℕ). IsEntryOf bs (key_bytes source defines kernel (lanes_of width)) o) (sym same) is)
       | inr none ↦
-          honest source defines kernel lanes bytes o fits
+          honest source defines kernel width bytes o fits
           (sym (d.others name (λ among. elim (Contains-append_cases (saves_of d.text.buffers) (kept_names d.kept)
           (Some name) among) [
-            | inl saved ↦ d.plain name saved (names_begin (key_bytes source defines kernel lanes))
+            | inl saved ↦ d.plain name saved (names_begin (key_bytes source defines kernel (lanes_of width)))
             | inr kept ↦ not_there d.kept name none (names_among d.kept name kept)
           ])) ∙ told) is
     ]

@@ -16,8 +16,9 @@ use Rattle.lane_code.specs.Run.{program_end}
 use Rattle.wg_compile.proofs.Sums.{sum-cons}
 use Rattle.wg_top.specs.declared.RunError.{RunError}
 use Rattle.wg_top.specs.declared.RunError.TheVariants as error
-use Rattle.wg_top.specs.Launches.{launch_end, LaunchRan, LaunchesRan, EndsBehind, EndsSo, refusal_of, site_place}
-use Rattle.wg_top.specs.Launches.{start_place, all_groups, all_items}
+use Rattle.wg_top.specs.CompiledLaunches.{launch_end, LaunchRan, LaunchesRan, EndsBehind, EndsSo, refusal_of}
+use Rattle.wg_top.specs.CompiledLaunches.{site_place, start_place}
+use Rattle.wg_top.specs.Launches.{all_groups, all_items}
 
 -- what a program means
 pub end_is : (p : Plain) (launch : Launch) (before : List (List ℕ)) (end : RunEnd) →

@@ -35,7 +35,8 @@ use Rattle.cl_model.proofs.CallWeights.{each-left, each-right}
 use Rattle.cl_meaning.specs.Typed.{Unit'}
 use Rattle.wg_top.specs.declared.RunError.TheVariants as error
 use Rattle.wg_top.specs.Loops.{has_loop, have_loop, arms_have_loop, HasNoLoop, HaveNoLoop}
-use Rattle.wg_top.specs.Outcomes.{AreMade, models_in, EndBehind, IsOutcomeOf}
+use Rattle.wg_top.specs.CompiledOutcomes.{AreMade}
+use Rattle.wg_top.specs.Outcomes.{models_in, EndBehind, IsOutcomeOf}
 
 -- ---- what steps keep, a run keeps
 

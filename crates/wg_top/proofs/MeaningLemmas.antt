@@ -8,7 +8,7 @@ use Rattle.wg_compile.specs.Passes.{IsLike}
 use Rattle.wg_compile.proofs.Alike.{ends_alike}
 use Rattle.wg_top.specs.declared.RunError.{RunError}
 use Rattle.wg_top.specs.declared.RunError.TheVariants as error
-use Rattle.wg_top.specs.Launches.{launch_end, LaunchesRan, EndsBehind, EndsSo, site_place, start_place}
+use Rattle.wg_top.specs.CompiledLaunches.{launch_end, LaunchesRan, EndsBehind, EndsSo, site_place, start_place}
 
 -- a program that is like another ends as that
 pub end_like : (q p : Plain) → IsLike q p → (launch : Launch) (buffers : List (List ℕ)) →

@@ -1,7 +1,8 @@
 -- Why `build` and `exec` end as they do, from the steps that they take.
-use Rattle.std.proofs.Common.{◌≡◌, ℕ, List, [], Option, Some, None, inl, inr, refl, sym, ◌∙◌, ap, subst}
-use Rattle.wg_outside.specs.Files.{FileMap, HasFileStart, LacksFile, HasSaved, KeepsOthers, told_file}
+use Rattle.std.proofs.Common.{◌≡◌, ℕ, List, [], Option, Some, None, inl, inr, refl, sym, ◌∙◌, subst}
+use Rattle.wg_outside.specs.Files.{FileMap, HasFileStart, LacksFile, HasSaved, KeepsOthers}
 use Rattle.buffer_io.specs.Loads.{LacksOneFile}
+use Rattle.cl_check_sound.specs.Law.{DefinesFit}
 use Rattle.cl_prep.specs.declared.prep.Define.{Define}
 use Rattle.command_words.specs.Command.{BuildFiles, ObjectFiles}
 use Rattle.launch_file.specs.Binding.{loads_of}
@@ -16,9 +17,10 @@ use Rattle.wg_top.specs.declared.Summary.{Summary}
 use Rattle.wg_top.specs.Causes.{Standing, HasNoFewer, SourceLoaded}
 use Rattle.wg_top.specs.Stages.{SourceCause, TextRead, LaunchCause, KernelCause, ProgramCause, TypedCause}
 use Rattle.wg_top.specs.Programs.{AreRun, AreStopped, AreSaveStopped, RunsCause, RunsLeave}
-use Rattle.wg_top.specs.Objects.{first_kernel, IsFirstText, FirstCause, IsMadeText, IsBuilt, BuildCause, ObjectLoaded}
-use Rattle.wg_top.specs.Objects.{ExecRead, ExecTaken, ExecStopped, ExecDone, ExecCause, ExecLeaves}
-use Rattle.wg_top.specs.Objects.{TakingCause, NameKernel, runs_each, IsTextFrom}
+use Rattle.wg_top.specs.Objects.{first_kernel, FirstCause, BuildCause, ObjectLoaded, ExecRead}
+use Rattle.wg_top.specs.CompiledObjects.{BuildLeaves, IsFirstText, IsMadeText, IsBuilt, ExecTaken, ExecStopped}
+use Rattle.wg_top.specs.CompiledObjects.{ExecDone, ExecCause, ExecLeaves, TakingCause, NameKernel, runs_each}
+use Rattle.wg_top.specs.CompiledObjects.{IsTextFrom}
 use Rattle.wg_top.proofs.CauseLemmas.{rose_over}
 
 -- ---- build
@@ -73,9 +75,9 @@ build_first old new ask bytes held text _ read loaded same c = absurd c
 
 -- the text was made
 pub made_text : (files : Option FileMap) (ask : BuildFiles) (bytes held : List ℕ) (text : Text) (object : List ℕ) →
-    TextRead files ask.launch ask.lanes None text → SourceLoaded files ask.source bytes → held ≡ bytes →
-    IsFirstText held text object → IsMadeText files ask object
-made_text files ask bytes held text object read loaded same is = record {
+    TextRead files ask.launch ask.lanes None text → DefinesFit text.defines → SourceLoaded files ask.source bytes →
+    held ≡ bytes → IsFirstText held text object → IsMadeText files ask object
+made_text files ask bytes held text object read fit loaded same is = record {
   source = held;
   text = text;
   read = record {
@@ -84,6 +86,7 @@ made_text files ask bytes held text object read loaded same is = record {
     launch_loaded = read.loaded;
     reads = read.reads;
   };
+  fit = fit;
   is = is;
 }
 
@@ -105,6 +108,28 @@ is_built old mid new ask bytes held made same is saved others = record {
       (subst (λ (b : List ℕ). HasSaved mid new ask.object b) is saved);
   others = subst (λ (f : Option FileMap). KeepsOthers f new ask.object) same others;
 }
+
+-- which files a refusal leaves: before saving none is changed
+pub build_left : (old new : Standing) (ask : BuildFiles) (e : RunError) → new.files ≡ old.files →
+    BuildLeaves old new ask e
+build_left old new ask Failed same = inl same
+build_left old new ask Absent same = same
+build_left old new ask (Source condition place) same = same
+build_left old new ask NotObject same = same
+build_left old new ask (Launch first) same = same
+build_left old new ask (Range number several group item place) same = same
+build_left old new ask (Parted number several group item place) same = same
+build_left old new ask (Turns number several) same = same
+build_left old new ask Memory same = same
+
+-- saving the text failed
+pub build_stopped : (old mid new : Standing) (ask : BuildFiles) (bytes : List ℕ) → IsMadeText old.files ask bytes →
+    mid.files ≡ old.files → KeepsOthers mid.files new.files ask.object → BuildLeaves old new ask Failed
+build_stopped old mid new ask bytes made same others = inr (record {
+  bytes = bytes;
+  made = made;
+  others = subst (λ (f : Option FileMap). KeepsOthers f new.files ask.object) same others;
+})
 
 -- ---- exec
 
@@ -235,14 +260,6 @@ exec_done old mid new ask text o summary taken same run = record {
   taken = taken;
   run = subst (λ (f : Option FileMap). AreRun f new text (runs_each o text.list) summary) same run;
 }
-
--- names that stay
-pub keeps_all : (old new : Option FileMap) (name : List ℕ) → new ≡ old → KeepsOthers old new name
-keeps_all old new name same = λ other apart. ap (λ (f : Option FileMap). told_file f other) same
-
-pub keeps_before : (old mid new : Option FileMap) (name : List ℕ) → mid ≡ old → KeepsOthers mid new name →
-    KeepsOthers old new name
-keeps_before old mid new name same others = subst (λ (f : Option FileMap). KeepsOthers f new name) same others
 
 -- the text without its launches
 abbrev pub without_launches : Text → Text

@@ -2,15 +2,16 @@
 use Rattle.std.proofs.Common.{◌≡◌, ℕ, [], inl, inr, refl, ◌∙◌, ap, subst, arith}
 use Rattle.std.specs.Prelude.{◌⊎◌}
 use Rattle.wg_outside.specs.Counts.{Rose}
-use Rattle.wg_outside.specs.Files.{told_file}
 use Rattle.command_words.specs.Command.{BuildFiles, ObjectFiles}
 use Rattle.wg_top.specs.declared.RunError.{RunError}
 use Rattle.wg_top.specs.declared.RunError.TheVariants.{Failed, Absent, Source, Launch, Range, Parted, Turns, Memory}
 use Rattle.wg_top.specs.declared.RunError.TheVariants.{NotObject}
 use Rattle.wg_top.specs.Causes.{Standing}
 use Rattle.wg_top.specs.Lines.{error_line, built_line, done_line, status_of}
-use Rattle.wg_top.specs.Objects.{BuildCause, ExecCause, ExecLeaves}
-use Rattle.wg_top.specs.Ends.{Outside, EndsBuilding, EndsExec, EndsSaying, SaysLine, KeepsOut}
+use Rattle.wg_top.specs.Objects.{BuildCause}
+use Rattle.wg_top.specs.CompiledObjects.{ExecCause, ExecLeaves, BuildLeaves}
+use Rattle.wg_top.specs.Outside.{Outside, EndsSaying}
+use Rattle.wg_top.specs.Ends.{EndsBuilding, EndsExec, SaysLine, KeepsOut}
 
 -- a refusal is no success, and no fault of the words
 pub above : (e : RunError) (n : ℕ) → n ≡ status_of e → (n ≡ 0 → ⊥) × (n ≡ 2 → ⊥)
@@ -61,6 +62,18 @@ build_missed : (old new : Standing) (ask : BuildFiles) (e : RunError) → BuildC
 build_missed old new ask e cause is =
     let both = subst (λ (x : RunError). BuildCause old new ask x) is cause in both.0
 
+build_stays : (old new : Standing) (ask : BuildFiles) (e : RunError) → BuildLeaves old new ask e →
+    (e ≡ Failed → ⊥) → new.files ≡ old.files
+build_stays old new ask Failed leaves other = absurd (other refl)
+build_stays old new ask Absent leaves other = leaves
+build_stays old new ask (Source condition place) leaves other = leaves
+build_stays old new ask (Launch first) leaves other = leaves
+build_stays old new ask (Range number several group item place) leaves other = leaves
+build_stays old new ask (Parted number several group item place) leaves other = leaves
+build_stays old new ask (Turns number several) leaves other = leaves
+build_stays old new ask Memory leaves other = leaves
+build_stays old new ask NotObject leaves other = leaves
+
 pub build_failed : (old new : Outside) (ask : BuildFiles) (n : ℕ) → EndsBuilding old new ask n → n ≡ 1 →
     Rose old.store.faults new.store.faults ⊎ Rose old.out.faults new.out.faults
 build_failed old new ask n ends one = elim ends [
@@ -89,7 +102,8 @@ build_no_save old new ask n ends not_done not_failed = elim ends [
   | inl done ↦ absurd (not_done done.status_is)
   | inr more ↦ elim more [
     | inl unsaid ↦ absurd (not_failed unsaid.status_is)
-    | inr refused ↦ refused.stays (not_one refused.error n refused.status_is not_failed)
+    | inr refused ↦ build_stays old.store new.store ask refused.error refused.leaves
+        (not_one refused.error n refused.status_is not_failed)
   ]
 ]
 
@@ -239,8 +253,7 @@ build_memory old new ask saying =
       error = Memory;
       status_is = refl;
       cause = tt;
-      others = λ other apart. ap (λ s. told_file s.files other) saying.store_stays;
-      stays = λ other. ap (λ s. s.files) saying.store_stays;
+      leaves = ap (λ s. s.files) saying.store_stays;
       said = saying.said;
       out_stays = saying.out_stays;
     }))

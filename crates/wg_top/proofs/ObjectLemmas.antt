@@ -38,7 +38,8 @@ use Rattle.wg_object.proofs.Together.{program_is}
 use Rattle.wg_top.specs.declared.runnable.Runnable.{Runnable}
 use Rattle.wg_top.specs.Units.{needs_in}
 use Rattle.wg_top.specs.Programs.{Runs, runs_of, HasKinds}
-use Rattle.wg_top.specs.Objects.{CompilesTo, needs_of_object, object_runs, runs_each, first_kernel}
+use Rattle.wg_top.specs.CompiledObjects.{CompilesTo, needs_of_object, object_runs, runs_each}
+use Rattle.wg_top.specs.Objects.{first_kernel}
 use Rattle.wg_top.proofs.MiddleLemmas.{params_in}
 use Rattle.wg_top.proofs.OutcomeLemmas.{compiled_to, compiled_group, made_of}
 use Rattle.wg_top.proofs.RunLemmas.{numbers_fit, unit_valid}

@@ -30,16 +30,17 @@ use Rattle.wg_compile.specs.declared.Compiled.{Compiled}
 use Rattle.wg_top.specs.declared.RunError.{RunError}
 use Rattle.wg_top.specs.declared.RunError.TheVariants as error
 use Rattle.wg_compile.specs.Passes.{names_in, kernel_in, group_in, IsLike}
-use Rattle.wg_top.specs.Units.{programs_in, needs_in, first_refusal, or_later}
+use Rattle.wg_top.specs.CompiledLaunches.{programs_in, launch_end, LaunchRan, LaunchesRan, EndsBehind, EndsSo}
+use Rattle.wg_top.specs.CompiledLaunches.{site_place, start_place}
+use Rattle.wg_top.specs.Units.{needs_in, first_refusal, or_later}
 use Rattle.wg_compile.specs.Correct.{IsCompilation}
 use Rattle.wg_compile.specs.Ends.{IsOutcome, EndsInOutcomes}
-use Rattle.wg_top.specs.Outcomes.{IsMade}
-use Rattle.wg_top.specs.Outcomes.{AreMade, HasGroupProgram, HaveGroupPrograms, models_in, RanInOutcomes, EndsInOutcome}
-use Rattle.wg_top.specs.Outcomes.{StopsAsOutcome}
+use Rattle.wg_top.specs.CompiledOutcomes.{IsMade, AreMade, HasGroupProgram, HaveGroupPrograms, RanInOutcomes}
+use Rattle.wg_top.specs.CompiledOutcomes.{EndsInOutcome, StopsAsOutcome}
+use Rattle.wg_top.specs.Outcomes.{models_in}
 use Rattle.wg_top.specs.Programs.{Runs, programs_of, needs_refusal, HaveRoom}
-use Rattle.wg_top.specs.Shown.{code_shown}
-use Rattle.wg_top.specs.Launches.{launch_end, launches_in, LaunchRan, LaunchesRan, EndsBehind, EndsSo, site_place}
-use Rattle.wg_top.specs.Launches.{start_place}
+use Rattle.wg_top.specs.CompiledShown.{code_shown}
+use Rattle.wg_top.specs.Launches.{launches_in}
 use Rattle.wg_top.proofs.MeaningLemmas.{AreLike, end_like}
 
 -- ---- no size of a launch is 0

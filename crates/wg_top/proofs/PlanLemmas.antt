@@ -17,7 +17,7 @@ use Rattle.lane_code.specs.View.{plain_of}
 use Rattle.wg_compile.specs.declared.Compiled.{Compiled}
 use Rattle.wg_compile.specs.Passes.{names_in, kernel_in, plan_in}
 use Rattle.wg_compile.specs.Correct.{IsCorrectFor, IsCompilation}
-use Rattle.wg_top.specs.Shown.{IsPlanText}
+use Rattle.wg_top.specs.CompiledShown.{IsPlanText}
 use Rattle.cl_check_sound.proofs.ErasedPrograms.{program_same}
 
 -- the lines of a valid unit's plan are its text

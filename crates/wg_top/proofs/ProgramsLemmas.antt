@@ -24,13 +24,15 @@ use Rattle.wg_top.specs.declared.RunError.TheVariants.{NotObject}
 use Rattle.wg_top.specs.declared.RunError.TheVariants.{Memory}
 use Rattle.wg_top.specs.declared.Summary.{Summary}
 use Rattle.wg_top.specs.declared.runnable.Runnable.{Runnable}
-use Rattle.wg_top.specs.Causes.{Standing, BuffersLoaded, HasRun, IsRun}
-use Rattle.wg_top.specs.Launches.{launches_in, LaunchesRan, EndsSo, all_groups, all_items}
-use Rattle.wg_top.specs.Outcomes.{AreMade, HaveGroupPrograms}
-use Rattle.wg_top.specs.Programs.{HasKinds, Runs, runs_of, programs_of, runs_refusal, HaveRoom}
-use Rattle.wg_top.specs.Programs.{HaveRun, AreStopped, AreRun, AreSaveStopped, RunsCause, RunsLeave}
+use Rattle.wg_top.specs.Causes.{Standing, BuffersLoaded}
+use Rattle.wg_top.specs.CompiledCauses.{HasRun, IsRun}
+use Rattle.wg_top.specs.Launches.{launches_in, all_groups, all_items}
+use Rattle.wg_top.specs.CompiledLaunches.{LaunchesRan, EndsSo, programs_in}
+use Rattle.wg_top.specs.CompiledOutcomes.{AreMade, HaveGroupPrograms}
+use Rattle.wg_top.specs.Programs.{HasKinds, Runs, runs_of, programs_of, runs_refusal, HaveRoom, HaveRun, AreStopped}
+use Rattle.wg_top.specs.Programs.{AreRun, AreSaveStopped, RunsCause, RunsLeave}
 use Rattle.wg_top.specs.Stages.{BackCause, LeavesOthers}
-use Rattle.wg_top.specs.Units.{needs_in, bind_refusal, programs_in}
+use Rattle.wg_top.specs.Units.{needs_in, bind_refusal}
 use Rattle.wg_top.proofs.MeaningLemmas.{AreLike}
 use Rattle.wg_top.proofs.MiddleLemmas.{params_in}
 use Rattle.wg_top.proofs.OutcomeLemmas.{AreRunsFor, kernel_runs, are_made, have_programs, are_like, same_refusal}

@@ -33,14 +33,15 @@ use Rattle.wg_top.specs.declared.RunError.TheVariants.{Range, Parted, Turns}
 use Rattle.wg_compile.specs.declared.Compiled.{Compiled}
 use Rattle.cl_meaning.specs.Typed.{Unit'}
 use Rattle.cl_meaning.specs.View.{unit_of}
-use Rattle.wg_top.specs.Units.{programs_in}
+use Rattle.wg_top.specs.CompiledLaunches.{programs_in, LaunchesRan, EndsSo}
 use Rattle.wg_top.specs.Units.{HaveTypedUnits, bind_refusal}
-use Rattle.wg_top.specs.Causes.{Standing, BuffersLoaded, StopsIn, HasRun}
-use Rattle.wg_top.specs.Outcomes.{AreMade, HaveGroupPrograms, models_in, RanInOutcomes, StopsAsOutcome}
-use Rattle.wg_top.specs.Causes.{SaveStopped}
+use Rattle.wg_top.specs.Causes.{Standing, BuffersLoaded}
+use Rattle.wg_top.specs.CompiledCauses.{StopsIn, HasRun, SaveStopped}
+use Rattle.wg_top.specs.CompiledOutcomes.{AreMade, HaveGroupPrograms, RanInOutcomes, StopsAsOutcome}
+use Rattle.wg_top.specs.Outcomes.{models_in}
 use Rattle.wg_top.specs.Stages.{BackCause}
 use Rattle.wg_top.proofs.MeaningLemmas.{AreLike, ran_like, so_like}
-use Rattle.wg_top.specs.Launches.{IsReady, HasLimits, launches_in, LaunchesRan, EndsSo}
+use Rattle.wg_top.specs.Launches.{IsReady, HasLimits, launches_in}
 
 -- the first launch is ready
 pub ready_first : (buffers : List BufferText) (launches : List Bindings) (first : Bindings) →

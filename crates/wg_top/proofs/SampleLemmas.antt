@@ -8,8 +8,10 @@ use Rattle.wg_outside.specs.Files.{FileMap}
 use Rattle.wg_top.specs.declared.RunError.{RunError}
 use Rattle.wg_top.specs.declared.RunError.TheVariants.{Failed, Absent, Memory}
 use Rattle.wg_top.specs.declared.Summary.{Summary}
-use Rattle.wg_top.specs.Causes.{Standing, Cause, IsDone}
-use Rattle.wg_top.specs.Sample.{words_from, sample_files, sample_ask, SampleCause, IsSaved, IsSample}
+use Rattle.wg_top.specs.Causes.{Standing}
+use Rattle.wg_top.specs.CompiledCauses.{Cause, IsDone}
+use Rattle.wg_top.specs.Sample.{words_from, sample_files, sample_ask, IsSaved}
+use Rattle.wg_top.specs.CompiledSample.{SampleCause, IsSample}
 use Rattle.wg_compile.proofs.Sums.{sum_push}
 
 -- one more word

@@ -3,7 +3,8 @@ use Rattle.std.proofs.Common.{◌≡◌, ℕ, List, Option, Some, None, get_or, 
 use Rattle.clap.specs.Words.{Row, Text}
 use Rattle.command_words.specs.Command.{Request, run, cached, plan, code, sample, build, exec, Asks, AskFor}
 use Rattle.command_words.proofs.RowLemmas.{one_files, one_number, one_build, one_object}
-use Rattle.wg_top.specs.Ends.{Outside, EndsAsked}
+use Rattle.wg_top.specs.Outside.{Outside}
+use Rattle.wg_top.specs.Ends.{EndsAsked}
 
 -- a name is no other name
 no_name : (name a b : List ℕ) → name ≡ a → name ≡ b → (a ≡ b → ⊥) → ⊥

@@ -2,16 +2,18 @@
 use Rattle.std.specs.Prelude.{◌≡◌, ◌≤◌, ◌⊎◌, ⊤, ℕ, List, [], ◌∷◌, ◌++◌, Option, Some, None, IfSome, map, length}
 use Rattle.std.specs.Prelude.{Contains}
 use Rattle.wg_num.specs.declared.types.Place.{Place}
+use Rattle.wg_num.specs.declared.types.Width.{Width}
+use Rattle.wg_num.specs.Operators.{lanes_of}
 use Rattle.wg_outside.specs.Counts.{Rose}
 use Rattle.wg_outside.specs.Files.{FileMap, told_file}
 use Rattle.buffer_io.specs.Loads.{LacksOneFile}
 use Rattle.buffer_io.specs.Saves.{AllSavedAs, KeepsAllBut, StopsAt}
 use Rattle.cl_prep.specs.declared.prep.Define.{Define}
 use Rattle.cl_meaning.specs.Typed.{Unit'}
+use Rattle.cl_check_sound.specs.Law.{DefinesFit}
 use Rattle.cl_front.specs.declared.condition.Condition.{Condition}
 use Rattle.cl_front.specs.Typed.{HasNoTypedUnit}
 use Rattle.command_words.specs.Command.{Files}
-use Rattle.launch_file.specs.declared.text.BufferText.{BufferText}
 use Rattle.launch_file.specs.declared.refusal.Refusal.{Refusal}
 use Rattle.launch_file.specs.declared.refusal.Refusal.TheVariants.{SavedUnderCacheName}
 use Rattle.launch_file.specs.Refusals.{Reads}
@@ -19,27 +21,30 @@ use Rattle.launch_file.specs.Binding.{loads_of, saves_of}
 use Rattle.launch_file.specs.Texts.{Text, Part}
 use Rattle.wg_object.specs.Plain.{PlainObject}
 use Rattle.wg_object.specs.Valid.{IsEight}
-use Rattle.wg_cache.specs.Keys.{key_bytes, key_name, IsCacheName}
+use Rattle.wg_cache.specs.Keys.{key_bytes, key_name}
 use Rattle.wg_cache.specs.Entries.{IsEntryOf, HasEntry, LacksEntry}
 use Rattle.wg_cache.specs.Laws.{AreDefines}
 use Rattle.wg_top.specs.declared.RunError.{RunError}
 use Rattle.wg_top.specs.declared.RunError.TheVariants.{Failed, Absent, Source, Launch, Range, Parted, Turns, Memory}
 use Rattle.wg_top.specs.declared.Summary.{Summary}
 use Rattle.wg_top.specs.Launches.{launches_in, all_groups, all_items}
-use Rattle.wg_top.specs.Causes.{Standing, SourceLoaded, LaunchLoaded, RunBound, TextRefused, LacksText, Finds}
-use Rattle.wg_top.specs.Causes.{Accepted, AcceptedClean}
+use Rattle.wg_top.specs.Causes.{Standing, SourceLoaded, LaunchLoaded, RunBound, TextRefused, LacksText}
+use Rattle.wg_top.specs.Causes.{AcceptedClean, NoCacheName}
+use Rattle.wg_top.specs.CompiledCauses.{Finds, Accepted}
 use Rattle.wg_top.specs.Programs.{Runs, runs_refusal, HaveRun, AreStopped}
-use Rattle.wg_top.specs.Objects.{CompilesTo, object_runs}
+use Rattle.wg_top.specs.CompiledObjects.{CompilesTo, object_runs}
 
 -- ---- honest files
 
--- each file that is an entry of a key of a source, numbers for names, a kernel and lanes, under that key's name, has
+-- each file that is an entry of a key of a source, numbers for names, a kernel and a width, under that key's name, has
 -- an object that these are compiled to
 abbrev pub Honest : Option FileMap → Type 0
 Honest files =
-    (source : List ℕ) (defines : List Define) (kernel : List ℕ) (lanes : ℕ) (bytes : List ℕ) (o : PlainObject)
-    → AreDefines defines → told_file files (key_name (key_bytes source defines kernel lanes)) ≡ Some (Some bytes)
-    → IsEntryOf bytes (key_bytes source defines kernel lanes) o → CompilesTo source defines kernel lanes o
+    (source : List ℕ) (defines : List Define) (kernel : List ℕ) (width : Width) (bytes : List ℕ) (o : PlainObject)
+    → AreDefines defines
+    → told_file files (key_name (key_bytes source defines kernel (lanes_of width))) ≡ Some (Some bytes)
+    → IsEntryOf bytes (key_bytes source defines kernel (lanes_of width)) o
+    → CompilesTo source defines kernel (lanes_of width) o
 
 -- ---- which object a launch runs
 
@@ -119,20 +124,19 @@ abbrev pub HoldEntries : Option FileMap → (source : List ℕ) → Text → Typ
 HoldEntries files source text =
     (part : Part) → Contains text.list part → HoldsEntry files source text (cache_name source text part.kernel)
 
--- no buffer is saved under a name that begins as those of cache files do
-abbrev pub NoCacheName : List BufferText → Type 0
-NoCacheName buffers = (name : List ℕ) → Contains (saves_of buffers) (Some name) → IsCacheName name → ⊥
-
 -- ---- a run that is done, honest files or not
 
--- source and launch file were loaded, and the launch file was read: its numbers for names are of 64 bits, and it has
--- a launch
+-- source and launch file were loaded, and the launch file was read: its numbers for names are below 2^63, its lanes are
+-- those of a width, and it has a launch
 pub record CachedRead (files : Option FileMap) (ask : Files) (source : List ℕ) (text : Text) : Type 0 where
   pub source_loaded : SourceLoaded files ask.source source
   pub launch_bytes : List ℕ
   pub launch_loaded : LaunchLoaded files ask.launch launch_bytes
   pub reads : Reads launch_bytes ask.lanes ask.turns text
   pub numbers : AreDefines text.defines
+  pub fit : DefinesFit text.defines
+  pub width : Width
+  pub lanes_are : text.lanes ≡ lanes_of width
   pub some : 1 ≤ length text.list
 
 -- and the launches have these kernels

@@ -1,65 +1,35 @@
 -- How the call ends.
-use Rattle.std.specs.Prelude.{◌≡◌, ◌⊎◌, ⊤, ℕ, List, [], Option, Some, codes, is_some, true}
+use Rattle.std.specs.Prelude.{◌≡◌, ◌⊎◌, ⊤, ℕ, List, Option, Some, codes, is_some, true}
 use Rattle.std.specs.Io.KnownBytes.{Appends}
 use Rattle.wg_outside.specs.Counts.{Rose}
 use Rattle.wg_outside.specs.Files.{FileMap}
 use Rattle.wg_outside.specs.Bytes.{AppendsPrefix}
 use Rattle.wg_top.specs.declared.RunError.{RunError}
-use Rattle.wg_top.specs.declared.RunError.TheVariants.{Failed, Absent, Memory}
-use Rattle.command_words.specs.Command.{Files, Request, run, cached, plan, code, sample, TakesWords, AskFor}
-use Rattle.command_words.specs.Command.{BuildFiles, ObjectFiles, build, exec}
-use Rattle.wg_outside.specs.Files.{KeepsOthers}
+use Rattle.wg_top.specs.declared.RunError.TheVariants.{Failed, Absent}
+use Rattle.command_words.specs.Command.{Files, Request, run, cached, plan, code, sample, BuildFiles, ObjectFiles}
+use Rattle.command_words.specs.Command.{build, exec}
 use Rattle.wg_object.specs.Plain.{PlainObject}
 use Rattle.wg_top.specs.declared.Summary.{Summary}
 use Rattle.launch_file.specs.Texts.{Text}
 use Rattle.cl_meaning.specs.Typed.{Unit'}
-use Rattle.wg_top.specs.Causes.{Standing, standing, Finds, ReadingFinds, Cause, ReadingCause, RunRead, LeavesFiles}
-use Rattle.wg_top.specs.Causes.{IsDone, IsReadable, AcceptedRun, LeavesClean}
-use Rattle.wg_top.specs.Outcomes.{AreMade, HaveGroupPrograms}
-use Rattle.wg_top.specs.Shown.{Showing, plan_shown, code_shown, Shows}
-use Rattle.wg_top.specs.Sample.{sample_files, sample_ask, IsSample, SampleCause}
-use Rattle.wg_top.specs.Objects.{IsBuilt, BuildCause, BuildFinds, BuildAccepted, ExecDone, ExecCause, ExecLeaves}
-use Rattle.wg_top.specs.Objects.{ExecFinds, ExecAccepted}
+use Rattle.cl_check_sound.specs.Law.{DefinesFit}
+use Rattle.wg_top.specs.CompiledCauses.{Finds, Cause, LeavesFiles, IsDone, AcceptedRun}
+use Rattle.wg_top.specs.Causes.{ReadingFinds, ReadingCause, RunRead, IsReadable}
+use Rattle.wg_top.specs.CompiledOutcomes.{AreMade, HaveGroupPrograms}
+use Rattle.wg_top.specs.Shown.{Showing, Shows}
+use Rattle.wg_top.specs.CompiledShown.{plan_shown, code_shown}
+use Rattle.wg_top.specs.Sample.{sample_files, sample_ask}
+use Rattle.wg_top.specs.CompiledSample.{IsSample, SampleCause}
+use Rattle.wg_top.specs.CompiledObjects.{IsBuilt, BuildLeaves, ExecDone, ExecCause, ExecLeaves, ExecFinds}
+use Rattle.wg_top.specs.CompiledObjects.{ExecAccepted}
+use Rattle.wg_top.specs.Objects.{BuildCause, BuildFinds, BuildAccepted}
 use Rattle.wg_top.specs.Cached.{CachedDone, CachedCause, CachedLeaves, CachedFinds, CachedAccepted}
-use Rattle.wg_top.specs.Lines.{IsSaid, built_line, done_line, sample_line, error_line, status_of}
-
--- a sink at one moment
-pub record SinkStanding : Type 0 where
-  pub written : Option (List ℕ)
-  pub faults : ℕ
-
--- how a sink stands, by its trait's members
-abbrev pub sink_standing : {S : Type 0} → (S → Option (List ℕ)) → (S → ℕ) → S → SinkStanding
-sink_standing written faults sink = record { written = written sink; faults = faults sink }
+use Rattle.wg_top.specs.Lines.{built_line, done_line, sample_line, error_line, status_of}
+use Rattle.wg_top.specs.Outside.{SinkStanding, Says, Outside}
 
 -- a run that is asked for
 abbrev pub asked : List ℕ → List ℕ → Option ℕ → Option ℕ → Files
 asked source launch lanes turns = record { source = source; launch = launch; lanes = lanes; turns = turns }
-
--- the command takes the words, and they ask for this
-pub record AreWords (words : List (List ℕ)) (request : Request) : Type 0 where
-  pub taken : TakesWords words
-  pub asks : AskFor words request
-
--- a line went to a sink, whole or as a first part where its faults rose
-abbrev pub Says : SinkStanding → SinkStanding → List ℕ → Type 0
-Says old new line = IsSaid old.written new.written old.faults new.faults line
-
--- the store and the two sinks at one moment
-pub record Outside : Type 0 where
-  pub store : Standing
-  pub out : SinkStanding
-  pub err : SinkStanding
-
--- the same, by the members of the three traits
-abbrev pub outside : {S O E : Type 0} → (S → Option FileMap) → (S → ℕ) → (S → ℕ) → (O → Option (List ℕ)) → (O → ℕ) →
-    (E → Option (List ℕ)) → (E → ℕ) → S → O → E → Outside
-outside files faults misses out_written out_faults err_written err_faults store out err =
-    record {
-      store = standing files faults misses store;
-      out = sink_standing out_written out_faults out;
-      err = sink_standing err_written err_faults err;
-    }
 
 -- the run is done, and its line is on `out`
 pub record EndsDone (old new : Outside) (ask : Files) (status : ℕ) : Type 0 where
@@ -90,10 +60,6 @@ pub record EndsRefused (old new : Outside) (ask : Files) (status : ℕ) : Type 0
 -- one of the three
 abbrev pub Ends : Outside → Outside → Files → ℕ → Type 0
 Ends old new ask status = EndsDone old new ask status ⊎ EndsUnsaid old new ask status ⊎ EndsRefused old new ask status
-
--- the run of clean launches is done and leaves what every interleaving leaves, or it wants memory and changes no file
-abbrev pub EndsClean : Option FileMap → Option FileMap → Text → List Unit' → (status : ℕ) → Type 0
-EndsClean old new text units status = ((status ≡ 0) × LeavesClean old new text units) ⊎ ((status ≡ 8) × (new ≡ old))
 
 -- a run with the cache is done, and its line is on `out`
 pub record EndsCachedDone (old new : Outside) (ask : Files) (status : ℕ) : Type 0 where
@@ -126,26 +92,12 @@ abbrev pub EndsCached : Outside → Outside → Files → ℕ → Type 0
 EndsCached old new ask status =
     EndsCachedDone old new ask status ⊎ EndsCachedUnsaid old new ask status ⊎ EndsCachedRefused old new ask status
 
--- nothing but that line on `err` happens
-pub record EndsSaying (old new : Outside) (line : List ℕ) : Type 0 where
-  pub store_stays : new.store ≡ old.store
-  pub out_stays : new.out ≡ old.out
-  pub said : Says old.err new.err line
-
--- the line of words that are not taken
-abbrev pub usage_line : List ℕ
-usage_line = codes "wgcc: usage\n"
-
--- words that ask for nothing: they are not taken, or memory ran out before they were read
-abbrev pub EndsUnasked : Outside → Outside → ℕ → Type 0
-EndsUnasked old new status =
-    ((status ≡ 2) × EndsSaying old new usage_line) ⊎ ((status ≡ 8) × EndsSaying old new (error_line [] Memory))
-
--- all was read, these are the texts of its launches, and what is kept once is equal
+-- all was read, with numbers for names below 2^63, these are the texts of its launches, and what is kept once is equal
 pub record ShownRead (files : Option FileMap) (ask : Files) (show : Showing) (shown : List ℕ) : Type 0 where
   pub text : Text
   pub units : List Unit'
   pub read : RunRead files ask text units
+  pub fit : DefinesFit text.defines
   pub shows : Shows show text units shown
   pub made : AreMade units
   pub compiled : HaveGroupPrograms text.lanes text.list units
@@ -231,13 +183,13 @@ pub record EndsBuiltUnsaid (old new : Outside) (ask : BuildFiles) (status : ℕ)
   pub part : AppendsPrefix old.out.written new.out.written built_line
   pub said : Says old.err new.err (error_line ask.source Failed)
 
--- refused: all names but that of the object file are as before, and that too but where saving failed
+-- refused, with its cause, its status and its line: no file is changed, but the object file where all was read and
+-- compiled and saving it failed
 pub record EndsUnbuilt (old new : Outside) (ask : BuildFiles) (status : ℕ) : Type 0 where
   pub error : RunError
   pub status_is : status ≡ status_of error
   pub cause : BuildCause old.store new.store ask error
-  pub others : KeepsOthers old.store.files new.store.files ask.object
-  pub stays : (error ≡ Failed → ⊥) → new.store.files ≡ old.store.files
+  pub leaves : BuildLeaves old.store new.store ask error
   pub said : Says old.err new.err (error_line ask.source error)
   pub out_stays : new.out ≡ old.out
 

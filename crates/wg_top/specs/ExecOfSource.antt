@@ -13,15 +13,17 @@ use Rattle.wg_object.specs.Plain.{PlainObject}
 use Rattle.wg_top.specs.declared.RunError.{RunError}
 use Rattle.wg_top.specs.declared.RunError.TheVariants.{Failed, Absent, Launch, Range, Parted, Turns}
 use Rattle.wg_top.specs.declared.Summary.{Summary}
-use Rattle.wg_top.specs.Units.{bind_refusal, programs_in}
-use Rattle.wg_top.specs.Launches.{launches_in, LaunchesRan}
+use Rattle.wg_top.specs.Units.{bind_refusal}
+use Rattle.wg_top.specs.CompiledLaunches.{programs_in, LaunchesRan}
+use Rattle.wg_top.specs.Launches.{launches_in}
 use Rattle.wg_top.specs.Outcomes.{models_in, AreClean}
 use Rattle.wg_top.specs.Loops.{HaveNoLoop}
-use Rattle.wg_top.specs.Causes.{BuffersLoaded, IsRun, IsStopped}
+use Rattle.wg_top.specs.Causes.{BuffersLoaded}
+use Rattle.wg_top.specs.CompiledCauses.{IsRun, IsStopped}
 use Rattle.wg_top.specs.Stages.{BackCause, LeavesOthers}
-use Rattle.wg_top.specs.Objects.{CompilesTo, ExecTaken, TakingCause}
+use Rattle.wg_top.specs.CompiledObjects.{CompilesTo, ExecTaken, TakingCause}
 use Rattle.wg_top.specs.Lines.{done_line, error_line, status_of}
-use Rattle.wg_top.specs.Ends.{Outside, Says, EndsClean}
+use Rattle.wg_top.specs.Outside.{Outside, Says, EndsClean}
 
 -- ---- the source's launches
 

@@ -20,8 +20,8 @@ use Rattle.wg_top.specs.declared.Summary.{Summary}
 use Rattle.wg_top.specs.declared.cached.Held.{Held}
 use Rattle.wg_top.specs.declared.runnable.Runnable.{Runnable}
 use Rattle.wg_top.specs.Causes.{Standing}
-use Rattle.wg_top.specs.Cached.{kernel_key, cache_name, IsFound, IsNotFound, IsFresh, IsLaunchFault}
-use Rattle.wg_top.specs.Cached.{CachedRead, CachedDone, CachedCause, CachedLeaves}
+use Rattle.wg_top.specs.Cached.{kernel_key, cache_name, IsFound, IsNotFound, IsFresh, IsLaunchFault, CachedRead}
+use Rattle.wg_top.specs.Cached.{CachedDone, CachedCause, CachedLeaves}
 
 -- the entry of a kernel, with that object
 pub record IsEntryFor (source : List ℕ) (text : Text) (kernel : List ℕ) (o : PlainObject) (entry : Entry) : Type 0 where

@@ -1,5 +1,7 @@
 -- `run --cache` with honest files: what `run` promises, where the entries of what was compiled are kept too.
 use Rattle.std.specs.Prelude.{◌≡◌, ◌⊎◌, ◌++◌, ℕ, List, Option, None}
+use Rattle.std.specs.Io.KnownBytes.{Appends}
+use Rattle.wg_outside.specs.Bytes.{AppendsPrefix}
 use Rattle.wg_outside.specs.Counts.{Rose}
 use Rattle.wg_outside.specs.Files.{FileMap}
 use Rattle.buffer_io.specs.Saves.{AllSavedAs, KeepsAllBut, StopsAt}
@@ -14,10 +16,11 @@ use Rattle.wg_top.specs.declared.Summary.{Summary}
 use Rattle.wg_top.specs.Units.{bind_refusal}
 use Rattle.wg_top.specs.Launches.{launches_in, all_groups, all_items}
 use Rattle.wg_top.specs.Outcomes.{models_in, AllLeave}
-use Rattle.wg_top.specs.Causes.{Standing, SourceLoaded, BuffersLoaded, RunRead, HasRun, Cause, AcceptedClean, HasLoops}
-use Rattle.wg_top.specs.Cached.{Honest, AreKept, kept_names, NoCacheName, EntriesStopped, SavesUnderCacheName}
-use Rattle.wg_top.specs.Lines.{status_of}
-use Rattle.wg_top.specs.Ends.{Outside}
+use Rattle.wg_top.specs.Causes.{Standing, SourceLoaded, BuffersLoaded, RunRead, AcceptedClean, HasLoops, NoCacheName}
+use Rattle.wg_top.specs.CompiledCauses.{HasRun, Cause}
+use Rattle.wg_top.specs.Cached.{Honest, AreKept, kept_names, EntriesStopped, SavesUnderCacheName}
+use Rattle.wg_top.specs.Lines.{done_line, error_line, status_of}
+use Rattle.wg_top.specs.Outside.{Outside, Says}
 
 -- the launches ran as those of a run, the buffers were saved, and behind them entries of this source; every other name
 -- is as before
@@ -67,18 +70,36 @@ abbrev pub HonestLeaves : Standing → Standing → Files → RunError → Type 
 HonestLeaves old new ask Failed = (new.files ≡ old.files) ⊎ HonestSaveFailed old.files new.files ask
 HonestLeaves old new ask _ = new.files ≡ old.files
 
--- it is done, and its line is on `out` or could not be put there
+-- it is done, and its line is on `out`
 pub record EndsHonestDone (old new : Outside) (ask : Files) (status : ℕ) : Type 0 where
   pub summary : Summary
-  pub status_is : (status ≡ 0) ⊎ ((status ≡ 1) × Rose old.out.faults new.out.faults)
+  pub status_is : status ≡ 0
   pub done : HonestDone old.store.files new.store.files ask summary
+  pub said : Appends old.out.written new.out.written (done_line summary.groups summary.items)
+  pub err_stays : new.err ≡ old.err
 
--- it is refused
+-- it is done, and its line could not be put on `out`
+pub record EndsHonestUnsaid (old new : Outside) (ask : Files) (status : ℕ) : Type 0 where
+  pub summary : Summary
+  pub status_is : status ≡ 1
+  pub done : HonestDone old.store.files new.store.files ask summary
+  pub failed : Rose old.out.faults new.out.faults
+  pub part : AppendsPrefix old.out.written new.out.written (done_line summary.groups summary.items)
+  pub said : Says old.err new.err (error_line ask.source Failed)
+
+-- it is refused, with its cause, its status and its line
 pub record EndsHonestRefused (old new : Outside) (ask : Files) (status : ℕ) : Type 0 where
   pub error : RunError
   pub status_is : status ≡ status_of error
   pub cause : HonestCause old.store new.store ask error
   pub leaves : HonestLeaves old.store new.store ask error
+  pub said : Says old.err new.err (error_line ask.source error)
+  pub out_stays : new.out ≡ old.out
+
+-- one of the three
+abbrev pub EndsHonest : Outside → Outside → Files → (status : ℕ) → Type 0
+EndsHonest old new ask status =
+    EndsHonestDone old new ask status ⊎ EndsHonestUnsaid old new ask status ⊎ EndsHonestRefused old new ask status
 
 -- every interleaving of clean launches leaves these buffers, which are saved, each whole; all names that are neither
 -- saved nor kept are as before
@@ -102,8 +123,8 @@ EndsCachedClean old new text units status =
 -- ---- what a run with the cache promises where its files are told and honest, beside what they decide
 
 pub record WithHonestFiles (old new : Outside) (ask : Files) (status : ℕ) : Type 0 where
-  -- each end is one of a run of the source
-  pub ends : EndsHonestDone old new ask status ⊎ EndsHonestRefused old new ask status
+  -- each end is one of a run of the source, and so is the printed line
+  pub ends : EndsHonest old new ask status
   -- 7 says that there is a loop
   pub looped : status ≡ 7 → HasLoops old.store.files ask
   -- what every interleaving of clean launches leaves is saved

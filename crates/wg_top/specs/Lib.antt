@@ -17,3 +17,10 @@ pub mod Ends
 pub mod ExecOfSource
 pub mod Promise
 pub mod Linked
+pub mod CompiledLaunches
+pub mod CompiledOutcomes
+pub mod CompiledCauses
+pub mod CompiledObjects
+pub mod CompiledShown
+pub mod CompiledSample
+pub mod Outside

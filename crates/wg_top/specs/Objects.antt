@@ -1,55 +1,18 @@
--- Object files: what a source is compiled to, what `build` saves, and what `exec` runs.
-use Rattle.std.specs.Prelude.{◌≡◌, ◌⊎◌, ⊤, ℕ, List, [], ◌∷◌, Option, Some, None, sum, map, take, Contains, is_some}
-use Rattle.std.specs.Prelude.{true}
+-- What `build` and `exec` read, and why they are refused before anything is saved or bound: on the model alone.
+use Rattle.std.specs.Prelude.{◌≡◌, ◌⊎◌, ⊤, ℕ, List, [], ◌∷◌, Option, Some, None, take}
 use Rattle.wg_num.specs.declared.types.Place.{Place}
 use Rattle.wg_outside.specs.Counts.{Rose}
-use Rattle.wg_outside.specs.Files.{FileMap, HasFileStart, LacksFile, HasSaved, KeepsOthers, told_file}
-use Rattle.buffer_io.specs.Loads.{LacksOneFile}
-use Rattle.cl_model.specs.Lists.{Each}
-use Rattle.cl_prep.specs.declared.prep.Define.{Define}
+use Rattle.wg_outside.specs.Files.{FileMap, HasFileStart, LacksFile, told_file}
 use Rattle.cl_meaning.specs.Typed.{Unit'}
 use Rattle.cl_front.specs.declared.condition.Condition.{Condition}
 use Rattle.cl_front.specs.Typed.{HasTypedUnit, HasNoTypedUnit}
 use Rattle.command_words.specs.Command.{BuildFiles, ObjectFiles}
 use Rattle.launch_file.specs.declared.refusal.Refusal.{Refusal}
-use Rattle.launch_file.specs.declared.refusal.Refusal.TheVariants.{OtherKernel}
 use Rattle.launch_file.specs.Refusals.{Reads, IsRefused}
-use Rattle.launch_file.specs.Binding.{Needs, loads_of}
 use Rattle.launch_file.specs.Texts.{Text, Part}
-use Rattle.wg_object.specs.Plain.{PlainObject, group_in as plain_in}
-use Rattle.wg_object.specs.Valid.{IsObjectOf}
 use Rattle.wg_top.specs.declared.RunError.{RunError}
-use Rattle.wg_top.specs.declared.RunError.TheVariants.{Failed, Absent, Source, Launch, Range, Parted, Turns, Memory}
-use Rattle.wg_top.specs.declared.RunError.TheVariants.{NotObject}
-use Rattle.wg_top.specs.declared.Summary.{Summary}
-use Rattle.wg_top.specs.Units.{needs_in}
-use Rattle.wg_top.specs.Outcomes.{IsMade, HasGroupProgram}
-use Rattle.wg_top.specs.Launches.{launches_in, LaunchesRan}
-use Rattle.wg_top.specs.Causes.{Standing, SourceLoaded, LaunchLoaded, BuffersLoaded}
-use Rattle.wg_top.specs.Programs.{Runs, runs_refusal, programs_of, AreRun, AreStopped, AreSaveStopped}
-
--- ---- what a source is compiled to
-
--- the object is that of a kernel compiled from this source, with these numbers for names, at so many lanes: a typed
--- unit of the source with that kernel, what it is compiled to, and what the kernel asks of its launches
-pub record CompilesTo (source : List ℕ) (defines : List Define) (kernel : List ℕ) (lanes : ℕ) (o : PlainObject) :
-    Type 0 where
-  pub typed : Unit'
-  pub compiled : HasTypedUnit source defines kernel typed
-  pub made : IsMade typed
-  pub name : o.kernel ≡ kernel
-  pub group : HasGroupProgram lanes typed
-  pub program : plain_in o ≡ group.group
-  pub kinds : o.params ≡ (needs_in typed).kinds
-  pub local_bytes : sum o.locals ≡ (needs_in typed).local_bytes
-  pub sizes : o.sizes ≡ (needs_in typed).required
-
--- the bytes are the text of such an object
-pub record IsTextFrom (source : List ℕ) (defines : List Define) (kernel : List ℕ) (lanes : ℕ) (bytes : List ℕ) :
-    Type 0 where
-  pub object : PlainObject
-  pub compiles : CompilesTo source defines kernel lanes object
-  pub is_text : IsObjectOf bytes object
+use Rattle.wg_top.specs.declared.RunError.TheVariants.{Failed, Absent, Source, Launch, Memory}
+use Rattle.wg_top.specs.Causes.{Standing, SourceLoaded, LaunchLoaded}
 
 -- ---- build
 
@@ -58,13 +21,7 @@ abbrev pub first_kernel : List Part → Option (List ℕ)
 first_kernel [] = None
 first_kernel (part ∷ parts) = Some part.kernel
 
--- the bytes are the text of an object that the source is compiled to, with the kernel of the first launch
-pub record IsFirstText (source : List ℕ) (text : Text) (bytes : List ℕ) : Type 0 where
-  pub kernel : List ℕ
-  pub first : first_kernel text.list ≡ Some kernel
-  pub is : IsTextFrom source text.defines kernel text.lanes bytes
-
--- the condition stands of the source at that place: it has no unit, or its first launch's kernel is at fault
+-- the source violates the condition at that place: it has no unit, or the first launch's kernel is at fault
 pub record IsFirstFault (source : List ℕ) (text : Text) (condition : Condition) (place : Place) : Type 0 where
   pub kernel : List ℕ
   pub first : first_kernel text.list ≡ Some kernel
@@ -83,21 +40,7 @@ pub record BuildRead (files : Option FileMap) (ask : BuildFiles) (source : List 
   pub launch_loaded : LaunchLoaded files ask.launch launch_bytes
   pub reads : Reads launch_bytes ask.lanes None text
 
--- besides, the kernel of the first launch was compiled to the object with this text
-pub record IsMadeText (files : Option FileMap) (ask : BuildFiles) (bytes : List ℕ) : Type 0 where
-  pub source : List ℕ
-  pub text : Text
-  pub read : BuildRead files ask source text
-  pub is : IsFirstText source text bytes
-
--- and that text was saved
-pub record IsBuilt (old new : Option FileMap) (ask : BuildFiles) : Type 0 where
-  pub bytes : List ℕ
-  pub made : IsMadeText old ask bytes
-  pub saved : HasSaved old new ask.object bytes
-  pub others : KeepsOthers old new ask.object
-
--- the condition stands of the source at that place
+-- the launch file was read, and the source violates the condition at that place
 pub record BuildRefused (files : Option FileMap) (ask : BuildFiles) (condition : Condition) (place : Place) :
     Type 0 where
   pub source : List ℕ
@@ -105,7 +48,7 @@ pub record BuildRefused (files : Option FileMap) (ask : BuildFiles) (condition :
   pub read : BuildRead files ask source text
   pub fault : IsFirstFault source text condition place
 
--- the launch file is refused
+-- the launch file violates that condition, and no earlier one
 pub record BuildUnread (files : Option FileMap) (ask : BuildFiles) (refusal : Refusal) : Type 0 where
   pub source : List ℕ
   pub source_loaded : SourceLoaded files ask.source source
@@ -113,7 +56,7 @@ pub record BuildUnread (files : Option FileMap) (ask : BuildFiles) (refusal : Re
   pub launch_loaded : LaunchLoaded files ask.launch launch_bytes
   pub refused : IsRefused launch_bytes ask.lanes None refusal
 
--- source or launch file is not there
+-- if files are visible, the source does not exist, or it does and the launch file does not
 abbrev pub LacksBuild : Option FileMap → BuildFiles → Type 0
 LacksBuild files ask =
     LacksFile files ask.source ⊎ ((bytes : List ℕ) × SourceLoaded files ask.source bytes × LacksFile files ask.launch)
@@ -125,7 +68,7 @@ BuildFinds files ask (Source condition place) = BuildRefused files ask condition
 BuildFinds files ask (Launch refusal) = BuildUnread files ask refusal
 BuildFinds files ask _ = ⊥
 
--- the cause of each refusal of `build`
+-- the cause of each refusal of `build`: that, a fault of the store, or out of memory
 abbrev pub BuildCause : Standing → Standing → BuildFiles → RunError → Type 0
 BuildCause old new ask Failed = Rose old.faults new.faults
 BuildCause old new ask Absent = Rose old.misses new.misses × LacksBuild old.files ask
@@ -134,7 +77,7 @@ BuildCause old new ask (Launch refusal) = BuildUnread old.files ask refusal
 BuildCause old new ask Memory = ⊤
 BuildCause old new ask _ = ⊥
 
--- the store tells its files, has the source and the launch file, the launch file is read, and the kernel of its first
+-- files are visible, source and launch file exist, the launch file violates no condition, and the kernel of its first
 -- launch is one of the source
 pub record BuildAccepted (files : Option FileMap) (ask : BuildFiles) (text : Text) (u : Unit') : Type 0 where
   pub source_bytes : List ℕ
@@ -146,20 +89,7 @@ pub record BuildAccepted (files : Option FileMap) (ask : BuildFiles) (text : Tex
   pub first : first_kernel text.list ≡ Some kernel
   pub compiled : HasTypedUnit (take 262145 source_bytes) text.defines kernel u
 
--- ---- exec: by the meaning of the decoded program
-
--- what an object asks of its launches, and its program
-abbrev pub needs_of_object : PlainObject → Needs
-needs_of_object o = record { kinds = o.params; local_bytes = sum o.locals; required = o.sizes }
-
-abbrev pub object_runs : PlainObject → Runs
-object_runs o = record { needs = needs_of_object o; program = plain_in o }
-
--- one for each launch
-abbrev pub runs_each : PlainObject → List Part → List Runs
-runs_each o parts = map (λ (part : Part). object_runs o) parts
-
--- where files are told, these are the first 2^64 - 1 bytes of the object file
+-- the first 2^64 - 1 bytes of the object file were loaded: these
 abbrev pub ObjectLoaded : Option FileMap → List ℕ → List ℕ → Type 0
 ObjectLoaded files name bytes = HasFileStart files name 18446744073709551615 bytes
 
@@ -170,18 +100,7 @@ pub record ExecRead (files : Option FileMap) (ask : ObjectFiles) (bytes : List �
   pub launch_loaded : LaunchLoaded files ask.launch launch_bytes
   pub reads : Reads launch_bytes None ask.turns text
 
--- each launch names the object's kernel
-abbrev pub NameKernel : Text → PlainObject → Type 0
-NameKernel text o = Each (λ (part : Part). part.kernel ≡ o.kernel) text.list
-
--- besides, the bytes are the text of this object, and each launch names its kernel
-pub record ExecTaken (files : Option FileMap) (ask : ObjectFiles) (text : Text) (o : PlainObject) : Type 0 where
-  pub bytes : List ℕ
-  pub read : ExecRead files ask bytes text
-  pub is_text : IsObjectOf bytes o
-  pub names : NameKernel text o
-
--- the launch file is refused
+-- the launch file violates that condition, and no earlier one
 pub record ExecUnread (files : Option FileMap) (ask : ObjectFiles) (refusal : Refusal) : Type 0 where
   pub bytes : List ℕ
   pub object_loaded : ObjectLoaded files ask.object bytes
@@ -189,113 +108,7 @@ pub record ExecUnread (files : Option FileMap) (ask : ObjectFiles) (refusal : Re
   pub launch_loaded : LaunchLoaded files ask.launch launch_bytes
   pub refused : IsRefused launch_bytes None ask.turns refusal
 
--- E601: the bytes are the text of no object
-pub record IsNoObject (files : Option FileMap) (ask : ObjectFiles) : Type 0 where
-  pub bytes : List ℕ
-  pub text : Text
-  pub read : ExecRead files ask bytes text
-  pub none : (o : PlainObject) → IsObjectOf bytes o → ⊥
-
--- L18: a launch names another kernel
-pub record NamesOther (files : Option FileMap) (ask : ObjectFiles) : Type 0 where
-  pub bytes : List ℕ
-  pub text : Text
-  pub object : PlainObject
-  pub read : ExecRead files ask bytes text
-  pub is_text : IsObjectOf bytes object
-  pub other : NameKernel text object → ⊥
-
--- the run is done
-pub record ExecDone (old new : Option FileMap) (ask : ObjectFiles) (summary : Summary) : Type 0 where
-  pub text : Text
-  pub object : PlainObject
-  pub taken : ExecTaken old ask text object
-  pub run : AreRun old new text (runs_each object text.list) summary
-
--- object file or launch file is not there
+-- if files are visible, the object file does not exist, or it does and the launch file does not
 abbrev pub LacksExec : Option FileMap → ObjectFiles → Type 0
 LacksExec files ask =
     LacksFile files ask.object ⊎ ((bytes : List ℕ) × ObjectLoaded files ask.object bytes × LacksFile files ask.launch)
-
--- no condition stands on its launches, and a buffer's file is not there
-pub record ExecLacksBuffer (files : Option FileMap) (ask : ObjectFiles) : Type 0 where
-  pub text : Text
-  pub object : PlainObject
-  pub taken : ExecTaken files ask text object
-  pub accepted : runs_refusal text (runs_each object text.list) ≡ None
-  pub lacks : LacksOneFile files (loads_of text.buffers)
-
--- a condition stands on its launches
-pub record ExecUnbound (files : Option FileMap) (ask : ObjectFiles) (refusal : Refusal) : Type 0 where
-  pub text : Text
-  pub object : PlainObject
-  pub taken : ExecTaken files ask text object
-  pub refused : runs_refusal text (runs_each object text.list) ≡ Some refusal
-
--- a launch ends so
-pub record ExecStopped (files : Option FileMap) (ask : ObjectFiles) (error : RunError) : Type 0 where
-  pub text : Text
-  pub object : PlainObject
-  pub taken : ExecTaken files ask text object
-  pub stopped : AreStopped files text (runs_each object text.list) error
-
--- the cause of a refusal that comes before the launches are bound
-abbrev pub TakingFinds : Option FileMap → ObjectFiles → RunError → Type 0
-TakingFinds files ask Absent = LacksExec files ask
-TakingFinds files ask NotObject = IsNoObject files ask
-TakingFinds files ask (Launch refusal) = ExecUnread files ask refusal ⊎ ((refusal ≡ OtherKernel) × NamesOther files ask)
-TakingFinds files ask _ = ⊥
-
--- the same with faults and want of memory
-abbrev pub TakingCause : Standing → Standing → ObjectFiles → RunError → Type 0
-TakingCause old new ask Failed = Rose old.faults new.faults
-TakingCause old new ask Absent = Rose old.misses new.misses × LacksExec old.files ask
-TakingCause old new ask NotObject = IsNoObject old.files ask
-TakingCause old new ask (Launch refusal) =
-    ExecUnread old.files ask refusal ⊎ ((refusal ≡ OtherKernel) × NamesOther old.files ask)
-TakingCause old new ask Memory = ⊤
-TakingCause old new ask _ = ⊥
-
--- and behind that
-abbrev pub TakenFinds : Option FileMap → ObjectFiles → RunError → Type 0
-TakenFinds files ask Absent = ExecLacksBuffer files ask
-TakenFinds files ask (Launch refusal) = ExecUnbound files ask refusal
-TakenFinds files ask (Range launch several group item place) =
-    ExecStopped files ask (Range launch several group item place)
-TakenFinds files ask (Parted launch several group item place) =
-    ExecStopped files ask (Parted launch several group item place)
-TakenFinds files ask (Turns launch several) = ExecStopped files ask (Turns launch several)
-TakenFinds files ask _ = ⊥
-
--- what the files decide of `exec`
-abbrev pub ExecFinds : Option FileMap → ObjectFiles → RunError → Type 0
-ExecFinds files ask error = TakingFinds files ask error ⊎ TakenFinds files ask error
-
--- the cause of each refusal of `exec`
-abbrev pub ExecCause : Standing → Standing → ObjectFiles → RunError → Type 0
-ExecCause old new ask Failed = Rose old.faults new.faults
-ExecCause old new ask Absent = Rose old.misses new.misses × ExecFinds old.files ask Absent
-ExecCause old new ask Memory = ⊤
-ExecCause old new ask error = ExecFinds old.files ask error
-
--- saving had begun
-pub record ExecSaveStopped (old new : Option FileMap) (ask : ObjectFiles) : Type 0 where
-  pub text : Text
-  pub object : PlainObject
-  pub taken : ExecTaken old ask text object
-  pub stopped : AreSaveStopped old new text (runs_each object text.list)
-
--- which files a refusal leaves
-abbrev pub ExecLeaves : Standing → Standing → ObjectFiles → RunError → Type 0
-ExecLeaves old new ask Failed = (new.files ≡ old.files) ⊎ ExecSaveStopped old.files new.files ask
-ExecLeaves old new ask _ = new.files ≡ old.files
-
--- what `exec` loads is there and accepted, and its launches are done by its program
-pub record ExecAccepted (files : Option FileMap) (ask : ObjectFiles) (text : Text) (o : PlainObject) : Type 0 where
-  pub taken : ExecTaken files ask text o
-  pub told : is_some files ≡ true
-  pub buffers_told : (name : List ℕ) → Contains (loads_of text.buffers) (Some name) → (bytes : List ℕ) ×
-      (told_file files name ≡ Some (Some bytes))
-  pub accepted : runs_refusal text (runs_each o text.list) ≡ None
-  pub done : (before : List (List ℕ)) → BuffersLoaded files text before → (after : List (List ℕ)) ×
-      LaunchesRan (programs_of (runs_each o text.list)) (launches_in text) before after

@@ -19,7 +19,8 @@ use Rattle.wg_top.specs.declared.RunError.TheVariants.{Failed, Absent, Launch, R
 use Rattle.wg_top.specs.declared.Summary.{Summary}
 use Rattle.wg_top.specs.declared.runnable.Runnable.{Runnable}
 use Rattle.wg_top.specs.Units.{needs_in, or_later}
-use Rattle.wg_top.specs.Launches.{launches_in, LaunchesRan, EndsSo, all_groups, all_items}
+use Rattle.wg_top.specs.Launches.{launches_in, all_groups, all_items}
+use Rattle.wg_top.specs.CompiledLaunches.{LaunchesRan, EndsSo}
 use Rattle.wg_top.specs.Causes.{Standing, BuffersLoaded}
 
 -- a kernel that is bound and run: what it asks of its launches, and the program of a group

@@ -1,12 +1,8 @@
 -- The launch that the program makes itself.
-use Rattle.std.specs.Prelude.{◌≡◌, ◌⊎◌, ℕ, zero, suc, ◌+◌, ◌*◌, ◌%◌, ◌++◌, List, [], ◌∷◌, Some, None, sum, codes}
+use Rattle.std.specs.Prelude.{◌≡◌, ℕ, zero, suc, ◌+◌, ◌*◌, ◌%◌, ◌++◌, List, [], ◌∷◌, Some, None, sum, codes}
 use Rattle.wg_outside.specs.Files.{FileMap, file_in}
 use Rattle.buffer_io.specs.Words.{words_of, bytes_of_words}
 use Rattle.command_words.specs.Command.{Files}
-use Rattle.wg_top.specs.declared.Summary.{Summary}
-use Rattle.wg_top.specs.declared.RunError.{RunError}
-use Rattle.wg_top.specs.declared.RunError.TheVariants.{Memory}
-use Rattle.wg_top.specs.Causes.{Standing, Cause, IsDone}
 
 -- each group's words in reverse
 abbrev pub reversed_source : List ℕ
@@ -102,21 +98,3 @@ pub record IsSaved (files : FileMap) (sum : ℕ) : Type 0 where
   pub bytes : List ℕ
   pub there : file_in files (codes "a.out") ≡ Some bytes
   pub sum_is : sum ≡ words_sum bytes
-
--- the launch of that number is done, and the words that it leaves have that sum
-pub record IsSample (number sum : ℕ) : Type 0 where
-  pub files : FileMap
-  pub summary : Summary
-  pub done : IsDone (Some (sample_files number)) (Some files) sample_ask summary
-  pub saved : IsSaved files sum
-
--- the run of the sample is refused, by what its files say
-pub record SampleRefused (number : ℕ) (error : RunError) : Type 0 where
-  pub old : Standing
-  pub new : Standing
-  pub files : old.files ≡ Some (sample_files number)
-  pub cause : Cause old new sample_ask error
-
--- or memory ran out
-abbrev pub SampleCause : ℕ → RunError → Type 0
-SampleCause number error = (error ≡ Memory) ⊎ SampleRefused number error

@@ -13,7 +13,8 @@ use Rattle.wg_top.specs.declared.RunError.{RunError}
 use Rattle.wg_top.specs.declared.RunError.TheVariants.{Failed, Absent, Source, Launch, Range, Parted, Turns, Memory}
 use Rattle.cl_meaning.specs.Typed.{Unit'}
 use Rattle.wg_top.specs.Units.{IsFirstRefused, bind_refusal}
-use Rattle.wg_top.specs.Causes.{Standing, LaunchLoaded, IsSourceFault, StopsIn, SaveStopped}
+use Rattle.wg_top.specs.Causes.{Standing, LaunchLoaded, IsSourceFault}
+use Rattle.wg_top.specs.CompiledCauses.{StopsIn, SaveStopped}
 
 -- the launch file was loaded, and says this with the options
 pub record TextRead (files : Option FileMap) (launch : List ℕ) (lanes turns : Option ℕ) (text : Text) : Type 0 where

@@ -1,5 +1,5 @@
 -- The typed units of a launch file's launches.
-use Rattle.std.specs.Prelude.{◌⊎◌, ⊤, ℕ, List, [], ◌∷◌, map, Option, None, Some}
+use Rattle.std.specs.Prelude.{◌⊎◌, ⊤, ℕ, List, [], ◌∷◌, Option, None, Some}
 use Rattle.wg_num.specs.declared.types.Place.{Place}
 use Rattle.cl_prep.specs.declared.prep.Define.{Define}
 use Rattle.cl_meaning.specs.Typed.{Unit'}
@@ -10,8 +10,6 @@ use Rattle.launch_file.specs.Texts.{Text, Part}
 use Rattle.launch_file_bind.specs.Needed.{needs_of_kernel}
 use Rattle.cl_front.specs.declared.condition.Condition.{Condition}
 use Rattle.cl_front.specs.Typed.{HasTypedUnit, IsFaulty}
-use Rattle.lane_code.specs.Program.{Plain}
-use Rattle.wg_compile.specs.Passes.{group_in}
 
 -- what the launches of a unit's kernel must meet
 abbrev pub needs_in : Unit' → Needs
@@ -41,7 +39,7 @@ abbrev pub or_later : Option Refusal → Option Refusal → Option Refusal
 or_later None later = later
 or_later (Some first) later = Some first
 
--- the first condition that stands on the launches, in order, each for its own kernel
+-- the first condition that the launches violate, in order, each for its own kernel
 abbrev pub first_refusal : List BufferText → List Part → List Unit' → Option Refusal
 first_refusal buffers (part ∷ parts) (u ∷ us) =
     or_later (launch_refusal (needs_in u) buffers part) (first_refusal buffers parts us)
@@ -50,7 +48,3 @@ first_refusal buffers _ _ = None
 -- the same for a launch file
 abbrev pub bind_refusal : Text → List Unit' → Option Refusal
 bind_refusal text units = first_refusal text.buffers text.list units
-
--- the programs of the groups of a launch file's launches
-abbrev pub programs_in : Text → List Unit' → List Plain
-programs_in text units = map (group_in text.lanes) units

@@ -9,9 +9,11 @@ ghost use Rattle.lane_code.specs.View.{plain_of};
 ghost use Rattle.lane_code.specs.Fits.{LaunchFits};
 ghost use Rattle.launch_file.specs.Texts.{text_of};
 ghost use Rattle.wg_top.specs.Given.{IsText};
-ghost use Rattle.wg_top.specs.Programs.{HasKinds, RunsBindCause, programs_of, runs_of, runs_refusal};
-ghost use Rattle.wg_top.specs.Launches.{launches_in, HasLimits, IsReady, AllFit, LaunchesRan, EndsSo, refusal_of};
-ghost use Rattle.wg_top.specs.Launches.{start_place, all_groups, all_items};
+ghost use Rattle.wg_top.specs.Programs.{HasKinds, RunsBindCause, programs_of, runs_of};
+ghost use Rattle.wg_top.specs.Programs.{runs_refusal};
+ghost use Rattle.wg_top.specs.Launches.{launches_in, HasLimits, IsReady, all_groups, all_items};
+ghost use Rattle.wg_top.specs.CompiledLaunches.{AllFit, LaunchesRan, EndsSo, refusal_of};
+ghost use Rattle.wg_top.specs.CompiledLaunches.{start_place};
 
 use crate::guard::is_within;
 use crate::runnable::Runnable;

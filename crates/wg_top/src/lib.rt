@@ -8,15 +8,17 @@ ghost use Rattle.launch_file.specs.Texts.{Text};
 ghost use Rattle.wg_outside.specs.Counts.{Rose};
 ghost use Rattle.wg_top.specs.Causes.{AcceptedClean, HasLoops};
 ghost use Rattle.wg_top.specs.declared.RunError.{RunError};
+ghost use Rattle.cl_front.specs.Forms.{FormsHold};
 ghost use Rattle.cl_meaning.specs.Typed.{Unit'};
-ghost use Rattle.wg_top.specs.Ends.{EndsCached};
+ghost use Rattle.wg_top.specs.Ends.{EndsCached, Ends, EndsShowing, EndsSample, EndsAsked};
+ghost use Rattle.wg_top.specs.Ends.{AcceptedFor, FindsFor, NoStoreFault, KeepsOut, SaysLine};
+ghost use Rattle.wg_top.specs.Ends.{EndsBuilding, EndsExec};
 ghost use Rattle.wg_top.specs.Cached.{Honest};
 ghost use Rattle.wg_top.specs.Honest.{WithHonestFiles};
-ghost use Rattle.wg_top.specs.Ends.{sink_standing, outside, AreWords, Ends, EndsShowing, EndsSample, EndsClean};
-ghost use Rattle.wg_top.specs.Ends.{EndsAsked, AcceptedFor, FindsFor, NoStoreFault, EndsSaying, KeepsOut, SaysLine};
-ghost use Rattle.wg_top.specs.Ends.{usage_line, EndsUnasked, EndsBuilding, EndsExec};
+ghost use Rattle.wg_top.specs.Outside.{sink_standing, outside, AreWords, EndsClean, EndsSaying};
+ghost use Rattle.wg_top.specs.Outside.{usage_line, EndsUnasked};
 ghost use Rattle.wg_top.specs.ExecOfSource.{IsExecOfSource};
-ghost use Rattle.wg_top.specs.Shown.{showing};
+ghost use Rattle.wg_top.specs.CompiledShown.{showing};
 ghost use Rattle.wg_top.specs.Lines.{status_of};
 ghost use Rattle.wg_top.specs.Promise.{Promised};
 ghost use Rattle.wg_top.specs.Linked.{links};
@@ -345,6 +347,12 @@ pub fn wgcc<S: Store, O: Sink, E: Sink>(
         (outside S.files S.faults S.misses O.written O.faults E.written E.faults store.old out.old err.old)
         (outside S.files S.faults S.misses O.written O.faults E.written E.faults store.new out.new err.new)
         request result }
+
+    // What is proved of each typed unit of a source and of each faulty one: the unit without vectors
+    // that stands for its unit is what it should be, and each vector statement does its steps. The
+    // numbers given for names are to be below 2^63, as those of a launch file are from which
+    // something ran, was shown or was built: fields `fit` of `ends`.
+    ensures vectors { FormsHold }
 
     // Words that the command does not take.
     ensures usage { (TakesWords (map string_bytes words.now) → ⊥) → (result ≡ 2) ⊎ (result ≡ 8) }

@@ -2,7 +2,6 @@
 ghost use Rattle.std.specs.Prelude.{◌≡◌, ◌≤◌, ℕ, List, Bool, false, true, All, IsTrue, ◌↔◌, IfOk, IfErr};
 ghost use Rattle.std.specs.Prelude.{map, sum};
 ghost use Rattle.wg_num.specs.Operators.{lanes_of};
-ghost use Rattle.wg_outside.specs.Files.{KeepsOthers};
 ghost use Rattle.cl_tree.specs.Selections.{has_selection};
 ghost use Rattle.cl_tree.specs.Syntax.{view};
 ghost use Rattle.cl_prep.specs.declared.prep.Define.{Define};
@@ -14,14 +13,15 @@ ghost use Rattle.command_words.specs.Command.{build_of, object_of as files_of};
 ghost use Rattle.launch_file.specs.Texts.{text_of};
 ghost use Rattle.launch_file.specs.Values.{HasNumber};
 ghost use Rattle.wg_object.specs.View.{object_of};
-ghost use Rattle.wg_top.specs.declared.RunError.TheVariants as refusals;
 ghost use Rattle.wg_top.specs.Causes.{standing, HasNoFewer};
 ghost use Rattle.wg_top.specs.Given.{IsText, RefusedFrom};
 ghost use Rattle.wg_top.specs.Stages.{KernelCause};
 ghost use Rattle.wg_top.specs.Units.{needs_in};
-ghost use Rattle.wg_top.specs.Programs.{AreRun, HasKinds, RunsCause, RunsLeave, runs_of};
-ghost use Rattle.wg_top.specs.Objects.{CompilesTo, IsTextFrom, IsFirstText, FirstCause, IsMadeText, IsBuilt, BuildCause};
-ghost use Rattle.wg_top.specs.Objects.{ExecTaken, ExecDone, ExecCause, ExecLeaves, TakingCause, runs_each};
+ghost use Rattle.wg_top.specs.Programs.{AreRun, RunsCause, RunsLeave};
+ghost use Rattle.wg_top.specs.CompiledObjects.{CompilesTo, IsTextFrom, IsFirstText, IsMadeText};
+ghost use Rattle.wg_top.specs.CompiledObjects.{IsBuilt, ExecTaken, ExecDone, ExecCause};
+ghost use Rattle.wg_top.specs.CompiledObjects.{ExecLeaves, TakingCause, runs_each, BuildLeaves};
+ghost use Rattle.wg_top.specs.Objects.{FirstCause, BuildCause};
 
 use crate::programs::{compile_alone, refused};
 use crate::reading::{Options, load_launch, load_source};
@@ -167,9 +167,8 @@ pub(crate) fn build_source<S: Store>(
     ensures ok { IfOk result (λ _. IsBuilt (S.files store.old) (S.files store.new) (build_of files.entry)) }
     ensures err { IfErr result (BuildCause (standing S.files S.faults S.misses store.old)
         (standing S.files S.faults S.misses store.new) (build_of files.entry)) }
-    ensures others { IfErr result (λ _. KeepsOthers (S.files store.old) (S.files store.new)
-        (build_of files.entry).object) }
-    ensures stays { IfErr result (λ e. (e ≡ refusals.Failed → ⊥) → S.files store.new ≡ S.files store.old) }
+    ensures left { IfErr result (BuildLeaves (standing S.files S.faults S.misses store.old)
+        (standing S.files S.faults S.misses store.new) (build_of files.entry)) }
 {
     let text = match text_for(alloc, store, files) {
         Ok(text) => text,

@@ -6,12 +6,14 @@ ghost use Rattle.cl_meaning.specs.View.{unit_of};
 ghost use Rattle.launch_file.specs.Texts.{Text, text_of};
 ghost use Rattle.wg_outside.specs.Counts.{Rose};
 ghost use Rattle.wg_top.specs.declared.RunError.TheVariants as refusals;
-ghost use Rattle.wg_top.specs.Causes.{standing, HasNoFewer, Cause, LeavesFiles, IsRun, IsDone, AcceptedClean};
-ghost use Rattle.wg_top.specs.Causes.{LeavesClean};
+ghost use Rattle.wg_top.specs.Causes.{standing, HasNoFewer, AcceptedClean, LeavesClean};
+ghost use Rattle.wg_top.specs.CompiledCauses.{Cause, LeavesFiles, IsRun, IsDone};
 ghost use Rattle.wg_top.specs.Stages.{BackCause, LeavesOthers};
-ghost use Rattle.wg_top.specs.Programs.{AreRun, HasKinds, RunsCause, RunsLeave, programs_of, runs_of, runs_refusal};
+ghost use Rattle.wg_top.specs.Programs.{AreRun, HasKinds, RunsCause, RunsLeave, programs_of};
+ghost use Rattle.wg_top.specs.Programs.{runs_of, runs_refusal};
 ghost use Rattle.wg_top.specs.Given.{IsText, IsGiven};
-ghost use Rattle.wg_top.specs.Launches.{launches_in, IsReady, AllFit};
+ghost use Rattle.wg_top.specs.Launches.{launches_in, IsReady};
+ghost use Rattle.wg_top.specs.CompiledLaunches.{AllFit};
 ghost use Rattle.wg_top.specs.Ends.{asked};
 
 use crate::launches::{bind_each, count_all, prepare_each, run_each};

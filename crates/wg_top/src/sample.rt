@@ -1,7 +1,8 @@
 // A launch that the program makes itself.
 ghost use Rattle.std.specs.Prelude.{◌≡◌, ◌⊎◌, ◌+◌, ◌*◌, ◌%◌, IfOk, IfErr};
 ghost use Rattle.wg_top.specs.declared.RunError.TheVariants as refusals;
-ghost use Rattle.wg_top.specs.Sample.{source_at, words_from, sample_files, words_sum, IsSaved, IsSample, SampleCause};
+ghost use Rattle.wg_top.specs.Sample.{source_at, words_from, sample_files, words_sum, IsSaved};
+ghost use Rattle.wg_top.specs.CompiledSample.{IsSample, SampleCause};
 
 use crate::RunError;
 use crate::run::run_source;

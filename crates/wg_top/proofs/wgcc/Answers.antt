@@ -1,6 +1,6 @@
 use Rattle.std.proofs.Common.{map, inl, inr, refl, string_bytes}
 use Rattle.command_words.specs.Command.{Request, run, cached, exec, request_of}
-use Rattle.wg_top.specs.Ends.{Outside, outside, EndsSaying, usage_line}
+use Rattle.wg_top.specs.Outside.{Outside, outside, EndsSaying, usage_line}
 use Rattle.wg_top.proofs.EndLemmas.{asked_failed, asked_absent, asked_no_save, asked_quiet, asked_line, asked_out}
 use Rattle.wg_top.proofs.EndLemmas.{asked_no_usage, asked_memory}
 use Rattle.wg_top.proofs.WordLemmas.{as_asked}
@@ -9,6 +9,7 @@ use Rattle.wg_top.proofs.AskedLemmas.{asked_complete, asked_exact}
 use Rattle.wg_top.proofs.ExecOfSourceLemmas.{exec_of_source}
 use Rattle.wg_top.proofs.HonestEndLemmas.{with_honest}
 use Rattle.wg_top.proofs.PromiseLemmas.{promise}
+use Rattle.cl_front.proofs.FaultLemmas.{forms_hold}
 use Rattle.wg_top.proofs.wgcc.Goals as goal
 
 pub returns-in-Ok-clause-ends : goal.returns-in-Ok-clause-ends
@@ -281,3 +282,12 @@ returns-in-Err-Usage-clause-promise g c = record {
     },
   );
 }
+
+pub returns-in-Ok-clause-vectors : goal.returns-in-Ok-clause-vectors
+returns-in-Ok-clause-vectors g c = forms_hold
+
+pub returns-in-Err-Memory-clause-vectors : goal.returns-in-Err-Memory-clause-vectors
+returns-in-Err-Memory-clause-vectors g c = forms_hold
+
+pub returns-in-Err-Usage-clause-vectors : goal.returns-in-Err-Usage-clause-vectors
+returns-in-Err-Usage-clause-vectors g c = forms_hold

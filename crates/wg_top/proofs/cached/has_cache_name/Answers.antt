@@ -1,7 +1,7 @@
 use Rattle.std.proofs.Common.{List, length, ◌≤◌, subst, rules}
 use Rattle.std.proofs.lemmas.List.{take_all}
 use Rattle.launch_file.specs.declared.text.BufferText.{BufferText}
-use Rattle.wg_top.specs.Cached.{NoCacheName}
+use Rattle.wg_top.specs.Causes.{NoCacheName}
 use Rattle.wg_top.proofs.ObjectLemmas.{said_true, said_false}
 use Rattle.wg_top.proofs.CachedLemmas.{saved_so, plain_more}
 use Rattle.wg_top.proofs.cached.has_cache_name.Goals as goal

@@ -1,5 +1,5 @@
 use Rattle.std.proofs.Common.{take}
-use Rattle.wg_top.specs.Cached.{NoCacheName}
+use Rattle.wg_top.specs.Causes.{NoCacheName}
 use Rattle.wg_top.proofs.cached.has_cache_name.Given as goal
 
 abbrev pub invariant-loop-buffer : goal.invariant-loop-buffer

@@ -2,8 +2,7 @@ use Rattle.std.proofs.Common.{refl}
 use Rattle.std.proofs.Common.{List, sym, subst}
 use Rattle.launch_file.specs.declared.text.BufferText.{BufferText}
 use Rattle.launch_file.specs.Texts.{text_of}
-use Rattle.wg_top.specs.Causes.{Standing, standing}
-use Rattle.wg_top.specs.Cached.{NoCacheName}
+use Rattle.wg_top.specs.Causes.{Standing, standing, NoCacheName}
 use Rattle.wg_top.specs.Holding.{AreRunnables}
 use Rattle.wg_top.proofs.CachedLemmas.{runnables_of}
 use Rattle.wg_top.proofs.CachedCauseLemmas.{runnables_many, runnables_kinds, bind_refused, named_refused, run_refused}

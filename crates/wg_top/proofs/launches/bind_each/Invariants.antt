@@ -3,7 +3,8 @@ use Rattle.std.specs.Prelude.{All}
 use Rattle.cl_model.specs.View.{launch_of}
 use Rattle.launch_file.specs.Binding.{launch_in}
 use Rattle.launch_file.specs.Texts.{part_of}
-use Rattle.wg_top.specs.Launches.{IsReady, AllFit}
+use Rattle.wg_top.specs.Launches.{IsReady}
+use Rattle.wg_top.specs.CompiledLaunches.{AllFit}
 use Rattle.wg_top.specs.Programs.{needs_refusal, programs_of, runs_of}
 use Rattle.wg_top.proofs.launches.bind_each.Given as goal
 

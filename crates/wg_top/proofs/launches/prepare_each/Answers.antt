@@ -10,7 +10,7 @@ use Rattle.group_run.specs.declared.launcher.Launcher.{Launcher}
 use Rattle.lane_code.specs.Fits.{LaunchFits}
 use Rattle.lane_code.specs.Program.{Plain}
 use Rattle.lane_code.specs.View.{plain_of}
-use Rattle.wg_top.specs.Launches.{AllFit}
+use Rattle.wg_top.specs.CompiledLaunches.{AllFit}
 use Rattle.wg_top.specs.declared.runnable.Runnable.{Runnable}
 use Rattle.wg_top.proofs.LaunchLemmas.{made_next, taken_next}
 use Rattle.wg_top.proofs.launches.prepare_each.Goals as goal

@@ -4,7 +4,7 @@ use Rattle.std.specs.Vec.Iter.{into_iter_items}
 use Rattle.cl_model.specs.View.{launch_of}
 use Rattle.lane_code.specs.Fits.{LaunchFits}
 use Rattle.lane_code.specs.View.{plain_of}
-use Rattle.wg_top.specs.Launches.{AllFit}
+use Rattle.wg_top.specs.CompiledLaunches.{AllFit}
 use Rattle.wg_top.proofs.launches.prepare_each.Given as goal
 
 abbrev pub invariant-loop-runnable : goal.invariant-loop-runnable

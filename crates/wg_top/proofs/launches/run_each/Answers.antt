@@ -7,7 +7,7 @@ use Rattle.cl_model.specs.Sizes.{Launch}
 use Rattle.group_run.specs.declared.launcher.Launcher.{Launcher}
 use Rattle.lane_code.specs.Program.{Plain}
 use Rattle.lane_code.specs.View.{plain_of}
-use Rattle.wg_top.specs.Launches.{LaunchRan, refusal_of}
+use Rattle.wg_top.specs.CompiledLaunches.{LaunchRan, refusal_of}
 use Rattle.wg_top.proofs.LaunchLemmas.{holds_at, end_is, leaves_is, more_ran, ends_so, done_is, lengths_twice}
 use Rattle.wg_top.proofs.launches.run_each.Goals as goal
 

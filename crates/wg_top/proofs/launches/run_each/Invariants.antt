@@ -1,7 +1,7 @@
 use Rattle.std.proofs.Common.{◌≡◌, map, take, length}
 use Rattle.cl_model.specs.View.{launch_of, buffers_of}
 use Rattle.lane_code.specs.View.{plain_of}
-use Rattle.wg_top.specs.Launches.{LaunchesRan}
+use Rattle.wg_top.specs.CompiledLaunches.{LaunchesRan}
 use Rattle.wg_top.proofs.launches.run_each.Given as goal
 
 abbrev pub invariant-loop-k : goal.invariant-loop-k

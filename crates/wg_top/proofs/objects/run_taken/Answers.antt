@@ -7,7 +7,7 @@ use Rattle.wg_object.specs.View.{object_of}
 use Rattle.wg_top.specs.declared.runnable.Runnable.{Runnable}
 use Rattle.wg_top.specs.Causes.{Standing, standing}
 use Rattle.wg_top.specs.Programs.{Runs, runs_of, AreRun, RunsCause, RunsLeave}
-use Rattle.wg_top.specs.Objects.{runs_each}
+use Rattle.wg_top.specs.CompiledObjects.{runs_each}
 use Rattle.wg_top.proofs.ObjectLemmas.{all_runs, all_kinds}
 use Rattle.wg_top.proofs.objects.run_taken.Goals as goal
 

@@ -4,6 +4,7 @@ use Rattle.command_words.specs.Command.{build_of}
 use Rattle.launch_file.specs.Texts.{text_of}
 use Rattle.wg_top.specs.Causes.{Standing, standing}
 use Rattle.wg_top.proofs.CauseLemmas.{text_before}
+use Rattle.wg_top.proofs.RunLemmas.{numbers_fit}
 use Rattle.wg_top.proofs.ObjectCauseLemmas.{build_source_cause, build_launch, build_first, made_text}
 use Rattle.wg_top.proofs.objects.text_for.Goals as goal
 
@@ -22,7 +23,8 @@ returns-clause-ok g c =
     c.in-Ok-load_launch.ensures.ok in
     IfOk-weaker _ _ _ (λ (v : Vec ℕ Global) is. made_text old.files (build_of c.args.files) c.in-Ok.bytes.items
     c.deref.result.now
-    (text_of c.in-Ok-load_launch.text) v.items read c.in-Ok.ensures.ok c.deref.ensures.value is)
+    (text_of c.in-Ok-load_launch.text) v.items read
+    (numbers_fit _ c.in-Ok-load_launch.ensures.is.numbers) c.in-Ok.ensures.ok c.deref.ensures.value is)
     c.first_text.ensures.ok
 
 pub returns-clause-err : goal.returns-clause-err

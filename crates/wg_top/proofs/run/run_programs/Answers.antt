@@ -11,7 +11,8 @@ use Rattle.lane_code.specs.View.{plain_of}
 use Rattle.launch_file.specs.Binding.{lengths_of}
 use Rattle.launch_file.specs.Texts.{text_of}
 use Rattle.wg_top.specs.Causes.{standing, BuffersLoaded}
-use Rattle.wg_top.specs.Launches.{AllFit, IsReady, launches_in}
+use Rattle.wg_top.specs.CompiledLaunches.{AllFit}
+use Rattle.wg_top.specs.Launches.{IsReady, launches_in}
 use Rattle.wg_top.specs.declared.runnable.Runnable.{Runnable}
 use Rattle.wg_top.specs.Programs.{HaveRoom, HaveRun, Runs, programs_of, runs_of}
 use Rattle.wg_top.proofs.LaunchLemmas.{lengths_twice}

@@ -1,7 +1,7 @@
 use Rattle.std.proofs.Common.{sym, subst}
 use Rattle.std.proofs.lemmas.Result.{IfOk-weaker}
 use Rattle.wg_top.specs.declared.texts.Shown.{Shown}
-use Rattle.wg_top.specs.Shown.{showing}
+use Rattle.wg_top.specs.CompiledShown.{showing}
 use Rattle.wg_top.proofs.OutcomeLemmas.{code_text_of}
 use Rattle.wg_top.proofs.PlanLemmas.{plan_text_of}
 use Rattle.wg_top.proofs.texts.kernel_text.Goals as goal

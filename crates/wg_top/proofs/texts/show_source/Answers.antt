@@ -4,6 +4,7 @@ use Rattle.cl_meaning.specs.View.{unit_of}
 use Rattle.launch_file.specs.Texts.{Text, text_of}
 use Rattle.wg_compile.specs.declared.Compiled.{Compiled}
 use Rattle.wg_top.specs.Programs.{Runs}
+use Rattle.wg_top.proofs.RunLemmas.{numbers_fit}
 use Rattle.wg_top.proofs.OutcomeLemmas.{AreRunsFor, kernel_runs, compiled_runs, are_made, have_programs}
 use Rattle.wg_top.proofs.texts.show_source.Goals as goal
 
@@ -20,6 +21,7 @@ returns-in-Ok-texts_of-clause-ok g c =
       text = text;
       units = units;
       read = c.in-Ok.ensures.read;
+      fit = numbers_fit _ c.in-Ok.ensures.given.text.numbers;
       shows = c.in-Ok-texts_of.ensures;
       made = are_made text.lanes text.list units rs runs;
       compiled = have_programs text.lanes text.list units rs runs;

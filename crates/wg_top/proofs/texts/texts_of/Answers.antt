@@ -9,7 +9,8 @@ use Rattle.launch_file.specs.Binding.{part_at}
 use Rattle.launch_file.specs.Texts.{Part, text_of}
 use Rattle.wg_compile.specs.declared.Compiled.{Compiled}
 use Rattle.wg_compile.specs.Correct.{IsCompilation}
-use Rattle.wg_top.specs.Shown.{showing, head_of, AreTexts}
+use Rattle.wg_top.specs.CompiledShown.{showing}
+use Rattle.wg_top.specs.Shown.{head_of, AreTexts}
 use Rattle.wg_top.proofs.BoundLemmas.{at_place}
 use Rattle.wg_top.proofs.LaunchLemmas.{holds_at}
 use Rattle.wg_top.proofs.ShownLemmas.{one_text, same_at, no_text}

@@ -1,6 +1,7 @@
 use Rattle.std.proofs.Common.{ℕ, suc, ◌++◌, List, map, drop}
 use Rattle.launch_file.specs.Texts.{text_of}
-use Rattle.wg_top.specs.Shown.{showing, AreTexts}
+use Rattle.wg_top.specs.CompiledShown.{showing}
+use Rattle.wg_top.specs.Shown.{AreTexts}
 use Rattle.wg_top.proofs.texts.texts_of.Given as goal
 use Rattle.cl_meaning.specs.View.{unit_of}
 
