@@ -1,0 +1,1 @@
+"""The parts of tools/port: a kernel as it was written elsewhere becomes one that `wgcc` takes."""

@@ -1,0 +1,202 @@
+"""The unit of a source is read: functions, tables, and the names of types."""
+from . import types
+from .declarations import Declarations
+from .expressions import Expressions
+from .notes import Refused
+from .statements import Statements
+from .tokens import Token
+from .tree import Node, Scope, Symbol
+from .types import Array, Function, Other, Pointer, Struct
+
+
+class Declarator:
+    """A variable that is declared."""
+
+    def __init__(self, symbol, initial):
+        self.symbol, self.initial = symbol, initial
+
+
+class Reader(Expressions, Statements, Declarations):
+    """Reads a unit from its tokens."""
+
+    def __init__(self, tokens, notes):
+        self.tokens, self.notes, self.at = tokens, notes, 0
+        last = tokens[-1] if tokens else None
+        self.end = Token('end', 'the end', last and last.file, last.line if last else 1, 0, True)
+        self.scope, self.function, self.calls = Scope(), None, []
+        self.aligned = None
+        self.symbols = []
+
+    def peek(self, ahead=0):
+        """The next token, or one behind it."""
+        return self.tokens[self.at + ahead] if self.at + ahead < len(self.tokens) else self.end
+
+    def take(self):
+        """The next token, which is read with that."""
+        token = self.peek()
+        if token is self.end:
+            raise Refused(token, 'syntax: the source ends too early')
+        self.at += 1
+        return token
+
+    def is_next(self, text):
+        """Whether a mark is next."""
+        return self.peek().text == text and self.peek().kind == 'mark'
+
+    def expect(self, text):
+        """Reads a mark that has to be there."""
+        if not self.is_next(text):
+            raise Refused(self.peek(), 'syntax: %r stands where %r is expected' % (self.peek().text, text))
+        return self.take()
+
+    def unit(self):
+        """The parts of the source, in their order."""
+        parts = []
+        while self.at < len(self.tokens):
+            if self.is_next(';'):
+                self.take()
+                continue
+            part = self.outer()
+            if part is not None:
+                parts.append(part)
+        return parts
+
+    def outer(self):
+        """A function, or a declaration at the outer level."""
+        start = self.at
+        found = self.specifiers()
+        name, kind = (None, found.type) if self.is_next(';') else self.declarator(found.type, found)
+        if name is not None and self.is_next('('):
+            return self.whole_function(found, name, kind)
+        self.at = start
+        return self.declaration()
+
+    def declaration(self):
+        """A declaration of variables or of names of types; None where nothing is left of it."""
+        found = self.specifiers()
+        declarators = []
+        self.aligned = None
+        while not self.is_next(';'):
+            name, kind = self.declarator(found.type, found)
+            if name is None:
+                raise Refused(self.peek(), 'syntax: a name is expected')
+            self.attributes(found)
+            if 'typedef' in found.storage:
+                self.scope.names[name.text] = Symbol('typedef', name.text, kind, name, found.space or 'private')
+            else:
+                declarators.append(self.variable(found, name, kind))
+            if not self.is_next(','):
+                break
+            self.take()
+        end = self.expect(';')
+        if not declarators:
+            return None
+        return Node('declaration', found.token, declarators=declarators, specifiers=found, end=end)
+
+    def variable(self, found, name, kind):
+        """One variable of a declaration."""
+        space = 'private' if isinstance(kind, Pointer) else found.space or 'private'
+        if self.function is None and space == 'private':
+            if not (found.is_const or isinstance(kind, Pointer) and kind.space == 'constant'):
+                raise Refused(name, 'a variable outside functions that is not constant')
+            space = 'constant'
+            self.notes.add('`static const` is `__constant`', name)
+        if self.function is not None and 'static' in found.storage:
+            if not found.is_const and found.space != 'constant':
+                raise Refused(name, 'a static variable in a function')
+            space = 'constant'
+        symbol = Symbol('variable', name.text, kind, name, space)
+        symbol.function, symbol.is_const = self.function, found.is_const
+        self.scope.names[name.text] = symbol
+        self.symbols.append(symbol)
+        initial = None
+        if self.is_next('='):
+            self.take()
+            initial = self.initial()
+        symbol.type = completed(kind, initial, name)
+        symbol.initial = initial
+        if isinstance(symbol.type, Pointer) and initial is not None:
+            symbol.sources.append(initial)
+        elif isinstance(kind, Other) and kind.name != 'event_t':
+            raise Refused(name, 'floating point, or a type without values here: %s' % kind.name)
+        if isinstance(kind, types.Void) or types.size_of(symbol.type) is None and not isinstance(kind, Other):
+            raise Refused(name, 'a variable of a type without a size')
+        return Declarator(symbol, initial)
+
+    def whole_function(self, found, name, result):
+        """A function or its prototype."""
+        self.expect('(')
+        outside = self.scope
+        self.scope = Scope(outside)
+        parameters = self.parameters()
+        self.attributes(found)
+        kind = Function(result, [symbol.type for symbol in parameters], [symbol.name for symbol in parameters])
+        symbol = outside.names.get(name.text)
+        if symbol is None or symbol.kind != 'function':
+            symbol = Symbol('function', name.text, kind, name)
+            symbol.is_called = False
+            outside.names[name.text] = symbol
+            self.symbols.append(symbol)
+        is_kernel = 'kernel' in found.storage
+        node = Node('function', found.token, symbol=symbol, parameters=parameters, is_kernel=is_kernel,
+                    specifiers=found, name=name, body=None)
+        for each in parameters:
+            each.is_kernel_parameter, each.function = is_kernel, node
+            self.symbols.append(each)
+        if self.is_next(';'):
+            self.take()
+        else:
+            self.function = symbol.node = node
+            symbol.type = kind
+            node.body = self.block()
+            self.function = None
+        self.scope = outside
+        if isinstance(result, (Pointer, Other)) or isinstance(result, types.Array):
+            raise Refused(name, 'a function that returns a pointer' if isinstance(result, Pointer)
+                          else 'floating point, or a type without values here')
+        return node
+
+    def parameters(self):
+        """The parameters of a function, each a variable of its scope."""
+        found = []
+        while not self.is_next(')'):
+            words = self.specifiers()
+            name, kind = self.declarator(words.type, words)
+            self.attributes(words)
+            if isinstance(kind, types.Void) and name is None and not found:
+                break
+            if isinstance(kind, Array):
+                kind = Pointer(kind.of, words.space or 'private', words.is_const)
+                self.notes.add('an array as a parameter is a pointer', name or words.token)
+            if isinstance(kind, Other) or isinstance(kind, Pointer) and isinstance(kind.to, (Other, types.Void)):
+                raise Refused(name or words.token, 'floating point, or a parameter without values here')
+            spelling = name.text if name is not None else 'port_parameter_%d' % len(found)
+            symbol = Symbol('variable', spelling, kind, name or words.token)
+            symbol.is_parameter, symbol.is_const = True, words.is_const
+            self.scope.names[spelling] = symbol
+            found.append(symbol)
+            if not self.is_next(','):
+                break
+            self.take()
+        self.expect(')')
+        return found
+
+
+def completed(kind, initial, name):
+    """The type of an array whose first length is left out, with the length that its initialiser gives."""
+    if not (isinstance(kind, Array) and kind.length is None):
+        return kind
+    if initial is None or initial.kind not in ('list', 'string'):
+        raise Refused(name, 'the length of an array is left out')
+    if initial.kind == 'string':
+        return Array(kind.of, len(initial.values))
+    at, most = 0, 0
+    per = len(list(types.leaves(kind.of)))
+    has_inner = any(item.kind in ('list', 'string') or item.type == kind.of for item in initial.items) or per == 1
+    if any(item.places for item in initial.items) or has_inner:
+        for item in initial.items:
+            at = item.places[0] if item.places else at
+            at += 1
+            most = max(most, at)
+        return Array(kind.of, most)
+    return Array(kind.of, -(-len(initial.items) // per))
