@@ -121,7 +121,8 @@ class Bodies:
             text = self.effect(first.value, context, is_statement=False)
             return [text, '; '] if text else ';'
         found = self.declarations_of(first, context)
-        if len(found) == 1 and not context.steps:
+        has_vector = any(isinstance(each.symbol.type, (Vector, Struct)) for each in first.declarators)
+        if len(found) == 1 and not context.steps and not has_vector:
             return [found[0], ' ']
         context.variables += [plain(part) for part in self.front_texts(context)] + [plain(part) for part in found]
         return ';'
@@ -186,6 +187,16 @@ class Bodies:
     def statement_goto(self, node):
         """`goto`."""
         raise Refused(node.token, 'goto %s' % node.name, 'goto')
+
+    def statement_raw(self, node):
+        """A statement that was made."""
+        return in_source(node.token, node.text)
+
+    def statement_wrapped(self, node):
+        """Statements in a loop that was made."""
+        if node.is_once:
+            return [in_source(node.token, 'do'), self.statement(node.body), ' while (0);']
+        return [in_source(node.token, 'while (1)'), self.statement(node.body)]
 
     def statement_return(self, node):
         """`return`; a vector or a structure is stored through a pointer."""

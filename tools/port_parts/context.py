@@ -25,10 +25,9 @@ class Names:
         return 'port_%d' % (self.next - 1)
 
     def like(self, name):
-        """A name like another one."""
+        """A name like another one that the source does not have."""
         while name in self.taken:
             name += '_'
-        self.taken.add(name)
         return name
 
 

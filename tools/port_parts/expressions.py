@@ -104,8 +104,10 @@ class Expressions:
             raise Refused(start, 'a compound literal')
         if isinstance(kind, Vector) and self.is_next('('):
             return self.vector(start, kind)
-        operand = self.cast()
-        return self.made('cast', start, kind, operand=operand)
+        node = self.made('cast', start, kind, operand=self.cast())
+        if isinstance(kind, Pointer):
+            self.casts.append(node)
+        return node
 
     def vector(self, start, kind):
         """A vector that is made of a list of numbers and vectors."""

@@ -2,7 +2,7 @@
 from . import types
 from .cells import Cells, cells_of
 from .notes import Refused
-from .pointers import element, is_plain
+from .pointers import bases_of, element, is_plain, own_type
 from .types import Array, Other, Pointer, Struct, Vector
 
 PLAIN, CELLS, MOVING, EVENT = 'plain', 'cells', 'moving', 'event'
@@ -13,16 +13,47 @@ def dimensions(kind):
     return 1 + dimensions(kind.of) if isinstance(kind, Array) else 0
 
 
-def decide(symbol, notes):
+def decide(symbol, notes, names):
     """Gives a variable its form and, where it stands in an array of numbers, its elements."""
     kind = symbol.type
     symbol.cells = None
     if isinstance(kind, Other):
         symbol.form = EVENT
     elif isinstance(kind, Pointer):
+        symbol.moving_names = names.like(symbol.name + '_of'), names.like(symbol.name + '_at')
         decide_pointer(symbol, kind, notes)
     else:
         decide_object(symbol, kind, notes)
+
+
+def look_at_casts(casts):
+    """An object that is also looked at as smaller numbers stands in an array of these."""
+    for node in casts:
+        if any(not types.is_number(leaf) for leaf, _ in types.leaves(node.type.to)):
+            continue
+        unit = min(types.SIZES[leaf.name] for leaf, _ in types.leaves(node.type.to))
+        for base in bases_of(node.operand):
+            if base.kind == 'variable':
+                own = own_type(base)
+                if all(types.is_number(leaf) for leaf, _ in types.leaves(own)) \
+                        and unit < min(types.SIZES[leaf.name] for leaf, _ in types.leaves(own)):
+                    base.unit = min(unit, base.unit or unit)
+
+
+def share_cells(symbol, notes):
+    """A pointer variable has the elements of the objects to which it leads."""
+    found = {}
+    for base in symbol.bases:
+        if base.kind == 'variable':
+            cells = base.cells or Cells(types.spelled(element(own_type(base))), types.size_of(element(own_type(base))))
+            found[cells.name, cells.size] = cells
+    if len(found) > 1:
+        raise Refused(symbol.token, 'a pointer to objects of several types')
+    for cells in found.values():
+        if cells.name != symbol.cells.name or cells.size != symbol.cells.size:
+            symbol.cells = cells
+            symbol.form = symbol.form if symbol.form == MOVING else CELLS
+            notes.add('a pointer cast: elements are put together', symbol.token)
 
 
 def decide_pointer(symbol, kind, notes):
@@ -32,6 +63,8 @@ def decide_pointer(symbol, kind, notes):
     symbol.cells = cells_of(kind.to, kind.space)
     if symbol.cells is None:
         raise Refused(symbol.token, 'a pointer to what is no number')
+    if symbol.unit is not None:
+        symbol.cells = Cells(types.BY_SIZE[symbol.unit], symbol.unit)
     is_own = is_plain(kind.to) and symbol.cells.name == types.spelled(kind.to)
     symbol.form = MOVING if symbol.is_moving else PLAIN if is_own else CELLS
     if symbol.is_moving:
@@ -44,11 +77,12 @@ def decide_object(symbol, kind, notes):
     is_vector = isinstance(inner, Vector)
     needs_cells = isinstance(inner, Struct) or depth > 3 or is_vector and depth > 1 \
         or is_vector and symbol.space == 'constant' or is_vector and depth == 0 and symbol.space == 'local' \
-        or symbol.is_addressed and depth == 0
+        or symbol.is_addressed and depth == 0 or symbol.unit is not None
     symbol.form = CELLS if needs_cells else PLAIN
     if not needs_cells:
         return
-    symbol.cells = cells_of(kind, symbol.space)
+    symbol.cells = cells_of(kind, symbol.space) if symbol.unit is None \
+        else Cells(types.BY_SIZE[symbol.unit], symbol.unit)
     if symbol.cells is None:
         raise Refused(symbol.token, 'a variable that is no number')
     if isinstance(inner, Struct):

@@ -1,6 +1,9 @@
 """The text of the ported source: every token on the line on which it stood."""
+import re
+
 from .tokens import Token
 
+BLANKS = re.compile(r'[ \t]+\n')
 GLUED = set('+-&|<>=!*/%^#.:')
 
 
@@ -35,25 +38,51 @@ class Page:
 
     def __init__(self):
         self.pieces, self.line, self.column, self.last, self.others = [], 1, 0, '', []
+        self.last_mark = ''
 
     def write(self, text, keeps_lines=True):
-        """Writes a text."""
+        """Writes a text. What was made stands on the line of the token behind it, but for the ends of statements."""
+        waiting = []
         for atom in flat(text):
-            is_token = isinstance(atom, Token)
-            if is_token and keeps_lines and atom.file is None and atom.line > self.line:
+            if not isinstance(atom, Token):
+                waiting.append(atom)
+                continue
+            is_later = keeps_lines and atom.file is None and atom.line > self.line
+            waiting = self.made(waiting, is_later)
+            if is_later:
                 self.put('\n' * (atom.line - self.line))
                 self.put(' ' * atom.column)
                 self.line, self.column, self.last = atom.line, atom.column, ' '
-            content = atom.text if is_token else atom
-            if not content:
-                continue
-            if self.needs_blank(content, is_token and atom.is_apart):
-                self.put(' ')
-                self.column += 1
-            if is_token and keeps_lines and (atom.file is not None or atom.line != self.line):
-                self.others.append((self.line, self.column + 1, atom.file, atom.line))
-            self.put(content)
-            self.column += len(content)
+            self.made(waiting, False)
+            waiting = []
+            if atom.text:
+                self.piece(atom.text, atom.is_apart)
+                if keeps_lines and (atom.file is not None or atom.line != self.line):
+                    self.others.append((self.line, self.column - len(atom.text) + 1, atom.file, atom.line))
+        self.made(waiting, False)
+
+    def made(self, pieces, is_later):
+        """Writes pieces that have no line; where a new line comes, those behind the last end of a statement wait."""
+        number = len(pieces)
+        if is_later:
+            ends = [at for at, piece in enumerate(pieces) if piece.rstrip()[-1:] in (';', '{', '}')]
+            number = ends[-1] + 1 if ends else 0 if self.last_mark in (';', '{', '}') else number
+        for piece in pieces[:number]:
+            if piece:
+                self.piece(piece, piece[0] not in ')]' and self.last == '=')
+        return pieces[number:]
+
+    def piece(self, content, is_apart):
+        """Writes one piece, behind a blank where one is needed."""
+        content = content.lstrip(' ') if self.last in ('', ' ', '\n') else content
+        if not content:
+            return
+        if self.needs_blank(content, is_apart):
+            self.put(' ')
+            self.column += 1
+        self.put(content)
+        self.column += len(content)
+        self.last_mark = content.rstrip()[-1:] or self.last_mark
 
     def put(self, content):
         """Writes characters."""
@@ -69,7 +98,7 @@ class Page:
 
     def text(self):
         """All that was written."""
-        return ''.join(self.pieces).rstrip() + '\n'
+        return BLANKS.sub('\n', ''.join(self.pieces)).strip(' ').rstrip() + '\n'
 
     def places(self):
         """The places that are not those of the source: line and column here, file and line there."""

@@ -1,10 +1,10 @@
 """Expressions of numbers and pointers as `wgcc` takes them."""
 from . import constants, types
-from .context import Context, Step
+from .context import Step
 from .notes import Refused
 from .pointers import is_null
 from .tokens import in_source
-from .tree import all_of, has_effect, is_leaf, is_simple, stripped
+from .tree import all_of, has_effect, is_simple, parts_of, stripped
 from .types import Array, Other, Pointer, Scalar, Struct, Vector
 from .typing import pointed
 
@@ -85,8 +85,12 @@ class Numbers:
         """Keeps the values of operands that steps of a later operand may change."""
         behind, context.steps = context.steps[mark:], context.steps[:mark]
         for number, node in enumerate(nodes):
-            if types.is_number(node.type) and not is_stable(node, later):
+            if is_stable(node, later):
+                continue
+            if types.is_number(node.type):
                 texts[number] = context.keep(texts[number], node.type)
+            elif isinstance(node.type, Vector):
+                texts[number] = self.kept(node.type, texts[number], context)
         context.steps += behind
 
     def truth(self, node, context):
@@ -120,7 +124,7 @@ class Numbers:
             return [place.native, node.op]
         kind = node.operand.type
         old = context.keep(place.load(), kind)
-        context.steps.append(Step(place.store('=', ['(', types.spelled(kind), ')(', old, ' ', node.op.text[0], ' 1)'])))
+        context.steps.append(Step(place.store('=', ['(%s)(' % types.spelled(kind), old, ' %s 1)' % node.op.text[0]], False)))
         return old
 
     def counted(self, node, context):
@@ -160,7 +164,8 @@ class Numbers:
         found = fraction_of(node)
         if found is not None:
             self.notes.add('numbers with a point written as whole numbers', node.token)
-            return in_source(node.token, constants.text_of(constants.wrapped(int(found), kind.name), kind))
+            whole = int(found != 0) if kind == types.BOOL else int(found)
+            return in_source(node.token, constants.text_of(constants.wrapped(whole, kind.name), kind))
         inner = stripped(node)
         if inner.kind == 'choose':
             return self.by_float(inner, kind, context)
@@ -205,25 +210,26 @@ class Numbers:
             return right
         return [left, node.op, right] if left else right
 
-    def value_of_assign(self, node, context):
+    def value_of_assign(self, node, context, is_used=True):
         """An assignment of a number."""
         place = self.target(node.left, context, is_twice=node.op.text != '=')
         mark = len(context.steps)
         right = self.converted(node.right, node.left.type, context)
         if len(context.steps) > mark and place.uses is not None:
             self.keep_place(place, node, context, mark)
+        if place.native is None and place.is_chosen() and not is_simple(node.right):
+            right = context.keep(right, node.right.type)
         if place.native is not None:
             return [place.native, node.op, right]
-        text = place.store(node.op.text, right)
-        return ['(', text, ')'] if text else text
+        text = place.store(node.op.text, right, is_used)
+        return ['(', text, ')'] if is_used else text
 
     def keep_place(self, place, node, context, mark):
-        """Keeps the index of a target, and for a compound assignment its old value, in front of the steps of the right
-        side."""
+        """Keeps the index of a target in front of the steps of the right side, where these may change it."""
+        if all(is_stable(part, node.right) for part in parts_of(stripped(node.left))):
+            return
         behind, context.steps = context.steps[mark:], context.steps[:mark]
         place.settle(self, context, node.left, node.right)
-        if node.op.text != '=' and not is_stable(node.left, node.right):
-            raise Refused(node.op, 'a compound assignment beside a call that may change its target')
         context.steps += behind
 
     def value_of_call(self, node, context):
@@ -248,6 +254,7 @@ class Numbers:
                 return self.assign_pointer(inner, context)
             if isinstance(kind, Other):
                 return self.event(inner, context)
+            return self.value_of_assign(inner, context, False)
         if inner.kind in ('postfix', 'unary') and inner.op.text in ('++', '--'):
             return self.count_unused(inner, context)
         if inner.kind == 'cast' and isinstance(kind, types.Void):
@@ -269,7 +276,7 @@ class Numbers:
         place = self.target(node.operand, context, is_twice=True)
         if place.native is not None:
             return [place.native, node.op] if node.kind == 'postfix' else [node.op, place.native]
-        return place.store(node.op.text[0] + '=', '1')
+        return place.store(node.op.text[0] + '=', '1', False)
 
     def unused(self, node, context):
         """A vector, a structure or a pointer whose value is not used."""

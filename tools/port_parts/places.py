@@ -23,6 +23,11 @@ class Target:
         """Whether the elements of the array have the type of the place."""
         return bool(self.suffix) or self.address.cells.name == types.spelled(self.address.kind)
 
+    def is_chosen(self):
+        """Whether it is in one of several arrays, or takes several elements, so that what is stored stands there more than
+        once."""
+        return self.address.which is not None or not self.is_same() and not is_one(self.address)
+
     def load(self):
         """The text of its value."""
         if self.native is not None:
@@ -31,8 +36,8 @@ class Target:
             return self.address.chosen(lambda base: [self.address.element(base), self.suffix])
         return load_of(self.address)
 
-    def store(self, op, right):
-        """The text of an assignment; its value is what was stored."""
+    def store(self, op, right, is_used=True):
+        """The text of an assignment; where that is used its value is what was stored."""
         address = self.address
         if self.is_same():
             if address.which is None:
@@ -42,6 +47,8 @@ class Target:
         if op != '=':
             right = ['(', load_of(address), ') %s (' % op[:-1], right, ')']
         right = ['(%s)(' % name, right, ')']
+        if is_one(address) and not is_used and address.which is None:
+            return [address.element(address.bases[0]), ' = ', right]
         if is_one(address):
             return ['(%s)(' % name, address.chosen(lambda base: ['(', address.element(base), ' = ', right, ')']), ')']
         return self.pieces(right, name)
@@ -286,7 +293,7 @@ class Places:
         if kind == found.kind:
             return found
         size = types.size_of(kind)
-        if size is None or not found.cells.size or size % found.cells.size or isinstance(kind, Struct) \
+        if size is None or not found.cells.size or size % found.cells.size \
                 or any(types.SIZES[leaf.name] % found.cells.size for leaf, _ in types.leaves(kind)):
             raise Refused(node.token, 'a pointer to a smaller type, or to parts of elements', 'pointer_cast')
         self.notes.add('a pointer cast: elements are put together', node.token)
@@ -358,10 +365,10 @@ class Places:
     def set_moving(self, symbol, found, sign, comma):
         """The two numbers of a moving pointer are set."""
         which, at = names_of_moving(symbol)
+        number = which_of(found, [base_text(base) for base in symbol.bases])
         parts = [at, sign, '(long)(', found.index.text(), ')']
         if len(symbol.bases) > 1:
-            texts = [base_text(base) for base in symbol.bases]
-            parts = [which, sign, which_of(found, texts), comma] + parts
+            parts = [which, sign, number, comma] + parts
         return parts
 
     def compared_pointers(self, node, context):

@@ -3,7 +3,7 @@ a number of elements and, where there are several, the number of the object."""
 from . import types
 from .constants import constant
 from .notes import Refused
-from .tree import stripped
+from .tree import parts_of, stripped
 from .types import Array, Pointer
 
 
@@ -70,11 +70,35 @@ def look_at(symbols):
         if any(base.kind == 'string' for base in found) and len(found) > 1:
             raise Refused(symbol.token, 'a pointer to several texts')
         symbol.bases = found
-        symbol.is_moving = len(found) > 1 or symbol.is_compared and not is_only_parameter(symbol)
-        if symbol.is_compared and is_only_parameter(symbol):
-            symbol.is_moving = symbol.function is not None
-        if not found:
-            symbol.is_moving = False
+        symbol.is_moving = len(found) > 1 or symbol.is_compared and (symbol.is_assigned or not is_only_parameter(symbol))
+    spread([symbol for symbol in symbols if symbol.kind == 'variable' and isinstance(symbol.type, Pointer)])
+
+
+def spread(variables):
+    """What a moving pointer is set to is moving too, and so is a parameter that is moved and to whose object it leads."""
+    is_done = False
+    while not is_done:
+        is_done = True
+        for symbol in [each for each in variables if each.is_moving]:
+            found = set(symbol.bases)
+            for source in symbol.sources:
+                found |= set(variables_in(source))
+            for other in found:
+                if other.kind == 'variable' and isinstance(other.type, Pointer) and not other.is_moving \
+                        and (other.is_assigned or not other.is_parameter):
+                    other.is_moving, is_done = True, False
+
+
+def variables_in(node):
+    """The pointer variables from whose values an expression of pointers is made."""
+    node = stripped(node)
+    if node.kind == 'name':
+        return [node.symbol] if isinstance(node.symbol.type, Pointer) else []
+    found = []
+    for part in parts_of(node):
+        if isinstance(part.type, (Pointer, Array)):
+            found += variables_in(part)
+    return found
 
 
 def is_only_parameter(symbol):
@@ -84,7 +108,7 @@ def is_only_parameter(symbol):
 
 def names_of_moving(symbol):
     """The names of the two numbers that a moving pointer is."""
-    return symbol.out + '_of', symbol.out + '_at'
+    return symbol.moving_names
 
 
 def own_type(symbol):

@@ -23,7 +23,7 @@ class Reader(Expressions, Statements, Declarations):
         self.tokens, self.notes, self.at = tokens, notes, 0
         last = tokens[-1] if tokens else None
         self.end = Token('end', 'the end', last and last.file, last.line if last else 1, 0, True)
-        self.scope, self.function, self.calls = Scope(), None, []
+        self.scope, self.function, self.calls, self.casts = Scope(), None, [], []
         self.aligned = None
         self.symbols = []
 

@@ -3,6 +3,7 @@ from . import built_in, types
 from .calls import LOCAL_LINEAR
 from .context import Step
 from .notes import Refused
+from .places import Target
 from .tree import is_simple, stripped
 from .types import Scalar, Vector
 from .typing import pointed
@@ -143,8 +144,7 @@ class Rewrites:
 
     def stored_at(self, place, number, base, part):
         """A component stored in memory."""
-        from .places import Target
-        return Target(None, place.at(self.index_number(number * place.cells.count(base)), base)).store('=', part)
+        return Target(None, place.at(self.index_number(number * place.cells.count(base)), base)).store('=', part, False)
 
     def vector_in_memory(self, at, to, count, context):
         """The place of the components that `vload` and `vstore` mean."""
@@ -163,10 +163,8 @@ class Rewrites:
             return self.shuffled(node, context)
         kind = node.type
         shared = next(each.type for each in node.arguments if isinstance(each.type, Vector))
-        mark = len(context.steps)
         sides = self.in_order(node.arguments, context, lambda each, here: self.operand_parts(
             each, shared if isinstance(each.type, Vector) else Vector(shared.base, shared.count), here))
-        del mark
         if node.name not in NATIVE_CALLS:
             self.notes.add('%s written out' % node.name, node.token)
         elif any(not isinstance(each.type, Vector) for each in node.arguments):
@@ -180,7 +178,6 @@ class Rewrites:
         if name == 'select':
             test = node.arguments[2].type.base
             return ['(%s)(' % kind.base, upper_bit(parts[2], test), ' ? ', parts[1], ' : ', parts[0], ')']
-        parts = [cast_to(base, part) for part in parts]
         if name == 'bitselect':
             return bit_choice(base, *parts)
         if name in ('mul24', 'mad24'):
@@ -195,14 +192,13 @@ class Rewrites:
         texts = []
         for part in parts:
             texts += [', ', part] if texts else [part]
-        return ['(%s)' % kind.base, name, '(', texts, ')']
+        return [name, '(', texts, ')']
 
     def load_vector(self, node, count, context):
         """`vload`: the components are loaded one by one."""
         self.notes.add('vload and vstore written out', node.token)
         at, source = node.arguments
         place = self.vector_in_memory(at, source, count, context)
-        from .places import Target
         base = node.type.base
         parts = [Target(None, place.at(self.index_number(number * place.cells.count(Scalar(base))), Scalar(base))).load()
                  for number in range(count)]

@@ -66,7 +66,7 @@ class Structs:
         for (leaf, here), (_, there) in leaves:
             text = Target(None, source.at(Index(there), leaf)).load()
             found += [', '] if found else []
-            found.append(Target(None, to.at(Index(here), leaf)).store('=', text))
+            found.append(Target(None, to.at(Index(here), leaf)).store('=', text, False))
         return found
 
     def assign_struct(self, node, context):

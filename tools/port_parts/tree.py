@@ -20,7 +20,7 @@ class Symbol:
         self.out, self.value, self.function, self.node = name, None, None, None
         self.is_addressed = self.is_parameter = self.is_assigned = self.is_moving = self.is_compared = False
         self.is_kernel_parameter = False
-        self.initial = None
+        self.initial = self.unit = None
         self.sources = []
 
     def __repr__(self):

@@ -5,6 +5,7 @@ from .calls import Calls
 from .cells import Address, Index, cells_of
 from .context import Names
 from .forms import CELLS, MOVING
+from .gotos import Gotos
 from .layout import plain
 from .lower import Numbers, is_stable
 from .notes import Refused
@@ -18,8 +19,8 @@ from .vectors import Vectors
 from .structs import Structs
 
 BY_FLOAT = ('long port_by_float(long x) { ulong m = abs(x); int s = 40 - (int)clz(m); if (s <= 0) return x; '
-            'ulong half = 1UL << (s - 1); ulong low = m & ((1UL << s) - 1UL); ulong odd = (m >> s) & 1UL; m -= low; '
-            'if (low > half || (low == half && odd)) m += 1UL << s; return x < 0 ? -(long)m : (long)m; } ')
+            'ulong middle = 1UL << (s - 1); ulong low = m & ((1UL << s) - 1UL); ulong odd = (m >> s) & 1UL; m -= low; '
+            'if (low > middle || (low == middle && odd)) m += 1UL << s; return x < 0 ? -(long)m : (long)m; } ')
 
 
 class Unit(Numbers, Places, Vectors, Calls, Rewrites, Bodies, Variables, Structs):
@@ -35,20 +36,25 @@ class Unit(Numbers, Places, Vectors, Calls, Rewrites, Bodies, Variables, Structs
     def prepare(self, parts):
         """Looks at all variables and functions before anything is written."""
         pointers.look_at(self.reader.symbols)
+        forms.look_at_casts(self.reader.casts)
         outer = {}
         for symbol in self.reader.symbols:
             if symbol.kind == 'function':
                 symbol.as_number = False
                 continue
-            forms.decide(symbol, self.notes)
+            forms.decide(symbol, self.notes, self.names)
             if symbol.space == 'constant' and not isinstance(symbol.type, Pointer):
-                if outer.setdefault(symbol.out, symbol) is not symbol:
+                while outer.setdefault(symbol.out, symbol) is not symbol:
                     symbol.out = self.names.like(symbol.out + '_')
+        for symbol in self.reader.symbols:
+            if symbol.kind == 'variable' and isinstance(symbol.type, Pointer) and not symbol.is_parameter:
+                forms.share_cells(symbol, self.notes)
         self.unique_bases()
         for part in parts:
             if part.kind == 'function' and part.body is not None:
                 for statement in statements_of(part.body):
                     self.look_at_calls(statement)
+                Gotos(self.names, self.notes).block(part.body)
 
     def unique_bases(self):
         """An object to which a moving pointer leads has a name that nothing else has."""
@@ -207,5 +213,5 @@ class Unit(Numbers, Places, Vectors, Calls, Rewrites, Bodies, Variables, Structs
             prologue.append(' %s %s[%d];' % (symbol.cells.name, symbol.out, symbol.cells.count(kind)))
             place = Address([symbol.out], None, Index(), symbol.cells, kind, 'private')
             for (leaf, index), name in zip(self.places_of_leaves(place, kind), symbol.parts):
-                prologue.append([' ', Target(None, place.at(Index(index), leaf)).store('=', name), ';'])
+                prologue.append([' ', Target(None, place.at(Index(index), leaf)).store('=', name, False), ';'])
         return [[in_source(symbol.token, ''), leaf.name, ' ', name] for (leaf, _), name in zip(leaves, symbol.parts)]

@@ -226,7 +226,7 @@ class Variables:
             if number in values:
                 target = Target(None, place.at(Index(at // cells.size), leaf))
                 value = context.keep(self.leaf(values[number], leaf, context), leaf)
-                stores.append([target.store('=', value), '; '])
+                stores.append([target.store('=', value, False), '; '])
         return spec, text, stores
 
     def cells_of_vectors(self, symbol, initial):

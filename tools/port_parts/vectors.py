@@ -17,14 +17,13 @@ class Vectors:
     nothing and may be written several times each."""
 
     def vector(self, node, context):
-        """The text of a vector."""
-        if self.is_native_vector(node):
-            mark = len(context.steps)
-            text = self.native_vector(node, context)
-            if len(context.steps) == mark:
-                return text
+        """The text of a vector: as it is written where `wgcc` takes it so, else a list of its components."""
+        mark = len(context.steps)
+        text = self.as_written(node, context)
+        if text is None:
             del context.steps[mark:]
-        return self.listed(node.type, self.split(node, context))
+            return self.listed(node.type, self.split(node, context))
+        return text
 
     def listed(self, kind, parts):
         """The vector with these components; a variable that has just these is named."""
@@ -36,61 +35,77 @@ class Vectors:
             texts += [', ', part] if texts else [part]
         return ['(%s)(' % types.spelled(kind), texts, ')']
 
-    def is_native_vector(self, node):
-        """Whether `wgcc` takes a vector as it is written."""
-        inner = stripped(node)
-        kind = inner.kind
-        if inner.type.count == 3 and kind in ('vector', 'member'):
-            return False
-        if kind == 'name':
-            return inner.symbol.form == 'plain'
-        if kind == 'index' or kind == 'unary' and inner.op.text == '*':
-            return self.is_native(inner)
-        if kind == 'member':
-            return self.is_native(inner) and len(inner.chosen) in (2, 4, 8, 16) and inner.base.type.count != 3
+    def as_written(self, node, context):
+        """The text of a vector whose outermost form `wgcc` has, or None."""
+        kind = node.kind
+        if kind == 'paren':
+            inner = self.as_written(node.inner, context)
+            return None if inner is None else [node.token, inner, node.end]
+        if kind in ('name', 'index', 'member') or kind == 'unary' and node.op.text == '*':
+            return self.native(node, context) if self.is_native_place(node) else None
+        if kind == 'cast':
+            return self.filled(node.operand, node.type, node.token, context)
         if kind == 'vector':
-            return all(not isinstance(item.type, Vector) or item.type.base == inner.type.base
-                       and self.is_native_vector(item) for item in inner.items)
-        if kind == 'unary':
-            return inner.op.text in '-+~' and self.is_native_vector(inner.operand)
-        if kind == 'binary':
-            return inner.op.text not in ('&&', '||') and self.is_native_operator(inner)
-        if kind == 'call' and inner.symbol is None and inner.name in NATIVE_CALLS:
-            return all(isinstance(each.type, Vector) and self.is_native_vector(each) for each in inner.arguments)
-        return False
+            return self.list_as_written(node, context)
+        if kind == 'unary' and node.op.text in '-+~':
+            return [node.op, self.vector(node.operand, context)]
+        if kind == 'binary' and node.op.text not in ('&&', '||'):
+            return self.operator_as_written(node, context)
+        if kind == 'call' and node.symbol is None and node.name in NATIVE_CALLS:
+            texts = self.all_as_written(node.arguments, context, lambda each, here: self.filled(
+                each, argument_type(node), each.token, here))
+            return None if texts is None else [node.token, '(', texts, ')']
+        return None
 
-    def is_native_operator(self, node):
-        """Whether `wgcc` takes an operator of vectors as it is written."""
+    def is_native_place(self, node):
+        """Whether `wgcc` takes a vector that is a place, or a selection of one, as it is written."""
+        inner = stripped(node)
+        if inner.kind != 'member':
+            return self.is_native(inner)
+        return inner.chosen is not None and self.is_native(inner) and len(inner.chosen) in (2, 4, 8, 16) \
+            and inner.base.type.count != 3 and stripped(inner.base).kind != 'member'
+
+    def filled(self, node, kind, token, context):
+        """A vector, or a number that fills all components."""
+        if isinstance(node.type, Vector):
+            return self.vector(node, context) if node.type == kind else None
+        self.notes.add('a number that is cast to a vector, or stands beside one, fills all components', token)
+        return ['(%s)(' % types.spelled(kind), self.converted(node, Scalar(kind.base), context), ')']
+
+    def list_as_written(self, node, context):
+        """A list of numbers and vectors of the type of the components."""
+        if node.type.count == 3 or any(isinstance(item.type, Vector) and (item.type.base != node.type.base
+                                                                           or item.type.count == 3)
+                                       for item in node.items):
+            return None
+        texts = self.all_as_written(node.items, context, lambda each, here: self.vector(each, here)
+                                    if isinstance(each.type, Vector)
+                                    else self.converted(each, Scalar(node.type.base), here))
+        return None if texts is None else [node.token, types.spelled(node.type), ')(', texts, ')']
+
+    def operator_as_written(self, node, context):
+        """An operator of two vectors of one type, or of a vector and a number."""
         sides = node.left, node.right
         vectors = [side for side in sides if isinstance(side.type, Vector)]
         if len({side.type for side in vectors}) > 1:
-            return False
-        return all(self.is_native_vector(side) for side in vectors) \
-            and all(types.is_number(side.type) for side in sides if side not in vectors)
+            return None
+        texts = self.all_as_written(sides, context, lambda each, here: self.vector(each, here)
+                                    if isinstance(each.type, Vector)
+                                    else self.converted(each, Scalar(vectors[0].type.base), here), node.op)
+        return texts
 
-    def native_vector(self, node, context):
-        """The text of a vector that `wgcc` takes as it is written."""
-        kind = node.kind
-        if kind == 'paren':
-            return [node.token, self.native_vector(node.inner, context), node.end]
-        if kind in ('name', 'index', 'member') or kind == 'unary' and node.op.text == '*':
-            return self.native(node, context)
-        if kind == 'vector':
-            texts = []
-            for item in node.items:
-                text = self.native_vector(item, context) if isinstance(item.type, Vector) else self.value(item, context)
-                texts += [', ', text] if texts else [text]
-            return [node.token, types.spelled(node.type), ')(', texts, ')']
-        if kind == 'unary':
-            return [node.op, self.native_vector(node.operand, context)]
-        if kind == 'binary':
-            left, right = (self.native_vector(side, context) if isinstance(side.type, Vector)
-                           else self.value(side, context) for side in (node.left, node.right))
-            return [left, node.op, right]
+    def all_as_written(self, nodes, context, give, mark=', '):
+        """The texts of operands with a mark between them; None where a later one has steps that may change an
+        earlier one."""
         texts = []
-        for each in node.arguments:
-            texts += [', ', self.native_vector(each, context)] if texts else [self.native_vector(each, context)]
-        return [node.token, '(', texts, ')']
+        for number, node in enumerate(nodes):
+            before = len(context.steps)
+            text = give(node, context)
+            if text is None or len(context.steps) > before and not all(is_stable(each, node)
+                                                                       for each in nodes[:number]):
+                return None
+            texts += [mark, text] if texts else [text]
+        return texts
 
     def split(self, node, context):
         """The texts of the components of a vector."""
@@ -186,7 +201,7 @@ class Vectors:
         parts, base = self.split(node.operand, context), node.operand.type.base
         if op == '!':
             return [['(%s)(' % node.type.base, part, ' == 0 ? -1 : 0)'] for part in parts]
-        return [['(%s)(' % base, op, '(', part, '))'] for part in parts]
+        return [['(%s)(%s(' % (base, op), part, '))'] for part in parts]
 
     def split_binary(self, node, context):
         """An operator with two operands, of which at least one is a vector."""
@@ -261,6 +276,8 @@ class Vectors:
         """Whether `wgcc` takes a vector as the target of an assignment."""
         if target.kind == 'member' and (target.chosen is None or len(target.chosen) == 3 or target.base.type.count == 3):
             return False
+        if target.type.count == 3 and target.kind != 'name':
+            return False
         return self.is_native(target)
 
     def right_side(self, node, context):
@@ -288,7 +305,7 @@ class Vectors:
         texts = []
         for place, part in zip(places, right):
             texts += [', '] if texts else []
-            texts.append(place.store('=', part) if place.native is None else [place.native, ' = ', part])
+            texts.append(place.store('=', part, False) if place.native is None else [place.native, ' = ', part])
         context.steps.append(Step(texts))
 
     def places_of(self, target, context):
@@ -303,6 +320,11 @@ class Vectors:
             return [below[number] for number in target.chosen]
         found = self.address(target, context, True)
         return [component_of(found, number) for number in range(target.type.count)]
+
+
+def argument_type(node):
+    """The type of the vectors that a built-in function has as arguments."""
+    return next(each.type for each in node.arguments if isinstance(each.type, Vector))
 
 
 class NamedPart:
@@ -329,10 +351,10 @@ def cast_to(base, text):
 def operated(op, left, right, base, result):
     """One component of an operator of vectors: it is computed in the type of the components, and wraps there."""
     if op in COMPARISONS:
-        return ['(%s)(((%s)(' % (result, base), left, ') %s (%s)(' % (op, base), right, ')) ? -1 : 0)']
+        return ['(%s)(' % result, left, ' %s ' % op, right, ' ? -1 : 0)']
     if op in ('&&', '||'):
-        return ['(%s)(((' % result, left, ') != 0 %s (' % op, right, ') != 0) ? -1 : 0)']
-    if op in ('<<', '>>'):
-        return ['(%s)((%s)(' % (base, base), left, ') %s ((' % op, right,
-                ') & %d))' % (8 * types.SIZES[base] - 1)]
-    return ['(%s)((%s)(' % (base, base), left, ') %s (%s)(' % (op, base), right, '))']
+        return ['(%s)(' % result, left, ' != 0 %s ' % op, right, ' != 0 ? -1 : 0)']
+    if op in ('<<', '>>') and types.SIZES[base] < 4:
+        right = ['(', right, ' & %d)' % (8 * types.SIZES[base] - 1)]
+    text = [left, ' %s ' % op, right, ')']
+    return ['(%s)(' % base if types.SIZES[base] < 4 else '(', text]
