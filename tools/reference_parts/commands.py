@@ -20,11 +20,12 @@ reference sample K
 
 With run also:
   --seed S       any item makes the next step, in a random order that S decides
+  --if-clean     looks for races, and runs the launches where there is none and each is done
   --check-clean  says whether the launch is clean, without races and without an end before its end; saves nothing
   --schedules K  with --check-clean: how many random orders are tried beside that of the numbers, 3 if not given
   --outcomes     prints each line that items at different barriers may end with, behind the word `outcome`
   --all-outcomes prints all that may come of a small launch, a line each: done, the lines of statuses 5, 6 and 7,
-                 `race` alone where it races, and `more` where an item takes too many turns to be followed; saves nothing
+                 `race` alone where it races, and `more` where an item takes too many turns; saves nothing
 """
 COMMANDS = {'run': (2, ['lanes', 'turns']), 'plan': (2, []), 'sample': (1, [])}
 STACK = 512 * 1024 * 1024
@@ -184,7 +185,7 @@ class Command:
             return self.all_outcomes(text, launches, buffers)
         groups = items = 0
         for number, (checker, kernel, part) in enumerate(launches):
-            made = Launch(checker, kernel, part, buffers, seed=self.asked.get('seed'))
+            made = Launch(checker, kernel, part, buffers, 'if-clean' in self.asked, self.asked.get('seed'))
             outcome = made.run()
             if 'outcomes' in self.asked:
                 for each in made.parted_outcomes:
@@ -280,7 +281,7 @@ def own_options(arguments):
         word = rest.pop(0)
         if word in ('--seed', '--schedules') and rest:
             asked[word[2:]] = int(rest.pop(0))
-        elif word in ('--check-clean', '--outcomes', '--all-outcomes'):
+        elif word in ('--if-clean', '--check-clean', '--outcomes', '--all-outcomes'):
             asked[word[2:]] = True
         else:
             words.append(word)

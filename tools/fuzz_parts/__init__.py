@@ -1,0 +1,1 @@
+"""Random kernels and random damage, by which the program is compared with the reference."""
