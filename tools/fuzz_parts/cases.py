@@ -1,8 +1,8 @@
 """What is compared. Each mode makes files from a seed, and looks at them: the look gives what differs, or nothing.
 
-A unit with vectors is measured by the compiler as the unit without vectors that it makes of it, which the reference does
-not make. So E419 and E420 of such units are counted and not compared; of other numbers from E401 on the place is not
-compared; and `plan` may name helping variables, and keep for each item what the reference keeps once."""
+A unit with vectors is measured by the compiler as the unit without vectors that it makes of it, which the
+reference does not make. So E419 and E420 of such units are counted and not compared; of other numbers from E401 on
+the place is not compared; and `plan` may name helping variables, and keep for each item what the reference keeps once."""
 import random
 
 from .damage import damaged_launch_file, damaged_source, with_faults

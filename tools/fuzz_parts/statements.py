@@ -1,4 +1,4 @@
-"""Random statements. Each method gives a list of lines; `depth` is how deep they may nest, `indent` how far they stand."""
+"""Random statements. Each method gives lines; `depth` is how deep they may nest, `indent` how far they stand."""
 from .expressions import TYPES
 
 FENCES = ['CLK_LOCAL_MEM_FENCE | CLK_GLOBAL_MEM_FENCE', 'CLK_GLOBAL_MEM_FENCE|CLK_LOCAL_MEM_FENCE',

@@ -184,7 +184,8 @@ class VectorStatements(VectorExpressions):
         leads_to = self.pick(['vin', 'vout', 'vt', 'p'])
         name, count = self.shared_types.get(leads_to) or self.new_type()
         space = SPACES.get(leads_to) or self.pick(['', '__private '])
-        text, kinds, before = self.new_name('h'), [self.pick(TYPES) for _ in range(self.random.randint(0, 2))], self.cost
+        kinds = [self.pick(TYPES) for _ in range(self.random.randint(0, 2))]
+        text, before = self.new_name('h'), self.cost
         self.enter(False, ['a%d' % at for at in range(len(kinds))], False, leads_to == 'vin', '-')
         self.vectors, self.vector_arrays = [], []
         self.pointers, lines = [Vector('p', name, count, REACHED.get(leads_to, 1))], []
@@ -200,13 +201,15 @@ class VectorStatements(VectorExpressions):
         taken = ['%s%s%d *%sp' % (space, name, count, self.pick(['', '', 'const ']))]
         taken += ['%s a%d' % (kind, at) for at, kind in enumerate(kinds)]
         result = self.pick(TYPES) if leads_to == 'vin' else 'void'
-        self.vector_helpers.append(VectorHelper(text, leads_to, (name, count), len(kinds), max(self.cost - before, 100)))
+        cost = max(self.cost - before, 100)
+        self.vector_helpers.append(VectorHelper(text, leads_to, (name, count), len(kinds), cost))
         self.pointers, self.cost = [], before
         return ['%s %s(%s) {' % (result, text, ', '.join(taken))] + lines + ['}']
 
     def more_parameters(self):
         """The buffers of vectors."""
-        return ', __global const %s%d *vin, __global %s%d *vout' % (*self.shared_types['vin'], *self.shared_types['vout'])
+        types = (*self.shared_types['vin'], *self.shared_types['vout'])
+        return ', __global const %s%d *vin, __global %s%d *vout' % types
 
     def more_head(self):
         """The local array of vectors."""

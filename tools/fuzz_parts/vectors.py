@@ -4,7 +4,7 @@ In them: variables, private and local arrays of vectors, elements of global buff
 variables, elements, selections and expressions in parentheses), lists, operators and built-in functions, mixes with
 numbers, and one component in the place of a number. `name` is the type of the components, `count` how many there are.
 What a kernel costs when its vectors are taken apart is bounded, since a kernel may be too large."""
-from reference_parts.numbers import SIGNED, SIGNED_OF, UNSIGNED_OF
+from reference_parts.numbers import BITS, SIGNED, SIGNED_OF, UNSIGNED_OF
 
 WIDTHS = [(2, 4), (4,), (2, 4, 8), (4, 8), (8, 16), (2, 16), (4, 4, 16)]
 LETTERS = 'xyzw'
@@ -230,7 +230,10 @@ class VectorExpressions:
                 three = '(%s%d)(3)' % (name, count)
                 return 'clamp(%s, min(%s, %s), max(%s, %s))' % (inner(), inner(), three, three, inner())
             return 'clamp(%s, %s, %s)' % (inner(), inner(), inner())
-        return '%s(%s, %s)' % (text, inner(), inner())
+        second = inner()
+        if text == 'rotate' and self.is_plain:
+            second = '%s & (%s%d)(%d)' % (second, name, count, BITS[name] - 1)
+        return '%s(%s, %s)' % (text, inner(), second)
 
     # In the place of numbers
 

@@ -288,7 +288,8 @@ def do_types_differ(role, node):
     """Whether E503 stands at a node."""
     if node.form == 'assignment':
         left, right = [part.kind_of_vector for part in node.parts]
-        return sets_vector(role, node) and (not are_same(left, right) if node.mark == '=' else is_unfitting(left, right))
+        differ = not are_same(left, right) if node.mark == '=' else is_unfitting(left, right)
+        return sets_vector(role, node) and differ
     if node.form == 'cast':
         return is_list_cast(node) and not is_filled(vector_of(node.spelled), node.part.part)
     if node.form == 'call':

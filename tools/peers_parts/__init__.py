@@ -1,0 +1,1 @@
+"""Launches of this project, made by other implementations of OpenCL too."""

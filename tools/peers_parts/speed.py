@@ -1,0 +1,41 @@
+"""The seconds of the processor that each system takes for the same launch, cold and warm.
+
+Cold: nothing is kept of an earlier run. Warm: the program takes what it compiled from its compile cache, pocl from its
+kernel cache. Each number is the least of several runs, the start of the process included."""
+from .systems import in_room
+
+RUNS = 3
+
+
+def least(make):
+    """The least seconds of some runs."""
+    return min(make() for _ in range(RUNS))
+
+
+def program_times(path, case):
+    """The seconds of the program, cold and warm."""
+    plain = [path, 'run', case.source, case.launch]
+    cold = least(lambda: in_room(case.files, plain)[3])
+    kept = in_room(case.files, plain + ['--cache'])[2]
+    warm = least(lambda: in_room({**case.files, **kept}, plain + ['--cache'])[3])
+    return cold, warm
+
+
+def host_times(host, case):
+    """The seconds of an implementation of OpenCL, cold and warm."""
+    def cold():
+        host.forget()
+        return host.make(case).seconds
+    return least(cold), least(lambda: host.make(case).seconds)
+
+
+def table(path, hosts, cases):
+    """The lines of the table."""
+    heads = ['wgcc cold', 'wgcc warm'] + ['%s %s' % (host.name, how) for host in hosts for how in ('cold', 'warm')]
+    yield '| launch | ' + ' | '.join(heads) + ' |'
+    yield '|---|' + '---|' * len(heads)
+    for case in cases:
+        times = list(program_times(path, case))
+        for host in hosts:
+            times += host_times(host, case)
+        yield '| %s | ' % case.name + ' | '.join('%.3f' % each for each in times) + ' |'
