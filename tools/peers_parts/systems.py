@@ -1,11 +1,11 @@
-"""The systems that are compared: the program, the reference, pocl and Oclgrind."""
+"""The systems that are compared: the program, pocl and Oclgrind."""
 import os
 import resource
 import shutil
 import subprocess
 import tempfile
 
-from fuzz_parts.programs import files_in, reference
+from fuzz_parts.programs import files_in
 
 from .facts import facts_of
 
@@ -55,19 +55,6 @@ def in_room(files, words, environment=None):
 def saved(found, names):
     """The saved files among those that are there."""
     return {name: found[name] for name in names if name in found}
-
-
-class Reference:
-    """The reference of this repository."""
-
-    name = 'reference'
-
-    def make(self, case):
-        """Makes a launch."""
-        found = reference(case.files, 'run', case.source, case.launch)
-        if found.status:
-            return Made(None, found.err.strip())
-        return Made(saved(found.files, case.saves), None)
 
 
 class Compiled:
