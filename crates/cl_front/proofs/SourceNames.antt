@@ -39,12 +39,14 @@ word_no_point forms.VariableNode w h = h.1
 word_no_point forms.CallNode w h = h.1
 word_no_point form w h = tt
 
-word_declared : (form : Form) (w : List ℕ) → WordBy form w → NoFlagBy form w → DeclaredNameBy form w
-word_declared forms.DeclaratorNode w h k = record { is = own_is_name (name_in w) h; no_flag = k }
-word_declared forms.ParamNode w h k = record { is = own_is_name (name_in w) h; no_flag = k }
-word_declared forms.FunctionNode w h k = own_is_name (name_in w) h
-word_declared forms.PrototypeNode w h k = own_is_name (name_in w) h
-word_declared form w h k = tt
+word_declared : (form : Form) (w : List ℕ) (parts : Forest) → WordBy form w → NoFlagBy form w parts →
+    DeclaredNameBy form w parts
+word_declared forms.DeclaratorNode w parts h k = own_is_name (name_in w) h
+word_declared forms.ParamNode w parts h k = (own_is_name (name_in w) h, k)
+word_declared forms.DeclareNode w parts h k = k
+word_declared forms.FunctionNode w parts h k = own_is_name (name_in w) h
+word_declared forms.PrototypeNode w parts h k = own_is_name (name_in w) h
+word_declared form w parts h k = tt
 
 mutual
   words_no_point : (t : Syntax) → HasWords t → NoPoint t
@@ -57,14 +59,14 @@ mutual
 mutual
   words_declared : (t : Syntax) → HasWords t → NoFlags t → DeclaredNames t
   words_declared (node form w f l parts) h k =
-      (word_declared form w h.0 k.0, all_words_declared parts h.1 k.1)
+      (word_declared form w parts h.0 k.0, all_words_declared parts h.1 k.1)
 
   all_words_declared : (ps : Forest) → HaveWords ps → AllNoFlags ps → AllDeclaredNames ps
   all_words_declared none h k = tt
   all_words_declared (more p ps) h k = (words_declared p h.0 k.0, all_words_declared ps h.1 k.1)
 
--- No name in the unit of a source has a point in it; and if nothing is named as a memory fence, what is declared has
--- a name of a source that is not that of a fence.
+-- No name in the unit of a source has a point in it, and what is declared has a name of a source; if no vectors are
+-- named as a memory fence, what is declared behind a vector type has another name.
 pub source_names : (source : List ℕ) (tokens expanded : List Token) (defines : List Define) (unit : Syntax) →
     Cuts source tokens → Expands tokens defines expanded → SpellsUnit unit expanded → NoFlags unit →
     NoPoint unit × DeclaredNames unit

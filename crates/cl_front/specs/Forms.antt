@@ -31,8 +31,9 @@ pub record TypedForm (source : List ℕ) (defines : List Define) (kernel : List 
       (start_of (places_of source h.expanded) (scalarised_of h.unit)) []
 
 -- The unit without vectors of a refused source is what it should be. Where the fault is not the length of an array or a
--- limit of size, and no variable has the name of a memory fence, the unit with a number in the place of each vector is
--- at fault too, or a leaf of a vector statement that should be a number is none.
+-- limit of size, and no vector variable, array of vectors or pointer to vectors has the name of a memory fence, the
+-- unit with a number in the place of each vector is at fault too, or a leaf of a vector statement that should be a
+-- number is none.
 pub record FaultyForm (source : List ℕ) (defines : List Define) (kernel : List ℕ) (condition : Condition)
     (place : Place) (h : IsFaulty source defines kernel condition place) : Type 0 where
   pub form : IsScalarFormOf h.unit (scalarised_of h.unit)

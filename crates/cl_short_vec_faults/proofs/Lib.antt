@@ -121,3 +121,4 @@ pub mod InitialLines
 pub mod LoopParts
 pub mod StatementLoops
 pub mod Declarations
+pub mod VectorNames

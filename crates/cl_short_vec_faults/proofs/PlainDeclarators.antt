@@ -33,7 +33,6 @@ use Rattle.cl_short_vec_faults.specs.Plainly.{NoPoints, meant_by, unnumbered, St
 use Rattle.cl_short_vec_faults.specs.Law.{ExpressionsFollow}
 use Rattle.cl_short_vec_faults.specs.SoundBut.{SoundBut, is_of_size}
 use Rattle.cl_short_vec_faults.specs.Beside.{IsName, ScopesBeside, Beside}
-use Rattle.cl_short_vec_faults.specs.UnitLaw.{IsDeclaredName}
 use Rattle.cl_short_vec_faults.proofs.Building.{seen, NoFault}
 use Rattle.cl_short_vec_faults.proofs.Refused.{AllStay}
 use Rattle.cl_short_vec_faults.proofs.HolderParts.{Pairs, declarator_holds, pairs_sound, pairs_kinds, pairs_form}
@@ -333,7 +332,7 @@ module _ (follow : ExpressionsFollow) (asked : Asked) (names : Names) (n : ℕ) 
       (length_pairs follow asked names p s h.plainly h.gives all true None all x np r so)
 
   pub plain_declarator : (d : Declared) → p.declared ≡ Some d → (w : List ℕ) (f l : ℕ) (ps : Forest) →
-      IsDeclaratorOf true (node forms.DeclaratorNode w f l ps) → NoPoints ps → IsDeclaredName (name_in w) →
+      IsDeclaratorOf true (node forms.DeclaratorNode w f l ps) → NoPoints ps → IsName (name_in w) →
       AllStay (marked_parts forms.DeclaratorNode ps names true ps) →
       SoundTree asked p roles.Other (plain_of (node forms.DeclaratorNode w f l ps)) →
       SoundBut asked s roles.Other (scalar (marked names (node forms.DeclaratorNode w f l ps))) ×
@@ -350,14 +349,14 @@ module _ (follow : ExpressionsFollow) (asked : Asked) (names : Names) (n : ℕ) 
       let fit = λ (o : Option Declared). ap (λ z. declarator_misfits o (declarator_in w f P) z) last in
       let leave = ap (λ z. with_declarator s (Some d) (declarator_in w f S) z) last in
       let k = last_kind (kinds_of p forms.DeclaratorNode true P) in
-      let m = meant_both asked names n p s h d (declarator_in w f P) (declarator_in w f S) k same (name_in w) i.is refl
+      let m = meant_both asked names n p s h d (declarator_in w f P) (declarator_in w f S) k same (name_in w) i refl
       refl in
       subst (λ z. SoundBut asked s roles.Other z × Beside asked (with_name names (name_in w) Other) n
       (behind p (node forms.DeclaratorNode w f l P)) (behind s z) × Walks p (behind p (node forms.DeclaratorNode w f l
       P)))
       (sym (scalar_declarator names w f l ps)) (
-        sound_declarator asked names n p s h d typed w f l i.is P S same g.plain' g.form' fit leave so g.sound,
-        goes_declarator asked names n p s h d typed w f l i.is P S same g.plain' g.form' fit leave so Other (omega
+        sound_declarator asked names n p s h d typed w f l i P S same g.plain' g.form' fit leave so g.sound,
+        goes_declarator asked names n p s h d typed w f l i P S same g.plain' g.form' fit leave so Other (omega
             arith) m,
-        walks_declarator asked names n p s h d typed w f l i.is P S same g.plain' g.form' fit leave so,
+        walks_declarator asked names n p s h d typed w f l i P S same g.plain' g.form' fit leave so,
       )

@@ -43,7 +43,7 @@ use Rattle.cl_short_vec_faults.specs.Plainly.{NoPoint, NoPoints, PointsAs}
 use Rattle.cl_short_vec_faults.specs.Law.{ExpressionsFollow}
 use Rattle.cl_short_vec_faults.specs.SoundBut.{SoundBut}
 use Rattle.cl_short_vec_faults.specs.Beside.{Beside}
-use Rattle.cl_short_vec_faults.specs.UnitLaw.{IsDeclaredName}
+use Rattle.cl_short_vec_faults.proofs.VectorNames.{IsVectorName}
 use Rattle.cl_short_vec_faults.proofs.Building.{NoFault, Good}
 use Rattle.cl_short_vec_faults.proofs.Refused.{AllStay, expression_form}
 use Rattle.cl_short_vec_faults.proofs.PlainForms.{plain_made}
@@ -87,7 +87,7 @@ constant_there (Some c) dims e = (c, refl)
 
 module _ (follow : ExpressionsFollow) (asked : Asked) (names : Names) (n : ℕ) (p s : Env)
     (be : Beside asked names n p s) (v : Vector) (few : v.count ≤ 16) (type : Syntax)
-    (typed : p.declared ≡ Some (components_of_type v type)) (w : List ℕ) (f l : ℕ) (i : IsDeclaredName (name_in w))
+    (typed : p.declared ≡ Some (components_of_type v type)) (w : List ℕ) (f l : ℕ) (i : IsVectorName (name_in w))
   where
     abbrev d : Declared
     d = components_of_type v type

@@ -45,7 +45,7 @@ use Rattle.cl_short_vec.specs.Unit.{component_declarators}
 use Rattle.cl_short_vec_faults.specs.Plainly.{meant_by, unnumbered}
 use Rattle.cl_short_vec_faults.specs.SoundBut.{SoundBut, AllSoundBut, is_of_size}
 use Rattle.cl_short_vec_faults.specs.Beside.{IsName, ScopesBeside, Beside}
-use Rattle.cl_short_vec_faults.specs.UnitLaw.{IsDeclaredName}
+use Rattle.cl_short_vec_faults.proofs.VectorNames.{IsVectorName}
 use Rattle.cl_short_vec_faults.proofs.Building.{seen, NoFault}
 use Rattle.cl_short_vec_faults.proofs.Points.{HasNoBlank, front_blank, component_named}
 use Rattle.cl_short_vec_faults.proofs.LineWords as words
@@ -133,7 +133,7 @@ some_scope p s asked names x n h = subst (λ z. 1 ≤ z) (sym h.depth) h.open'
 
 -- In front of it, no node of the plain form is at fault: `p` is visible there in the plain form, and `s` here.
 module _ (asked : Asked) (names : Names) (n : ℕ) (p s : Env) (be : Beside asked names n p s) (d : Declared)
-    (typed : p.declared ≡ Some d) (w : List ℕ) (f l : ℕ) (i : IsDeclaredName (name_in w)) (P : Forest)
+    (typed : p.declared ≡ Some d) (w : List ℕ) (f l : ℕ) (i : IsVectorName (name_in w)) (P : Forest)
     (single : dimensions_in w ≡ 0) (starless : star_in P ≡ None) (unset : (declarator_in w f P).init ≡ None)
     (private : space_or_private d.space ≡ spaces.Private)
     (ep : behind_parts p forms.DeclaratorNode true P ≡ p)

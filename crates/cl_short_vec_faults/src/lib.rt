@@ -37,8 +37,8 @@ pub fn initials_law()
 /// In a unit of which no condition on vectors is told, a node of the unit without vectors is at fault, but by the
 /// length of an array, only where a node of the plain form of the unit is, or where a leaf of a vector statement
 /// should be a number and is none. Barriers stand too deep in its kernel only where they do in that of the plain
-/// form. No variable, parameter or array has the name of a memory fence (OpenCL 1.2, sections 6.1.2, 6.1.7, 6.3 and
-/// 6.12.8).
+/// form. No vector variable, array of vectors or pointer to vectors has the name of a memory fence (OpenCL 1.2, sections
+/// 6.1.2, 6.1.7, 6.3 and 6.12.8).
 pub fn units_law()
     ensures { UnitsFollow }
 {}
