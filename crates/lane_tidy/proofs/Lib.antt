@@ -6,12 +6,14 @@ pub mod Ending
 pub mod Frames
 pub mod Holding
 pub mod Hoisting
+pub mod Indexing
 pub mod Joining
 pub mod Keeping
 pub mod Knowing
 pub mod Leaving
 pub mod Making
 pub mod Moving
+pub mod Narrowing
 pub mod Plainly
 pub mod Planned
 pub mod Sharing

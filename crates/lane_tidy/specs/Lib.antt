@@ -5,6 +5,7 @@ pub mod Joined
 pub mod Known
 pub mod Listed
 pub mod Marks
+pub mod Narrowed
 pub mod Plain
 pub mod Plans
 pub mod Reads

@@ -42,7 +42,7 @@ pub(crate) fn reads_with<const N: usize>(registers: [Reg; N]) -> Reads
 }
 
 /// The mask of the register's number.
-fn mask_at(x: Reg) -> Reg
+pub(crate) fn mask_at(x: Reg) -> Reg
     ensures { result ≡ mask_at x }
 {
     Reg {
