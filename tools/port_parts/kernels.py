@@ -1,0 +1,31 @@
+"""What the kernels of a source have as parameters."""
+from . import types
+from .notes import Notes
+from .pointers import element
+from .preprocess import expanded
+from .reader import Reader
+from .tokens import cut
+
+
+def element_types(path, words):
+    """By kernel, the type of the numbers to which each parameter leads, or None. A vector or a structure as a parameter
+    counts as many times as it has numbers."""
+    tokens, _ = cut(expanded(path, words), path)
+    found = {}
+    for part in Reader(tokens, Notes(path)).unit():
+        if part.kind == 'function' and part.is_kernel:
+            kinds = []
+            for symbol in part.parameters:
+                kinds += of_parameter(symbol.type)
+            found[part.symbol.name] = kinds
+    return found
+
+
+def of_parameter(kind):
+    """The types that one parameter counts as."""
+    if isinstance(kind, types.Pointer):
+        leaves = {leaf.name for leaf, _ in types.leaves(element(kind.to))}
+        return [leaves.pop() if len(leaves) == 1 else None]
+    if isinstance(kind, (types.Vector, types.Struct)):
+        return [None] * len(list(types.leaves(kind)))
+    return [None]
