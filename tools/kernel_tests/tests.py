@@ -40,6 +40,9 @@ def ported(case):
     """The source of a case behind tools/port, and the arguments that become several."""
     path = os.path.join(case.folder, case.source)
     words = case.defines + words_of_defines(case.document)
+    kernels = {launch.get('kernel') for launch in case.launches() if isinstance(launch, dict)}
+    for name in sorted(name for name in kernels if isinstance(name, str)):
+        words += ['--kernel', name]
     ran = subprocess.run([sys.executable, PORT, *words, path], capture_output=True)
     if ran.returncode:
         lines = ran.stderr.decode(errors='replace').strip().split('\n')

@@ -222,6 +222,8 @@ class Expressions:
         if token.text in ('true', 'false'):
             return self.made('number', token, types.INT, value=int(token.text == 'true'))
         symbol = self.scope.find(token.text)
+        if symbol is not None and symbol.kind == 'refused':
+            raise symbol.refused
         if self.is_next('(') and (symbol is None or symbol.kind == 'function'):
             return self.call(token, symbol)
         if symbol is None and token.text in CONSTANT_NAMES:

@@ -7,17 +7,19 @@ from .reader import Reader
 from .tokens import cut
 
 
+def parameters(path, words):
+    """By kernel, the types of its parameters."""
+    tokens, _ = cut(expanded(path, words), path)
+    return {part.symbol.name: [symbol.type for symbol in part.parameters]
+            for part in Reader(tokens, Notes(path)).unit() if part.kind == 'function' and part.is_kernel}
+
+
 def element_types(path, words):
     """By kernel, the type of the numbers to which each parameter leads, or None. A vector or a structure as a parameter
     counts as many times as it has numbers."""
-    tokens, _ = cut(expanded(path, words), path)
     found = {}
-    for part in Reader(tokens, Notes(path)).unit():
-        if part.kind == 'function' and part.is_kernel:
-            kinds = []
-            for symbol in part.parameters:
-                kinds += of_parameter(symbol.type)
-            found[part.symbol.name] = kinds
+    for name, kinds in parameters(path, words).items():
+        found[name] = [own for kind in kinds for own in of_parameter(kind)]
     return found
 
 

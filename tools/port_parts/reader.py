@@ -25,7 +25,7 @@ class Reader(Expressions, Statements, Declarations):
         self.end = Token('end', 'the end', last and last.file, last.line if last else 1, 0, True)
         self.scope, self.function, self.calls, self.casts = Scope(), None, [], []
         self.aligned = None
-        self.symbols = []
+        self.symbols, self.refused = [], []
 
     def peek(self, ahead=0):
         """The next token, or one behind it."""
@@ -56,10 +56,48 @@ class Reader(Expressions, Statements, Declarations):
             if self.is_next(';'):
                 self.take()
                 continue
-            part = self.outer()
+            part = self.outer_or_refused()
             if part is not None:
                 parts.append(part)
         return parts
+
+    def outer_or_refused(self):
+        """A part of the source. A function that is refused is kept as that, since it may not be needed."""
+        start, outside = self.at, self.scope
+        try:
+            return self.outer()
+        except Refused as refused:
+            name = self.skip_function(start)
+            if name is None:
+                raise
+            self.scope, self.function = outside, None
+            symbol = Symbol('refused', name.text, types.VOID, name)
+            symbol.refused = refused
+            outside.names[name.text] = symbol
+            self.refused.append(symbol)
+            return None
+
+    def skip_function(self, start):
+        """Goes to the end of the function that begins there; its name, or None where it is none."""
+        depth, name, self.at = 0, None, start
+        while self.at < len(self.tokens):
+            token = self.take()
+            if depth == 0 and self.is_next('(') and token.kind == 'name' and token.text != '__attribute__':
+                name = token
+            depth += {'(': 1, '[': 1, ')': -1, ']': -1}.get(token.text, 0) if token.kind == 'mark' else 0
+            if depth == 0 and token.text in (';', '=') and token.kind == 'mark':
+                return None if token.text == '=' else name
+            if depth == 0 and token.text == '{' and token.kind == 'mark':
+                return name if name is not None and self.skip_block() else None
+        return None
+
+    def skip_block(self):
+        """Goes behind the end of a block whose start was read."""
+        depth = 1
+        while depth and self.at < len(self.tokens):
+            token = self.take()
+            depth += {'{': 1, '}': -1}.get(token.text, 0) if token.kind == 'mark' else 0
+        return depth == 0
 
     def outer(self):
         """A function, or a declaration at the outer level."""
