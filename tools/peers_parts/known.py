@@ -1,9 +1,21 @@
 """Cases that are left out, and known faults of other systems, each with the reason."""
 
-# Cases of tests whose launch has no one right end in OpenCL: they rest on a choice of this project.
+DIVIDES = 'divides by zero, or the least value by -1'
+ZEROS = 'rests on local memory that starts as zeros'
+
+# Cases whose end OpenCL leaves open, or which it refuses: they rest on a choice of this project.
 OWN_CHOICES = {
-    'examples/pixels': 'a vector and a number of a wider type are mixed, which OpenCL refuses',
+    'examples/pixels': 'mixes a vector and a number of a wider type, which OpenCL refuses',
+    'examples/race': 'races',
+    'tests/rows/a_branch_that_a_constant_decides': DIVIDES,
+    'tests/rows/all_items_of_a_chunk_load_before_one_stores': 'races',
+    'tests/rows/division_by_zero_and_of_the_least_value': DIVIDES,
+    'tests/rows/local_memory_starts_as_zeros_in_each_group': ZEROS,
+    'tests/rows/store_that_is_never_reached': DIVIDES,
 }
 
 # Systems that are known to be wrong on a case, with the reason.
-FAULTS = {}
+FAULTS = {
+    ('pocl', 'tests/rows/barrier_that_nobody_reaches'): 'its compiler crashes on a barrier in a loop whose length varies',
+    ('pocl', 'tests/rows/each_group_votes_by_itself'): 'it finds no kernel `all`, which is a function of OpenCL too',
+}

@@ -2,9 +2,19 @@
 
 Cold: nothing is kept of an earlier run. Warm: the program takes what it compiled from its compile cache, pocl from its
 kernel cache. Each number is the least of several runs, the start of the process included."""
-from .systems import in_room
+from reference_parts.commands import SAMPLE_HEAD, SAMPLE_LAUNCH, SAMPLES
+
+from .systems import Case, in_room
 
 RUNS = 3
+
+
+def samples():
+    """The launches of `wgcc sample`, of 65,536 items each."""
+    data = b''.join((at * 2654435769 % 2**32).to_bytes(4, 'little') for at in range(65536))
+    for number, body in enumerate(SAMPLES):
+        files = {'kernel.cl': (SAMPLE_HEAD + body + '}').encode(), 'launch.toml': SAMPLE_LAUNCH.encode(), 'a': data}
+        yield Case('sample %d' % number, files)
 
 
 def least(make):
