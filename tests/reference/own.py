@@ -1,4 +1,13 @@
-"""Checks of what the reference has beyond the program: numbers, races, all outcomes, and random orders."""
+"""Checks of what the reference has beyond the program: numbers, races, all outcomes, and random orders; and of the
+random kernels and the minimiser of tools/fuzz."""
+import random
+
+from fuzz_parts.damage import damaged_source
+from fuzz_parts.kernels import Generator
+from fuzz_parts.minimiser import Minimiser
+from fuzz_parts.plain_kernels import PlainGenerator, PlainVectorGenerator
+from fuzz_parts.programs import reference
+from fuzz_parts.vector_statements import VectorGenerator
 from reference_parts.commands import Memory, call
 from reference_parts.numbers import OPERATORS, built_in, common, promoted
 from reference_parts.tokens import tokens_of, value_and_type
@@ -86,6 +95,30 @@ def check_vectors():
     """A vector statement reads its leaves before it stores."""
     body = 'int4 v = (int4)(1, 2, 3, l); v.xy = v.yx; a[l] = v.x * 100 + v.y * 10 + v.w;'
     return same(run(body)[1], [210, 211, 212, 213])
+
+
+def check_random_kernels():
+    """Random kernels are accepted and clean, and the same seed makes the same files."""
+    found = []
+    for generator in (Generator, VectorGenerator, PlainGenerator, PlainVectorGenerator):
+        for seed in range(3):
+            files = generator(seed).make()
+            found += [reference(files, 'run', 'k.cl', 'k.toml', '--if-clean').status, files == generator(seed).make()]
+    return same(found, [0, True] * 12)
+
+
+def check_damage():
+    """Damage changes a source, and is the same for the same seed."""
+    source = Generator(1).make()['k.cl']
+    first, second = [damaged_source(random.Random(1), source, False) for _ in range(2)]
+    return same([first == second, first == source], [True, False])
+
+
+def check_minimiser():
+    """A source is shrunk to what still differs, here to a store of 7."""
+    files = {'k.cl': b'void f() {\n  if (x) {\n    a[(1 + (2 * 3))] = 7;\n  }\n  b = 8;\n}\n'}
+    small = Minimiser(lambda files: b'= 7' in files['k.cl'] and b'a[(' in files['k.cl'], files).run()
+    return same(small['k.cl'], b'    a[(0)] = 7;')
 
 
 def checks():

@@ -2,7 +2,8 @@
 
 A unit with vectors is measured by the compiler as the unit without vectors that it makes of it, which the
 reference does not make. So E419 and E420 of such units are counted and not compared; of other numbers from E401 on
-the place is not compared; and `plan` may name helping variables, and keep for each item what the reference keeps once."""
+the place is not compared; and `plan` may name helping variables, and keep for each item what the reference keeps
+once."""
 import random
 
 from .damage import damaged_launch_file, damaged_source, with_faults

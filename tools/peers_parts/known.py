@@ -16,6 +16,6 @@ OWN_CHOICES = {
 
 # Systems that are known to be wrong on a case, with the reason.
 FAULTS = {
-    ('pocl', 'tests/rows/barrier_that_nobody_reaches'): 'its compiler crashes on a barrier in a loop whose length varies',
+    ('pocl', 'tests/rows/barrier_that_nobody_reaches'): 'its compiler crashes on a barrier in a loop that varies',
     ('pocl', 'tests/rows/each_group_votes_by_itself'): 'it finds no kernel `all`, which is a function of OpenCL too',
 }
