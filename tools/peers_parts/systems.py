@@ -72,6 +72,13 @@ class Compiled:
         return Made(saved(found, case.saves), None, seconds) if status == 0 else Made(None, said.strip(), seconds)
 
 
+def first_error(said):
+    """The line of what was printed that says most."""
+    lines = [line for line in said.splitlines() if line.strip() and not line.startswith('platform')]
+    errors = [line for line in lines if 'error' in line.lower()]
+    return (errors + lines + ['nothing said'])[0].split('/')[-1][:160]
+
+
 class Host:
     """An implementation of OpenCL, by the host program. A kernel cache of its own is kept in `cache`."""
 
@@ -90,7 +97,7 @@ class Host:
         words = [*self.front, self.host, FACTS]
         status, said, found, seconds = in_room(files, words, {'POCL_CACHE_DIR': self.cache})
         if status != 0:
-            return Made(None, 'status %d: %s' % (status, said.strip()[:400]), seconds)
+            return Made(None, 'status %d, %s' % (status, first_error(said)), seconds)
         return Made(saved(found, case.saves), None, seconds)
 
 
