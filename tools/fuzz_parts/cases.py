@@ -161,6 +161,9 @@ class Case:
         clean = reference(files, *RUN, *TURNS, '--if-clean')
         words = (*RUN, *TURNS) if clean.status in ENDS_OF_CLEAN else PLAN
         want = reference(files, *words)
+        if '' in want.files:
+            self.count('left out: saved under an empty name')
+            return None
         self.count('damaged launch files with status %d' % want.status)
         got = self.program.answer(files, words)
         fault = self.damage_fault(want, got)

@@ -309,8 +309,9 @@ def with_deep_stack(work):
 
 def main():
     """The program."""
-    if sys.argv[1:] in ([], ['--help'], ['-h']):
-        sys.exit(USAGE)
+    if sys.argv[1:] in (['--help'], ['-h']):
+        sys.stdout.write(USAGE)
+        return
     status, out, err = with_deep_stack(lambda: call(sys.argv[1:]))
     sys.stdout.write(out)
     sys.stdout.flush()
