@@ -179,7 +179,9 @@ class Declarations:
                 self.type_of(length)
         if initialiser.is_there:
             self.vector_type_of(initialiser.node)
-        numbers = {402} if each.text in self.scopes[-1] else set()
+        # A vector variable is declared by its components, whose names no other name has.
+        name = each.text if each.lengths or each.star is not None else each.text + '.'
+        numbers = {402} if name in self.scopes[-1] else set()
         if each.lengths:
             symbol = self.vector_array(node, each, vector, numbers)
             in_kernel = where == 'outer' and self.function is not None and self.function.is_kernel
@@ -194,7 +196,7 @@ class Declarations:
             symbol.slot = self.function.new_slot()
             self.enter_array(symbol)
         each.symbol = symbol
-        self.scopes[-1].setdefault(each.text, symbol)
+        self.scopes[-1].setdefault(name, symbol)
 
     def vector_array(self, node, each, vector, numbers):
         """The array of vectors that a declarator declares."""

@@ -69,7 +69,7 @@ class Vectors:
 
     def check_vector_variable(self, node):
         """Checks a variable of a vector type."""
-        node.symbol = self.lookup(node.text)
+        node.symbol = self.lookup(node.text + '.')
         return node.symbol.type
 
     def check_vector_postfix(self, node):
