@@ -26,6 +26,10 @@ use Rattle.cl_short_vec.specs.Unit.{scalarised_of}
 use Rattle.cl_short_vec_faults.specs.SoundBut.{is_of_size}
 use Rattle.cl_short_vec_faults.specs.UnitLaw.{NoFlags, PlainStands, FormStands}
 use Rattle.cl_short_vec_faults.proofs.UnitsStand.{units_stand}
+use Rattle.cl_short_vec_correct.proofs.Returns.{returns_refused}
+use Rattle.cl_short_vec_correct.proofs.Barriers.{barriers_refused}
+use Rattle.cl_short_vec_correct.proofs.Offsets.{numbers_scaled, offsets_scaled, contents_stand}
+use Rattle.cl_short_vec_correct.proofs.Lists.{vectors_are}
 use Rattle.cl_front.proofs.DoesLemmas.{source_form, sources_formed, typed_formed}
 use Rattle.cl_front.specs.declared.condition.Condition.TheVariants as conditions
 use Rattle.cl_front.specs.declared.front.SourceError.{SourceError}
@@ -119,4 +123,12 @@ forms_hold = record {
   sources = sources_formed;
   typed = typed_formed;
   faulty = faulty_formed;
+  steps = record {
+    returns = returns_refused;
+    barriers = barriers_refused;
+    scaled = numbers_scaled;
+    indexed = offsets_scaled;
+    pointed = contents_stand;
+    lists = vectors_are;
+  };
 }

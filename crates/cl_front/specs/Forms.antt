@@ -15,6 +15,8 @@ use Rattle.cl_short_vec.specs.Unit.{scalarised_of}
 use Rattle.cl_short_vec_faults.specs.SoundBut.{is_of_size}
 use Rattle.cl_short_vec_faults.specs.UnitLaw.{NoFlags, PlainStands}
 use Rattle.cl_short_vec_correct.specs.Each.{EachIsDone}
+use Rattle.cl_short_vec_correct.specs.Law.{ReturnsRefused, BarriersRefused, NumbersScaled, OffsetsScaled, ContentsStand}
+use Rattle.cl_short_vec_correct.specs.Law.{VectorsAre}
 use Rattle.cl_front.specs.declared.condition.Condition.{Condition}
 use Rattle.cl_front.specs.declared.front.SourceError.{SourceError}
 use Rattle.cl_front.specs.declared.front.SourceError.TheVariants as errors
@@ -60,8 +62,20 @@ FaultyFormed = (source : List ℕ) (defines : List Define) (kernel : List ℕ) (
     DefinesFit defines → (h : IsFaulty source defines kernel condition place) →
     FaultyForm source defines kernel condition place h
 
--- all three in one
+-- What doing the steps of a vector statement means: an item that a `return` ends, or that stands at a barrier, does
+-- none; a number that counts vectors is multiplied by the number of their components, so that `p[i]` stands that far
+-- behind `p`, and `*p` where `p` points to; and what is set is the list of the components' values.
+pub record StepsMean : Type 0 where
+  pub returns : ReturnsRefused
+  pub barriers : BarriersRefused
+  pub scaled : NumbersScaled
+  pub indexed : OffsetsScaled
+  pub pointed : ContentsStand
+  pub lists : VectorsAre
+
+-- all in one
 pub record FormsHold : Type 0 where
   pub sources : SourcesFormed
   pub typed : TypedFormed
   pub faulty : FaultyFormed
+  pub steps : StepsMean
