@@ -96,14 +96,28 @@ def words_of_defines(document):
     return ['-D%s=%s' % (name, value) for name, value in defines.items()] if isinstance(defines, dict) else []
 
 
-def with_defines(text, words):
-    """A launch file that defines these words too, each a name with a number."""
-    lines = []
+def given(words):
+    """The definitions among the words of a build, each as NAME or NAME=WORDS; None for a word that says more."""
+    found, is_next = [], False
     for word in words:
-        name, _, value = word[2:].partition('=')
+        if is_next or word.startswith('-D') and word != '-D':
+            found.append(word if is_next else word[2:])
+            is_next = False
+        elif word == '-D':
+            is_next = True
+        elif not word.startswith(('-cl-', '-w', '-W', '-g', '-O')):
+            found.append(None)
+    return found
+
+
+def with_defines(text, words):
+    """A launch file that defines these names too, each with a number."""
+    lines = []
+    for word in given(words):
+        name, _, value = (word or '').partition('=')
         value = value or '1'
-        if not word.startswith('-D') or not value.isdigit():
-            raise Wrong('the word %s of `defines` is no name with a number: run with --port' % word)
+        if not name or not value.isdigit():
+            raise Wrong('a word of `defines` is no name with a number: run with --port')
         lines.append('%s = %s\n' % (name, value))
     if not lines:
         return text

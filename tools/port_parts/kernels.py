@@ -7,11 +7,16 @@ from .reader import Reader
 from .tokens import cut
 
 
+def parameter_symbols(path, words):
+    """By kernel, its parameters."""
+    tokens, _ = cut(expanded(path, words), path)
+    return {part.symbol.name: part.parameters
+            for part in Reader(tokens, Notes(path)).unit() if part.kind == 'function' and part.is_kernel}
+
+
 def parameters(path, words):
     """By kernel, the types of its parameters."""
-    tokens, _ = cut(expanded(path, words), path)
-    return {part.symbol.name: [symbol.type for symbol in part.parameters]
-            for part in Reader(tokens, Notes(path)).unit() if part.kind == 'function' and part.is_kernel}
+    return {name: [symbol.type for symbol in found] for name, found in parameter_symbols(path, words).items()}
 
 
 def element_types(path, words):
