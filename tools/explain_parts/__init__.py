@@ -1,0 +1,1 @@
+"""What tools/explain says, part by part: each module looks at one kind of end, and says only what is certain."""
