@@ -10,6 +10,8 @@ NUMBERS = ['abs', 'abs_diff', 'min', 'max', 'clamp', 'add_sat', 'sub_sat', 'hadd
 BARRIERS = ['barrier', 'mem_fence', 'read_mem_fence', 'write_mem_fence']
 FLAGS = ['CLK_LOCAL_MEM_FENCE', 'CLK_GLOBAL_MEM_FENCE']
 KNOWN = WORK_ITEM + NUMBERS + BARRIERS
+# How many arguments the functions take that do not take two.
+ARGUMENTS = {**{name: 1 for name in [*WORK_ITEM, *BARRIERS, 'abs', 'clz', 'popcount']}, 'get_work_dim': 0, 'clamp': 3}
 SCALAR = r'(?:u?char|u?short|u?int|u?long|float|double|half|size_t|ptrdiff_t)'
 COUNT = r'(?:2|3|4|8|16)'
 ROUNDED = r'(?:_sat)?(?:_rt[ezpn])?'

@@ -20,12 +20,12 @@ def loops_of(source, function):
 def out_of_turns(source, words, launch, number):
     """What is said of status 7: how many turns there were, and which loops the kernel has."""
     option = words.option('--turns')
-    turns = option or (launch.data.get('turns') if launch and launch.data else None)
+    turns = option or (launch.data.get('turns') if launch and launch.data is not None else None)
     text = 'The items of the launch began more than %s loop iterations' % (turns or '100000000')
     text += ', by the option --turns.' if option else ', by the launch file.' if turns is not None else \
         ', as many as they may where nothing else is said: `turns = ..` or `--turns ..` says it.'
     found = [Finding(text)]
-    if source and launch and launch.data:
+    if source and launch and launch.data is not None:
         launches = launch.launches()
         path, one = launches[number] if number < len(launches) else ((), {})
         kernel = source.unit.named(one.get('kernel'))

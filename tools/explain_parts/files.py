@@ -9,7 +9,7 @@ def named(words, launch):
     """The files that a command reads: each with what it is and its finding's place, or None."""
     found = [('source' if words.has_source else 'object file', words.source, None),
              ('launch file', words.launch, None)]
-    if launch and launch.data and words.command in ('run', 'exec'):
+    if launch and launch.data is not None and words.command in ('run', 'exec'):
         found += [('file of buffer "%s"' % buffer.get('name'), buffer['load'], ('buffer', number, 'load'))
                   for number, buffer in enumerate(launch.buffers()) if isinstance(buffer.get('load'), str)]
     return [one for one in found if one[1] is not None]
@@ -78,7 +78,7 @@ def not_read_or_written(words, launch):
             found.append(say(launch, 'the %s %s cannot be read: %s' % (what, name, why), path))
     if found:
         return found
-    if launch and launch.data and words.command in ('run', 'exec'):
+    if launch and launch.data is not None and words.command in ('run', 'exec'):
         for number, buffer in enumerate(launch.buffers()):
             why = why_not_written(buffer['save']) if isinstance(buffer.get('save'), str) else None
             if why:
@@ -95,7 +95,7 @@ def not_read_or_written(words, launch):
 def lengths(words, launch):
     """Warnings: the files that are shorter or longer than the buffer that they start."""
     found = []
-    if not launch or not launch.data or words.command not in ('run', 'exec'):
+    if not launch or launch.data is None or words.command not in ('run', 'exec'):
         return found
     for number, buffer in enumerate(launch.buffers()):
         name, size = buffer.get('load'), buffer.get('bytes')

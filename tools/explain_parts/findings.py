@@ -21,7 +21,7 @@ class Finding:
 def near(name, names):
     """The names that are spelled most like this one, the nearest first."""
     wanted = {one.lower(): one for one in sorted(set(names)) if one != name}
-    return [wanted[one] for one in difflib.get_close_matches(name.lower(), wanted, 2, 0.68)]
+    return [wanted[one] for one in difflib.get_close_matches(name.lower(), wanted, 2, 0.66)]
 
 
 def said_near(name, names):

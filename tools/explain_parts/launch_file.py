@@ -57,6 +57,8 @@ class Launches:
         except OSError:
             self.bytes = None
             return
+        if tomllib is None:
+            return
         try:
             self.text = self.bytes.decode('utf-8').removeprefix('\ufeff')
             self.data = tomllib.loads(self.text)

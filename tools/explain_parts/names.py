@@ -1,7 +1,8 @@
 """What is wrong with a name: E401, E422, and where else the name stands."""
 from explain_parts import built_in, page, tokens as cutting
 from explain_parts.expressions import WORDS
-from explain_parts.findings import Finding, listed, said_near
+from explain_parts.findings import Finding, counted, listed, said_near
+from explain_parts.unit import split
 
 
 def unknown_name(source, line, column):
@@ -28,6 +29,8 @@ def is_known(source, index, is_call):
     name = source.tokens[index].text
     if name in WORDS:
         return True
+    if is_call and source.unit.seen(index, name):
+        return False
     if is_call:
         return name in built_in.KNOWN or any(one.name == name and not one.is_kernel and one.head[0] < index
                                              for one in source.unit.functions)
@@ -79,13 +82,15 @@ def where_declared(source, one, index):
 def unknown_function(source, index, name):
     """What is said of a call of an unknown function."""
     own = source.unit.named(name)
-    if own and own.is_kernel:
+    hiding = source.unit.seen(index, name)
+    if hiding:
+        return [Finding('`%s` is the variable of %s here, which hides the function of its name.'
+                        % (name, hiding[-1].token.at()))]
+    if any(one.is_kernel for one in source.unit.functions if one.name == name):
         return [Finding('`%s` is a kernel, and a kernel is not called.' % name), row('kernel_that_is_called')]
     if own:
         return [Finding('`%s` is defined at %s, behind this call: declare it in front by a prototype.'
                         % (name, own.token.at()))]
-    if source.unit.seen(index, name):
-        return [Finding('`%s` is a variable here, and no function.' % name)]
     if built_in.is_other(name):
         return [Finding(built_in.said_of(name))]
     visible = built_in.KNOWN + [one.name for one in source.unit.functions if not one.is_kernel]
@@ -106,7 +111,7 @@ def no_such_kernel(source, launch):
     """What is said of E422: the kernels that there are."""
     kernels = source.unit.kernels()
     found = []
-    for path, one in launch.launches() if launch and launch.data else []:
+    for path, one in launch.launches() if launch and launch.data is not None else []:
         name = one.get('kernel')
         if name in [kernel.name for kernel in kernels]:
             continue
@@ -130,12 +135,29 @@ def declared_twice(source, line, column):
     here = cutting.index_at(source.tokens, line, column)
     if here >= len(source.tokens):
         return []
-    name = source.tokens[here].text
+    starts = [one for one in source.unit.functions if one.head[0] == here]
+    name = starts[0].name if starts else source.tokens[here].text
     function = source.unit.around(here)
     before = [one for one in (source.unit.declarations(function) if function else []) + source.unit.constants
-              if one.name == name and one.seen_from < here and one.token is not source.tokens[here]]
+              if one.name == name and (one.token.line, one.token.column) < (line, column)]
     if name in built_in.KNOWN:
         return [Finding('`%s` is a function that is known without a declaration.' % name)]
-    others = [one for one in source.unit.functions if one.name == name and one.head[1] <= here]
+    others = [one for one in source.unit.functions if one.name == name and one.head[1] <= here and one not in starts]
     first = (before or others)[:1]
     return [Finding('`%s` is declared at %s already.' % (name, first[0].token.at()))] if first else []
+
+
+def argument_count(source, line, column):
+    """What is said of E404: how many arguments the function takes, and how many are given."""
+    tokens = source.tokens
+    at = cutting.index_at(tokens, line, column)
+    if at + 1 >= len(tokens) or tokens[at + 1].text != '(':
+        return []
+    name, own = tokens[at].text, source.unit.named(tokens[at].text)
+    if own is None and name not in built_in.KNOWN:
+        return []
+    wanted = len(own.parameters) if own else built_in.ARGUMENTS.get(name, 2)
+    given = len(split(tokens, at + 2, cutting.matching(tokens, at + 1)))
+    where = ', defined at %s,' % own.token.at() if own else ''
+    return [Finding('`%s`%s takes %s, and %d %s given.' % (name, where, counted(wanted, 'argument'), given,
+                                                          'is' if given == 1 else 'are'))]

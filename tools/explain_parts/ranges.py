@@ -15,8 +15,8 @@ from explain_parts.unit import bytes_of
 
 ENDED = re.compile(r'^wgcc: (?:launch (?P<launch>\d+): )?(?:range|parted): group (?P<group>\d+), item (?P<item>\d+), '
                    r'(?P<line>\d+):(?P<column>\d+)$')
-# A run that took longer than this is not made again, in seconds.
-LONGEST = 5.0
+# A run that took more of a processor than this is not made again, and no copy runs longer than that, in seconds.
+LONGEST, LAST = 5.0, 300
 
 
 class Access:
@@ -200,7 +200,7 @@ def runner_of(program, words, seconds):
         options = [word for word in words.words[3:] if word != '--cache']
         try:
             ended = subprocess.run([program, 'run', *paths, *options], stdin=subprocess.DEVNULL, capture_output=True,
-                                   check=False, timeout=4 * LONGEST)
+                                   check=False, timeout=LAST)
         except (OSError, subprocess.TimeoutExpired):
             return None
         return ended.stderr.decode('utf-8', 'replace').rstrip('\n')

@@ -10,9 +10,11 @@ PLACE = re.compile(r'^wgcc: (?P<name>.*):(?P<line>\d+):(?P<column>\d+): (?P<numb
 LAUNCH = re.compile(r'^wgcc: (?P<number>L\d+) (?P<text>.*)$')
 TURNS = re.compile(r'^wgcc: (?:launch (?P<launch>\d+): )?out of turns$')
 HEADS = {5: 'Status 5', 6: 'Status 6', 7: 'Status 7'}
-BY_NUMBER = {'E101': sources.no_token, 'E201': sources.directive, 'E301': syntax.findings, 'E401': names.unknown_name,
-             'E402': names.declared_twice, 'E408': signatures.type_outside, 'E411': signatures.kernel_signature, 'E501': vectors.misplaced, 'E502': vectors.no_component,
-             'E503': vectors.types_differ}
+BY_NUMBER = {
+    'E101': sources.no_token, 'E103': sources.malformed_number, 'E201': sources.directive, 'E301': syntax.findings,
+    'E401': names.unknown_name, 'E402': names.declared_twice, 'E404': names.argument_count,
+    'E408': signatures.type_outside, 'E411': signatures.kernel_signature, 'E501': vectors.misplaced,
+    'E502': vectors.no_component, 'E503': vectors.types_differ}
 
 
 class Report:
@@ -23,7 +25,7 @@ class Report:
         self.number = self.file = self.text = self.at_line = self.at_column = None
         self.findings, self.warnings, self.shown, self.help = [], [], '', ''
         self.launch = launch_file.Launches(words.launch) if words.launch is not None else None
-        given = self.launch.data.get('defines') if self.launch and self.launch.data else None
+        given = self.launch.data.get('defines') if self.launch and self.launch.data is not None else None
         given = given if isinstance(given, dict) and all(isinstance(one, int) for one in given.values()) else {}
         self.source = sources.opened(words.source, given) if words.has_source else None
         self.look()
@@ -67,9 +69,9 @@ class Report:
         launch = self.launch
         if self.number == 'L1':
             self.findings = launch_file.not_toml(launch) if launch else []
-        elif launch and launch.data and self.number in launch_file.BY_NUMBER:
+        elif launch and launch.data is not None and self.number in launch_file.BY_NUMBER:
             self.findings = launch_file.BY_NUMBER[self.number](launch, self.words)
-        elif launch and launch.data and self.number in launch_fits.BY_NUMBER:
+        elif launch and launch.data is not None and self.number in launch_fits.BY_NUMBER:
             self.findings = launch_fits.findings(self.number, launch, self.source.unit if self.source else None)
         self.at_line = next((one.line for one in self.findings if one.file == launch.name), None) if launch else None
         self.help = page.section(self.number)
@@ -80,7 +82,7 @@ class Report:
         self.text = self.line[len('wgcc: '):]
         self.help = page.section(HEADS[self.status]) if self.status in HEADS else ''
         number = int(found['launch'] or 1) - 1
-        if self.launch and self.launch.data and self.source and number < len(self.launch.launches()):
+        if self.launch and self.launch.data is not None and self.source and number < len(self.launch.launches()):
             path, table = self.launch.launches()[number]
             fit = launch_fits.Fit(self.launch, number, path, table, self.source.unit)
             if self.status == 5:

@@ -108,3 +108,20 @@ def directive(source, line, column):
     text = 'The macro `%s` has parameters.' % words[2] if what == 'define' and len(words) > 2 else \
         'The directive `#%s` is not taken.' % what
     return [Finding('%s %s' % (text, by_preprocessor(source, case)))]
+
+
+def malformed_number(source, line, column):
+    """What is said of E103: the number, and what to write."""
+    at = cutting.index_at(source.raw, line, column)
+    if at >= len(source.raw):
+        return []
+    word = source.raw[at].text
+    if re.match(r'(0[xX][0-9a-fA-F]+|[0-9]+)[uU]?[lL]{2}[uU]?\Z', word):
+        return [Finding('`%s`: there is no suffix of two `l`. %s' % (word, page.row_of('suffix_ll') or ''))]
+    if re.match(r'0[bB][01]+', word):
+        return [Finding('`%s`: %s' % (word, page.row_of('binary_number') or 'there are no binary numbers.'))]
+    if '.' in word or re.match(r'[0-9]+[eE]', word) or re.match(r'[0-9]+[fF]\Z', word):
+        return [Finding('`%s`: the subset has whole numbers alone.' % word)]
+    if re.match(r'0[0-9]+[uUlL]*\Z', word):
+        return [Finding('`%s` begins with 0, so it is octal, and has a digit above 7.' % word)]
+    return [Finding('`%s` is no whole number.' % word)]

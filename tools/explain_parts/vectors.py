@@ -65,7 +65,7 @@ def misplaced(source, line, column):
     if words and words[0] in ('if', 'while', 'for', 'do', 'switch'):
         return [Finding('A vector in the head of `%s`, which takes a number. %s'
                         % (words[0], page.row_of('vector_condition') or ''))]
-    return list_in_braces(tokens, at)
+    return list_in_braces(tokens, at) or vector_at(source, at)
 
 
 def list_in_braces(tokens, at):
@@ -75,6 +75,16 @@ def list_in_braces(tokens, at):
     types = [token.text for token in tokens[max(at - 4, 0):at] if token.text in VECTORS]
     name = types[-1] if types else 'int4'
     return [Finding('A list in braces makes no vector: write `(%s)(..)`.' % name)]
+
+
+def vector_at(source, at):
+    """The vector of a variable or of an element that begins at a token."""
+    found = source.unit.seen(at, source.tokens[at].text)
+    if not found or found[-1].type not in VECTORS:
+        return []
+    one = found[-1]
+    what = 'is a vector' if not one.has_star and not one.lengths else 'has vectors'
+    return [Finding('`%s` %s of type `%s`; its components, as `.x` or `.s0`, are numbers.' % (one.name, what, one.type))]
 
 
 def types_differ(source, line, column):
@@ -110,6 +120,9 @@ def no_component(source, line, column):
         return []
     one = found[-1]
     text = '`%s` is %s' % (one.name, 'a vector of type `%s`' % one.type if one.type in VECTORS else 'no vector')
+    if one.type and one.type[-1] == '3':
+        return [Finding('`%s` is of type `%s`: vectors have 2, 4, 8 or 16 components. %s'
+                        % (one.name, one.type, page.row_of('vector_of_three') or ''))]
     if one.type in VECTORS:
         return [Finding('%s, and `.%s` selects no components that it has.' % (text, tokens[end + 1].text))]
     return [Finding('%s, so `.%s` selects nothing. %s' % (text, tokens[end + 1].text,
