@@ -91,6 +91,22 @@ def check_orders():
     return same(found, [('wgcc: done, 1 groups, 4 items\n', [9, 4, 1, 0])] * 6)
 
 
+def plan_of(functions, test):
+    """The plan of a kernel with these functions, in which a loop with a barrier holds a way out under this test."""
+    body = 'for (int i = 0; i < 2; i++) { barrier(CLK_LOCAL_MEM_FENCE); switch (%s) { case 1: break; } }' % test
+    memory = Memory({'k.cl': (functions + HEAD + body + '}').encode(), 'k.toml': (LAUNCH % (4, 4, 9)).encode()})
+    _, out, err = call(['plan', 'k.cl', 'k.toml'], memory)
+    return (out + err).split('\n')[-2].split(' ')[0]
+
+
+def check_results_that_vary():
+    """The result of a function counts as a variable that each `return` assigns: a `continue` under a condition that
+    varies makes it vary, and where no `return` stands it does not vary."""
+    loop = 'int f(int n) { for (int i = 0; i < n; i++) { if (i == 3) continue; } %s} '
+    found = [plan_of(loop % end, 'f(l)') for end in ('return 1; ', '')]
+    return same(found, ['item', 'once'])
+
+
 def check_vectors():
     """A vector statement reads its leaves before it stores."""
     body = 'int4 v = (int4)(1, 2, 3, l); v.xy = v.yx; a[l] = v.x * 100 + v.y * 10 + v.w;'

@@ -187,7 +187,8 @@ def kind_of(line):
     """The kind of an outcome: done, range, parted, out of turns, or more."""
     if not line.startswith('wgcc'):
         return line
-    return 'turns' if line.endswith('out of turns') else line.split(': ')[1]
+    words = [word for word in line.split(': ') if not word.startswith('launch ')]
+    return 'turns' if words[1] == 'out of turns' else words[1]
 
 
 def is_looser_plan(got, want):

@@ -24,6 +24,8 @@ class Expressions:
 
     def literal(self):
         """A number as it is written."""
+        if 'defines' in self.extras and self.chance(.15):
+            return self.pick(['SOME', 'GIVEN'])
         value = self.pick(VALUES + [self.random.randint(0, 2**31), self.random.randint(0, 2**63 - 1)])
         text = self.pick(['%d', '%d', '0x%x']) % value + self.pick(['', '', '', '', 'u', 'L', 'UL', 'l', 'lu'])
         if self.chance(.1):
@@ -80,6 +82,8 @@ class Expressions:
     def load(self, depth, is_uniform, has_effects):
         """An element of some memory."""
         index = self.expression(depth, is_uniform, has_effects)
+        if self.in_kernel and 'constant' in self.extras and self.chance(.25):
+            return 'con[(%s) & 7]' % index
         if is_uniform:
             return 'tab[(%s) & 7]' % index
         kind = self.random.random()
@@ -88,12 +92,19 @@ class Expressions:
         if kind < .45:
             return 'tab[(%s) & 7]' % index
         if kind < .55 and self.arrays:
-            return '%s[(%s) & 3]' % (self.pick(self.arrays), index)
+            return self.element(self.pick(self.arrays), index)
         if not self.in_kernel:
             return 'tab[(%s) & 7]' % index
+        local = ['loc'] if 'local' in self.extras else []
         if self.phase != 'read':
-            return self.pick(['t[l]', 'out[g]', 'sh[l]'])
-        return '%s[(uint)(%s) %% %du]' % ('t' if kind < .8 else 'sh', index, self.items)
+            return '%s[l]' % self.pick(['t', 'sh'] + local) if self.chance(.7) else 'out[g]'
+        return '%s[(uint)(%s) %% %du]' % (self.pick(['t', 't', 'sh'] + local), index, self.items)
+
+    def element(self, name, index):
+        """An element of an array, or of an array of rows."""
+        if name.startswith('m'):
+            return '%s[(%s) & 1][%d]' % (name, index, self.random.randint(0, 2))
+        return '%s[(%s) & 3]' % (name, index)
 
     def leaf(self, is_uniform):
         """A number, a variable, or what a work-item function gives."""

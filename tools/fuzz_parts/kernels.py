@@ -1,13 +1,17 @@
 """Random kernels that are clean most of the time, with their launch files and buffers."""
 import random
 
-from reference_parts.numbers import largest, least
+from reference_parts.numbers import SIZE, largest, least
 
 from .expressions import TYPES, Expressions
-from .launch_texts import launch_text, packed
+from .launch_texts import Launches, packed
 from .statements import Statements
 
 TURNS = 100000
+# What some kernels have: a buffer in constant memory, local memory that the launch gives, arrays of rows, names with
+# replacements, and a launch file with two launches.
+EXTRAS = ('constant', 'local', 'rows', 'defines', 'twice')
+VALUES = [0, 1, 2, 3, 5, -1, 100]
 LINEAR = '{0}(0) + {1}(0) * ({0}(1) + {1}(1) * {0}(2))'
 
 
@@ -25,7 +29,8 @@ class Generator(Expressions, Statements):
         self.random = random.Random(seed)
         self.named = self.loops = 0
         self.sizes()
-        self.types = {name: self.pick(TYPES) for name in ('in', 'out', 'sh', 't')}
+        self.extras = {name for name in EXTRAS if self.chance(.3)}
+        self.types = {name: self.pick(TYPES) for name in ('in', 'out', 'sh', 't', 'con', 'loc')}
         if self.chance(.7):
             self.types['out'] = self.pick(['uint', 'ulong', 'int', 'long'])
         self.functions = []
@@ -112,7 +117,8 @@ class Generator(Expressions, Statements):
     def kernel(self):
         """The kernel."""
         self.enter(True, [], False, False, 'write')
-        values = (self.types['in'], self.types['out'], self.types['sh'], self.more_parameters())
+        further = self.extra_parameters() + self.more_parameters()
+        values = (self.types['in'], self.types['out'], self.types['sh'], further)
         lines = ['__kernel void k(__global const %s *in, __global %s *out, __global %s *shared, int n%s) {' % values,
                  '  __local %s t[%d];' % (self.types['t'], self.items),
                  '  int l = %s;' % LINEAR.format('get_local_id', 'get_local_size'),
@@ -126,7 +132,7 @@ class Generator(Expressions, Statements):
             self.phase, self.may_return = 'read', True
             lines += ['  if (%s) return;' % self.expression(2)] + self.block(2, 1)
         seen = ['(ulong)%s * %du' % (name, 2 * at + 3) for at, name in enumerate(self.variables + self.uniform)]
-        seen += ['%s[%d]' % (name, at % 4) for at, name in enumerate(self.arrays)]
+        seen += [self.element(name, at) for at, name in enumerate(self.arrays)]
         if seen:
             lines += ['  out[g] += %s;' % ' + '.join(seen)]
         return lines + self.more_end() + ['}']
@@ -141,20 +147,41 @@ class Generator(Expressions, Statements):
         """The lines of the source."""
         values = ', '.join(str(self.random.randint(0, 127)) for _ in range(8))
         lines = ['__constant %s tab[8] = {%s};' % (self.pick(TYPES), values)]
+        if 'defines' in self.extras:
+            lines = ['#define SOME %d' % self.random.randint(0, 300), '#ifndef GIVEN', '#define GIVEN (SOME - 1)',
+                     '#endif'] + lines
         for _ in range(self.random.randint(0, 2)):
             lines += self.helper()
         for _ in range(self.random.randint(0, 2)):
             lines += self.helper_with_barriers()
         return lines + self.more_helpers() + self.kernel()
 
+    def extra_parameters(self):
+        """The parameters for constant memory and for local memory that the launch gives."""
+        text = ', __constant %s *con' % self.types['con'] if 'constant' in self.extras else ''
+        return text + (', __local %s *loc' % self.types['loc'] if 'local' in self.extras else '')
+
+    def extra_arguments(self):
+        """Their arguments."""
+        found = [('buffer', 'con')] if 'constant' in self.extras else []
+        return found + ([('local', self.items * SIZE[self.types['loc']])] if 'local' in self.extras else [])
+
     def make(self):
         """The files: the source `k.cl`, the launch file `k.toml` and the buffers."""
         source, total = '\n'.join(self.source()) + '\n', self.items * self.groups
-        data = {name: self.data(self.types[name], 32 if name == 'in' else total) for name in ('in', 'out', 'sh')}
-        data.update(self.more_data(total))
-        whole = [size * count for size, count in zip(self.part, self.counts)]
-        text = launch_text((whole, self.part, self.offset), [(name, len(each)) for name, each in data.items()],
-                           self.pick([0, 1, 2, 3, 5, -1, 100]), TURNS)
+        counts = {'in': 32, 'out': total, 'sh': total}
+        if 'constant' in self.extras:
+            counts['con'] = 8
+        data = {name: self.data(self.types[name], count) for name, count in counts.items()}
+        more = self.more_data(total)
+        arguments = [('buffer', 'in'), ('buffer', 'out'), ('buffer', 'sh'), ('value', None), *self.extra_arguments(),
+                     *(('buffer', name) for name in more)]
+        data.update(more)
+        sizes = [size * count for size, count in zip(self.part, self.counts)], self.part, self.offset
+        values = [self.pick(VALUES) for _ in range(2 if 'twice' in self.extras else 1)]
+        defines = [('GIVEN', self.random.randint(0, 99))] if 'defines' in self.extras and self.chance(.5) else []
+        buffers = [(name, len(each)) for name, each in data.items()]
+        text = Launches(sizes, buffers, arguments, values, defines, TURNS).text()
         files = {'k.cl': source.encode(), 'k.toml': text.encode()}
         files.update((name + '.bin', each) for name, each in data.items())
         return files

@@ -23,7 +23,8 @@ class PlainGenerator(Generator):
 
     def __init__(self, seed):
         super().__init__(seed)
-        self.types = {name: self.pick(PLAIN_TYPES if name == 't' else UNSIGNED) for name in ('in', 'out', 'sh', 't')}
+        self.extras = set()
+        self.types = {name: self.pick(PLAIN_TYPES if name == 't' else UNSIGNED) for name in self.types}
 
     def sizes(self):
         """Chooses the dimensions of the launch, without an offset."""

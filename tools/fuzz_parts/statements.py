@@ -54,11 +54,13 @@ class Statements:
         return '%s %s%s;' % (kind, name, start)
 
     def array(self):
-        """The declaration of an array."""
-        name, kind = self.new_name('p'), self.pick(TYPES)
+        """The declaration of an array, or of an array of rows."""
+        has_rows = 'rows' in self.extras and self.chance(.5)
+        name, kind = self.new_name('m' if has_rows else 'p'), self.pick(TYPES)
         values = [self.expression(1) for _ in range(self.random.randint(1, 4))]
         self.arrays.append(name)
-        return '%s %s[4]%s;' % (kind, name, '' if self.chance(.4) else ' = {%s}' % ', '.join(values))
+        start = '' if self.chance(.4) else ' = {%s}' % ', '.join(values)
+        return '%s %s%s%s;' % (kind, name, '[2][3]' if has_rows else '[4]', start)
 
     def condition(self, depth, indent):
         """An `if`."""
@@ -112,8 +114,8 @@ class Statements:
         if self.in_kernel and kind < .45:
             return self.store()
         if self.arrays and kind < .55:
-            return '%s[(%s) & 3] %s= %s' % (self.pick(self.arrays), self.expression(1), self.pick(['', '+', '^']),
-                                           self.expression(2, False, True))
+            return '%s %s= %s' % (self.element(self.pick(self.arrays), self.expression(1)), self.pick(['', '+', '^']),
+                                  self.expression(2, False, True))
         if self.variables:
             return '%s %s= %s' % (self.pick(self.variables), self.pick(['', '+', '^', '*', '>>', '%']),
                                   self.expression(3, False, True))
@@ -125,7 +127,7 @@ class Statements:
         """A store to an element of the item's own."""
         target, marks = 'out[g]', ['+', '^', '-', '+', '^']
         if self.phase == 'write' and self.chance(.6):
-            target = self.pick(['t[l]', 'sh[l]'])
+            target = self.pick(['t[l]', 'sh[l]'] + (['loc[l]'] if 'local' in self.extras else []))
         if self.chance(.25):
             marks = ['', '<<', '/', '|', '%', '*']
         if target != 'out[g]' and self.chance(.5):

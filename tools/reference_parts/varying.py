@@ -3,7 +3,7 @@ from .check_vectors import chosen_of
 from .closures import is_variable
 from .numbers import is_number
 from .symbols import VectorType
-from .tree import bare
+from .tree import all_nodes, bare
 
 
 class Varying:
@@ -13,6 +13,8 @@ class Varying:
         self.functions = checker.functions
         self.has_changed = True
         defined = [function for function in self.functions.values() if function.node is not None]
+        self.returning = {function.text for function in defined
+                          if any(node.form == 'return' for node in all_nodes(function.node.block))}
         while self.has_changed:
             self.has_changed = False
             for function in defined:
@@ -45,11 +47,11 @@ class Varying:
         return any(self.conditions[depth:])
 
     def leave(self):
-        """A `break`, `continue` or `return`."""
+        """A `break`, `continue` or `return`. The result counts as a variable that each `return` assigns."""
         for symbol in self.active:
             if self.is_under(symbol.depth):
                 symbol.has_exit = True
-        if self.is_under(0) and not self.function.is_void:
+        if self.is_under(0) and self.function.text in self.returning and not self.function.is_void:
             self.result_varies()
 
     def assign(self, symbol, does_vary):
