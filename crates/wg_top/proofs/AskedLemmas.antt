@@ -33,7 +33,7 @@ unread_memory old new ask text s Failed n all quiet is cause = absurd (quiet cau
 unread_memory old new ask text s Absent n all quiet is cause =
     absurd (none_found old.files ask text s Absent all cause.1)
 unread_memory old new ask text s (Source condition place) n all quiet is cause =
-    absurd (none_found old.files ask text s (Source condition place) all cause)
+    absurd (none_found old.files ask text s (Source condition place) all cause.refused)
 unread_memory old new ask text s (Launch first) n all quiet is cause =
     absurd (none_found old.files ask text s (Launch first) all cause)
 unread_memory old new ask text s Memory n all quiet is cause = is

@@ -75,7 +75,7 @@ module _ (files : Option FileMap) (ask : BuildFiles) (text : Text) (u : Unit') (
         absurd (not_absent (subst (λ (f : Option FileMap). LacksBuild f ask) same cause.1))
     is_memory old new (Source condition place) n same quiet is cause =
         absurd (not_refused condition place (subst (λ (f : Option FileMap). BuildRefused f ask condition place) same
-        cause))
+        cause.refused))
     is_memory old new (Launch first) n same quiet is cause =
         absurd (not_unread first (subst (λ (f : Option FileMap). BuildUnread f ask first) same cause))
     is_memory old new Memory n same quiet is cause = is
@@ -160,7 +160,7 @@ module _ (fs : FileMap) (ask : BuildFiles) where
       inl (is ∙ agree Absent e (subst (λ (f : Option FileMap). LacksBuild f ask) same cause.1) finds)
   told old new e (Source condition place) n same quiet is cause finds =
       inl (is ∙ agree (Source condition place) e (subst (λ (f : Option FileMap). BuildRefused f ask condition place)
-      same cause) finds)
+      same cause.refused) finds)
   told old new e (Launch first) n same quiet is cause finds =
       inl (is ∙ agree (Launch first) e (subst (λ (f : Option FileMap). BuildUnread f ask first) same cause) finds)
   told old new e Memory n same quiet is cause finds = inr is

@@ -80,20 +80,23 @@ launch_cause old mid new ask bytes _ loaded same before after c = absurd c
 
 -- a refusal of the source's bytes
 pub program_cause : (old new : Standing) (ask : Files) (bytes : List ℕ) (text : Text) (e : RunError) →
-    TextRead old.files ask.launch ask.lanes ask.turns text → SourceLoaded old.files ask.source bytes →
-    ProgramCause bytes text e → ReadingCause old new ask e
-program_cause old new ask bytes text (Source condition place) read loaded c =
+    TextRead old.files ask.launch ask.lanes ask.turns text → DefinesFit text.defines →
+    SourceLoaded old.files ask.source bytes → ProgramCause bytes text e → ReadingCause old new ask e
+program_cause old new ask bytes text (Source condition place) read fit loaded c =
     record {
-      text = text;
-      source_bytes = bytes;
-      source_loaded = loaded;
-      launch_bytes = read.bytes;
-      launch_loaded = read.loaded;
-      reads = read.reads;
-      fault = c;
+      refused = record {
+        text = text;
+        source_bytes = bytes;
+        source_loaded = loaded;
+        launch_bytes = read.bytes;
+        launch_loaded = read.loaded;
+        reads = read.reads;
+        fault = c;
+      };
+      fit = fit;
     }
-program_cause old new ask bytes text Memory read loaded c = tt
-program_cause old new ask bytes text _ read loaded c = absurd c
+program_cause old new ask bytes text Memory read fit loaded c = tt
+program_cause old new ask bytes text _ read fit loaded c = absurd c
 
 -- a launch that is not done, on the files of before
 stops : (files later : Option FileMap) (ask : Files) (text : Text) (s : List Unit') (e : RunError) →

@@ -196,7 +196,7 @@ complete : (old new : Standing) (ask : Files) (text : Text) (s : List Unit') (e 
 complete old new ask text s Failed n all never other is cause = absurd (other refl)
 complete old new ask text s Absent n all never other is cause = absurd (none_lacked old.files ask text s all cause.1)
 complete old new ask text s (Source condition place) n all never other is cause =
-    absurd (none_found old.files ask text s (Source condition place) all.readable cause)
+    absurd (none_found old.files ask text s (Source condition place) all.readable cause.refused)
 complete old new ask text s (Launch first) n all never other is cause = absurd (elim cause [
   | inl unread ↦ none_found old.files ask text s (Launch first) all.readable unread
   | inr unbound ↦

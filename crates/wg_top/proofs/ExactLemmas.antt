@@ -403,7 +403,7 @@ refusal fs old new ask e Absent n told finds other is cause =
     inl (is ∙ one_status fs ask Absent e (subst (λ (f : Option FileMap). Finds f ask Absent) told cause.1) finds)
 refusal fs old new ask e (Source condition place) n told finds other is cause =
     inl (is ∙ one_status fs ask (Source condition place) e
-    (subst (λ (f : Option FileMap). Finds f ask (Source condition place)) told cause) finds)
+    (subst (λ (f : Option FileMap). Finds f ask (Source condition place)) told cause.refused) finds)
 refusal fs old new ask e (Launch first) n told finds other is cause =
     inl (is ∙ one_status fs ask (Launch first) e (subst (λ (f : Option FileMap). Finds f ask (Launch first)) told
     cause) finds)

@@ -65,7 +65,7 @@ named_refusal fs old new ask (Source condition place) n same told honest named q
     let x = subst (λ (f : Option FileMap). SavesUnderCacheName f ask) same named in
     absurd (source_differs fs ask condition place x.text x.units
     (subst (λ (f : Option FileMap). SourceRefused f ask condition place) same
-    (fault_for old new ask told honest condition place c)) x.bound.read)
+    ((fault_for old new ask told honest condition place c).refused)) x.bound.read)
 named_refusal fs old new ask (Launch first) n same told honest named quiet is c = inl is
 named_refusal fs old new ask (Range number several group item place) n same told honest named quiet is c =
     absurd (named_differs fs ask c.source c.text (subst (λ (f : Option FileMap). SavesUnderCacheName f ask) same named)

@@ -27,7 +27,7 @@ use Rattle.wg_top.specs.declared.RunError.TheVariants.{Failed, Absent, Source, L
 use Rattle.wg_top.specs.declared.RunError.TheVariants.{NotObject}
 use Rattle.wg_top.specs.declared.Summary.{Summary}
 use Rattle.wg_top.specs.Units.{HaveTypedUnits, IsFirstRefused, bind_refusal}
-use Rattle.wg_top.specs.Causes.{Standing, RunRead, IsSourceFault, SourceRefused}
+use Rattle.wg_top.specs.Causes.{Standing, RunRead, IsSourceFault, SourceReported}
 use Rattle.wg_top.specs.Programs.{Runs, runs_refusal}
 use Rattle.wg_top.specs.CompiledObjects.{CompilesTo}
 use Rattle.wg_top.specs.Cached.{Honest, IsFound, IsFresh, RunsKernel, RunKernels, IsKept, kernel_key, CachedTaken}
@@ -132,19 +132,23 @@ module _ (old new : Standing) (ask : Files) (told : is_some old.files ≡ true) 
 
   -- a kernel that is not there
   pub fault_for : (condition : Condition) (place : Place) → CachedFault old.files ask condition place →
-      SourceRefused old.files ask condition place
+      SourceReported old.files ask condition place
   fault_for condition place x =
       let f = x.fault in
       let earlier = units_for old.files x.source x.text told honest x.read.numbers x.read.width x.read.lanes_are
       f.earlier f.kernels f.chosen in
       record {
-        text = x.text;
-        source_bytes = x.source;
-        source_loaded = x.read.source_loaded;
-        launch_bytes = x.read.launch_bytes;
-        launch_loaded = x.read.launch_loaded;
-        reads = x.read.reads;
-        fault = fault_of x.source x.text condition place f.earlier f.part f.later earlier.0 f.list_is earlier.1 f.fault;
+        refused = record {
+          text = x.text;
+          source_bytes = x.source;
+          source_loaded = x.read.source_loaded;
+          launch_bytes = x.read.launch_bytes;
+          launch_loaded = x.read.launch_loaded;
+          reads = x.read.reads;
+          fault = fault_of x.source x.text condition place f.earlier f.part f.later earlier.0 f.list_is earlier.1
+              f.fault;
+        };
+        fit = x.read.fit;
       }
     where
       fault_of : (source : List ℕ) (text : Text) (condition : Condition) (place : Place) (earlier : List Part)

@@ -56,22 +56,25 @@ build_launch old mid new ask bytes _ loaded same before after c = absurd c
 
 -- a refusal of the source
 pub build_first : (old new : Standing) (ask : BuildFiles) (bytes held : List ℕ) (text : Text) (e : RunError) →
-    TextRead old.files ask.launch ask.lanes None text → SourceLoaded old.files ask.source bytes → held ≡ bytes →
-    FirstCause held text e → BuildCause old new ask e
-build_first old new ask bytes held text (Source condition place) read loaded same c =
+    TextRead old.files ask.launch ask.lanes None text → DefinesFit text.defines →
+    SourceLoaded old.files ask.source bytes → held ≡ bytes → FirstCause held text e → BuildCause old new ask e
+build_first old new ask bytes held text (Source condition place) read fit loaded same c =
     record {
-      source = held;
-      text = text;
-      read = record {
-        source_loaded = subst (λ (b : List ℕ). SourceLoaded old.files ask.source b) (sym same) loaded;
-        launch_bytes = read.bytes;
-        launch_loaded = read.loaded;
-        reads = read.reads;
+      refused = record {
+        source = held;
+        text = text;
+        read = record {
+          source_loaded = subst (λ (b : List ℕ). SourceLoaded old.files ask.source b) (sym same) loaded;
+          launch_bytes = read.bytes;
+          launch_loaded = read.loaded;
+          reads = read.reads;
+        };
+        fault = c;
       };
-      fault = c;
+      fit = fit;
     }
-build_first old new ask bytes held text Memory read loaded same c = tt
-build_first old new ask bytes held text _ read loaded same c = absurd c
+build_first old new ask bytes held text Memory read fit loaded same c = tt
+build_first old new ask bytes held text _ read fit loaded same c = absurd c
 
 -- the text was made
 pub made_text : (files : Option FileMap) (ask : BuildFiles) (bytes held : List ℕ) (text : Text) (object : List ℕ) →

@@ -13,6 +13,7 @@ use Rattle.launch_file.specs.Texts.{Text}
 use Rattle.wg_top.specs.declared.RunError.{RunError}
 use Rattle.wg_top.specs.declared.RunError.TheVariants.{Failed, Absent, Source, Launch, Memory}
 use Rattle.cl_meaning.specs.Typed.{Unit'}
+use Rattle.cl_check_sound.specs.Law.{DefinesFit}
 use Rattle.cl_front.specs.declared.condition.Condition.{Condition}
 use Rattle.cl_front.specs.Front.{HasUnit, StandsAt}
 use Rattle.wg_top.specs.Units.{HaveTypedUnits, IsFirstRefused, bind_refusal}
@@ -92,6 +93,11 @@ pub record SourceRefused (files : Option FileMap) (ask : Files) (condition : Con
   pub reads : Reads launch_bytes ask.lanes ask.turns text
   pub fault : IsSourceFault source_bytes text condition place
 
+-- and the numbers that the launch file gives for names are below 2^63
+pub record SourceReported (files : Option FileMap) (ask : Files) (condition : Condition) (place : Place) : Type 0 where
+  pub refused : SourceRefused files ask condition place
+  pub fit : DefinesFit refused.text.defines
+
 -- if files are visible, the source does not exist, or it does and the launch file does not
 abbrev pub LacksText : Option FileMap → Files → Type 0
 LacksText files ask =
@@ -121,7 +127,7 @@ ReadingFinds files ask _ = ⊥
 abbrev pub ReadingCause : Standing → Standing → Files → RunError → Type 0
 ReadingCause old new ask Failed = Rose old.faults new.faults
 ReadingCause old new ask Absent = Rose old.misses new.misses × LacksText old.files ask
-ReadingCause old new ask (Source condition place) = SourceRefused old.files ask condition place
+ReadingCause old new ask (Source condition place) = SourceReported old.files ask condition place
 ReadingCause old new ask (Launch refusal) = TextRefused old.files ask refusal
 ReadingCause old new ask Memory = ⊤
 ReadingCause old new ask _ = ⊥

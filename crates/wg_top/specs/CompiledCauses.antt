@@ -18,7 +18,7 @@ use Rattle.wg_top.specs.CompiledLaunches.{LaunchesRan, EndsSo, programs_in}
 use Rattle.wg_top.specs.CompiledOutcomes.{AreMade, HaveGroupPrograms, RanInOutcomes, StopsAsOutcome}
 use Rattle.wg_top.specs.Outcomes.{models_in}
 use Rattle.wg_top.specs.Causes.{Standing, RunRead, TextRefused, BindRefused, SourceRefused, LacksName, BuffersLoaded}
-use Rattle.wg_top.specs.Causes.{IsTaken, AcceptedClean}
+use Rattle.wg_top.specs.Causes.{IsTaken, AcceptedClean, SourceReported}
 
 -- no condition stands on the launches, the buffers were loaded, and a launch ends as the refusal says
 pub record IsStopped (files : Option FileMap) (text : Text) (units : List Unit') (error : RunError) : Type 0 where
@@ -66,7 +66,7 @@ Finds files ask NotObject = ⊥
 abbrev pub Cause : Standing → Standing → Files → RunError → Type 0
 Cause old new ask Failed = Rose old.faults new.faults
 Cause old new ask Absent = Rose old.misses new.misses × Finds old.files ask Absent
-Cause old new ask (Source condition place) = Finds old.files ask (Source condition place)
+Cause old new ask (Source condition place) = SourceReported old.files ask condition place
 Cause old new ask (Launch refusal) = Finds old.files ask (Launch refusal)
 Cause old new ask (Range launch several group item place) =
     RunStops old.files ask (Range launch several group item place)

@@ -4,6 +4,7 @@ use Rattle.wg_num.specs.declared.types.Place.{Place}
 use Rattle.wg_outside.specs.Counts.{Rose}
 use Rattle.wg_outside.specs.Files.{FileMap, HasFileStart, LacksFile, told_file}
 use Rattle.cl_meaning.specs.Typed.{Unit'}
+use Rattle.cl_check_sound.specs.Law.{DefinesFit}
 use Rattle.cl_front.specs.declared.condition.Condition.{Condition}
 use Rattle.cl_front.specs.Typed.{HasTypedUnit, HasNoTypedUnit}
 use Rattle.command_words.specs.Command.{BuildFiles, ObjectFiles}
@@ -48,6 +49,12 @@ pub record BuildRefused (files : Option FileMap) (ask : BuildFiles) (condition :
   pub read : BuildRead files ask source text
   pub fault : IsFirstFault source text condition place
 
+-- and the numbers that the launch file gives for names are below 2^63
+pub record BuildReported (files : Option FileMap) (ask : BuildFiles) (condition : Condition) (place : Place) :
+    Type 0 where
+  pub refused : BuildRefused files ask condition place
+  pub fit : DefinesFit refused.text.defines
+
 -- the launch file violates that condition, and no earlier one
 pub record BuildUnread (files : Option FileMap) (ask : BuildFiles) (refusal : Refusal) : Type 0 where
   pub source : List ℕ
@@ -72,7 +79,7 @@ BuildFinds files ask _ = ⊥
 abbrev pub BuildCause : Standing → Standing → BuildFiles → RunError → Type 0
 BuildCause old new ask Failed = Rose old.faults new.faults
 BuildCause old new ask Absent = Rose old.misses new.misses × LacksBuild old.files ask
-BuildCause old new ask (Source condition place) = BuildRefused old.files ask condition place
+BuildCause old new ask (Source condition place) = BuildReported old.files ask condition place
 BuildCause old new ask (Launch refusal) = BuildUnread old.files ask refusal
 BuildCause old new ask Memory = ⊤
 BuildCause old new ask _ = ⊥

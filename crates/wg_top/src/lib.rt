@@ -350,8 +350,8 @@ pub fn wgcc<S: Store, O: Sink, E: Sink>(
 
     // What is proved of each typed unit of a source and of each faulty one: the unit without vectors
     // that stands for its unit is what it should be, and each vector statement does its steps. The
-    // numbers given for names are to be below 2^63, as those of a launch file are from which
-    // something ran, was shown or was built: fields `fit` of `ends`.
+    // numbers given for names are to be below 2^63, as those of each launch file are from which
+    // something ran, was shown or built, or was refused for its source: fields `fit` of `ends`.
     ensures vectors { FormsHold }
 
     // Words that the command does not take.

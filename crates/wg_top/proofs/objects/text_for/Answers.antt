@@ -34,7 +34,8 @@ returns-clause-err g c =
     c.in-Ok-load_launch.ensures.ok in
     IfErr-weaker _ _ _ (λ e cause. build_first old
     (standing g.S.Store.files g.S.Store.faults g.S.Store.misses c.load_launch.new.store) (build_of c.args.files)
-    c.in-Ok.bytes.items c.deref.result.now (text_of c.in-Ok-load_launch.text) e read c.in-Ok.ensures.ok
+    c.in-Ok.bytes.items c.deref.result.now (text_of c.in-Ok-load_launch.text) e read
+    (numbers_fit _ c.in-Ok-load_launch.ensures.is.numbers) c.in-Ok.ensures.ok
     c.deref.ensures.value cause) c.first_text.ensures.err
 
 pub returns-in-Err-clause-err : goal.returns-in-Err-clause-err

@@ -3,7 +3,7 @@ use Rattle.wg_top.specs.Causes.{Standing, standing}
 use Rattle.wg_top.specs.Ends.{asked}
 use Rattle.wg_top.proofs.CauseLemmas.{source_cause, launch_cause, program_cause, text_before, run_read}
 use Rattle.launch_file.specs.Texts.{text_of}
-use Rattle.wg_top.proofs.RunLemmas.{kernels_valid}
+use Rattle.wg_top.proofs.RunLemmas.{kernels_valid, numbers_fit}
 use Rattle.wg_top.proofs.reading.read_all.Goals as goal
 
 pub returns-in-Err-load_launch-clause-err : goal.returns-in-Err-load_launch-clause-err
@@ -42,7 +42,7 @@ returns-clause-err g c =
     let read = text_before old.files (g.S.Store.files c.load_source.new.store) _ _ _ _ c.in-Ok.ensures.files_stay
     c.in-Ok-load_launch.ensures.ok in
     program_cause old (standing g.S.Store.files g.S.Store.faults g.S.Store.misses c.load_launch.new.store) ask
-    c.in-Ok.bytes.items _ _ read c.in-Ok.ensures.ok
+    c.in-Ok.bytes.items _ _ read (numbers_fit _ c.in-Ok-load_launch.ensures.is.numbers) c.in-Ok.ensures.ok
     (rw c.deref.ensures.value at c.in-Err-compile_all.ensures.err)
 
 pub returns-in-Err-clause-err : goal.returns-in-Err-clause-err
