@@ -1,5 +1,6 @@
 """A report: what is known of how a command ended, as text and as JSON."""
 import json
+import os
 import re
 
 from explain_parts import ends, files, launch_file, launch_fits, names, page, ranges, signatures, source as sources, syntax, vectors
@@ -9,6 +10,8 @@ from explain_parts.findings import Finding
 PLACE = re.compile(r'^wgcc: (?P<name>.*):(?P<line>\d+):(?P<column>\d+): (?P<number>E\d+) (?P<text>.*)$')
 LAUNCH = re.compile(r'^wgcc: (?P<number>L\d+) (?P<text>.*)$')
 TURNS = re.compile(r'^wgcc: (?:launch (?P<launch>\d+): )?out of turns$')
+# What a source is refused with that was written for another compiler.
+PORTED = {'E101', 'E103', 'E201', 'E301', 'E401', 'E403', 'E408', 'E501', 'E502', 'E503'}
 HEADS = {5: 'Status 5', 6: 'Status 6', 7: 'Status 7'}
 BY_NUMBER = {
     'E101': sources.no_token, 'E103': sources.malformed_number, 'E201': sources.directive, 'E301': syntax.findings,
@@ -23,7 +26,7 @@ class Report:
     def __init__(self, status, line, words, runner):
         self.status, self.line, self.words, self.runner = status, line, words, runner
         self.number = self.file = self.text = self.at_line = self.at_column = None
-        self.findings, self.warnings, self.shown, self.help = [], [], '', ''
+        self.findings, self.warnings, self.shown, self.help, self.hint = [], [], '', '', ''
         self.launch = launch_file.Launches(words.launch) if words.launch is not None else None
         given = self.launch.data.get('defines') if self.launch and self.launch.data is not None else None
         given = given if isinstance(given, dict) and all(isinstance(one, int) for one in given.values()) else {}
@@ -62,6 +65,9 @@ class Report:
         elif self.number in BY_NUMBER and self.source:
             self.findings = BY_NUMBER[self.number](self.source, line, column)
         self.help = page.section(self.number)
+        port = os.path.join(page.ROOT, 'tools', 'port')
+        if self.number in PORTED and os.path.exists(port):
+            self.hint = '`%s %s` writes many forms of other sources as the subset has them.' % (port, self.words.source)
 
     def refused_launch(self, found):
         """What is said of a refused launch file."""
@@ -123,7 +129,7 @@ class Report:
         found = '\n'.join(self.marked(one) for one in self.findings if one.text)
         help_text = self.help if is_long else page.prose(self.help, self.status == 2)
         warnings = '\n'.join('warning: ' + self.marked(one) for one in self.warnings)
-        return '\n\n'.join(part for part in (self.shown, found, warnings, help_text) if part)
+        return '\n\n'.join(part for part in (self.shown, found, warnings, help_text, self.hint) if part)
 
     def as_json(self, is_long):
         """The same as one JSON object on one line."""
