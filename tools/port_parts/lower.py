@@ -124,7 +124,8 @@ class Numbers:
             return [place.native, node.op]
         kind = node.operand.type
         old = context.keep(place.load(), kind)
-        context.steps.append(Step(place.store('=', ['(%s)(' % types.spelled(kind), old, ' %s 1)' % node.op.text[0]], False)))
+        right = ['(%s)(' % types.spelled(kind), old, ' %s 1)' % node.op.text[0]]
+        context.steps.append(Step(self.stored(place, '=', right, context, False)))
         return old
 
     def counted(self, node, context):
@@ -132,7 +133,7 @@ class Numbers:
         place = self.target(node.operand, context)
         if place.native is not None:
             return [node.op, place.native]
-        return ['(', place.store(node.op.text[0] + '=', '1'), ')']
+        return self.stored(place, node.op.text[0] + '=', '1', context, True)
 
     def value_of_index(self, node, context):
         """An element."""
@@ -217,12 +218,26 @@ class Numbers:
         right = self.converted(node.right, node.left.type, context)
         if len(context.steps) > mark and place.uses is not None:
             self.keep_place(place, node, context, mark)
-        if place.native is None and place.is_chosen() and not is_simple(node.right):
-            right = context.keep(right, node.right.type)
         if place.native is not None:
             return [place.native, node.op, right]
-        text = place.store(node.op.text, right, is_used)
-        return ['(', text, ')'] if is_used else text
+        if place.is_chosen() and not is_simple(node.right):
+            right = context.keep(right, node.right.type)
+        return self.stored(place, node.op.text, right, context, is_used)
+
+    def stored(self, place, op, right, context, is_used):
+        """A number stored in an array of numbers. One that takes several elements is worked out before the first of them
+        is stored."""
+        if place.is_whole():
+            text = place.store(op, right, is_used)
+            return ['(', text, ')'] if is_used else text
+        kind = place.address.kind
+        value = right if op == '=' else [place.load(), ' %s (' % op[:-1], right, ')']
+        name = context.keep(value, kind)
+        text = place.store('=', name, False)
+        if not is_used:
+            return text
+        context.steps.append(Step(text))
+        return name
 
     def keep_place(self, place, node, context, mark):
         """Keeps the index of a target in front of the steps of the right side, where these may change it."""
@@ -276,7 +291,7 @@ class Numbers:
         place = self.target(node.operand, context, is_twice=True)
         if place.native is not None:
             return [place.native, node.op] if node.kind == 'postfix' else [node.op, place.native]
-        return place.store(node.op.text[0] + '=', '1', False)
+        return self.stored(place, node.op.text[0] + '=', '1', context, False)
 
     def unused(self, node, context):
         """A vector, a structure or a pointer whose value is not used."""

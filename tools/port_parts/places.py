@@ -28,6 +28,10 @@ class Target:
         once."""
         return self.address.which is not None or not self.is_same() and not is_one(self.address)
 
+    def is_whole(self):
+        """Whether it takes one element."""
+        return self.is_same() or is_one(self.address)
+
     def load(self):
         """The text of its value."""
         if self.native is not None:

@@ -59,6 +59,9 @@ class Structs:
 
     def copied(self, to, source):
         """The stores that copy a structure, as one expression."""
+        if to.cells.size and (to.cells.name, to.cells.size) == (source.cells.name, source.cells.size) \
+                and to.which is None and source.which is None:
+            return self.copied_elements(to, source)
         leaves = list(zip(self.places_of_leaves(to, to.kind), self.places_of_leaves(source, source.kind)))
         if len(leaves) > MOST_COPIED:
             raise Refused(None, 'a structure of more than %d numbers that is copied' % MOST_COPIED)
@@ -67,6 +70,16 @@ class Structs:
             text = Target(None, source.at(Index(there), leaf)).load()
             found += [', '] if found else []
             found.append(Target(None, to.at(Index(here), leaf)).store('=', text, False))
+        return found
+
+    def copied_elements(self, to, source):
+        """The stores that copy element by element."""
+        count, found = to.cells.count(to.kind), []
+        if count > MOST_COPIED:
+            raise Refused(None, 'a structure of more than %d numbers that is copied' % MOST_COPIED)
+        for number in range(count):
+            found += [', '] if found else []
+            found += [to.element(to.bases[0], number), ' = ', source.element(source.bases[0], number)]
         return found
 
     def assign_struct(self, node, context):
