@@ -1,0 +1,7 @@
+__kernel void k(__global int *a)
+{
+  int i = get_global_id(0);
+  int sum = 0;
+  for (int n = 0; n <= i; n++) sum += n;
+  a[i] += sum;
+}

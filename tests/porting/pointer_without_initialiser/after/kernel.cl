@@ -1,0 +1,6 @@
+__kernel void k(__global int *a)
+{
+  __global int *p = a;
+  p = a + get_global_id(0);
+  *p += 1;
+}

@@ -1,0 +1,8 @@
+__kernel void k(__global int *a)
+{
+  int i = get_global_id(0);
+  int2 v = (int2)(a[i], i), w;
+  w = v.yx;
+  int2 u = v + w;
+  a[i] = u.x * 10 + w.x;
+}
