@@ -8,6 +8,7 @@ what stands in front of the first case is a comment, and so is what stands in fr
   prepare           shell commands that are run in that folder before
   words, options    the words of the command, and the options of tools/explain
   run               shell commands, whose output is compared
+  needs             a file of the repository without which the case is not run
   status            the exit status; without it 0 is meant in tests/tools, and in tests/explain any
   says              standard error; a last line `...` stands for a rest without a line that the program could have printed
   prints            standard output, likewise"""
@@ -18,7 +19,7 @@ import subprocess
 import tempfile
 
 ROOT = os.path.dirname(os.path.dirname(os.path.realpath(__file__)))
-KNOWN = {'prepare', 'words', 'options', 'run', 'status', 'says', 'prints'}
+KNOWN = {'needs', 'prepare', 'words', 'options', 'run', 'status', 'says', 'prints'}
 REST = '...\n'
 OWN_LINES = ('wgcc: ', 'Printed: ')
 
@@ -133,6 +134,11 @@ def bless(path, said):
 def run_all(cases, look, jobs=None):
     """Looks at all cases, side by side, and prints what is wrong; how many failed."""
     failed = 0
+    lacking = [case for case in cases if case.part('needs') and not os.path.exists(
+        os.path.join(ROOT, case.part('needs').strip()))]
+    for case in lacking:
+        print('%s: %s: not run, since %s is not there' % (case.table, case.name, case.part('needs').strip()))
+        cases.remove(case)
     with concurrent.futures.ThreadPoolExecutor(jobs or os.cpu_count() or 1) as pool:
         for case, fault in zip(cases, pool.map(look, cases)):
             if fault:

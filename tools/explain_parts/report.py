@@ -3,7 +3,8 @@ import json
 import os
 import re
 
-from explain_parts import ends, files, launch_file, launch_fits, names, page, ranges, signatures, source as sources, syntax, vectors
+from explain_parts import (ends, files, launch_file, launch_fits, names, page, races, ranges, signatures,
+                           source as sources, syntax, vectors)
 from explain_parts.command import wrong_words
 from explain_parts.findings import Finding
 
@@ -47,6 +48,11 @@ class Report:
             self.warnings = files.lengths(self.words, self.launch)
             if self.source and self.words.command == 'run':
                 self.warnings += ends.assigned_conditions(self.source)
+
+    def look_for_races(self):
+        """Warns of a race of launches that ran to their end."""
+        if self.status == 0 and self.words.command == 'run' and self.words.source is not None:
+            self.warnings += races.found(self.words, self.launch)
 
     def mark(self, line, column):
         """Keeps a place of the source, and shows its line."""
