@@ -1,24 +1,17 @@
 """One call of a program, and what a check comes to."""
-import subprocess
+import os
+import sys
+
+sys.path.insert(0, os.path.join(os.path.dirname(os.path.dirname(os.path.dirname(os.path.realpath(__file__)))), 'tools'))
+from kernel_tests import runs
+from kernel_tests.runs import Ended
 
 SECONDS = 1200
 
 
-class Ended:
-    """How a program ended: its status and what it printed on each stream; no status where it had to be stopped."""
-
-    def __init__(self, status, out, err):
-        self.status, self.out, self.err = status, out, err
-
-
 def call(program, words, room):
     """Runs the program with these words in the folder."""
-    try:
-        ran = subprocess.run([program, *words], cwd=room, stdin=subprocess.DEVNULL, capture_output=True,
-                             timeout=SECONDS)
-    except subprocess.TimeoutExpired:
-        return Ended(None, b'', b'')
-    return Ended(ran.returncode, ran.stdout, ran.stderr)
+    return runs.call(program, words, room, SECONDS)
 
 
 def status_fault(ended, status):
