@@ -60,7 +60,8 @@ def wrong_options(command, options, rest):
     while at < len(rest):
         name, _, value = rest[at].partition('=')
         if name not in options:
-            take = 'takes %s' % ', '.join('`%s`' % option for option in sorted(options)) if options else 'takes no option'
+            listed = ', '.join('`%s`' % option for option in sorted(options))
+            take = 'takes %s' % (listed or 'no option')
             return [Finding('`%s` is no option of `%s`, which %s.' % (rest[at], command, take))]
         if name in taken:
             return [Finding('`%s` is given twice.' % name)]

@@ -48,8 +48,8 @@ def assigned_conditions(source):
                 index = cutting.matching(tokens, index)
             elif tokens[index].text == '=':
                 sign = tokens[index]
-                found.append(Finding('`=` assigns in the condition of this `%s`; `==` compares' % token.text, source.name,
-                                     sign.line, sign.column, True))
+                text = '`=` assigns in the condition of this `%s`; `==` compares' % token.text
+                found.append(Finding(text, source.name, sign.line, sign.column, True))
                 break
             index += 1
     return found

@@ -1,4 +1,4 @@
-"""What is said of files: those that are not there, could not be read or written, or have another length than a buffer."""
+"""What is said of files: those that are not there, cannot be read or written, or have another length than a buffer."""
 import os
 
 from explain_parts.findings import Finding
@@ -84,8 +84,9 @@ def not_read_or_written(words, launch):
             if why:
                 text = 'the buffer "%s" cannot be saved as %s: %s' % (buffer.get('name'), buffer['save'] or '""', why)
                 found.append(launch.finding(text, 'buffer', number, 'save'))
-    if words.object is not None and why_not_written(words.object):
-        found.append(Finding('the object file %s cannot be written: %s' % (words.object, why_not_written(words.object))))
+    why = why_not_written(words.object) if words.object is not None else None
+    if why:
+        found.append(Finding('the object file %s cannot be written: %s' % (words.object, why)))
     if '--cache' in words.words and not os.access('.', os.W_OK):
         found.append(Finding('no cache file may be made in the current folder, %s' % os.getcwd()))
     return found or [Finding('All files that the command names can be read, and those that it saves can be written, as '

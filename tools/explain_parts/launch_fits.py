@@ -174,7 +174,8 @@ def other_size(fit):
 def wrong_local(fit):
     """What is said of L13."""
     found = [fit.say('%s: it is below 0' % about(number, argument, parameter), 'arg', number)
-             for number, argument, parameter in fit.pairs() if is_whole(argument.get('local')) and argument['local'] < 0]
+             for number, argument, parameter in fit.pairs()
+             if is_whole(argument.get('local')) and argument['local'] < 0]
     given = sum(argument['local'] for argument in fit.arguments if is_whole(argument.get('local')))
     declared, parts = declared_local(fit)
     if not found and given and (declared is None or given + declared > MOST_LOCAL):

@@ -23,7 +23,7 @@ class Places:
         return self.found.get(path, (None, None))[0]
 
     def last_line(self, *path):
-        """The last line on which a table or one of its own keys stands; that of the file's last key of the top for ()."""
+        """The last line on which a table or one of its own keys stands; for () that of the last key of the top."""
         own = [place for other, place in self.found.items()
                if other[:len(path)] == path and len(other) <= len(path) + 1 and not self.is_table(other, path)]
         return max(own)[0] if own else None

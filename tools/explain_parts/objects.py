@@ -1,4 +1,4 @@
-"""The object of an access: the buffer, the local memory or the array that a pointer comes from, as far as the text tells."""
+"""The object of an access: the buffer, the local memory or the array that its pointer comes from, by the text alone."""
 import re
 
 from explain_parts import tokens as cutting

@@ -3,7 +3,6 @@
 Where the furthest token that could be read is the place that the program printed, what was asked for there is what
 could stand there; where it is another, nothing is said."""
 from explain_parts.expressions import HEADS, Reader, Stop
-from explain_parts.unit import TYPES
 
 
 class Parser(Reader):

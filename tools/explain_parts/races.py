@@ -37,5 +37,5 @@ def told(race, launch):
         name = 'the buffer "%s"' % listed[int(buffer[1])].get('name')
     else:
         name = '`%s`' % name
-    return Finding('launch %s races: items %s and %s both access byte %s of %s, one of them stores, and no barrier orders '
-                   'the two; what is left there is open' % (number, one, other, place, name))
+    return Finding('launch %s races: items %s and %s both access byte %s of %s, one of them stores, and no barrier '
+                   'orders the two; what is left there is open' % (number, one, other, place, name))

@@ -6,8 +6,8 @@ from explain_parts import page, tokens as cutting
 from explain_parts.findings import Finding
 from explain_parts.unit import Unit
 
-BYTE_ORDER_MARKS = [(b'\xef\xbb\xbf', 'a byte order mark (EF BB BF), which is no part of the text: save the file as UTF-8 '
-                     'without one, or take it away by `sed -i "1s/^\\xEF\\xBB\\xBF//" %s`'),
+BYTE_ORDER_MARKS = [(b'\xef\xbb\xbf', 'a byte order mark (EF BB BF), which is no part of the text: save the file as '
+                     'UTF-8 without one, or take it away by `sed -i "1s/^\\xEF\\xBB\\xBF//" %s`'),
                     (b'\xff\xfe', 'the mark of UTF-16 (FF FE): save the file as UTF-8'),
                     (b'\xfe\xff', 'the mark of UTF-16 (FE FF): save the file as UTF-8')]
 OTHER_BYTES = {'\\': 'A backslash stands at the end of a line alone.'}

@@ -3,8 +3,8 @@
 A source is read as Latin-1, so that columns count bytes, as the program counts them."""
 import re
 
-MARKS = sorted('{ } ( ) [ ] ; , . : ? ~ ! = == != < > <= >= << >> <<= >>= + - * / % & | ^ && || ++ -- += -= *= /= %= &= '
-               '|= ^= #'.split(), key=len, reverse=True)
+MARKS = sorted('{ } ( ) [ ] ; , . : ? ~ ! = == != < > <= >= << >> <<= >>= + - * / % & | ^ && || ++ -- += -= *= /= '
+               '%= &= |= ^= #'.split(), key=len, reverse=True)
 TOKEN = re.compile(r'(?P<blank>[ \t\v\f\r\n]+|\\\r?\n|//[^\n]*|/\*.*?(?:\*/|\Z))|(?P<name>[A-Za-z_]\w*)'
                    r'|(?P<number>[0-9][\w.]*)|(?P<mark>%s)|(?P<bad>.)' % '|'.join(map(re.escape, MARKS)), re.S | re.A)
 CLOSING = {'(': ')', '[': ']', '{': '}'}
@@ -130,6 +130,7 @@ def spelled(tokens):
     """The tokens as one text, as one would write them."""
     out = ''
     for token in tokens:
-        glued = not out or token.text in ')];,.' or out[-1] in '([.~!' or token.text in '([' and out[-1] not in '=+-*/%,'
+        is_first = not out or out[-1] in '([.~!'
+        glued = is_first or token.text in ')];,.' or token.text in '([' and out[-1] not in '=+-*/%,'
         out += token.text if glued else ' ' + token.text
     return re.sub(r'\* (?=\w+$)', '*', out)

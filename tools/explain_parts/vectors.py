@@ -84,7 +84,8 @@ def vector_at(source, at):
         return []
     one = found[-1]
     what = 'is a vector' if not one.has_star and not one.lengths else 'has vectors'
-    return [Finding('`%s` %s of type `%s`; its components, as `.x` or `.s0`, are numbers.' % (one.name, what, one.type))]
+    return [Finding('`%s` %s of type `%s`; its components, as `.x` or `.s0`, are numbers.'
+                    % (one.name, what, one.type))]
 
 
 def types_differ(source, line, column):
@@ -104,7 +105,8 @@ def types_differ(source, line, column):
                             for other in source.unit.declarations(function) if other.token is tokens[at]]:
         if one.type in VECTORS and len(one.value) == 1 and one.value[0].kind == 'number':
             number = one.value[0].text
-            found = [Finding('`%s` is a vector, and %s a number: write `(%s)(%s)`.' % (one.name, number, one.type, number))]
+            found = [Finding('`%s` is a vector, and %s a number: write `(%s)(%s)`.'
+                             % (one.name, number, one.type, number))]
     return found
 
 
