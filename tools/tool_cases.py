@@ -10,7 +10,7 @@ what stands in front of the first case is a comment, and so is what stands in fr
   run               shell commands, whose output is compared
   needs             a file of the repository without which the case is not run
   status            the exit status; without it 0 is meant in tests/tools, and in tests/explain any
-  says              standard error; a last line `...` stands for a rest without a line that the program could have printed
+  says              standard error; a last line `...` stands for a rest without a line that the program could print
   prints            standard output, likewise"""
 import concurrent.futures
 import glob
