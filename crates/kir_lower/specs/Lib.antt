@@ -4,3 +4,4 @@ pub mod Actions
 pub mod Code
 pub mod Whole
 pub mod View
+pub mod Forms

@@ -7,6 +7,8 @@ ghost use Rattle.kir.specs.Listed.{lines_of};
 ghost use Rattle.kir.specs.Tree.{joined_to};
 ghost use Rattle.cl_model.specs.Listed.{listed_arguments};
 ghost use Rattle.kir_lower.specs.Code.{expression_code, operands_code, part_code};
+ghost use Rattle.kir_lower.specs.Forms.{is_operation, is_pair, is_load, is_application, is_decision, is_alternative};
+ghost use Rattle.kir_lower.specs.Forms.{is_update, is_element_update, is_call};
 ghost use Rattle.kir_lower.specs.View.{made_of, instance_of, calls_in};
 
 use crate::actions::{Change, Element, Part, put_assigned, put_stored};
@@ -67,8 +69,7 @@ pub fn put_expression(
     }
 }
 
-/// The lines of an operator with one operand, a conversion, a work-item function or `a, b`; of
-/// another expression there are none.
+/// The lines of an operator with one operand, a conversion, a work-item function or `a, b`.
 #[cycle(lowering)]
 #[tactic(auto, using(crate::proofs::Lists::joins), unfolding(crate::specs::Code::expression_code))]
 #[inline(never)]
@@ -80,6 +81,7 @@ fn put_operation(
     e: &Expr,
     value: &mut Value,
 ) -> Result<(), Memory>
+    requires { is_operation e.now ≡ true }
     ensures lines { OnOk result (lines_of lines.new.items ≡ joined_to (lines_of lines.old.items)
         (expression_code (calls_in here.now) (instance_of here.now) (expression_of e.now) (made_of made.old)).lines) }
     ensures value { OnOk result (value.new ≡
@@ -104,11 +106,11 @@ fn put_operation(
             put_expression(alloc, here, made, lines, a, value)?;
             put_expression(alloc, here, made, lines, b, value)
         }
-        _ => Err(Memory),
+        _ => unreachable!(),
     }
 }
 
-/// The lines of an operator with two operands; of another expression there are none.
+/// The lines of an operator with two operands.
 #[cycle(lowering)]
 #[tactic(auto, using(crate::proofs::Lists::joins), unfolding(crate::specs::Code::expression_code))]
 #[inline(never)]
@@ -120,6 +122,7 @@ fn put_pair(
     e: &Expr,
     value: &mut Value,
 ) -> Result<(), Memory>
+    requires { is_pair e.now ≡ true }
     ensures lines { OnOk result (lines_of lines.new.items ≡ joined_to (lines_of lines.old.items)
         (expression_code (calls_in here.now) (instance_of here.now) (expression_of e.now) (made_of made.old)).lines) }
     ensures value { OnOk result (value.new ≡
@@ -134,11 +137,11 @@ fn put_pair(
             put_expression(alloc, here, made, lines, b, value)?;
             step_binary(made, lines, *op, *of, &first, value)
         }
-        _ => Err(Memory),
+        _ => unreachable!(),
     }
 }
 
-/// The lines of a load; of another expression there are none.
+/// The lines of a load.
 #[cycle(lowering)]
 #[tactic(auto, using(crate::proofs::Lists::joins), unfolding(crate::specs::Code::expression_code))]
 #[inline(never)]
@@ -150,6 +153,7 @@ fn put_load(
     e: &Expr,
     value: &mut Value,
 ) -> Result<(), Memory>
+    requires { is_load e.now ≡ true }
     ensures lines { OnOk result (lines_of lines.new.items ≡ joined_to (lines_of lines.old.items)
         (expression_code (calls_in here.now) (instance_of here.now) (expression_of e.now) (made_of made.old)).lines) }
     ensures value { OnOk result (value.new ≡
@@ -173,11 +177,11 @@ fn put_load(
             };
             step_loaded(made, lines, &element, value)
         }
-        _ => Err(Memory),
+        _ => unreachable!(),
     }
 }
 
-/// The lines of a built-in function; of another expression there are none.
+/// The lines of a built-in function.
 #[cycle(lowering)]
 #[tactic(auto, using(crate::proofs::Lists::joins), unfolding(crate::specs::Code::expression_code))]
 #[inline(never)]
@@ -189,6 +193,7 @@ fn put_application(
     e: &Expr,
     value: &mut Value,
 ) -> Result<(), Memory>
+    requires { is_application e.now ≡ true }
     ensures lines { OnOk result (lines_of lines.new.items ≡ joined_to (lines_of lines.old.items)
         (expression_code (calls_in here.now) (instance_of here.now) (expression_of e.now) (made_of made.old)).lines) }
     ensures value { OnOk result (value.new ≡
@@ -201,11 +206,11 @@ fn put_application(
             let values = put_expressions(alloc, here, made, lines, args, value)?;
             step_builtin(alloc, made, lines, *f, *of, &values, value)
         }
-        _ => Err(Memory),
+        _ => unreachable!(),
     }
 }
 
-/// The lines of `&&` or `||`; of another expression there are none.
+/// The lines of `&&` or `||`.
 #[cycle(lowering)]
 #[tactic(auto, using(crate::proofs::Lists::joins), unfolding(crate::specs::Code::expression_code))]
 #[inline(never)]
@@ -217,6 +222,7 @@ fn put_decision(
     e: &Expr,
     value: &mut Value,
 ) -> Result<(), Memory>
+    requires { is_decision e.now ≡ true }
     ensures lines { OnOk result (lines_of lines.new.items ≡ joined_to (lines_of lines.old.items)
         (expression_code (calls_in here.now) (instance_of here.now) (expression_of e.now) (made_of made.old)).lines) }
     ensures value { OnOk result (value.new ≡
@@ -239,7 +245,7 @@ fn put_decision(
             put_truth_of(alloc, here, made, &mut inside, b, value)?;
             step_either(alloc, made, lines, *site, &test, inside, value)
         }
-        _ => Err(Memory),
+        _ => unreachable!(),
     }
 }
 
@@ -266,7 +272,7 @@ fn put_truth_of(
     step_truth(made, lines, value)
 }
 
-/// The lines of `?:`; of another expression there are none.
+/// The lines of `?:`.
 #[cycle(lowering)]
 #[tactic(auto, using(crate::proofs::Lists::joins), unfolding(crate::specs::Code::expression_code))]
 #[inline(never)]
@@ -278,6 +284,7 @@ fn put_alternative(
     e: &Expr,
     value: &mut Value,
 ) -> Result<(), Memory>
+    requires { is_alternative e.now ≡ true }
     ensures lines { OnOk result (lines_of lines.new.items ≡ joined_to (lines_of lines.old.items)
         (expression_code (calls_in here.now) (instance_of here.now) (expression_of e.now) (made_of made.old)).lines) }
     ensures value { OnOk result (value.new ≡
@@ -305,7 +312,7 @@ fn put_alternative(
             };
             step_choice(made, lines, *site, &test, yes, second, value)
         }
-        _ => Err(Memory),
+        _ => unreachable!(),
     }
 }
 
@@ -357,8 +364,7 @@ fn put_assignment(
     }
 }
 
-/// The lines of a compound assignment, `++` or `--` of a variable (C99, sections 6.5.2.4, 6.5.3.1 and 6.5.16.2);
-/// of another expression there are none.
+/// The lines of a compound assignment, `++` or `--` of a variable (C99, sections 6.5.2.4, 6.5.3.1 and 6.5.16.2).
 #[cycle(lowering)]
 #[tactic(auto, using(crate::proofs::Lists::joins), unfolding(crate::specs::Code::expression_code))]
 #[inline(never)]
@@ -370,6 +376,7 @@ fn put_update(
     e: &Expr,
     value: &mut Value,
 ) -> Result<(), Memory>
+    requires { is_update e.now ≡ true }
     ensures lines { OnOk result (lines_of lines.new.items ≡ joined_to (lines_of lines.old.items)
         (expression_code (calls_in here.now) (instance_of here.now) (expression_of e.now) (made_of made.old)).lines) }
     ensures value { OnOk result (value.new ≡
@@ -399,14 +406,14 @@ fn put_update(
                     put_expression(alloc, here, made, lines, by, value)?;
                     step_changed(here, made, lines, *x, change, &was, value)
                 }
-                Target::Element { .. } => Err(Memory),
+                Target::Element { .. } => unreachable!(),
             }
         }
-        _ => Err(Memory),
+        _ => unreachable!(),
     }
 }
 
-/// The lines of a compound assignment, `++` or `--` of an element; of another expression there are none.
+/// The lines of a compound assignment, `++` or `--` of an element.
 #[cycle(lowering)]
 #[tactic(auto, using(crate::proofs::Lists::joins), unfolding(crate::specs::Code::expression_code))]
 #[inline(never)]
@@ -418,6 +425,7 @@ fn put_element_update(
     e: &Expr,
     value: &mut Value,
 ) -> Result<(), Memory>
+    requires { is_element_update e.now ≡ true }
     ensures lines { OnOk result (lines_of lines.new.items ≡ joined_to (lines_of lines.old.items)
         (expression_code (calls_in here.now) (instance_of here.now) (expression_of e.now) (made_of made.old)).lines) }
     ensures value { OnOk result (value.new ≡
@@ -441,7 +449,7 @@ fn put_element_update(
                 old: *old,
             };
             match target {
-                Target::Var(_) => Err(Memory),
+                Target::Var(_) => unreachable!(),
                 Target::Element {
                     site,
                     element,
@@ -462,7 +470,7 @@ fn put_element_update(
                 }
             }
         }
-        _ => Err(Memory),
+        _ => unreachable!(),
     }
 }
 
@@ -558,7 +566,7 @@ fn put_arguments(
     Ok(values)
 }
 
-/// The lines of a call, with the function's own in place; of another expression there are none.
+/// The lines of a call, with the function's own in place.
 #[cycle(lowering)]
 #[tactic(auto, using(crate::proofs::Lists::joins), unfolding(crate::specs::Code::expression_code, crate::specs::Whole::call_code))]
 #[inline(never)]
@@ -570,6 +578,7 @@ fn put_call(
     e: &Expr,
     value: &mut Value,
 ) -> Result<(), Memory>
+    requires { is_call e.now ≡ true }
     ensures lines { OnOk result (lines_of lines.new.items ≡ joined_to (lines_of lines.old.items)
         (expression_code (calls_in here.now) (instance_of here.now) (expression_of e.now) (made_of made.old)).lines) }
     ensures value { OnOk result (value.new ≡
@@ -595,6 +604,6 @@ fn put_call(
             put_parameters(lines, there.base, &values)?;
             put_body(alloc, &there, made, lines, called, value)
         }
-        _ => Err(Memory),
+        _ => unreachable!(),
     }
 }

@@ -1,7 +1,7 @@
 //! Statements as lines, each call in place. Each is given a value in whose place those of its
 //! expressions stand.
 
-ghost use Rattle.std.specs.Prelude.{◌≡◌, false, OnOk};
+ghost use Rattle.std.specs.Prelude.{◌≡◌, true, false, OnOk};
 ghost use Rattle.cl_model.specs.Tree.{Declare, Return};
 ghost use Rattle.cl_model.specs.View.{optional_expression, statement_of, listed_statements, function_of};
 ghost use Rattle.kir.specs.Listed.{lines_of};
@@ -9,6 +9,7 @@ ghost use Rattle.kir.specs.Tree.{joined_to};
 ghost use Rattle.cl_model.specs.Listed.{listed_arms};
 ghost use Rattle.kir_lower.specs.Code.{optional_code, statement_code, list_code, in_order, arm_code, arms_code};
 ghost use Rattle.kir_lower.specs.Code.{cases_code, body_code};
+ghost use Rattle.kir_lower.specs.Forms.{is_fill, is_if, is_loop, is_switch};
 ghost use Rattle.kir_lower.specs.View.{made_of, instance_of, calls_in, optional_listed};
 
 use crate::actions::{Part, put_assigned, put_exit, put_filled};
@@ -92,7 +93,7 @@ fn put_statement(
     }
 }
 
-/// The lines of an array with initial values; of another statement there are none.
+/// The lines of an array with initial values.
 #[cycle(lowering)]
 #[tactic(auto, using(crate::proofs::Lists::joins), unfolding(crate::specs::Code::statement_code))]
 #[inline(never)]
@@ -105,6 +106,7 @@ fn put_array(
     s: &Stmt,
     value: &mut Value,
 ) -> Result<(), Memory>
+    requires { is_fill s.now ≡ true }
     ensures lines { OnOk result (lines_of lines.new.items ≡ joined_to (lines_of lines.old.items)
         (statement_code (calls_in here.now) (instance_of here.now) exit (statement_of s.now)
         (made_of made.old)).lines) }
@@ -123,7 +125,7 @@ fn put_array(
             let values = put_expressions(alloc, here, made, lines, values, value)?;
             put_filled(lines, *site, of, array, &values)
         }
-        _ => Err(Memory),
+        _ => unreachable!(),
     }
 }
 
@@ -187,7 +189,7 @@ fn put_returned(
     }
 }
 
-/// The lines of an `if`; of another statement there are none.
+/// The lines of an `if`.
 #[cycle(lowering)]
 #[tactic(auto, using(crate::proofs::Lists::joins), unfolding(crate::specs::Code::statement_code))]
 #[inline(never)]
@@ -200,6 +202,7 @@ fn put_branches(
     s: &Stmt,
     value: &mut Value,
 ) -> Result<(), Memory>
+    requires { is_if s.now ≡ true }
     ensures lines { OnOk result (lines_of lines.new.items ≡ joined_to (lines_of lines.old.items)
         (statement_code (calls_in here.now) (instance_of here.now) exit (statement_of s.now)
         (made_of made.old)).lines) }
@@ -222,7 +225,7 @@ fn put_branches(
             put_other(alloc, here, made, &mut second, exit, no, value)?;
             put_if(lines, *site, test, first, second)
         }
-        _ => Err(Memory),
+        _ => unreachable!(),
     }
 }
 
@@ -283,7 +286,7 @@ fn put_optional(
     }
 }
 
-/// The lines of a loop; of another statement there are none.
+/// The lines of a loop.
 #[cycle(lowering)]
 #[tactic(auto, using(crate::proofs::Lists::joins), unfolding(crate::specs::Code::statement_code))]
 #[inline(never)]
@@ -296,6 +299,7 @@ fn put_loop(
     s: &Stmt,
     value: &mut Value,
 ) -> Result<(), Memory>
+    requires { is_loop s.now ≡ true }
     ensures lines { OnOk result (lines_of lines.new.items ≡ joined_to (lines_of lines.old.items)
         (statement_code (calls_in here.now) (instance_of here.now) exit (statement_of s.now)
         (made_of made.old)).lines) }
@@ -332,11 +336,11 @@ fn put_loop(
             put_round(alloc, made, lines, round, tests, steps, inside)?;
             put_outward(alloc, made, lines, way_out(body, false, false), inner, exit)
         }
-        _ => Err(Memory),
+        _ => unreachable!(),
     }
 }
 
-/// The lines of a `switch`; of another statement there are none.
+/// The lines of a `switch`.
 #[cycle(lowering)]
 #[tactic(auto, using(crate::proofs::Lists::joins), unfolding(crate::specs::Code::statement_code))]
 #[inline(never)]
@@ -349,6 +353,7 @@ fn put_switch(
     s: &Stmt,
     value: &mut Value,
 ) -> Result<(), Memory>
+    requires { is_switch s.now ≡ true }
     ensures lines { OnOk result (lines_of lines.new.items ≡ joined_to (lines_of lines.old.items)
         (statement_code (calls_in here.now) (instance_of here.now) exit (statement_of s.now)
         (made_of made.old)).lines) }
@@ -365,7 +370,7 @@ fn put_switch(
             put_expression(alloc, here, made, lines, of, value)?;
             put_cases(alloc, here, made, lines, (*site, exit), arms, value)
         }
-        _ => Err(Memory),
+        _ => unreachable!(),
     }
 }
 

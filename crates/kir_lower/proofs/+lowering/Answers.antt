@@ -163,10 +163,10 @@ statements::put_switch-put_cases-requires t c =
     (2 * weight_of_arms (listed_arms c.deref.result.now) + 4) < t = omega (arith, d, e) in
     (less, tt {0})
 
-pub expressions::put_application-returns-in_ok-values-in-Builtin-clause-lines :
-    goal.expressions::put_application-returns-in_ok-values-in-Builtin-clause-lines
+pub expressions::put_application-returns-clause-lines :
+    goal.expressions::put_application-returns-clause-lines
 unfolding expression_code
-expressions::put_application-returns-in_ok-values-in-Builtin-clause-lines t c =
+expressions::put_application-returns-clause-lines t c =
     let lines = lines_of c.args.lines.now.items in
     let own = made_of c.args.made.now in
     let co = operands_code (calls_in c.args.here.now) (instance_of c.args.here.now)
@@ -189,10 +189,10 @@ expressions::put_application-returns-in_ok-values-in-Builtin-clause-lines t c =
     c.deref.result.now c.in-Builtin.is c.deref.ensures.value))
     c.step_builtin.ensures.lines
 
-pub expressions::put_application-returns-in_ok-values-in-Builtin-clause-value :
-    goal.expressions::put_application-returns-in_ok-values-in-Builtin-clause-value
+pub expressions::put_application-returns-clause-value :
+    goal.expressions::put_application-returns-clause-value
 unfolding expression_code
-expressions::put_application-returns-in_ok-values-in-Builtin-clause-value t c =
+expressions::put_application-returns-clause-value t c =
     let lines = lines_of c.args.lines.now.items in
     let own = made_of c.args.made.now in
     let co = operands_code (calls_in c.args.here.now) (instance_of c.args.here.now)
@@ -213,10 +213,10 @@ expressions::put_application-returns-in_ok-values-in-Builtin-clause-value t c =
     c.in-Builtin.is c.deref.ensures.value))
     c.step_builtin.ensures.value
 
-pub expressions::put_application-returns-in_ok-values-in-Builtin-clause-made :
-    goal.expressions::put_application-returns-in_ok-values-in-Builtin-clause-made
+pub expressions::put_application-returns-clause-made :
+    goal.expressions::put_application-returns-clause-made
 unfolding expression_code
-expressions::put_application-returns-in_ok-values-in-Builtin-clause-made t c =
+expressions::put_application-returns-clause-made t c =
     let lines = lines_of c.args.lines.now.items in
     let own = made_of c.args.made.now in
     let co = operands_code (calls_in c.args.here.now) (instance_of c.args.here.now)
@@ -237,10 +237,10 @@ expressions::put_application-returns-in_ok-values-in-Builtin-clause-made t c =
     c.in-Builtin.is c.deref.ensures.value))
     c.step_builtin.ensures.made
 
-pub statements::put_switch-returns-in_ok-put_expression-in-Switch-clause-lines :
-    goal.statements::put_switch-returns-in_ok-put_expression-in-Switch-clause-lines
+pub statements::put_switch-returns-clause-lines :
+    goal.statements::put_switch-returns-clause-lines
 unfolding statement_code
-statements::put_switch-returns-in_ok-put_expression-in-Switch-clause-lines t c =
+statements::put_switch-returns-clause-lines t c =
     let lines = lines_of c.args.lines.now.items in
     let own = made_of c.args.made.now in
     let cv =
@@ -262,10 +262,10 @@ statements::put_switch-returns-in_ok-put_expression-in-Switch-clause-lines t c =
     c.deref.result.now c.in-Switch.is c.deref.ensures.value))
     c.put_cases.ensures.lines
 
-pub statements::put_switch-returns-in_ok-put_expression-in-Switch-clause-made :
-    goal.statements::put_switch-returns-in_ok-put_expression-in-Switch-clause-made
+pub statements::put_switch-returns-clause-made :
+    goal.statements::put_switch-returns-clause-made
 unfolding statement_code
-statements::put_switch-returns-in_ok-put_expression-in-Switch-clause-made t c =
+statements::put_switch-returns-clause-made t c =
     let lines = lines_of c.args.lines.now.items in
     let own = made_of c.args.made.now in
     let cv =
@@ -316,10 +316,10 @@ expressions::put_call-put_body-requires t c =
     omega (arith, d, h, k, q, w) in
     (less, tt {0})
 
-pub expressions::put_call-returns-in_ok-put_parameters-in-Call-clause-lines :
-    goal.expressions::put_call-returns-in_ok-put_parameters-in-Call-clause-lines
+pub expressions::put_call-returns-clause-lines :
+    goal.expressions::put_call-returns-clause-lines
 unfolding expression_code
-expressions::put_call-returns-in_ok-put_parameters-in-Call-clause-lines t c =
+expressions::put_call-returns-clause-lines t c =
     let lines = lines_of c.args.lines.now.items in
     let own = made_of c.args.made.now in
     let calls = calls_in c.args.here.now in
@@ -368,10 +368,10 @@ expressions::put_call-returns-in_ok-put_parameters-in-Call-clause-lines t c =
     c.in-Call.is c.deref-in-Call.ensures.value))
     c.put_body.ensures.lines
 
-pub expressions::put_call-returns-in_ok-put_parameters-in-Call-clause-value :
-    goal.expressions::put_call-returns-in_ok-put_parameters-in-Call-clause-value
+pub expressions::put_call-returns-clause-value :
+    goal.expressions::put_call-returns-clause-value
 unfolding expression_code
-expressions::put_call-returns-in_ok-put_parameters-in-Call-clause-value t c =
+expressions::put_call-returns-clause-value t c =
     let lines = lines_of c.args.lines.now.items in
     let own = made_of c.args.made.now in
     let calls = calls_in c.args.here.now in
@@ -417,10 +417,10 @@ expressions::put_call-returns-in_ok-put_parameters-in-Call-clause-value t c =
     c.in-Call.is c.deref-in-Call.ensures.value))
     c.put_body.ensures.value
 
-pub expressions::put_call-returns-in_ok-put_parameters-in-Call-clause-made :
-    goal.expressions::put_call-returns-in_ok-put_parameters-in-Call-clause-made
+pub expressions::put_call-returns-clause-made :
+    goal.expressions::put_call-returns-clause-made
 unfolding expression_code
-expressions::put_call-returns-in_ok-put_parameters-in-Call-clause-made t c =
+expressions::put_call-returns-clause-made t c =
     let lines = lines_of c.args.lines.now.items in
     let own = made_of c.args.made.now in
     let calls = calls_in c.args.here.now in
