@@ -212,16 +212,19 @@ class Command:
         return made
 
     def all_outcomes(self, text, launches, buffers):
-        """All that may come of the first launch that need not end with `done`, or of the last."""
+        """All that may come of the launches. A launch is followed where all before it may be done."""
+        lines = set()
         for number, (checker, kernel, part) in enumerate(launches):
-            copies = [bytearray(each) for each in buffers]
-            found = Outcomes(checker, kernel, part, copies).all()
-            if found != {('done',)} or number + 1 == len(launches):
-                front = self.front(text, number)
-                return 0, ''.join(sorted(each[0] + '\n' if each[0] in ('done', 'more', 'race')
-                                         else front + self.words_of(checker, each)[1] for each in found))
-            buffers = copies
-        return 0, ''
+            found = Outcomes(checker, kernel, part, buffers).all()
+            kinds = {each[0] for each in found}
+            if 'race' in kinds:
+                return 0, 'race\n'
+            front = self.front(text, number)
+            lines |= {'more\n' if each[0] == 'more' else front + self.words_of(checker, each)[1]
+                      for each in found if each[0] != 'done'}
+            if 'done' not in kinds:
+                return 0, ''.join(sorted(lines))
+        return 0, ''.join(sorted(lines | {'done\n'}))
 
     def check_clean(self, text, launches):
         """Whether the launches are clean: no race, and the same end in order and in random orders."""
