@@ -47,6 +47,7 @@ def archive(packed, seconds, prefix='', has_folders=False):
             content, mode = packed[name]
             entry = tarfile.TarInfo(prefix + name)
             entry.mtime = seconds
+            entry.uname = entry.gname = 'root' if has_folders else ''
             if mode is None:
                 entry.type, entry.linkname, entry.mode = tarfile.SYMTYPE, content, 0o777
                 tar.addfile(entry)
