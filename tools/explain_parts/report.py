@@ -17,8 +17,8 @@ HEADS = {5: 'Status 5', 6: 'Status 6', 7: 'Status 7'}
 BY_NUMBER = {
     'E101': sources.no_token, 'E103': sources.malformed_number, 'E201': sources.directive, 'E301': syntax.findings,
     'E401': names.unknown_name, 'E402': names.declared_twice, 'E404': names.argument_count,
-    'E408': signatures.type_outside, 'E411': signatures.kernel_signature, 'E501': vectors.misplaced,
-    'E502': vectors.no_component, 'E503': vectors.types_differ}
+    'E408': signatures.type_outside, 'E409': signatures.misplaced_variable, 'E411': signatures.kernel_signature,
+    'E501': vectors.misplaced, 'E502': vectors.no_component, 'E503': vectors.types_differ}
 
 
 class Report:

@@ -1,4 +1,4 @@
-"""What is said of E408 and E411: the type that is not taken, and what a kernel may not have."""
+"""What is said of E408, E409 and E411: a type that is not taken, a misplaced variable, and what no kernel has."""
 from explain_parts import page, tokens as cutting
 from explain_parts.findings import Finding
 from explain_parts.unit import NUMBERS, QUALIFIERS, TYPES
@@ -45,3 +45,27 @@ def kernel_signature(source, line, column):
         row = page.row_of('size_t_parameter') if 'size_t' in parameter.text else None
         return [Finding('A kernel has no parameter `%s`. %s' % (parameter.text, row or ''))]
     return []
+
+
+def misplaced_variable(source, line, column):
+    """What is said of E409: in which function and block the variable is declared."""
+    at = cutting.index_at(source.tokens, line, column)
+    function = source.unit.around(at)
+    if function is None or function.body is None:
+        return []
+    found = [one for one in source.unit.declarations(function)
+             if (one.token.line, one.token.column) >= (line, column) and not one.is_parameter]
+    if not found:
+        return []
+    one = found[0]
+    if one.space != 'local':
+        row = page.row_of('constant_table_in_a_function') if one.space == 'constant' else None
+        return [Finding('`%s` is declared in `%s`; no function declares %s memory. %s'
+                        % (one.name, function.name, one.space, row or ''))]
+    if not function.is_kernel:
+        return [Finding('`%s` is declared in `%s`, which is no kernel: declare it in the outermost block of a kernel, and '
+                        'pass a pointer to it.' % (one.name, function.name))]
+    if one.value:
+        return [Finding('`%s` has an initialiser, and local memory has none: it begins as zeros.' % one.name)]
+    return [Finding('`%s` is declared in an inner block of kernel `%s`: declare it in the outermost one.'
+                    % (one.name, function.name))]
