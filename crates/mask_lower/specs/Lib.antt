@@ -8,3 +8,4 @@ pub mod Registers
 pub mod Uses
 pub mod Homes
 pub mod Lowered
+pub mod Forms

@@ -4,6 +4,7 @@ ghost use Rattle.std.specs.Prelude.{◌≡◌, ◌++◌, true, length, IfOk, OnO
 ghost use Rattle.kir.specs.Tree.{Lines, NoLine};
 ghost use Rattle.kir.specs.Listed.{line_before, lines_of};
 ghost use Rattle.mask_lower.specs.Atoms.{atoms_in};
+ghost use Rattle.mask_lower.specs.Forms.{is_plain, is_if, is_loop};
 ghost use Rattle.mask_lower.specs.Registers.{frame_of, past};
 ghost use Rattle.mask_lower.specs.Lowered as spec;
 
@@ -31,6 +32,7 @@ fn lower_plain(
     layout: &Layout,
     at: Scope,
 ) -> Result<Free, Memory>
+    requires { is_plain line.now ≡ true }
     ensures code { IfOk result (λ after. (rest : Lines) →
         code.old.items ++ spec.lines_code (frame_of layout.now) at.mask at.free (length code.old.items) at.next
         (line_before line.now rest) ≡ code.new.items ++ spec.lines_code (frame_of layout.now) at.mask at.free
@@ -100,7 +102,7 @@ fn lower_plain(
             push(code, Step::Mark { site: *site, mask })?;
             Ok(at.next)
         }
-        Line::If { .. } | Line::Loop { .. } => Err(Memory),
+        Line::If { .. } | Line::Loop { .. } => unreachable!(),
     }
 }
 
@@ -160,6 +162,7 @@ fn lower_line(code: &mut Vec<Step>, line: &Line, layout: &Layout, at: Scope) -> 
 /// rest.
 #[cycle(lines)]
 fn lower_if(code: &mut Vec<Step>, line: &Line, layout: &Layout, at: Scope) -> Result<Free, Memory>
+    requires { is_if line.now ≡ true }
     ensures code { IfOk result (λ after. (rest : Lines) →
         code.old.items ++ spec.lines_code (frame_of layout.now) at.mask at.free (length code.old.items) at.next
         (line_before line.now rest) ≡ code.new.items ++ spec.lines_code (frame_of layout.now) at.mask at.free
@@ -168,7 +171,7 @@ fn lower_if(code: &mut Vec<Step>, line: &Line, layout: &Layout, at: Scope) -> Re
         past after (atoms_in rest)) }
 {
     let Line::If { test, yes, no, .. } = line else {
-        return Err(Memory);
+        unreachable!();
     };
     let next = lower_test(code, layout, at.next, *test, at.free, at.mask)?;
     let free = more(at.free, 1)?;
@@ -240,6 +243,7 @@ fn entry_of(test_first: bool, test_at: u32, turn_at: u32) -> u32
 /// A loop: its lanes have a mask of their own, from which those are taken that are done.
 #[cycle(lines)]
 fn lower_loop(code: &mut Vec<Step>, line: &Line, layout: &Layout, at: Scope) -> Result<Free, Memory>
+    requires { is_loop line.now ≡ true }
     ensures code { IfOk result (λ after. (rest : Lines) →
         code.old.items ++ spec.lines_code (frame_of layout.now) at.mask at.free (length code.old.items) at.next
         (line_before line.now rest) ≡ code.new.items ++ spec.lines_code (frame_of layout.now) at.mask at.free
@@ -255,7 +259,7 @@ fn lower_loop(code: &mut Vec<Step>, line: &Line, layout: &Layout, at: Scope) -> 
         ..
     } = line
     else {
-        return Err(Memory);
+        unreachable!();
     };
     let free = more(at.free, 1)?;
     put_and(code, at.free, at.mask, at.mask)?;
