@@ -2,6 +2,7 @@
 import os
 import resource
 import shutil
+import signal
 import subprocess
 import tempfile
 
@@ -11,7 +12,8 @@ from .facts import facts_of
 
 HERE = os.path.dirname(os.path.realpath(__file__))
 FACTS = 'launch.facts'
-SECONDS = 600
+# The seconds of the processor after which a system has no answer.
+SECONDS = 20
 
 
 class Made:
@@ -32,6 +34,11 @@ def build_host(folder):
     return path if made.returncode == 0 else None
 
 
+def bounded():
+    """Bounds the seconds of the processor of the process that is begun."""
+    resource.setrlimit(resource.RLIMIT_CPU, (SECONDS, SECONDS + 1))
+
+
 def in_room(files, words, environment=None):
     """Runs a command in a new folder with these files: its status, what it printed, the files, the seconds."""
     with tempfile.TemporaryDirectory(prefix='wgcc-peer-') as room:
@@ -41,12 +48,11 @@ def in_room(files, words, environment=None):
             with open(path, 'wb') as file:
                 file.write(content)
         before = resource.getrusage(resource.RUSAGE_CHILDREN)
-        try:
-            ended = subprocess.run(words, cwd=room, stdin=subprocess.DEVNULL, capture_output=True, timeout=SECONDS,
-                                   env={**os.environ, **(environment or {})}, check=False)
-            status, said = ended.returncode, (ended.stdout + ended.stderr).decode('utf-8', 'replace')
-        except subprocess.TimeoutExpired:
-            status, said = -1, 'no answer in %d seconds' % SECONDS
+        ended = subprocess.run(words, cwd=room, stdin=subprocess.DEVNULL, capture_output=True, preexec_fn=bounded,
+                               env={**os.environ, **(environment or {})}, check=False)
+        status, said = ended.returncode, (ended.stdout + ended.stderr).decode('utf-8', 'replace')
+        if status in (-signal.SIGXCPU, -signal.SIGKILL):
+            said = 'no answer in %d seconds of the processor' % SECONDS
         after = resource.getrusage(resource.RUSAGE_CHILDREN)
         spent = after.ru_utime + after.ru_stime - before.ru_utime - before.ru_stime
         return status, said, files_in(room), spent
