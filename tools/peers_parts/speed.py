@@ -18,8 +18,11 @@ def samples():
 
 
 def least(make):
-    """The least seconds of some runs."""
-    return min(make() for _ in range(RUNS))
+    """The least seconds of some runs; None where the first has no answer."""
+    found = [make()]
+    if found[0] is None:
+        return None
+    return min(found + [make() for _ in range(RUNS - 1)])
 
 
 def program_times(path, case):
@@ -33,10 +36,14 @@ def program_times(path, case):
 
 def host_times(host, case):
     """The seconds of an implementation of OpenCL, cold and warm."""
+    def warm():
+        made = host.make(case)
+        return None if made.fault else made.seconds
+
     def cold():
         host.forget()
-        return host.make(case).seconds
-    return least(cold), least(lambda: host.make(case).seconds)
+        return warm()
+    return least(cold), least(warm)
 
 
 def table(path, hosts, cases):
@@ -48,4 +55,4 @@ def table(path, hosts, cases):
         times = list(program_times(path, case))
         for host in hosts:
             times += host_times(host, case)
-        yield '| %s | ' % case.name + ' | '.join('%.3f' % each for each in times) + ' |'
+        yield '| %s | ' % case.name + ' | '.join('-' if each is None else '%.3f' % each for each in times) + ' |'
