@@ -42,7 +42,7 @@ def cells_of(kind, space):
     sizes = {types.SIZES[name] for name in names}
     if len(sizes) == 1:
         return Cells(names[0] if names[0] != 'bool' else 'uchar', sizes.pop())
-    if space == 'private':
+    if space == 'private' and not kind.has_union():
         return Cells('ulong' if 'ulong' in names or 'uint' in names and 8 not in sizes else
                      'long' if 8 in sizes else 'int', 0)
     size = min(sizes)

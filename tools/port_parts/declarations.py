@@ -77,12 +77,10 @@ class Declarations:
         token = self.take()
         if token.text == 'void':
             found.type = types.VOID
-        elif token.text == 'struct':
+        elif token.text in ('struct', 'union'):
             found.type = self.structure(token)
         elif token.text == 'enum':
             found.type = self.enumeration(token)
-        elif token.text == 'union':
-            raise Refused(token, 'a union')
         else:
             symbol = self.scope.find(token.text)
             found.type = symbol.type if symbol is not None else types.named_type(token.text)
@@ -119,13 +117,13 @@ class Declarations:
             self.notes.add('__attribute__ left out', start)
 
     def structure(self, token):
-        """`struct`, with its fields or without."""
+        """`struct` or `union`, with its fields or without."""
         found = Specifiers(token)
         self.attributes(found)
         tag = self.take().text if self.peek().kind == 'name' else None
         kind = self.scope.find_tag(tag) if tag else None
         if kind is None or self.is_next('{') and self.scope.tags.get(tag) is None:
-            kind = Struct(tag or 'struct at line %s' % token.where())
+            kind = Struct(tag or 'struct at line %s' % token.where(), token.text == 'union')
             if tag:
                 self.scope.tags[tag] = kind
         if self.is_next('{'):

@@ -4,7 +4,7 @@ from . import types
 from .constants import constant
 from .notes import Refused
 from .tree import parts_of, stripped
-from .types import Array, Pointer
+from .types import Array, Pointer, element
 
 
 def bases_of(node, seen=()):
@@ -114,13 +114,6 @@ def names_of_moving(symbol):
 def own_type(symbol):
     """The type to which a pointer leads, or that a variable has."""
     return symbol.type.to if isinstance(symbol.type, Pointer) else symbol.type
-
-
-def element(kind):
-    """The type of the elements of an array of any dimensions."""
-    while isinstance(kind, Array):
-        kind = kind.of
-    return kind
 
 
 def is_plain(kind):

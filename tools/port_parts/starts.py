@@ -24,7 +24,7 @@ def parts_of(kind):
     if isinstance(kind, Array):
         return [kind.of] * kind.length
     if isinstance(kind, Struct):
-        return [own for _, own, _ in kind.fields]
+        return [own for _, own, _ in kind.fields[:1 if kind.is_union else None]]
     if isinstance(kind, Vector):
         return [Scalar(kind.base)] * kind.count
     return [kind]
@@ -112,6 +112,8 @@ def fill_parts(kind, items, next_item, found, at, is_outer):
 
 def place_number(kind, place, item):
     """The number of a part that a list names."""
+    if isinstance(kind, Struct) and kind.is_union:
+        raise Refused(item.token, 'a field of a union in a list')
     if isinstance(place, str):
         names = [name for name, _, _ in kind.fields] if isinstance(kind, Struct) else []
         if place not in names:

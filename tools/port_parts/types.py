@@ -25,20 +25,26 @@ VOID = Void()
 
 
 class Struct:
-    """A structure: its name, and its fields as (name, type, offset in bytes) once they are known."""
+    """A structure or a union: its name, and its fields as (name, type, offset in bytes) once they are known."""
 
-    def __init__(self, tag):
-        self.tag, self.fields, self.size, self.align = tag, None, 0, 1
+    def __init__(self, tag, is_union=False):
+        self.tag, self.is_union, self.fields, self.size, self.align = tag, is_union, None, 0, 1
 
     def lay_out(self, fields, is_packed):
         """Gives each field its place."""
-        self.fields, at = [], 0
+        self.fields, at, end = [], 0, 0
         for name, kind in fields:
             align = 1 if is_packed else align_of(kind)
-            at = -(-at // align) * align
+            at = 0 if self.is_union else -(-at // align) * align
             self.fields.append((name, kind, at))
             at, self.align = at + size_of(kind), max(self.align, align)
-        self.size = -(-at // self.align) * self.align
+            end = max(end, at)
+        self.size = -(-end // self.align) * self.align
+
+    def has_union(self):
+        """Whether it is a union, or has one in it."""
+        inner = [element(kind) for _, kind, _ in self.fields or []]
+        return self.is_union or any(isinstance(kind, Struct) and kind.has_union() for kind in inner)
 
     def field(self, name):
         """The type and the offset of a field, or None."""
@@ -88,6 +94,13 @@ def align_of(kind):
 def stored(count):
     """How many components a vector takes in memory."""
     return 4 if count == 3 else count
+
+
+def element(kind):
+    """The type of the elements of an array of any dimensions."""
+    while isinstance(kind, Array):
+        kind = kind.of
+    return kind
 
 
 def is_number(kind):
