@@ -75,7 +75,8 @@ static struct program *program_of(handle which) { LATEST(programs, program_count
 static struct kernel *kernel_of(handle which) { LATEST(kernels, kernel_count, which); }
 static struct buffer *buffer_of(handle which) { LATEST(buffers, buffer_count, which); }
 
-handle clCreateProgramWithSource(handle context, cl_uint count, const char **texts, const size_t *lengths, cl_int *error)
+handle clCreateProgramWithSource(handle context, cl_uint count, const char **texts, const size_t *lengths,
+                                 cl_int *error)
 {
   handle (*call)(handle, cl_uint, const char **, const size_t *, cl_int *) = real("clCreateProgramWithSource");
   handle found = call(context, count, texts, lengths, error);
@@ -94,10 +95,12 @@ handle clCreateProgramWithSource(handle context, cl_uint count, const char **tex
   return found;
 }
 
-cl_int clBuildProgram(handle program, cl_uint count, const handle *devices, const char *options, void (*done)(handle, void *),
+typedef void build_done(handle, void *);
+
+cl_int clBuildProgram(handle program, cl_uint count, const handle *devices, const char *options, build_done *done,
                       void *data)
 {
-  cl_int (*call)(handle, cl_uint, const handle *, const char *, void (*)(handle, void *), void *) = real("clBuildProgram");
+  cl_int (*call)(handle, cl_uint, const handle *, const char *, build_done *, void *) = real("clBuildProgram");
   pthread_mutex_lock(&lock);
   struct program *known = program_of(program);
   if (known) known->options = strdup(options ? options : "");
@@ -193,7 +196,9 @@ handle clCreateSubBuffer(handle buffer, cl_bitfield flags, cl_uint kind, const v
 }
 
 /* One launch while it is written. */
-struct launch { struct kernel *kernel; cl_uint dimensions; size_t offset[3], global[3], local[3]; char folder[3000]; };
+struct launch {
+  struct kernel *kernel; cl_uint dimensions; size_t offset[3], global[3], local[3]; char folder[3000];
+};
 
 /* Which buffers a launch has: for each argument that is one, the number of the first argument with it. */
 struct bound { struct buffer *buffer; char name[80]; unsigned char *before, *after; };
@@ -226,7 +231,7 @@ static unsigned char *bytes_of(handle queue, struct buffer *buffer)
   return NULL;
 }
 
-/* The group sizes of a launch whose host leaves them open: those that the kernel requires, or a divisor of each size. */
+/* The group sizes of a launch whose host leaves them open: those that the kernel requires, or divisors of the sizes. */
 static void choose_local(handle queue, struct launch *launch)
 {
   cl_int (*info)(handle, handle, cl_uint, size_t, void *, size_t *) = real("clGetKernelWorkGroupInfo");
@@ -375,10 +380,12 @@ static int read_buffers(handle queue, struct launch *launch, struct bound *bound
   return why ? -1 : count;
 }
 
+typedef cl_int enqueue(handle, handle, cl_uint, const size_t *, const size_t *, const size_t *, cl_uint, const handle *,
+                       handle *);
+
 static cl_int launch_now(handle queue, struct launch *launch, cl_uint events, const handle *list, handle *event)
 {
-  cl_int (*call)(handle, handle, cl_uint, const size_t *, const size_t *, const size_t *, cl_uint, const handle *, handle *) =
-    real("clEnqueueNDRangeKernel");
+  enqueue *call = (enqueue *)real("clEnqueueNDRangeKernel");
   cl_int (*finish)(handle) = real("clFinish");
   cl_int (*wait)(cl_uint, const handle *) = real("clWaitForEvents");
   struct bound bound[MOST_ARGUMENTS];
@@ -387,8 +394,8 @@ static cl_int launch_now(handle queue, struct launch *launch, cl_uint events, co
   finish(queue);
   int count = read_buffers(queue, launch, bound);
   if (count >= 0) write_before(launch, bound, count);
-  cl_int status = call(queue, launch->kernel->own, launch->dimensions, launch->offset, launch->global, launch->local, events,
-                       list, event);
+  cl_int status = call(queue, launch->kernel->own, launch->dimensions, launch->offset, launch->global, launch->local,
+                       events, list, event);
   finish(queue);
   if (status == 0 && count >= 0) write_after(queue, launch, bound, count);
   for (int i = 0; i < MOST_ARGUMENTS; i++) {
@@ -398,11 +405,11 @@ static cl_int launch_now(handle queue, struct launch *launch, cl_uint events, co
   return status;
 }
 
-cl_int clEnqueueNDRangeKernel(handle queue, handle kernel, cl_uint dimensions, const size_t *offset, const size_t *global,
-                              const size_t *local, cl_uint events, const handle *list, handle *event)
+cl_int clEnqueueNDRangeKernel(handle queue, handle kernel, cl_uint dimensions, const size_t *offset,
+                              const size_t *global, const size_t *local, cl_uint events, const handle *list,
+                              handle *event)
 {
-  cl_int (*call)(handle, handle, cl_uint, const size_t *, const size_t *, const size_t *, cl_uint, const handle *, handle *) =
-    real("clEnqueueNDRangeKernel");
+  enqueue *call = (enqueue *)real("clEnqueueNDRangeKernel");
   pthread_mutex_lock(&lock);
   struct kernel *known = kernel_of(kernel);
   if (!known || !getenv("WGCC_RECORD") || dimensions < 1 || dimensions > 3 || !global) {

@@ -4,7 +4,6 @@ import sys
 
 sys.path.insert(0, os.path.join(os.path.dirname(os.path.dirname(os.path.dirname(os.path.realpath(__file__)))), 'tools'))
 from kernel_tests import runs
-from kernel_tests.runs import Ended
 
 SECONDS = 1200
 

@@ -12,7 +12,8 @@ class Ended:
 def call(program, words, room, seconds):
     """Runs the program with these words in the folder, and stops it after so many seconds."""
     try:
-        ran = subprocess.run([program, *words], cwd=room, stdin=subprocess.DEVNULL, capture_output=True, timeout=seconds)
+        ran = subprocess.run([program, *words], cwd=room, stdin=subprocess.DEVNULL, capture_output=True,
+                             timeout=seconds)
     except subprocess.TimeoutExpired:
         return Ended(None, b'', b'')
     return Ended(ran.returncode, ran.stdout, ran.stderr)

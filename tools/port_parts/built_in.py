@@ -20,9 +20,9 @@ COUNTS = {'abs': 1, 'clz': 1, 'popcount': 1, 'clamp': 3, 'mad24': 3, 'mad_hi': 3
 CONVERT = re.compile(r'(convert|as)_([a-z]+)(\d*)(_sat)?(_rt[eznp])?$')
 LOAD = re.compile(r'(vload|vstore)(2|3|4|8|16)$')
 ATOMIC = re.compile(r'(atom|atomic)_\w+$')
-MATHEMATICS = re.compile(r'(native_|half_)?(sqrt|rsqrt|sin|cos|tan|exp|exp2|log|log2|log10|pow|pown|powr|fabs|floor|ceil|'
-                         r'round|trunc|fma|mad|fmin|fmax|fmod|hypot|atan2?|dot|cross|length|distance|normalize|mix|'
-                         r'smoothstep|step|sign|recip|divide)$')
+MATHEMATICS = re.compile(r'(native_|half_)?(sqrt|rsqrt|sin|cos|tan|exp|exp2|log|log2|log10|pow|pown|powr|fabs|floor|'
+                         r'ceil|round|trunc|fma|mad|fmin|fmax|fmod|hypot|atan2?|dot|cross|length|distance|normalize|'
+                         r'mix|smoothstep|step|sign|recip|divide)$')
 WIDER = {'char': 'short', 'uchar': 'ushort', 'short': 'int', 'ushort': 'uint', 'int': 'long', 'uint': 'ulong'}
 
 

@@ -111,6 +111,7 @@ class Calls:
     def called(self, node, texts, alternatives):
         """The text of a call; where pointers lead to one of several objects, a choice among calls."""
         def filled(chosen):
+            """The call with one object for each of the pointers."""
             parts = []
             for text in texts:
                 parts += [', '] if parts else []
@@ -123,6 +124,7 @@ class Calls:
             return [self.name_of(node), '(', parts, ')']
 
         def among(chosen):
+            """A choice among the objects of the next pointer."""
             if len(chosen) == len(alternatives):
                 return filled(chosen)
             which, (bases, _) = alternatives[len(chosen)]
@@ -204,8 +206,8 @@ class Calls:
         to_text, source_text = (['%s[' % found.bases[0], found.index.plus(self.index_of(at)).text(), ']']
                                 for found in (to, source))
         context.steps.append(Step(None, [
-            'for (%s = %s; %s < %s%s; %s += %s) ' % (at, LOCAL_LINEAR, at, '%dUL * ' % each if each > 1 else '', count, at,
-                                                     GROUP_SIZE), to_text, ' = ', source_text, ';']))
+            'for (%s = %s; %s < %s%s; %s += %s) ' % (at, LOCAL_LINEAR, at, '%dUL * ' % each if each > 1 else '', count,
+                                                     at, GROUP_SIZE), to_text, ' = ', source_text, ';']))
         return []
 
     def once_all(self, nodes, kinds, context):

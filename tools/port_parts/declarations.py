@@ -2,8 +2,8 @@
 from . import types
 from .constants import constant
 from .notes import Refused
-from .tree import Node, Scope, Symbol
-from .types import Array, Function, Pointer, Scalar, Struct
+from .tree import Symbol
+from .types import Array, Pointer, Scalar, Struct
 
 SPACES = {'__global': 'global', 'global': 'global', '__local': 'local', 'local': 'local', '__constant': 'constant',
           'constant': 'constant', '__private': 'private', 'private': 'private'}

@@ -2,8 +2,8 @@
 from . import types
 from .cells import Cells, cells_of
 from .notes import Refused
-from .pointers import bases_of, element, is_plain, own_type
-from .types import Array, Other, Pointer, Struct, Vector
+from .pointers import bases_of, is_plain, own_type
+from .types import Array, Other, Pointer, Struct, Vector, element
 
 PLAIN, CELLS, MOVING, EVENT = 'plain', 'cells', 'moving', 'event'
 

@@ -89,7 +89,7 @@ class Gotos:
         return [raw(token, 'int %s = 0;' % flag)] if flag else []
 
     def replaced(self, node, name, word, flag, is_inner=False):
-        """A statement with each `goto` of the name replaced. Inside a loop it leaves the loop, and then the next one."""
+        """A statement with each `goto` of the name replaced. Inside a loop it leaves the loop, and then the next."""
         if node.kind == 'goto' and node.name == name:
             return raw(node.token, '{ %s = 1; break; }' % flag if is_inner else '%s;' % word)
         is_loop = node.kind in LOOPS or node.kind == 'switch'

@@ -1,7 +1,6 @@
 """What the kernels of a source have as parameters."""
 from . import types
 from .notes import Notes
-from .pointers import element
 from .preprocess import expanded
 from .reader import Reader
 from .tokens import cut
@@ -31,7 +30,7 @@ def element_types(path, words):
 def of_parameter(kind):
     """The types that one parameter counts as."""
     if isinstance(kind, types.Pointer):
-        leaves = {leaf.name for leaf, _ in types.leaves(element(kind.to))}
+        leaves = {leaf.name for leaf, _ in types.leaves(types.element(kind.to))}
         return [leaves.pop() if len(leaves) == 1 else None]
     if isinstance(kind, (types.Vector, types.Struct)):
         return [None] * len(list(types.leaves(kind)))

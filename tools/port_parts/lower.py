@@ -2,7 +2,6 @@
 from . import constants, types
 from .context import Step
 from .notes import Refused
-from .pointers import is_null
 from .tokens import in_source
 from .tree import all_of, has_effect, is_simple, parts_of, stripped
 from .types import Array, Other, Pointer, Scalar, Struct, Vector
@@ -225,8 +224,8 @@ class Numbers:
         return self.stored(place, node.op.text, right, context, is_used)
 
     def stored(self, place, op, right, context, is_used):
-        """A number stored in an array of numbers. One that takes several elements is worked out before the first of them
-        is stored."""
+        """A number stored in an array of numbers. One that takes several elements is worked out before the first of
+        them is stored."""
         if place.is_whole():
             text = place.store(op, right, is_used)
             return ['(', text, ')'] if is_used else text

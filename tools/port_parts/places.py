@@ -5,10 +5,10 @@ from .constants import constant
 from .context import Step
 from .forms import dimensions
 from .notes import Refused
-from .pointers import element, is_null, names_of_moving
+from .pointers import is_null, names_of_moving
 from .tokens import in_source
 from .tree import is_simple, parts_of, stripped
-from .types import Array, Pointer, Scalar, Struct, Vector
+from .types import Array, Pointer, Scalar, Struct, element
 from .typing import pointed
 
 
@@ -24,8 +24,8 @@ class Target:
         return bool(self.suffix) or self.address.cells.name == types.spelled(self.address.kind)
 
     def is_chosen(self):
-        """Whether it is in one of several arrays, or takes several elements, so that what is stored stands there more than
-        once."""
+        """Whether it is in one of several arrays, or takes several elements, so that what is stored stands there more
+        than once."""
         return self.address.which is not None or not self.is_same() and not is_one(self.address)
 
     def is_whole(self):

@@ -1,10 +1,10 @@
-"""To which objects pointer variables lead. A pointer that may lead to several, or that is compared with another, becomes
-a number of elements and, where there are several, the number of the object."""
+"""To which objects pointer variables lead. A pointer that may lead to several, or that is compared with another,
+becomes a number of elements and, where there are several, the number of the object."""
 from . import types
 from .constants import constant
 from .notes import Refused
 from .tree import parts_of, stripped
-from .types import Array, Pointer, element
+from .types import Array, Pointer
 
 
 def bases_of(node, seen=()):
@@ -70,12 +70,14 @@ def look_at(symbols):
         if any(base.kind == 'string' for base in found) and len(found) > 1:
             raise Refused(symbol.token, 'a pointer to several texts')
         symbol.bases = found
-        symbol.is_moving = len(found) > 1 or symbol.is_compared and (symbol.is_assigned or not is_only_parameter(symbol))
+        symbol.is_moving = len(found) > 1 or symbol.is_compared and (
+            symbol.is_assigned or not is_only_parameter(symbol))
     spread([symbol for symbol in symbols if symbol.kind == 'variable' and isinstance(symbol.type, Pointer)])
 
 
 def spread(variables):
-    """What a moving pointer is set to is moving too, and so is a parameter that is moved and to whose object it leads."""
+    """What a moving pointer is set to is moving too, and so is a parameter that is moved and to whose object it
+    leads."""
     is_done = False
     while not is_done:
         is_done = True

@@ -6,7 +6,7 @@ from .notes import Refused
 from .statements import Statements
 from .tokens import Token
 from .tree import Node, Scope, Symbol
-from .types import Array, Function, Other, Pointer, Struct
+from .types import Array, Function, Other, Pointer
 
 
 class Declarator:

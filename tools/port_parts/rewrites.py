@@ -81,8 +81,8 @@ class Rewrites:
     def rewrite_select(self, node, context):
         """A choice; both are evaluated before."""
         name = node.type.name
-        no, yes = (self.once(each, node.type, context) if self.needs_keeping(each) else self.in_type(each, name, context)
-                   for each in node.arguments[:2])
+        no, yes = (self.once(each, node.type, context) if self.needs_keeping(each)
+                   else self.in_type(each, name, context) for each in node.arguments[:2])
         test = self.value(node.arguments[2], context)
         return ['(%s)((' % name, test, ') ? ', yes, ' : ', no, ')']
 
@@ -186,7 +186,8 @@ class Rewrites:
             return ['(%s)(mul_hi(' % base, parts[0], ', ', parts[1], ') + ', parts[2], ')']
         if name == 'upsample':
             low = cast_to(kind.base, cast_to(types.BY_SIZE[types.SIZES[base]], parts[1]))
-            return ['(%s)((' % kind.base, cast_to(kind.base, parts[0]), ' << %d) | ' % (8 * types.SIZES[base]), low, ')']
+            return ['(%s)((' % kind.base, cast_to(kind.base, parts[0]), ' << %d) | ' % (8 * types.SIZES[base]), low,
+                    ')']
         if name not in NATIVE_CALLS:
             raise Refused(node.token, '%s of vectors' % name)
         texts = []
@@ -200,7 +201,8 @@ class Rewrites:
         at, source = node.arguments
         place = self.vector_in_memory(at, source, count, context)
         base = node.type.base
-        parts = [Target(None, place.at(self.index_number(number * place.cells.count(Scalar(base))), Scalar(base))).load()
+        kind = Scalar(base)
+        parts = [Target(None, place.at(self.index_number(number * place.cells.count(kind)), kind)).load()
                  for number in range(count)]
         return self.kept(node.type, parts, context) if context.is_part or context.steps else parts
 

@@ -73,8 +73,8 @@ class Unit(Numbers, Places, Vectors, Calls, Rewrites, Bodies, Variables, Structs
             top = stripped(whole)
             for node in all_of(whole):
                 if node.kind == 'call' and node.symbol is not None and isinstance(node.type, types.Void):
-                    if node is not top or statement.kind != 'expression' and whole is not statement.__dict__.get('step') \
-                            or any(self.is_among(each) for each in node.arguments):
+                    is_whole = statement.kind == 'expression' or whole is statement.__dict__.get('step')
+                    if node is not top or not is_whole or any(self.is_among(each) for each in node.arguments):
                         self.as_number(node.symbol)
 
     def is_among(self, node):

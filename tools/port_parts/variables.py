@@ -5,11 +5,11 @@ from .forms import CELLS, EVENT, MOVING
 from .layout import plain
 from .notes import Refused
 from .places import Target, base_text
-from .pointers import element, names_of_moving
+from .pointers import names_of_moving
 from .starts import numbers_of
 from .tokens import in_source
 from .tree import stripped
-from .types import Array, Pointer, Scalar, Struct, Vector
+from .types import Array, Pointer, Scalar, Struct, Vector, element
 
 SPACE_WORDS = {'global': '__global ', 'local': '__local ', 'constant': '__constant ', 'private': ''}
 
@@ -308,8 +308,8 @@ class Variables:
         for place in range(max(numbers, default=0) + 1):
             items += [', '] if items else []
             items.append(numbers.get(place, '0'))
-        return ['__constant %s ' % cells.name, in_source(symbol.token, symbol.out), '[%d] = { ' % cells.count(kind), items,
-                ' };']
+        return ['__constant %s ' % cells.name, in_source(symbol.token, symbol.out), '[%d] = { ' % cells.count(kind),
+                items, ' };']
 
     def constant_leaf(self, found, leaf, context):
         """One number of a table; a component of a vector that is written there is one of its numbers."""

@@ -274,7 +274,8 @@ class Vectors:
 
     def is_native_target(self, target):
         """Whether `wgcc` takes a vector as the target of an assignment."""
-        if target.kind == 'member' and (target.chosen is None or len(target.chosen) == 3 or target.base.type.count == 3):
+        if target.kind == 'member' and (target.chosen is None or len(target.chosen) == 3
+                                        or target.base.type.count == 3):
             return False
         if target.type.count == 3 and target.kind != 'name':
             return False
