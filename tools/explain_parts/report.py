@@ -11,8 +11,6 @@ from explain_parts.findings import Finding
 PLACE = re.compile(r'^wgcc: (?P<name>.*):(?P<line>\d+):(?P<column>\d+): (?P<number>E\d+) (?P<text>.*)$')
 LAUNCH = re.compile(r'^wgcc: (?P<number>L\d+) (?P<text>.*)$')
 TURNS = re.compile(r'^wgcc: (?:launch (?P<launch>\d+): )?out of turns$')
-# What a source is refused with that was written for another compiler.
-PORTED = {'E101', 'E103', 'E201', 'E301', 'E401', 'E403', 'E408', 'E501', 'E502', 'E503'}
 HEADS = {5: 'Status 5', 6: 'Status 6', 7: 'Status 7'}
 BY_NUMBER = {
     'E101': sources.no_token, 'E103': sources.malformed_number, 'E201': sources.directive, 'E301': syntax.findings,
@@ -72,7 +70,7 @@ class Report:
             self.findings = BY_NUMBER[self.number](self.source, line, column)
         self.help = page.section(self.number)
         port = os.path.join(page.ROOT, 'tools', 'port')
-        if self.number in PORTED and os.path.exists(port):
+        if os.path.exists(port) and any('docs/PORTING.md' in one.text for one in self.findings):
             self.hint = '`%s %s` writes many forms of other sources as the subset has them.' % (port, self.words.source)
 
     def refused_launch(self, found):
