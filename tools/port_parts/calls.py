@@ -5,6 +5,7 @@ from .constants import constant
 from .context import Step
 from .notes import Refused
 from .pointers import is_plain
+from .tokens import in_source
 from .tree import stripped
 from .types import Pointer, Scalar, Struct, Vector
 
@@ -142,7 +143,7 @@ class Calls:
             self.notes.add('a kernel that is called is a function too', node.token)
             node.symbol.is_called = True
             return [node.symbol.out + '_called']
-        return [node.token]
+        return [in_source(node.token, node.symbol.out)]
 
     def call_vector(self, node, context):
         """A call whose value is a vector; its components."""

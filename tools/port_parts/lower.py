@@ -220,7 +220,7 @@ class Numbers:
         if place.native is not None:
             return [place.native, node.op, right]
         if place.is_chosen() and not is_simple(node.right):
-            right = context.keep(right, node.right.type)
+            right = context.keep(right, node.right.type if types.is_number(node.right.type) else node.left.type)
         return self.stored(place, node.op.text, right, context, is_used)
 
     def stored(self, place, op, right, context, is_used):

@@ -1,5 +1,5 @@
 """The whole source as `wgcc` takes it."""
-from . import forms, pointers, types
+from . import built_in, forms, pointers, types
 from .bodies import Bodies
 from .calls import Calls
 from .cells import Address, Index, cells_of
@@ -41,6 +41,9 @@ class Unit(Numbers, Places, Vectors, Calls, Rewrites, Bodies, Variables, Structs
         for symbol in self.reader.symbols:
             if symbol.kind == 'function':
                 symbol.as_number = False
+                if symbol.name in built_in.OWN:
+                    symbol.out = self.names.like(symbol.name + '_here')
+                    self.notes.add('a function with the name of a built-in one has another', symbol.token)
                 continue
             forms.decide(symbol, self.notes, self.names)
             if symbol.space == 'constant' and not isinstance(symbol.type, Pointer):
@@ -132,7 +135,7 @@ class Unit(Numbers, Places, Vectors, Calls, Rewrites, Bodies, Variables, Structs
         if node.body is None:
             if node.is_kernel:
                 return []
-            return [in_source(node.token, word), ' ', node.name, '(', joined, ');']
+            return [in_source(node.token, word), ' ', in_source(node.name, symbol.out), '(', joined, ');']
         body = [node.body.token, prologue, self.items(node.body.items), node.body.end]
         if not node.is_kernel:
             return [in_source(node.token, word), ' ', in_source(node.name, symbol.out), '(', joined, ')', body]
