@@ -91,7 +91,7 @@ class Page:
 
     def needs_blank(self, content, is_apart):
         """Whether a blank stands before the next piece."""
-        if not self.last or self.last.isspace():
+        if not self.last or self.last.isspace() or content[0] == ' ':
             return False
         both_words = (self.last.isalnum() or self.last == '_') and (content[0].isalnum() or content[0] == '_')
         return is_apart or both_words or self.last in GLUED and content[0] in GLUED or self.last in ',;'
