@@ -50,7 +50,7 @@ class Declarations:
             elif word in STORAGE:
                 self.storage_word(found)
             elif word in QUALIFIERS:
-                found.is_const = found.is_const or self.take().text in CONSTS
+                found.is_const = self.take().text in CONSTS or found.is_const
             elif word == '__attribute__':
                 self.attributes(found)
             elif word in NUMBER_WORDS:

@@ -190,13 +190,15 @@ class Places:
 
     def component_again(self, node, inner, context, is_twice):
         """A component of a selection is a component of the vector itself."""
-        base = inner.base
-        if inner.is_arrow or self.is_native(base) or stripped(base).kind in ('name', 'index', 'unary', 'member'):
-            number = inner.chosen[node.chosen[0]]
-            if not inner.is_arrow and self.is_native(base) and stripped(base).kind != 'member':
-                return Target([self.native(base, context), '.s%x' % number], Index())
-            found = self.pointer(base, context, is_twice) if inner.is_arrow else self.address(base, context, is_twice)
-            return component_of(found, number)
+        number, is_arrow = node.chosen[0], False
+        while not is_arrow and inner.kind == 'member' and inner.chosen is not None:
+            number, is_arrow, inner = inner.chosen[number], inner.is_arrow, stripped(inner.base)
+        if is_arrow:
+            return component_of(self.pointer(inner, context, is_twice), number)
+        if self.is_native(inner):
+            return Target([self.native(inner, context), '.s%x' % number], Index())
+        if inner.kind in ('name', 'index', 'unary', 'member'):
+            return component_of(self.address(inner, context, is_twice), number)
         return Target(['(', self.part(node.base, node.chosen[0], context), ')'])
 
     def load(self, place, token, node=None):
