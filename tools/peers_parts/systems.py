@@ -86,10 +86,11 @@ def first_error(said):
 
 
 class Host:
-    """An implementation of OpenCL, by the host program. A kernel cache of its own is kept in `cache`."""
+    """An implementation of OpenCL, by the host program. A kernel cache of its own is kept in `cache`; `options` is what
+    its compiler is given beside what the launch file gives."""
 
-    def __init__(self, name, host, front=()):
-        self.name, self.host, self.front = name, host, list(front)
+    def __init__(self, name, host, front=(), options=''):
+        self.name, self.host, self.front, self.options = name, host, list(front), options
         self.cache = tempfile.mkdtemp(prefix='wgcc-peer-cache-')
 
     def forget(self):
@@ -99,7 +100,7 @@ class Host:
 
     def make(self, case):
         """Makes a launch."""
-        files = {**case.files, FACTS: case.facts.encode()}
+        files = {**case.files, FACTS: case.facts.replace('\noptions ', '\noptions %s ' % self.options, 1).encode()}
         words = [*self.front, self.host, FACTS]
         status, said, found, seconds = in_room(files, words, {'POCL_CACHE_DIR': self.cache})
         if status != 0:
@@ -119,7 +120,8 @@ def peers(host):
     """The implementations of OpenCL that are there."""
     found = []
     if shutil.which('oclgrind'):
-        found.append(Host('oclgrind', host, ['oclgrind', '--max-errors', '0']))
+        # What its compiler makes of a `switch` with optimisations it runs wrongly: see docs/EVIDENCE.md.
+        found.append(Host('oclgrind', host, ['oclgrind', '--max-errors', '0'], '-cl-opt-disable'))
     status, said, _, _ = in_room({'nothing': b''}, [host, 'nothing'])
     if status == 0 and 'Portable Computing Language' in said:
         found.append(Host('pocl', host))
