@@ -24,5 +24,4 @@ OWN_CHOICES = {
 FAULTS = {
     ('pocl', 'tests/rows/barrier_that_nobody_reaches'): 'its compiler crashes on a barrier in a loop that varies',
     ('pocl', 'tests/rows/each_group_votes_by_itself'): 'it finds no kernel `all`, which is a function of OpenCL too',
-    ('oclgrind', 'tests/rows/what_a_region_does_not_set_stays'): 'it knows no constant of five bytes',
 }
