@@ -13,17 +13,18 @@ ghost use Rattle.lane_code.specs.Acts.{objects_stored};
 ghost use Rattle.lane_machine.specs.State.{IsIn, FitsBank};
 
 use crate::group_state::Group;
-use crate::group_steps::{lanes_for_column, low_halves};
+use crate::group_steps::lanes_for_column;
 use crate::operands::Access;
 use crate::registers::Registers;
 use crate::shared::stored64;
 use lane_code::{Bank, Reg};
-use lane_kernels::{Tally, gather64, put32, put64, scatter64};
+use lane_kernels::{Tally, gather64, put32, put64, scatter64, whole32};
 use std::simd::prelude::*;
 use wg_num::IntType;
 
 /// The lane of element `at`, and 0 where the lane is inactive; `None` exactly where an active
 /// lane's element is out of range.
+#[inline(always)]
 fn load_lane(bytes: &[u8], t: IntType, on: bool, at: u64, tally: &mut Tally) -> Option<u64>
     requires { FitsLane 64 t }
     ensures { MatchOption result
@@ -38,6 +39,7 @@ fn load_lane(bytes: &[u8], t: IntType, on: bool, at: u64, tally: &mut Tally) -> 
 
 /// Stores the lane if it is active; `false`, with the bytes as they were, exactly where it is
 /// active and its place is out of range.
+#[inline(always)]
 fn store_lane(bytes: &mut [u8], t: IntType, on: bool, at: u64, x: u64, tally: &mut Tally) -> bool
     requires { FitsLane 64 t }
     ensures done { result ≡ not (is_fault (size_of t) (length bytes.old) on at) }
@@ -53,6 +55,7 @@ fn store_lane(bytes: &mut [u8], t: IntType, on: bool, at: u64, x: u64, tally: &m
 }
 
 /// The lane of the object of an item, as `load_lane`; a lane without an item has no bytes.
+#[inline(always)]
 fn load_item(
     objects: &[Vec<u8>],
     item: usize,
@@ -101,6 +104,7 @@ fn gather_own<const W: usize>(
     Ok(lanes)
 }
 
+#[inline(always)]
 fn store_bytes(
     bytes: &mut Vec<u8>,
     t: IntType,
@@ -118,6 +122,7 @@ fn store_bytes(
 }
 
 /// Stores into the object of an item, as `store_lane`.
+#[inline(always)]
 fn store_item(
     objects: &mut Vec<Vec<u8>>,
     item: usize,
@@ -144,7 +149,8 @@ fn store_item(
 
 /// Stores the active lanes, each into the object of its item; or only those below the lowest active
 /// lane that is out of range, which it answers.
-fn scatter_own<const W: usize>(
+#[inline(always)]
+fn scatter_each<const W: usize>(
     objects: &mut Vec<Vec<u8>>,
     first: usize,
     t: IntType,
@@ -173,6 +179,37 @@ fn scatter_own<const W: usize>(
         }
     }
     None
+}
+
+/// The same, where each type of 32 bits has a loop of its own.
+fn scatter_own<const W: usize>(
+    objects: &mut Vec<Vec<u8>>,
+    first: usize,
+    t: IntType,
+    index: [u64; W],
+    from: [u64; W],
+    mask: [bool; W],
+    tally: &mut Tally,
+) -> Option<u32>
+    requires lanes { W ≤ 64 }
+    requires first { first < 2 ^ 32 }
+    requires fits { FitsLane 64 t }
+    ensures { let old = map (λ v. v.items) objects.old.items in
+        let own = window [] old first W in
+        MatchOption result
+        ((lowest (own_faults (size_of t) mask.entry index.entry own) ≡ None)
+        × (map (λ v. v.items) objects.new.items ≡
+        with_window old first (own_stored (size_of t) mask.entry index.entry from.entry own)))
+        (λ k. (lowest (own_faults (size_of t) mask.entry index.entry own) ≡ Some k)
+        × (map (λ v. v.items) objects.new.items ≡
+        with_window old first (own_stored (size_of t) (take k mask.entry) (take k index.entry) (take k from.entry)
+        own))) }
+{
+    match t {
+        IntType::Int => scatter_each(objects, first, IntType::Int, index, from, mask, tally),
+        IntType::Uint => scatter_each(objects, first, IntType::Uint, index, from, mask, tally),
+        _ => scatter_each(objects, first, t, index, from, mask, tally),
+    }
 }
 
 /// Makes the object of an item zero, if the lane is active.
@@ -213,7 +250,87 @@ pub(crate) fn clear_own<const W: usize>(objects: &mut Vec<Vec<u8>>, first: usize
     }
 }
 
-/// The same in narrow lanes.
+/// The narrow lane of element `at`; `None` exactly where the element is out of range.
+#[inline(always)]
+fn active_lane(bytes: &[u8], t: IntType, at: u64, tally: &mut Tally) -> Option<u32>
+    requires { FitsLane 32 t }
+    ensures { MatchOption result
+        (is_fault (size_of t) (length bytes.now) true at ≡ true)
+        (λ x. (is_fault (size_of t) (length bytes.now) true at ≡ false) × (x ≡ lane_from 32 t bytes.now true at)) }
+{
+    match whole32(bytes, t, Simd::<u64, 1>::splat(at), [true], tally) {
+        Some(lanes) => Some(lanes[0]),
+        None => None,
+    }
+}
+
+/// The same of a lane that may be inactive, which gives 0.
+#[inline(always)]
+fn narrow_lane(bytes: &[u8], t: IntType, on: bool, at: u64, tally: &mut Tally) -> Option<u32>
+    requires { FitsLane 32 t }
+    ensures { MatchOption result
+        (is_fault (size_of t) (length bytes.now) on at ≡ true)
+        (λ x. (is_fault (size_of t) (length bytes.now) on at ≡ false) × (x ≡ lane_from 32 t bytes.now on at)) }
+{
+    if on {
+        return active_lane(bytes, t, at, tally);
+    }
+    Some(0)
+}
+
+/// The narrow lane of the object of an item, as `narrow_lane`; a lane without an item has no bytes.
+#[inline(always)]
+fn narrow_item(
+    objects: &[Vec<u8>],
+    item: usize,
+    t: IntType,
+    on: bool,
+    at: u64,
+    tally: &mut Tally,
+) -> Option<u32>
+    requires { FitsLane 32 t }
+    ensures { let bytes = slice_index_or (map (λ v. v.items) objects.now) item [] in
+        MatchOption result
+        (is_fault (size_of t) (length bytes) on at ≡ true)
+        (λ x. (is_fault (size_of t) (length bytes) on at ≡ false) × (x ≡ lane_from 32 t bytes on at)) }
+{
+    match objects.get(item) {
+        Some(bytes) => narrow_lane(bytes, t, on, at, tally),
+        None => narrow_lane(&[], t, on, at, tally),
+    }
+}
+
+/// The active lanes' elements as narrow lanes, each of the object of its item, or the lowest lane out of range. Where it
+/// is called with a type that is known, nothing is asked of the type for each lane.
+#[inline(always)]
+fn gather_narrow<const W: usize>(
+    objects: &[Vec<u8>],
+    first: usize,
+    t: IntType,
+    index: [u64; W],
+    mask: [bool; W],
+    tally: &mut Tally,
+) -> Result<[u32; W], u32>
+    requires lanes { W ≤ 64 }
+    requires first { first < 2 ^ 32 }
+    requires fits { FitsLane 32 t }
+    ensures { let own = window [] (map (λ v. v.items) objects.now) first W in
+        MatchResult result
+        (λ v. (lowest (own_faults (size_of t) mask.entry index.entry own) ≡ None) ×
+        (v ≡ own_loaded 32 t mask.entry index.entry own))
+        (λ k. lowest (own_faults (size_of t) mask.entry index.entry own) ≡ Some k) }
+{
+    let mut lanes = [0u32; W];
+    for i in 0..W {
+        match narrow_item(objects, first + i, t, mask[i], index[i], tally) {
+            Some(lane) => lanes[i] = lane,
+            None => return Err(i as u32),
+        }
+    }
+    Ok(lanes)
+}
+
+/// The same, where each type of 32 bits has a loop of its own.
 fn gather_low<const W: usize>(
     objects: &[Vec<u8>],
     first: usize,
@@ -224,16 +341,17 @@ fn gather_low<const W: usize>(
 ) -> Result<[u32; W], u32>
     requires lanes { W ≤ 64 }
     requires first { first < 2 ^ 32 }
-    requires fits { FitsLane 64 t }
+    requires fits { FitsLane 32 t }
     ensures { let own = window [] (map (λ v. v.items) objects.now) first W in
         MatchResult result
         (λ v. (lowest (own_faults (size_of t) mask.entry index.entry own) ≡ None) ×
         (v ≡ own_loaded 32 t mask.entry index.entry own))
         (λ k. lowest (own_faults (size_of t) mask.entry index.entry own) ≡ Some k) }
 {
-    match gather_own(objects, first, t, index, mask, tally) {
-        Ok(lanes) => Ok(low_halves(Simd::from_array(lanes)).to_array()),
-        Err(lane) => Err(lane),
+    match t {
+        IntType::Int => gather_narrow(objects, first, IntType::Int, index, mask, tally),
+        IntType::Uint => gather_narrow(objects, first, IntType::Uint, index, mask, tally),
+        _ => gather_narrow(objects, first, t, index, mask, tally),
     }
 }
 
@@ -246,7 +364,7 @@ fn load_own_narrow<const W: usize>(
 ) -> Option<u32>
     requires lanes { W ≤ 64 }
     requires first { first < 2 ^ 32 }
-    requires fits { FitsLane 64 access.of }
+    requires fits { FitsLane 32 access.of }
     requires bank { access.value.bank ≡ Narrow }
     requires wide { access.index.bank ≡ Wide }
     requires to { access.value.number < length r.old.plain.narrow }

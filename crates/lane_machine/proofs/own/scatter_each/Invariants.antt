@@ -3,7 +3,7 @@ use Rattle.wg_num.specs.Bytes.{size_of}
 use Rattle.lane_values.specs.Lanes.{zip3}
 use Rattle.lane_code.specs.Groups.{window, own_faults}
 use Rattle.lane_machine.proofs.OwnLaws.{changed, puts}
-use Rattle.lane_machine.proofs.own.scatter_own.Given as goal
+use Rattle.lane_machine.proofs.own.scatter_each.Given as goal
 
 abbrev pub invariant-loop-i : goal.invariant-loop-i
 invariant-loop-i g l =

@@ -4,7 +4,7 @@ use Rattle.lane_code.specs.Groups.{window, own_faults}
 use Rattle.lane_kernels.proofs.ListLaws.{none_anywhere, not_true}
 use Rattle.lane_machine.proofs.MaskLaws.{lowest_none, lowest_some}
 use Rattle.lane_machine.proofs.OwnLaws.{length_faults, store_next, store_fault, store_below, store_all, not_false}
-use Rattle.lane_machine.proofs.own.scatter_own.Goals as goal
+use Rattle.lane_machine.proofs.own.scatter_each.Goals as goal
 
 pub loop-i-preserved : goal.loop-i-preserved
 loop-i-preserved g c =
