@@ -167,7 +167,7 @@ fn chosen_truths<const W: usize>(mask: [bool; W], new: [bool; W], old: [bool; W]
 }
 
 /// The low 32 bits of each number.
-pub(crate) fn low_halves<const W: usize>(values: Simd<u64, W>) -> Simd<u32, W>
+fn low_halves<const W: usize>(values: Simd<u64, W>) -> Simd<u32, W>
     ensures { result ≡ map (λ x. x % 2 ^ 32) values.entry }
 {
     (values & Simd::splat(0xffff_ffff)).cast::<u32>()
