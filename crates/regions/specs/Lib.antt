@@ -6,3 +6,4 @@ pub mod Fragments
 pub mod TreeRun
 pub mod Living
 pub mod Cutting
+pub mod Forms

@@ -1,8 +1,9 @@
 //! Copies of lines.
 
-ghost use Rattle.std.specs.Prelude.{◌≡◌, [], IfOk, OnOk};
+ghost use Rattle.std.specs.Prelude.{◌≡◌, [], true, IfOk, OnOk};
 ghost use Rattle.kir.specs.Tree.{Lines, IfThen, LoopThen, joined_to};
 ghost use Rattle.kir.specs.Listed.{line_before, lines_of, work_of};
+ghost use Rattle.regions.specs.Forms.{is_plain};
 
 use kir::{Atom, Line, Work};
 use std::alloc::Global;
@@ -102,6 +103,7 @@ fn add_loop(
 
 /// The same line, of a line without lines.
 fn copy_plain(alloc: Global, line: &Line) -> Result<Line, Memory>
+    requires { is_plain line.now ≡ true }
     ensures { IfOk result (λ copied. (rest : Lines) → line_before copied rest ≡ line_before line.now rest) }
 {
     match line {
@@ -137,13 +139,14 @@ fn copy_plain(alloc: Global, line: &Line) -> Result<Line, Memory>
         }),
         Line::Clear { array } => Ok(Line::Clear { array: *array }),
         Line::Barrier { site } => Ok(Line::Barrier { site: *site }),
-        Line::If { .. } | Line::Loop { .. } => Err(Memory),
+        Line::If { .. } | Line::Loop { .. } => unreachable!(),
     }
 }
 
 /// The list with the same line more, of a line without lines.
 #[inline(never)]
 fn add_plain(alloc: Global, copied: &mut Vec<Line>, line: &Line) -> Result<(), Memory>
+    requires { is_plain line.now ≡ true }
     ensures { OnOk result ((rest : Lines) →
         joined_to (lines_of copied.new.items) rest ≡ joined_to (lines_of copied.old.items)
         (line_before line.now rest)) }
