@@ -32,21 +32,21 @@ fn counts_at(bytes: &[u8]) -> (Counts, &[u8])
 }
 
 /// The code of no steps.
-fn no_code(alloc: Global) -> Result<Code, Memory>
-    ensures { IfOk result (λ c. code_of c ≡ spec.no_code) }
+fn no_code(alloc: Global) -> Code
+    ensures { code_of result ≡ spec.no_code }
 {
     match Code::new(Vec::new(alloc)) {
-        Some(code) => Ok(code),
-        None => Err(Memory),
+        Some(code) => code,
+        None => unreachable!(),
     }
 }
 
 /// These steps where they are a code, and else none.
-fn code_with(alloc: Global, counts: Counts, steps: Vec<Step>) -> Result<Code, Memory>
-    ensures { IfOk result (λ c. code_of c ≡ spec.code_with counts steps.items) }
+fn code_with(alloc: Global, counts: Counts, steps: Vec<Step>) -> Code
+    ensures { code_of result ≡ spec.code_with counts steps.items }
 {
     match Code::with_counts(steps, counts) {
-        Some(code) => Ok(code),
+        Some(code) => code,
         None => no_code(alloc),
     }
 }
@@ -58,7 +58,7 @@ fn code_at(alloc: Global, bytes: &[u8]) -> Result<(Code, &[u8]), Memory>
 {
     let (steps, rest) = take_list::<Step>(alloc, bytes)?;
     let (counts, rest) = counts_at(rest);
-    let code = code_with(alloc, counts, steps)?;
+    let code = code_with(alloc, counts, steps);
     Ok((code, rest))
 }
 
