@@ -76,8 +76,10 @@ fn load_item(
     }
 }
 
-/// The active lanes' elements, each of the object of its item, or the lowest lane out of range.
-fn gather_own<const W: usize>(
+/// The active lanes' elements, each of the object of its item, or the lowest lane out of range. Where it is called with a
+/// type that is known, nothing is asked of the type for each lane.
+#[inline(always)]
+fn gather_wide<const W: usize>(
     objects: &[Vec<u8>],
     first: usize,
     t: IntType,
@@ -102,6 +104,31 @@ fn gather_own<const W: usize>(
         }
     }
     Ok(lanes)
+}
+
+/// The same, where each type of 64 bits has a loop of its own.
+fn gather_own<const W: usize>(
+    objects: &[Vec<u8>],
+    first: usize,
+    t: IntType,
+    index: [u64; W],
+    mask: [bool; W],
+    tally: &mut Tally,
+) -> Result<[u64; W], u32>
+    requires lanes { W ≤ 64 }
+    requires first { first < 2 ^ 32 }
+    requires fits { FitsLane 64 t }
+    ensures { let own = window [] (map (λ v. v.items) objects.now) first W in
+        MatchResult result
+        (λ v. (lowest (own_faults (size_of t) mask.entry index.entry own) ≡ None) ×
+        (v ≡ own_loaded 64 t mask.entry index.entry own))
+        (λ k. lowest (own_faults (size_of t) mask.entry index.entry own) ≡ Some k) }
+{
+    match t {
+        IntType::Long => gather_wide(objects, first, IntType::Long, index, mask, tally),
+        IntType::Ulong => gather_wide(objects, first, IntType::Ulong, index, mask, tally),
+        _ => gather_wide(objects, first, t, index, mask, tally),
+    }
 }
 
 #[inline(always)]
@@ -181,7 +208,7 @@ fn scatter_each<const W: usize>(
     None
 }
 
-/// The same, where each type of 32 bits has a loop of its own.
+/// The same, where the types of 32 and 64 bits and bytes have loops of their own.
 fn scatter_own<const W: usize>(
     objects: &mut Vec<Vec<u8>>,
     first: usize,
@@ -208,6 +235,9 @@ fn scatter_own<const W: usize>(
     match t {
         IntType::Int => scatter_each(objects, first, IntType::Int, index, from, mask, tally),
         IntType::Uint => scatter_each(objects, first, IntType::Uint, index, from, mask, tally),
+        IntType::Uchar => scatter_each(objects, first, IntType::Uchar, index, from, mask, tally),
+        IntType::Long => scatter_each(objects, first, IntType::Long, index, from, mask, tally),
+        IntType::Ulong => scatter_each(objects, first, IntType::Ulong, index, from, mask, tally),
         _ => scatter_each(objects, first, t, index, from, mask, tally),
     }
 }
@@ -300,8 +330,8 @@ fn narrow_item(
     }
 }
 
-/// The active lanes' elements as narrow lanes, each of the object of its item, or the lowest lane out of range. Where it
-/// is called with a type that is known, nothing is asked of the type for each lane.
+/// The active lanes' elements as narrow lanes, each of the object of its item, or the lowest lane out of range, as
+/// `gather_wide`.
 #[inline(always)]
 fn gather_narrow<const W: usize>(
     objects: &[Vec<u8>],
@@ -330,7 +360,7 @@ fn gather_narrow<const W: usize>(
     Ok(lanes)
 }
 
-/// The same, where each type of 32 bits has a loop of its own.
+/// The same, where the types of 32 bits and bytes have loops of their own.
 fn gather_low<const W: usize>(
     objects: &[Vec<u8>],
     first: usize,
@@ -351,6 +381,7 @@ fn gather_low<const W: usize>(
     match t {
         IntType::Int => gather_narrow(objects, first, IntType::Int, index, mask, tally),
         IntType::Uint => gather_narrow(objects, first, IntType::Uint, index, mask, tally),
+        IntType::Uchar => gather_narrow(objects, first, IntType::Uchar, index, mask, tally),
         _ => gather_narrow(objects, first, t, index, mask, tally),
     }
 }

@@ -1,7 +1,7 @@
 use Rattle.std.proofs.Common.{◌≡◌, ℕ, ◌<◌, [], false, length, take, get_or, map, Vec, Global}
 use Rattle.wg_num.specs.Bytes.{size_of}
 use Rattle.lane_code.specs.Groups.{window, own_faults, own_loaded}
-use Rattle.lane_machine.proofs.own.gather_own.Given as goal
+use Rattle.lane_machine.proofs.own.gather_wide.Given as goal
 
 abbrev pub invariant-loop-i : goal.invariant-loop-i
 invariant-loop-i g l =

@@ -6,7 +6,7 @@ use Rattle.lane_code.specs.Groups.{window, own_faults, own_loaded}
 use Rattle.lane_kernels.proofs.ListLaws.{written_next, written_all, none_anywhere}
 use Rattle.lane_machine.proofs.MaskLaws.{lowest_none, lowest_some}
 use Rattle.lane_machine.proofs.OwnLaws.{length_faults, length_loaded, fault_at, loaded_at}
-use Rattle.lane_machine.proofs.own.gather_own.Goals as goal
+use Rattle.lane_machine.proofs.own.gather_wide.Goals as goal
 
 pub loop-i-preserved : goal.loop-i-preserved
 loop-i-preserved g c =
