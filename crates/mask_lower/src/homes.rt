@@ -148,7 +148,7 @@ pub(crate) fn lower_exit(
         put.now.items) }
 {
     for cell in put {
-        let operand = cell_at(cells, *cell)?;
+        let operand = cell_at(cells, *cell);
         lower_put(code, operand, home_of(homes, *cell as usize))?;
     }
     Ok(())

@@ -4,7 +4,8 @@ ghost use Rattle.std.specs.Prelude.{◌≡◌, ◌++◌, true, length, IfOk, OnO
 ghost use Rattle.kir.specs.Tree.{Lines, NoLine};
 ghost use Rattle.kir.specs.Listed.{line_before, lines_of};
 ghost use Rattle.mask_lower.specs.Atoms.{atoms_in};
-ghost use Rattle.mask_lower.specs.Forms.{is_plain, is_if, is_loop};
+ghost use Rattle.regions.specs.Forms.{is_plain};
+ghost use Rattle.mask_lower.specs.Forms.{is_if, is_loop};
 ghost use Rattle.mask_lower.specs.Registers.{frame_of, past};
 ghost use Rattle.mask_lower.specs.Lowered as spec;
 
@@ -43,7 +44,7 @@ fn lower_plain(
     let mask = mask_reg(at.mask);
     match line {
         Line::Set { to, work } => {
-            let to = cell_at(&layout.cells, *to)?;
+            let to = cell_at(&layout.cells, *to);
             let next = lower_work(code, layout, at.next, to.at, mask, work)?;
             Ok(next)
         }
@@ -54,9 +55,9 @@ fn lower_plain(
             root,
             index,
         } => {
-            let to = cell_at(&layout.cells, *to)?;
+            let to = cell_at(&layout.cells, *to);
             let (index, next) = read(&layout.cells, at.next, *index)?;
-            let root = root_at(&layout.arrays, *root)?;
+            let root = root_at(&layout.arrays, *root);
             push(
                 code,
                 Step::Load {
@@ -79,7 +80,7 @@ fn lower_plain(
         } => {
             let (index, next) = read(&layout.cells, at.next, *index)?;
             let (from, next) = read(&layout.cells, next, *from)?;
-            let root = root_at(&layout.arrays, *root)?;
+            let root = root_at(&layout.arrays, *root);
             push(
                 code,
                 Step::Store {
@@ -94,7 +95,7 @@ fn lower_plain(
             Ok(next)
         }
         Line::Clear { array } => {
-            let array = array_at(&layout.arrays, *array)?;
+            let array = array_at(&layout.arrays, *array);
             push(code, Step::Clear { array, mask })?;
             Ok(at.next)
         }
@@ -289,6 +290,7 @@ pub(crate) fn lower_rest(
     layout: &Layout,
     next: Free,
 ) -> Result<Free, Memory>
+    requires { is_loop line.now ≡ true }
     ensures code { OnOk result (code.new.items ≡ code.old.items ++ spec.begun_code (frame_of layout.now)
         (length code.old.items) next true (line_before line.now NoLine)) }
     ensures next { IfOk result (λ after. after ≡ past next (atoms_in (line_before line.now NoLine))) }
@@ -300,7 +302,7 @@ pub(crate) fn lower_rest(
         ..
     } = line
     else {
-        return Err(Memory);
+        unreachable!();
     };
     push(code, Step::VoteGet { to: mask_reg(1) })?;
     put_and(code, 1, 0, 1)?;

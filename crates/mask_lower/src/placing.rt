@@ -11,9 +11,9 @@ ghost use Rattle.mask_lower.specs.Registers as spec;
 use crate::registers::{Free, Layout, Operand, advanced, more, register_at};
 use cl_model::{Array, Root, Space};
 use kir::{Atom, Cell, Kernel};
-use lane_code::Step;
+use lane_code::{Bank, Reg, Step};
 use std::alloc::Global;
-use wg_num::{Memory, push};
+use wg_num::{IntType, Memory, push};
 
 /// A table of cells, none of which is marked.
 fn unmarked(alloc: Global, cells: &Vec<Cell>) -> Result<Vec<bool>, Memory>
@@ -26,32 +26,25 @@ fn unmarked(alloc: Global, cells: &Vec<Cell>) -> Result<Vec<bool>, Memory>
     Ok(marks)
 }
 
-/// Marks the cell that the atom names.
-fn mark(marks: &mut Vec<bool>, atom: Atom) -> Result<(), Memory>
-    ensures { OnOk result ((atoms : List Atom) →
-        spec.marked marks.old.items (atom ∷ atoms) ≡ spec.marked marks.new.items atoms) }
+/// Marks the cell that the atom names, if the table has it.
+fn mark(marks: &mut Vec<bool>, atom: Atom)
+    ensures { (atoms : List Atom) → spec.marked marks.old.items (atom ∷ atoms) ≡ spec.marked marks.new.items atoms }
 {
-    match atom {
-        Atom::Const { .. } => Ok(()),
-        Atom::Cell(cell) => {
-            let index = cell as usize;
-            if index >= marks.len() {
-                return Err(Memory);
-            }
+    if let Atom::Cell(cell) = atom {
+        let index = cell as usize;
+        if index < marks.len() {
             marks[index] = true;
-            Ok(())
         }
     }
 }
 
 /// Marks the cells that the atoms name.
-fn mark_all(marks: &mut Vec<bool>, atoms: &Vec<Atom>) -> Result<(), Memory>
-    ensures { OnOk result (marks.new.items ≡ spec.marked marks.old.items atoms.now.items) }
+fn mark_all(marks: &mut Vec<bool>, atoms: &Vec<Atom>)
+    ensures { marks.new.items ≡ spec.marked marks.old.items atoms.now.items }
 {
     for atom in atoms {
-        mark(marks, *atom)?;
+        mark(marks, *atom);
     }
-    Ok(())
 }
 
 /// Whether the cell is marked.
@@ -120,7 +113,7 @@ pub(crate) fn layout(alloc: Global, atoms: &Vec<Atom>, kernel: &Kernel) -> Resul
     ensures { IfOk result (λ layout. spec.frame_of layout ≡ spec.frame_for (kernel_of kernel.now) atoms.now.items) }
 {
     let mut marks = unmarked(alloc, &kernel.cells)?;
-    mark_all(&mut marks, atoms)?;
+    mark_all(&mut marks, atoms);
     let (cells, scratch) = place_cells(alloc, &marks, &kernel.cells)?;
     let arrays = place_arrays(alloc, &kernel.arrays)?;
     Ok(Layout {
@@ -139,13 +132,19 @@ pub(crate) fn first_constants(layout: &Layout) -> Result<Free, Memory>
     Ok(Free { narrow, wide })
 }
 
-/// The register and type of a cell.
-pub(crate) fn cell_at(cells: &Vec<Option<Operand>>, cell: u32) -> Result<Operand, Memory>
-    ensures { IfOk result (λ x. x ≡ spec.cell_at cells.now.items cell) }
+/// The register and type of a cell; what stands for a cell that the region does not name is no cell's.
+pub(crate) fn cell_at(cells: &Vec<Option<Operand>>, cell: u32) -> Operand
+    ensures { result ≡ spec.cell_at cells.now.items cell }
 {
     match cells.get(cell as usize) {
-        Some(Some(x)) => Ok(*x),
-        Some(None) | None => Err(Memory),
+        Some(Some(x)) => *x,
+        Some(None) | None => Operand {
+            of: IntType::Int,
+            at: Reg {
+                bank: Bank::Narrow,
+                number: 0,
+            },
+        },
     }
 }
 
@@ -170,33 +169,27 @@ pub(crate) fn read(
             ))
         }
         Atom::Cell(cell) => {
-            let x = cell_at(cells, cell)?;
+            let x = cell_at(cells, cell);
             Ok((x, next))
         }
     }
 }
 
-/// The array with this number, by its number among those of its space.
-pub(crate) fn array_at(arrays: &Vec<u32>, array: u32) -> Result<u32, Memory>
-    ensures { IfOk result (λ n. n ≡ slice_index_or arrays.now.items array 0) }
+/// The array with this number, by its number among those of its space; 0 if there is none.
+pub(crate) fn array_at(arrays: &Vec<u32>, array: u32) -> u32
+    ensures { result ≡ slice_index_or arrays.now.items array 0 }
 {
-    arrays.get(array as usize).copied().ok_or(Memory)
+    arrays.get(array as usize).copied().unwrap_or(0)
 }
 
 /// The root, by such a number.
-pub(crate) fn root_at(arrays: &Vec<u32>, root: Root) -> Result<Root, Memory>
-    ensures { IfOk result (λ r. r ≡ spec.root_at arrays.now.items root) }
+pub(crate) fn root_at(arrays: &Vec<u32>, root: Root) -> Root
+    ensures { result ≡ spec.root_at arrays.now.items root }
 {
     match root {
-        Root::Param(_) | Root::Constant(_) => Ok(root),
-        Root::Local(n) => {
-            let place = array_at(arrays, n)?;
-            Ok(Root::Local(place))
-        }
-        Root::Private(n) => {
-            let place = array_at(arrays, n)?;
-            Ok(Root::Private(place))
-        }
+        Root::Param(_) | Root::Constant(_) => root,
+        Root::Local(n) => Root::Local(array_at(arrays, n)),
+        Root::Private(n) => Root::Private(array_at(arrays, n)),
     }
 }
 

@@ -1,12 +1,13 @@
 //! From regions to lane code.
 
-ghost use Rattle.std.specs.Prelude.{◌≡◌, ◌++◌, length, IfOk};
+ghost use Rattle.std.specs.Prelude.{◌≡◌, ◌++◌, ◌&&◌, length, IfOk};
 ghost use Rattle.kir.specs.Listed.{lines_of};
 ghost use Rattle.kir.specs.View.{kernel_of};
 ghost use Rattle.lane_code.specs.Program.{code_of};
 ghost use Rattle.regions.specs.View.{region_of};
 ghost use Rattle.mask_lower.specs.Atoms.{atoms_in};
 ghost use Rattle.mask_lower.specs.Counts.{SameAccesses};
+ghost use Rattle.mask_lower.specs.Forms.{is_one_loop};
 ghost use Rattle.mask_lower.specs.Registers.{frame_of, past};
 ghost use Rattle.mask_lower.specs.Lowered as spec;
 
@@ -17,15 +18,15 @@ use crate::placing::{first_constants, layout, lower_constants};
 use crate::registers::{Free, Layout};
 use crate::setting::put_cells;
 use ctx_plan::{Home, Plan};
-use kir::{Atom, Kernel};
+use kir::{Atom, Kernel, Line};
 use lane_code::{Code, Step};
 use regions::Region;
 use std::alloc::Global;
 use wg_num::Memory;
 
 /// The lane code of a region of a kernel whose cells are kept as the plan says. It is the same at each width.
-/// `Memory` where memory was refused, and also for a region that is none of the kernel's, and for code in which a
-/// number would pass 32 bits.
+/// `Memory` where an allocation is refused, and also where a number would pass 32 bits, where a built-in function has more
+/// than three arguments, and where the steps would be no code, as of a region that is none of the kernel's.
 pub fn lower_region(
     alloc: Global,
     region: &Region,
@@ -81,6 +82,16 @@ fn steps_with(
     Ok(code)
 }
 
+/// Whether a region that begins with votes is the rest of a loop, its one line.
+fn is_rest(region: &Region) -> bool
+    ensures { result ≡ (region.now.from_vote && is_one_loop region.now.lines.items) }
+{
+    match region.lines.as_slice() {
+        [Line::Loop { .. }] => region.from_vote,
+        _ => false,
+    }
+}
+
 /// The lines of a region under all existing lanes; one that begins with votes is the rest of its one
 /// line, a loop.
 fn lower_begun(
@@ -94,21 +105,18 @@ fn lower_begun(
         region.now.from_vote (lines_of region.now.lines.items)) ×
         (after ≡ past next (atoms_in (lines_of region.now.lines.items)))) }
 {
-    if region.from_vote {
-        match region.lines.as_slice() {
-            [line] => {
-                let after = lower_rest(code, line, layout, next)?;
-                Ok(after)
-            }
-            _ => Err(Memory),
-        }
-    } else {
-        let all = Scope {
-            mask: 0,
-            free: 1,
-            next,
+    if is_rest(region) {
+        let [line] = region.lines.as_slice() else {
+            unreachable!()
         };
-        let after = lower_lines(code, &region.lines, layout, all)?;
-        Ok(after)
+        let after = lower_rest(code, line, layout, next)?;
+        return Ok(after);
     }
+    let all = Scope {
+        mask: 0,
+        free: 1,
+        next,
+    };
+    let after = lower_lines(code, &region.lines, layout, all)?;
+    Ok(after)
 }

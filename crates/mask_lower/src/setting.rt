@@ -1,7 +1,7 @@
 //! Which cells the lines of a region set, and which of them before any line reads them.
 
-ghost use Rattle.std.specs.Prelude.{◌≡◌, ℕ, ◌&&◌, ◌||◌, false, not, nat_eq, slice_index_or, IfOk, OnOk};
-ghost use Rattle.std.specs.Prelude.{Bool as Test};
+ghost use Rattle.std.specs.Prelude.{◌≡◌, ◌<◌, ℕ, ◌&&◌, ◌||◌, false, not, nat_eq, vec_len, slice_index_or};
+ghost use Rattle.std.specs.Prelude.{Bool as Test, IfOk, OnOk};
 ghost use Rattle.kir.specs.Tree.{Lines};
 ghost use Rattle.kir.specs.Listed.{line_before, lines_of, work_of};
 ghost use Rattle.kir.specs.Live.{reads, some_reads, work_reads};
@@ -36,15 +36,25 @@ fn none_set(alloc: Global, cells: usize) -> Result<Vec<bool>, Memory>
     }
 }
 
-/// Marks the cell. Memory where there is no such cell.
+/// A table that has an entry for the cell; new entries are this.
+fn make_room<T: Copy + Drop>(table: &mut Vec<T>, at: usize, none: T) -> Result<(), Memory>
+    ensures same { OnOk result ((c : ℕ) →
+        slice_index_or table.new.items c none ≡ slice_index_or table.old.items c none) }
+    ensures room { OnOk result (at < vec_len table.new) }
+{
+    while table.len() <= at {
+        push(table, none)?;
+    }
+    Ok(())
+}
+
+/// Marks the cell; the table becomes longer where it ends before the cell.
 fn mark_cell(set: &mut Vec<bool>, cell: u32) -> Result<(), Memory>
     ensures { OnOk result ((c : ℕ) → slice_index_or set.new.items c false ≡
         (nat_eq cell c || slice_index_or set.old.items c false)) }
 {
     let index = cell as usize;
-    if index >= set.len() {
-        return Err(Memory);
-    }
+    make_room(set, index, false)?;
     set[index] = true;
     Ok(())
 }
@@ -97,8 +107,7 @@ fn set_cells(alloc: Global, cells: usize, lines: &Vec<Line>) -> Result<Vec<bool>
     Ok(set)
 }
 
-/// Those of the list that the lines set, where there are so many cells. Memory also where a line sets
-/// one beyond them.
+/// Those of the list that the lines set, where there are so many cells.
 pub(crate) fn put_cells(
     alloc: Global,
     cells: usize,
@@ -138,16 +147,14 @@ fn first_of(so_far: FirstUse, then: FirstUse) -> FirstUse
     }
 }
 
-/// Notes that the cell is used so. Memory where there is no such cell.
+/// Notes that the cell is used so; the table becomes longer where it ends before the cell.
 fn note(uses: &mut Vec<FirstUse>, cell: u32, found: FirstUse) -> Result<(), Memory>
     ensures { OnOk result ((c : ℕ) (behind : Test) →
         table.is_set_first (table.use_at uses.old.items c) (table.used_at cell found c behind) ≡
         table.is_set_first (table.use_at uses.new.items c) behind) }
 {
     let index = cell as usize;
-    if index >= uses.len() {
-        return Err(Memory);
-    }
+    make_room(uses, index, FirstUse::Neither)?;
     let so_far = uses[index];
     uses[index] = first_of(so_far, found);
     Ok(())
