@@ -14,6 +14,7 @@ pub mod Leaving
 pub mod Making
 pub mod Moving
 pub mod Narrowing
+pub mod Offsetting
 pub mod Plainly
 pub mod Planned
 pub mod Sharing
@@ -21,3 +22,4 @@ pub mod Sound
 pub mod Tests
 pub mod Tidying
 pub mod Typing
+pub mod Wholeness

@@ -6,6 +6,7 @@ pub mod Known
 pub mod Listed
 pub mod Marks
 pub mod Narrowed
+pub mod Offsets
 pub mod Plain
 pub mod Plans
 pub mod Reads

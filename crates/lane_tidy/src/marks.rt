@@ -25,7 +25,7 @@ pub(crate) fn place_of(x: Reg) -> usize
 }
 
 /// Marks the register, if it has a mark.
-fn mark_one(marks: &mut [bool], x: Reg)
+pub(crate) fn mark_one(marks: &mut [bool], x: Reg)
     ensures { (y : Reg) → place_of y < length marks.old →
         slice_index_or marks.new (place_of y) false ≡ slice_index_or marks.old (place_of y) false || same_reg x y }
 {
@@ -47,7 +47,7 @@ fn mark_all(marks: &mut [bool], registers: &[Reg])
 }
 
 /// No marks, one for each register of a code.
-fn unmarked(alloc: Global, counts: Counts) -> Result<Vec<bool>, Memory>
+pub(crate) fn unmarked(alloc: Global, counts: Counts) -> Result<Vec<bool>, Memory>
     ensures room { IfOk result (λ v. length v.items ≡ room_for counts) }
     ensures none { IfOk result (λ v. (n : ℕ) → slice_index_or v.items n false ≡ false) }
 {
