@@ -1,6 +1,7 @@
 -- The parts of a whole kernel.
-use Rattle.std.proofs.Common.{◌≡◌, ◌∷◌, List, [], ℕ, zero, suc, ◌≤◌, length, take, map, refl, ap, sym, ◌∙◌, arith}
-use Rattle.std.proofs.lemmas.List.{take-map}
+use Rattle.std.proofs.Common.{◌≡◌, ◌∷◌, List, [], ℕ, zero, suc, ◌≤◌, min, length, take, map, refl, ap, sym, ◌∙◌}
+use Rattle.std.proofs.Common.{arith}
+use Rattle.std.proofs.lemmas.List.{take-map, take_min}
 use Rattle.wg_num.specs.declared.types.Place.{Place}
 use Rattle.cl_model.specs.declared.program.VarKind.{VarKind}
 use Rattle.cl_model.specs.declared.program.Var.{Var}
@@ -33,7 +34,8 @@ abbrev kind_of : Var → VarKind
 kind_of v = v.kind
 
 -- the kinds of the first variables, all of which are looked at
-pub kinds_taken : (items vars : List Var) (n i : ℕ) → items ≡ vars → length (take n items) ≤ i →
-    map kind_of (take i (take n items)) ≡ take n (map kind_of vars)
-kinds_taken items vars n i e h =
-    ap (map kind_of) (take_past i (take n items) h) ∙ ap (λ z. map kind_of (take n z)) e ∙ sym (take-map kind_of n vars)
+pub kinds_taken : (items vars : List Var) (n p i : ℕ) → items ≡ vars → n ≡ min p (length vars) →
+    length (take n items) ≤ i → map kind_of (take i (take n items)) ≡ take p (map kind_of vars)
+kinds_taken items vars n p i e m h =
+    ap (map kind_of) (take_past i (take n items) h) ∙ ap (λ z. map kind_of (take n z)) e
+    ∙ ap (λ z. map kind_of (take z vars)) m ∙ ap (map kind_of) (take_min p vars) ∙ sym (take-map kind_of p vars)

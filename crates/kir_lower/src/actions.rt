@@ -63,7 +63,7 @@ pub fn put_variable(
     ensures made { OnOk result (made_of made.new ≡
         (spec.action_code (instance_of here.now) (tree.Variable x) [] (made_of made.old)).made) }
 {
-    let of = type_at(here, x)?;
+    let of = type_at(here, x);
     let cell = cell_at(here, x)?;
     put_computed(made, lines, Work::Copy(Atom::Cell(cell)), of)
 }

@@ -228,7 +228,7 @@ pub fn enter<'a>(
     if here.depth == 0 {
         return Err(Memory);
     }
-    let place = place_at(here.program, callee.site)?;
+    let place = place_at(here.program, callee.site);
     let calls = longer_calls(alloc, &here.calls, callee.site)?;
     let places = longer_places(alloc, &here.places, place)?;
     let way = Way {

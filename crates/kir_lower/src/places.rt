@@ -129,35 +129,36 @@ pub fn cell_at(here: &Instance<'_>, x: u32) -> Result<u32, Memory>
     behind(here.base, x)
 }
 
-/// The type of what a variable holds.
-pub fn type_at(here: &Instance<'_>, x: u32) -> Result<IntType, Memory>
-    ensures { IfOk result (λ t. t ≡ spec.type_at (instance_of here.now) x) }
+/// The type of what a variable holds; `int` of one that is not there, which no valid program names.
+pub fn type_at(here: &Instance<'_>, x: u32) -> IntType
+    ensures { result ≡ spec.type_at (instance_of here.now) x }
 {
     match here.types.get(x as usize) {
-        Some(of) => Ok(*of),
-        None => Err(Memory),
+        Some(of) => *of,
+        None => IntType::Int,
     }
 }
 
-/// The type of an array's elements.
-pub fn element_at(here: &Instance<'_>, array: u32) -> Result<IntType, Memory>
-    ensures { IfOk result (λ t. t ≡ spec.element_at (instance_of here.now) array) }
+/// The type of an array's elements; `int` of one that is not there, which no valid program names.
+pub fn element_at(here: &Instance<'_>, array: u32) -> IntType
+    ensures { result ≡ spec.element_at (instance_of here.now) array }
 {
     match here.elements.get(array as usize) {
-        Some(of) => Ok(*of),
-        None => Err(Memory),
+        Some(of) => *of,
+        None => IntType::Int,
     }
 }
 
 /// The kernel's root that a root of the function names: that of the argument for a parameter, the same table, or an
-/// array of the kernel. `Memory` where there is no such parameter or the number does not fit in 32 bits.
+/// array of the kernel. A parameter that is not there, which no valid program names, is itself. `Memory` where the
+/// number does not fit in 32 bits.
 pub fn root_in(here: &Instance<'_>, root: Root) -> Result<Root, Memory>
     ensures { IfOk result (λ r. r ≡ spec.root_in (instance_of here.now) root) }
 {
     match root {
         Root::Param(n) => match here.roots.get(n as usize) {
             Some(root) => Ok(*root),
-            None => Err(Memory),
+            None => Ok(Root::Param(n)),
         },
         Root::Constant(n) => Ok(Root::Constant(n)),
         Root::Local(n) => Ok(Root::Local(behind(here.arrays, n)?)),
@@ -176,13 +177,13 @@ pub fn function_at(program: &Program, function: u32) -> Result<&Function, Memory
     }
 }
 
-/// The place of a site, by its number in the program; `Memory` where there are fewer.
-pub fn place_at(program: &Program, site: u32) -> Result<Place, Memory>
-    ensures { IfOk result (λ p. p ≡ whole.place_at (program_of program.now) site) }
+/// The place of a site, by its number in the program; line 0 of one that is not there, which no valid program names.
+pub fn place_at(program: &Program, site: u32) -> Place
+    ensures { result ≡ whole.place_at (program_of program.now) site }
 {
     match program.sites.get(site as usize) {
-        Some(place) => Ok(*place),
-        None => Err(Memory),
+        Some(place) => *place,
+        None => Place { line: 0, column: 0 },
     }
 }
 

@@ -120,7 +120,7 @@ fn put_array(
             array,
             values,
         } => {
-            let of = element_at(here, *array)?;
+            let of = element_at(here, *array);
             let array = behind(here.arrays, *array)?;
             let values = put_expressions(alloc, here, made, lines, values, value)?;
             put_filled(lines, *site, of, array, &values)
@@ -151,7 +151,7 @@ fn put_declared(
 {
     match from {
         None => {
-            let of = type_at(here, var)?;
+            let of = type_at(here, var);
             *value = constant(0, of);
         }
         Some(e) => put_expression(alloc, here, made, lines, e, value)?,

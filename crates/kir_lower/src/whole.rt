@@ -23,10 +23,7 @@ fn kinds_of(alloc: Global, function: &Function) -> Result<Vec<VarKind>, Memory>
     ensures { IfOk result (λ v. v.items ≡ valid.parameter_kinds (function_of function.now)) }
 {
     let mut kinds = Vec::new(alloc);
-    let params = function.params as usize;
-    if params > function.vars.len() {
-        return Err(Memory);
-    }
+    let params = (function.params as usize).min(function.vars.len());
     for var in &function.vars[..params] {
         push(&mut kinds, var.kind)?;
     }
@@ -96,9 +93,9 @@ fn lower_parts(alloc: Global, program: &Program) -> Result<Lowered, Memory>
     Ok(Lowered { kinds, made, body })
 }
 
-/// The kernel without calls that a program comes to. Memory is answered where memory runs out;
-/// besides where a number of the kernel passes 32 bits, where the program is not valid, and where
-/// the kernel would not be.
+/// The kernel without calls that a program comes to. `Memory` where an allocation is refused; besides where a number of
+/// the kernel passes 32 bits, where a function is called that is not there or leads back to itself, and where the kernel
+/// would not be valid.
 pub fn lower(alloc: Global, program: &Program) -> Result<Kernel, Memory>
     ensures { IfOk result (λ k. kernel_of k ≡ whole.lowered_of (program_of program.now) (names_of program.now)) }
 {
