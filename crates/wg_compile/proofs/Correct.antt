@@ -31,7 +31,7 @@ use Rattle.item_loops.proofs.Whole.{EvenAtEnds, region_of_group, groups_follow}
 use Rattle.wg_compile.specs.Correct.{IsCorrect, IsCorrectFor}
 use Rattle.wg_compile.specs.Passes.{names_in, kernel_in, plan_in, code_in, group_in, IsLike}
 use Rattle.wg_compile.proofs.Plans.{built_in, homes_in, parts_in, kept_once}
-use Rattle.wg_compile.proofs.Lowered.{lowered_in, begins_in}
+use Rattle.wg_compile.proofs.Lowered.{lowered_first, lowered_in, begins_in}
 use Rattle.wg_compile.proofs.Fits.{fits_program}
 use Rattle.wg_compile.proofs.Follow.{each_with, each_follows}
 use Rattle.wg_compile.proofs.Outcomes.{built_by, suits, passes_in_outcomes}
@@ -59,10 +59,12 @@ pub record ArePasses (program : Program) (varying : List (List Test)) (kernel : 
 
 -- where the kernel comes from a valid program, all that the passes answer is correct
 pub correct_from : (program : Program) (names : List (List Named)) (varying : List (List Test)) (kernel : Kernel)
-    (plan : Planned) (width : Width) (p : Plain) → IsValid program → IsLoweringOf program names kernel →
+    (plan : Planned) (width : Width) (p : Plain) → IsValid program →
+    IsLoweringOf program names (lowered_of program names) → IsLoweringOf program names kernel →
     BeginsWithArguments program (lowered_of program names) → Simplifies (lowered_of program names) kernel →
     ArePasses program varying kernel plan width p → IsCorrect program names varying kernel plan width p
-correct_from program names varying kernel plan width p valid lowered begins simple passes = record {
+correct_from program names varying kernel plan width p valid first lowered begins simple passes = record {
+  first = first;
   lowered = lowered;
   begins = begins;
   simplified = simple;
@@ -127,9 +129,10 @@ correct_in u width first kernel plan top p first_is kernel_is plan_is first_fits
     like one valid typed varies =
     let simpler = subst (λ (k : Kernel). Simplifies (lowered_of (program_of u) (names_in u)) k) kernel_is
     (subst (λ (k : Kernel). Simplifies k kernel) first_is simple) in
-    let lowered = lowered_in u typed (subst (λ (k : Kernel). is_kernel k ≡ true) first_is first_fits) simpler in
+    let kernel_first = subst (λ (k : Kernel). is_kernel k ≡ true) first_is first_fits in
+    let lowered = lowered_in u typed kernel_first simpler in
     correct_from (program_of u) (names_in u) (varying_of (program_of u)) (kernel_in u) (plan_in u) width p typed
-    lowered (begins_in u typed) simpler
+    (lowered_first u typed kernel_first) lowered (begins_in u typed) simpler
     (record {
       fits = subst (λ (k : Kernel). is_kernel k ≡ true) kernel_is fits;
       varies = varies;

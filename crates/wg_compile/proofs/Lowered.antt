@@ -26,7 +26,7 @@ use Rattle.wg_compile.specs.Passes.{names_in, kernel_in}
 use Rattle.wg_compile.proofs.Plans.{named_as}
 
 -- the kernel that is lowered from a valid program, which is a kernel since it was made
-lowered_first : (u : Unit') → IsValid (program_of u) → is_kernel (lowered_of (program_of u) (names_in u)) ≡ true →
+pub lowered_first : (u : Unit') → IsValid (program_of u) → is_kernel (lowered_of (program_of u) (names_in u)) ≡ true →
     IsLoweringOf (program_of u) (names_in u) (lowered_of (program_of u) (names_in u))
 lowered_first u valid fits = record {
   cells = has_cells (program_of u) (names_in u) valid (named_as u.functions);

@@ -58,7 +58,8 @@ KeepsOnceWhatIsEqual program kernel plan =
     HoldsEqual program v
 
 -- what each pass means, one field a pass in the order of the calls:
--- `lower`: the kernel without calls begins with one `Set` from its argument for each parameter;
+-- `lower`: the kernel without calls comes from the program, and its histories and runs are matched by the program's;
+-- it begins with one `Set` from its argument for each parameter;
 -- `simplify`: the kernel that is made of it is simple, and whatever an item of it does an item of the given one does;
 -- so
 -- it comes from the program, and its histories and runs are matched by the program's;
@@ -74,6 +75,7 @@ KeepsOnceWhatIsEqual program kernel plan =
 -- the program's launch
 pub record IsCorrect (program : Program) (names : List (List Named)) (varying : List (List Test)) (kernel : Kernel)
     (plan : Planned) (width : Width) (p : Plain) : Type 0 where
+  pub first : IsLoweringOf program names (lowered_of program names)
   pub lowered : IsLoweringOf program names kernel
   pub begins : BeginsWithArguments program (lowered_of program names)
   pub simplified : Simplifies (lowered_of program names) kernel
