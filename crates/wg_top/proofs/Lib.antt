@@ -14,6 +14,7 @@ pub mod OutcomeLemmas
 pub mod ChainLemmas
 pub mod CleanLemmas
 pub mod LoopLemmas
+pub mod GuardLemmas
 pub mod FitLemmas
 pub mod BoundLemmas
 pub mod ShownLemmas

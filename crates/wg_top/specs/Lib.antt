@@ -1,6 +1,7 @@
 pub mod Loops
 pub mod Outcomes
 pub mod Units
+pub mod Guard
 pub mod Given
 pub mod Launches
 pub mod Programs
