@@ -1,3 +1,4 @@
 pub mod Laws
 pub mod LengthLaws
 pub mod NodeLaws
+pub mod Running
