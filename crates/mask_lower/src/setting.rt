@@ -49,6 +49,7 @@ fn make_room<T: Copy + Drop>(table: &mut Vec<T>, at: usize, none: T) -> Result<(
 }
 
 /// Marks the cell; the table becomes longer where it ends before the cell.
+#[inline(never)]
 fn mark_cell(set: &mut Vec<bool>, cell: u32) -> Result<(), Memory>
     ensures { OnOk result ((c : ℕ) → slice_index_or set.new.items c false ≡
         (nat_eq cell c || slice_index_or set.old.items c false)) }
