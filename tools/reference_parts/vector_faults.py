@@ -17,7 +17,9 @@ FREE, WHOLE, HEAD, BARRED, OUTER, TYPED = 'free', 'whole', 'head', 'barred', 'ou
 
 
 class Kind:
-    """What an expression is: a vector with what it is kept in, or where `reach` is None a pointer to vectors."""
+    """What an expression is: a vector with what it is kept in, or where `reach` is None a pointer to vectors.
+
+    UNKNOWN has no vector."""
 
     def __init__(self, vector, reach):
         self.vector, self.reach = vector, reach
@@ -34,6 +36,10 @@ class Declared:
         self.around, self.vector, self.space = around, vector, space
 
 
+# The kind of a name that is not visible, and of what may be a vector or not by such a name.
+UNKNOWN = Kind(None, None)
+
+
 def is_vector(kind):
     """Whether a kind is that of a vector."""
     return kind is not None and kind.reach is not None
@@ -41,7 +47,12 @@ def is_vector(kind):
 
 def is_pointer(kind):
     """Whether a kind is that of a pointer to vectors."""
-    return kind is not None and kind.reach is None
+    return kind is not None and kind.vector is not None and kind.reach is None
+
+
+def other(*kinds):
+    """The kind of what is no vector and no pointer to vectors, from those of its parts."""
+    return UNKNOWN if UNKNOWN in kinds else None
 
 
 def vector_of(node):
@@ -69,7 +80,7 @@ class Kinds:
         for at, part in enumerate(node.parts):
             self.visit(part, inside)
             self.pass_on(node, at, part, inside)
-        reads = {'variable': lambda: names.get(node.text), 'paren': lambda: node.part.kind_of_vector,
+        reads = {'variable': lambda: names.get(node.text, UNKNOWN), 'paren': lambda: node.part.kind_of_vector,
                  'unary': lambda: self.unary(node), 'postfix': lambda: self.postfix(node),
                  'call': lambda: self.call(node), 'binary': lambda: self.binary(node),
                  'cast': lambda: self.cast(node), 'comma': lambda: self.pointer_alone(node.parts[1]),
@@ -89,7 +100,7 @@ class Kinds:
                 vector = vector_of(each.spelled)
                 names[each.text] = Kind(vector, None) if vector is not None and each.star is not None else None
         elif part.form == 'function':
-            names[part.text] = None
+            names[part.text] = UNKNOWN
 
     def declare(self, spelled, node, names):
         """A name is declared."""
@@ -101,16 +112,16 @@ class Kinds:
 
     def pointer_alone(self, node):
         """A pointer is what a comma or an assignment gives; a vector is not."""
-        return node.kind_of_vector if is_pointer(node.kind_of_vector) else None
+        return node.kind_of_vector if is_pointer(node.kind_of_vector) else other(node.kind_of_vector)
 
     def element(self, node):
         """What a pointer leads to."""
         kind = node.kind_of_vector
-        return Kind(kind.vector, ELEMENT) if is_pointer(kind) else None
+        return Kind(kind.vector, ELEMENT) if is_pointer(kind) else other(kind)
 
     def value(self, kind):
         """The value of a vector."""
-        return Kind(kind.vector, VALUE) if is_vector(kind) else None
+        return Kind(kind.vector, VALUE) if is_vector(kind) else other(kind)
 
     def unary(self, node):
         """An operator in front."""
@@ -120,7 +131,7 @@ class Kinds:
             return self.element(node.part)
         kind = node.part.kind_of_vector
         if node.mark == '&':
-            return Kind(kind.vector, None) if is_vector(kind) and kind.reach == ELEMENT else None
+            return Kind(kind.vector, None) if is_vector(kind) and kind.reach == ELEMENT else other(kind)
         return self.pointer_alone(node.part) if node.mark in ('++', '--') else self.value(kind)
 
     def postfix(self, node):
@@ -160,9 +171,9 @@ class Kinds:
             if node.mark in COMPARISONS:
                 return Kind(VectorType(SIGNED_OF[found.vector.element], found.vector.count), VALUE)
             return Kind(found.vector, VALUE)
-        if is_pointer(left) and right is None and node.mark in ('+', '-'):
+        if is_pointer(left) and not is_pointer(right) and node.mark in ('+', '-'):
             return left
-        return right if is_pointer(right) and left is None and node.mark == '+' else None
+        return right if is_pointer(right) and not is_pointer(left) and node.mark == '+' else other(left, right)
 
 
 def is_list_cast(node):
@@ -274,9 +285,9 @@ def lacks_component(role, node):
     return role == TARGET and len(set(found)) != len(found)
 
 
-def are_same(left, right):
-    """Whether two kinds are vectors of one type."""
-    return is_vector(left) and is_vector(right) and left.vector == right.vector
+def agree(left, right):
+    """Whether the second kind is a vector of the type of the first, as far as it is known what it is."""
+    return is_vector(left) and (right is UNKNOWN or is_vector(right) and left.vector == right.vector)
 
 
 def is_unfitting(left, right):
@@ -288,19 +299,20 @@ def do_types_differ(role, node):
     """Whether E503 stands at a node."""
     if node.form == 'assignment':
         left, right = [part.kind_of_vector for part in node.parts]
-        differ = not are_same(left, right) if node.mark == '=' else is_unfitting(left, right)
+        differ = not agree(left, right) if node.mark == '=' else is_unfitting(left, right)
         return sets_vector(role, node) and differ
     if node.form == 'cast':
         return is_list_cast(node) and not is_filled(vector_of(node.spelled), node.part.part)
     if node.form == 'call':
         first = next((each for each in node.arguments if is_vector(each.kind_of_vector)), None)
         return is_vector(node.kind_of_vector) and not all(
-            are_same(first.kind_of_vector, each.kind_of_vector) for each in node.arguments)
+            agree(first.kind_of_vector, each.kind_of_vector) for each in node.arguments)
     if node.form == 'declarator':
         if not isinstance(role, Declared) or role.vector is None or not is_variable(node) or node.initialiser is None:
             return False
-        is_list = node.initialiser.form == 'list'
-        return not is_list and not are_same(Kind(role.vector, VALUE), node.initialiser.kind_of_vector)
+        kind = node.initialiser.kind_of_vector
+        is_told = role.around == HEAD and not is_vector(kind)
+        return node.initialiser.form != 'list' and (is_told or not agree(Kind(role.vector, VALUE), kind))
     if node.form == 'binary' and node.mark not in ('&&', '||'):
         return is_unfitting(*[part.kind_of_vector for part in node.parts])
     return False

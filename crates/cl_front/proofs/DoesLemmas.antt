@@ -18,7 +18,7 @@ use Rattle.cl_short_vec.specs.Unit.{scalarised_of}
 use Rattle.cl_short_vec_form.proofs.Forms.{forms_are}
 use Rattle.cl_short_vec_form.proofs.StatementCounts.{forms_small}
 use Rattle.cl_short_vec_form.proofs.Long.{forms_long}
-use Rattle.cl_short_vec_kept.proofs.Units.{forms_keep}
+use Rattle.cl_short_vec_faults.proofs.KeptUnits.{forms_keep}
 use Rattle.cl_short_vec_correct.specs.Each.{EachIsDone}
 use Rattle.cl_short_vec_correct.proofs.Statements.{statements_do}
 use Rattle.cl_front.specs.declared.front.SourceError.{SourceError}

@@ -6,7 +6,7 @@ use Rattle.cl_short_vec.specs.Plain.{has_vectors}
 use Rattle.cl_short_vec.specs.Marks.{marked}
 use Rattle.cl_short_vec_form.specs.Form.{IsScalarForm}
 use Rattle.cl_short_vec_form.specs.Law.{FormsSmall, FormsLong}
-use Rattle.cl_short_vec_kept.specs.Kept.{StaysTree}
+use Rattle.cl_short_vec_faults.specs.Kept.{StaysTree}
 
 -- It has no vectors, is the unit itself where that has none, and has its arrays and its variables of a work-group, and
 -- no others. Where the unit has vectors, it differs from it in what has to do with them alone. What stands for a part

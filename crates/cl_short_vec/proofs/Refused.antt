@@ -400,3 +400,16 @@ unfolding names_outside base_in space_in binary_in setting_in prefix_in postfix_
     selection_in kind_by marked marked_parts is_element role_of components_of misplaced no_component items_given
     types_differ refusals refusals_in
 told23 = refl
+
+-- ---- a name that is not visible may be a vector; in the head of a `for` it is told
+
+-- void k() { int4 t; t = q; }
+pub told24 :
+    refusal_of (in_function 12 (more (two forms.DeclareNode (codes ";") 5 7 (leaf forms.TypeNode (codes "int4") 5)
+    (leaf forms.DeclaratorNode (codes "t") 6)) (more (one forms.SimpleNode (codes ";") 8 11
+    (two forms.AssignNode (codes "=") 8 10 (leaf forms.VariableNode (codes "t") 8)
+    (leaf forms.VariableNode (codes "q") 10))) none))) ≡ None
+unfolding names_outside base_in space_in binary_in setting_in prefix_in postfix_in intrinsic_in vector_in selected
+    selection_in kind_by marked marked_parts is_element role_of components_of misplaced no_component items_given
+    types_differ refusals refusals_in
+told24 = refl

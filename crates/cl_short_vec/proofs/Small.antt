@@ -48,7 +48,7 @@ SmallVector (Some v) = v.count ≤ 16
 abbrev pub SmallKind : Kind → Type 0
 SmallKind (Vectors v r) = v.count ≤ 16
 SmallKind (Pointer s c v) = v.count ≤ 16
-SmallKind Other = Unit {0}
+SmallKind (Other b) = Unit {0}
 
 abbrev mutual
   pub SmallMark : Mark → Type 0
@@ -117,17 +117,17 @@ either_small false j k h i = i
 value_small : (k : Kind) → SmallKind k → SmallKind (value_of k)
 value_small (Vectors v r) h = h
 value_small (Pointer s c v) h = tt
-value_small Other h = tt
+value_small (Other b) h = tt
 
 alone_small : (k : Kind) → SmallKind k → SmallKind (pointer_alone k)
 alone_small (Vectors v r) h = tt
 alone_small (Pointer s c v) h = h
-alone_small Other h = tt
+alone_small (Other b) h = tt
 
 element_small : (k : Kind) → SmallKind k → SmallKind (element_of k)
 element_small (Vectors v r) h = tt
 element_small (Pointer s c v) h = h
-element_small Other h = tt
+element_small (Other b) h = tt
 
 address_small : (k : Kind) → SmallKind k → SmallKind (address_of k)
 address_small (Vectors v (Element s c)) h = h
@@ -135,12 +135,12 @@ address_small k h = tt
 
 several_small : (v : Vector) (r : Reach) (o : Option (List ℕ)) → SmallWidth o → SmallKind (several v r o)
 several_small v r None h = tt
-several_small v r (Some ks) h = either_small (nat_eq (length ks) 1) Other (Vectors (vector v.of (length ks)) r) tt h
+several_small v r (Some ks) h = either_small (nat_eq (length ks) 1) (Other true) (Vectors (vector v.of (length ks)) r) tt h
 
 selection_small : (k : Kind) (name : List ℕ) → SmallKind (selection_of k name)
 selection_small (Vectors v r) name = several_small v r (selected v.count name) (selected_small v.count name)
 selection_small (Pointer s c v) name = tt
-selection_small Other name = tt
+selection_small (Other b) name = tt
 
 first_small : (j k : Kind) → SmallKind j → SmallKind k → SmallKind (first_vector j k)
 first_small j k h i = either_small (is_vector j) (value_of j) (value_of k) (value_small j h) (value_small k i)
@@ -149,12 +149,12 @@ compared_small : (op : Bin) (k : Kind) → SmallKind k → SmallKind (compared o
 compared_small op (Vectors v r) h =
     either_small (is_comparison op) (Vectors (vector (signed_of v.of) v.count) r) (Vectors v r) h h
 compared_small op (Pointer s c v) h = h
-compared_small op Other h = tt
+compared_small op (Other b) h = tt
 
 moved_small : (op : Bin) (j k : Kind) → SmallKind j → SmallKind k → SmallKind (pointer_moved op j k)
-moved_small bins.Add (Pointer s c v) Other h i = h
-moved_small bins.Add Other (Pointer s c v) h i = i
-moved_small bins.Sub (Pointer s c v) Other h i = h
+moved_small bins.Add (Pointer s c v) (Other b) h i = h
+moved_small bins.Add (Other b) (Pointer s c v) h i = i
+moved_small bins.Sub (Pointer s c v) (Other b) h i = h
 moved_small op j k h i = tt
 
 joined_small : (o : Option Bin) (j k : Kind) → SmallKind j → SmallKind k → SmallKind (joined_kind o j k)
@@ -223,7 +223,7 @@ kind_small names forms.CastNode w ms n h = cast_small (front_type ms) (front_typ
 kind_small names forms.ExprNode w ms n h = alone_small (back_kind ms) (back_small ms h)
 kind_small names forms.AssignNode w ms n h = alone_small (front_kind ms) (front_small ms h)
 kind_small names form w ms n h = either_small (is_operator form) (joined_kind (binary_in w) (front_kind ms)
-    (back_kind ms)) Other (joined_small (binary_in w) (front_kind ms) (back_kind ms) (front_small ms h)
+    (back_kind ms)) (Other true) (joined_small (binary_in w) (front_kind ms) (back_kind ms) (front_small ms h)
     (back_small ms h)) tt
 
 -- ---- names
@@ -245,8 +245,8 @@ behind_declared_small (Some v) names type d h n =
     with_small names (name_in (word_of d)) (declared_kind v type d) n (declared_small v type d h)
 behind_declared_small None names type d h n = by (is_some (declared_in type))
   where
-    by : (b : Bool) → SmallNames (if b then with_name names (name_in (word_of d)) Other else names)
-    by true = with_small names (name_in (word_of d)) Other n tt
+    by : (b : Bool) → SmallNames (if b then with_name names (name_in (word_of d)) (Other true) else names)
+    by true = with_small names (name_in (word_of d)) (Other true) n tt
     by false = n
 
 pub behind_declarator_small : (names : Names) (type d : Syntax) → SmallNames names →
@@ -279,7 +279,7 @@ pub behind_small : (names : Names) (t : Syntax) → SmallNames names → SmallNa
 behind_small names (node forms.DeclareNode w f l none) n = n
 behind_small names (node forms.DeclareNode w f l (more type ds)) n = behind_declarators_small names type ds n
 behind_small names (node forms.ParamsNode w f l parts) n = behind_parameters_small names parts n
-behind_small names (node forms.FunctionNode w f l parts) n = with_small names (name_in w) Other n tt
+behind_small names (node forms.FunctionNode w f l parts) n = with_small names (name_in w) (Other false) n tt
 behind_small names t n = n
 
 behind_part_small : (names : Names) (parts : Forest) (front : Bool) (p : Syntax) → SmallNames names →
@@ -324,7 +324,7 @@ numbers_small first (suc n) h = (omega arith, numbers_small (first + 1) n (omega
 all_small : (k : Kind) → SmallKind k → AllSmall (all_of k)
 all_small (Vectors v r) h = numbers_small 0 v.count (omega arith)
 all_small (Pointer s c v) h = tt
-all_small Other h = tt
+all_small (Other b) h = tt
 
 index_small : (ks : List ℕ) (j : ℕ) → AllSmall ks → slice_index ks j ≤ 16
 index_small [] j h = omega arith

@@ -15,7 +15,7 @@ use Rattle.cl_meaning.specs.Kinds.{is_some}
 use Rattle.cl_short_vec.specs.declared.types.Vector.{Vector}
 use Rattle.cl_short_vec.specs.declared.kinds.Reach.TheVariants.{Value}
 use Rattle.cl_short_vec.specs.declared.kinds.Kind.{Kind}
-use Rattle.cl_short_vec.specs.declared.kinds.Kind.TheVariants.{Vectors}
+use Rattle.cl_short_vec.specs.declared.kinds.Kind.TheVariants.{Vectors, Other}
 use Rattle.cl_short_vec.specs.declared.roles.Around.{Around}
 use Rattle.cl_short_vec.specs.declared.roles.Around.TheVariants as around
 use Rattle.cl_short_vec.specs.declared.roles.Role.{Role}
@@ -129,14 +129,16 @@ abbrev pub fits : Kind → Kind → Bool
 fits (Vectors v r) (Vectors u s) = same_vector v u
 fits j k = true
 
-abbrev pub is_same : Kind → Kind → Bool
-is_same (Vectors v r) (Vectors u s) = same_vector v u
-is_same j k = false
+-- the second is a vector of the type of the first, as far as it is known what it is
+abbrev pub agrees : Kind → Kind → Bool
+agrees (Vectors v r) (Vectors u s) = same_vector v u
+agrees (Vectors v r) (Other known) = not known
+agrees j k = false
 
 -- a right side: a vector of the target's type; behind an operator also a number
 abbrev pub right_fits : Option Setting → Kind → Kind → Bool
 right_fits (Some (settings.With op)) j k = fits j k
-right_fits s j k = is_same j k
+right_fits s j k = agrees j k
 
 -- how many components an item of a list gives, where it has components of that type
 abbrev pub given_by : Vector → Kind → Option ℕ
@@ -175,21 +177,28 @@ abbrev pub cast_fills : Option Vector → Marks → Bool
 cast_fills None parts = true
 cast_fills (Some v) parts = list_fills v (back parts)
 
-abbrev pub all_same : Kind → Marks → Bool
-all_same k unmarked = true
-all_same k (marking m ms) = is_same k (kind_at m) && all_same k ms
+abbrev pub all_agree : Kind → Marks → Bool
+all_agree k unmarked = true
+all_agree k (marking m ms) = agrees k (kind_at m) && all_agree k ms
 
 abbrev pub is_list : Form → Bool
 is_list forms.ListNode = true
 is_list form = false
 
+-- an initialiser: a vector of the variable's type. In the head of a `for`, where no vector is one, the scalar form leaves
+-- it out: a name in it that is not visible would not be told.
+abbrev pub initial_fits : Around → Kind → Kind → Bool
+initial_fits around.Head j k = is_vector k && agrees j k
+initial_fits a j k = agrees j k
+
 -- a vector variable whose initialiser is no vector of its type; at a list, E501 is told
-abbrev pub set_wrongly : Option Vector → Marks → Bool
-set_wrongly None parts = false
-set_wrongly (Some v) parts = not (is_list (back_form parts)) && not (is_same (Vectors v Value) (back_kind parts))
+abbrev pub set_wrongly : Around → Option Vector → Marks → Bool
+set_wrongly a None parts = false
+set_wrongly a (Some v) parts =
+    not (is_list (back_form parts)) && not (initial_fits a (Vectors v Value) (back_kind parts))
 
 abbrev pub wrongly_set : Role → List ℕ → Forest → Marks → Bool
-wrongly_set (Declared d) w ps parts = (is_variable w ps && is_set w) && set_wrongly d.vector parts
+wrongly_set (Declared d) w ps parts = (is_variable w ps && is_set w) && set_wrongly d.around d.vector parts
 wrongly_set role w ps parts = false
 
 unfoldable pub types_differ : Role → Syntax → Kind → Marks → Bool
@@ -197,7 +206,7 @@ types_differ role (node forms.AssignNode w f l ps) k parts = sets_vector role (f
     not (right_fits (setting_in w) (front_kind parts) (back_kind parts))
 types_differ role (node forms.CastNode w f l ps) k parts =
     is_list_cast parts && not (cast_fills (front_type parts) parts)
-types_differ role (node forms.CallNode w f l ps) k parts = is_vector k && not (all_same (vector_among parts) parts)
+types_differ role (node forms.CallNode w f l ps) k parts = is_vector k && not (all_agree (vector_among parts) parts)
 types_differ role (node forms.DeclaratorNode w f l ps) k parts = wrongly_set role w ps parts
 types_differ role (node form w f l ps) k parts = is_operator form && not (fits (front_kind parts) (back_kind parts))
 

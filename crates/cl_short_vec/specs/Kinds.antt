@@ -35,8 +35,9 @@ use Rattle.cl_short_vec.specs.Types.{vector, vector_type, signed_of, selected}
 abbrev pub Names : Type 0
 Names = List ℕ → Kind
 
+-- outside all declarations
 abbrev pub no_names : Names
-no_names q = Other
+no_names q = Other false
 
 abbrev pub with_name : Names → List ℕ → Kind → Names
 with_name names name k q = if bytes_eq name q then k else names q
@@ -62,7 +63,7 @@ declared_kind v type d = if is_variable (word_of d) (parts_of d) then Vectors v 
 abbrev pub behind_declared : Option Vector → Names → Syntax → Syntax → Names
 behind_declared (Some v) names type d = with_name names (name_in (word_of d)) (declared_kind v type d)
 behind_declared None names type d =
-    if is_some (declared_in type) then with_name names (name_in (word_of d)) Other else names
+    if is_some (declared_in type) then with_name names (name_in (word_of d)) (Other true) else names
 
 abbrev pub behind_declarator : Names → Syntax → Syntax → Names
 behind_declarator names type d = behind_declared (vector_type type) names type d
@@ -74,10 +75,10 @@ behind_declarators names type (more d ds) = behind_declarators (behind_declarato
 -- a pointer parameter to vectors, from its type and the star behind it
 abbrev pub pointed_by : Option Vector → Option Bool → Syntax → Kind
 pointed_by (Some v) (Some fixed) type = pointer_to v type
-pointed_by v star type = Other
+pointed_by v star type = Other true
 
 abbrev pub parameter_kind : Forest → Kind
-parameter_kind none = Other
+parameter_kind none = Other true
 parameter_kind (more type others) = pointed_by (vector_type type) (second_star (more type others)) type
 
 abbrev pub behind_parameter : Names → Syntax → Names
@@ -95,7 +96,7 @@ behind_declaration names (more type ds) = behind_declarators names type ds
 abbrev pub behind : Names → Syntax → Names
 behind names (node forms.DeclareNode w f l parts) = behind_declaration names parts
 behind names (node forms.ParamsNode w f l parts) = behind_parameters names parts
-behind names (node forms.FunctionNode w f l parts) = with_name names (name_in w) Other
+behind names (node forms.FunctionNode w f l parts) = with_name names (name_in w) (Other false)
 behind names t = names
 
 -- behind a part of a declaration, from its type on
@@ -110,6 +111,15 @@ later form parts names front p = behind names p
 
 -- ---- expressions
 
+-- whether it is known what it is: not of a name that is not visible
+abbrev pub is_known : Kind → Bool
+is_known (Other known) = known
+is_known k = true
+
+abbrev pub is_other : Kind → Bool
+is_other (Other known) = true
+is_other k = false
+
 abbrev pub is_vector : Kind → Bool
 is_vector (Vectors v r) = true
 is_vector k = false
@@ -117,7 +127,7 @@ is_vector k = false
 -- the value of a vector
 abbrev pub value_of : Kind → Kind
 value_of (Vectors v r) = Vectors v Value
-value_of k = Other
+value_of k = Other (is_known k)
 
 -- the value of the first of two that is a vector
 abbrev pub first_vector : Kind → Kind → Kind
@@ -126,24 +136,24 @@ first_vector j k = if is_vector j then value_of j else value_of k
 -- a pointer is what a comma or an assignment gives; a vector is not
 abbrev pub pointer_alone : Kind → Kind
 pointer_alone (Pointer s c v) = Pointer s c v
-pointer_alone k = Other
+pointer_alone k = Other (is_known k)
 
 abbrev pub element_of : Kind → Kind
 element_of (Pointer s c v) = Vectors v (Element s c)
-element_of k = Other
+element_of k = Other (is_known k)
 
 abbrev pub address_of : Kind → Kind
 address_of (Vectors v (Element s c)) = Pointer s c v
-address_of k = Other
+address_of k = Other (is_known k)
 
 -- components that are selected: of several, a vector
 abbrev pub several : Vector → Reach → Option (List ℕ) → Kind
-several v r None = Other
-several v r (Some ks) = if nat_eq (length ks) 1 then Other else Vectors (vector v.of (length ks)) r
+several v r None = Other true
+several v r (Some ks) = if nat_eq (length ks) 1 then Other true else Vectors (vector v.of (length ks)) r
 
 abbrev pub selection_of : Kind → List ℕ → Kind
 selection_of (Vectors v r) name = several v r (selected v.count name)
-selection_of k name = Other
+selection_of k name = Other true
 
 -- the components of a comparison are 0 and -1 of the signed type
 abbrev pub compared : Bin → Kind → Kind
@@ -152,37 +162,37 @@ compared op k = k
 
 -- a pointer and a number added, in either order; a number taken from a pointer
 abbrev pub pointer_moved : Bin → Kind → Kind → Kind
-pointer_moved bins.Add (Pointer s c v) Other = Pointer s c v
-pointer_moved bins.Add Other (Pointer s c v) = Pointer s c v
-pointer_moved bins.Sub (Pointer s c v) Other = Pointer s c v
-pointer_moved op j k = Other
+pointer_moved bins.Add (Pointer s c v) (Other b) = Pointer s c v
+pointer_moved bins.Add (Other b) (Pointer s c v) = Pointer s c v
+pointer_moved bins.Sub (Pointer s c v) (Other b) = Pointer s c v
+pointer_moved op j k = Other (is_known j && is_known k)
 
 abbrev pub joined_kind : Option Bin → Kind → Kind → Kind
-joined_kind None j k = Other
+joined_kind None j k = Other true
 joined_kind (Some op) j k = if is_vector (first_vector j k) then compared op (first_vector j k) else
     pointer_moved op j k
 
 abbrev pub prefix_kind : Option Prefix → Kind → Kind
-prefix_kind (Some (prefixes.Operator uns.Not)) k = Other
+prefix_kind (Some (prefixes.Operator uns.Not)) k = Other true
 prefix_kind (Some (prefixes.Operator op)) k = value_of k
 prefix_kind (Some prefixes.Content) k = element_of k
 prefix_kind (Some prefixes.Address) k = address_of k
 prefix_kind (Some (prefixes.Step op)) k = pointer_alone k
-prefix_kind p k = Other
+prefix_kind p k = Other true
 
 abbrev pub postfix_kind : (selection : Option (List ℕ)) → Option Postfix → Kind → Kind
 postfix_kind (Some name) p k = selection_of k name
 postfix_kind None (Some postfixes.Index) k = element_of k
 postfix_kind None (Some (postfixes.Step op)) k = pointer_alone k
-postfix_kind None None k = Other
+postfix_kind None None k = Other true
 
 -- a function that is known without a declaration, of which some argument is a vector
 abbrev pub called_kind : Option Intrinsic → Kind → Kind
 called_kind (Some (intrinsics.Function g)) (Vectors v r) = Vectors (vector (result_type g v.of) v.count) Value
-called_kind i k = Other
+called_kind i k = Other true
 
 abbrev pub cast_kind : Option Vector → Kind
-cast_kind None = Other
+cast_kind None = Other true
 cast_kind (Some v) = Vectors v Value
 
 -- a node of that production is an operator on two operands, `&&` and `||` aside

@@ -27,7 +27,7 @@ abbrev pub kind_at : Mark → Kind
 kind_at (mark t k parts) = k
 
 abbrev pub front_kind : Marks → Kind
-front_kind unmarked = Other
+front_kind unmarked = Other true
 front_kind (marking m ms) = kind_at m
 
 -- the last part
@@ -37,7 +37,7 @@ back (marking m unmarked) = Some m
 back (marking m (marking n ns)) = back (marking n ns)
 
 abbrev pub kind_or_other : Option Mark → Kind
-kind_or_other None = Other
+kind_or_other None = Other true
 kind_or_other (Some m) = kind_at m
 
 abbrev pub back_kind : Marks → Kind
@@ -45,7 +45,7 @@ back_kind ms = kind_or_other (back ms)
 
 -- the value of the first of some parts that is a vector
 abbrev pub vector_among : Marks → Kind
-vector_among unmarked = Other
+vector_among unmarked = Other true
 vector_among (marking m ms) = if is_vector (kind_at m) then value_of (kind_at m) else vector_among ms
 
 -- the vector type that is the first part
@@ -63,7 +63,7 @@ kind_by names forms.CallNode w ms = called_kind (intrinsic_in (name_in w)) (vect
 kind_by names forms.CastNode w ms = cast_kind (front_type ms)
 kind_by names forms.ExprNode w ms = pointer_alone (back_kind ms)
 kind_by names forms.AssignNode w ms = pointer_alone (front_kind ms)
-kind_by names form w ms = if is_operator form then joined_kind (binary_in w) (front_kind ms) (back_kind ms) else Other
+kind_by names form w ms = if is_operator form then joined_kind (binary_in w) (front_kind ms) (back_kind ms) else Other true
 
 abbrev pub marked_node : Names → Syntax → Marks → Mark
 marked_node names (node form w f l parts) ms = mark (node form w f l parts) (kind_by names form w ms) ms

@@ -80,10 +80,10 @@ moved_by o v b = b
 -- of two parts: an element, and a number beside a pointer
 abbrev pub two_by : Form → (front back : Kind) → Syntax → Syntax → Syntax → Syntax
 two_by forms.PostfixNode (Pointer space c v) k t a b = element_at (span_of t) a (scaled v b)
-two_by forms.AssignNode (Pointer space c v) Other t a b =
+two_by forms.AssignNode (Pointer space c v) (Other y) t a b =
     with_parts t (forest2 a (moved_by (setting_in (word_of t)) v b))
-two_by forms.SumNode (Pointer space c v) Other t a b = with_parts t (forest2 a (scaled v b))
-two_by forms.SumNode Other (Pointer space c v) t a b = with_parts t (forest2 (scaled v a) b)
+two_by forms.SumNode (Pointer space c v) (Other y) t a b = with_parts t (forest2 a (scaled v b))
+two_by forms.SumNode (Other y) (Pointer space c v) t a b = with_parts t (forest2 (scaled v a) b)
 two_by form j k t a b = with_parts t (forest2 a b)
 
 -- ---- components

@@ -20,7 +20,8 @@ pub enum Reach {
     Element { space: Space, constant: bool },
 }
 
-/// What an expression is: a vector, a pointer to vectors or an array of them, or anything else.
+/// What an expression is: a vector, a pointer to vectors or an array of them, or anything else. `known` is false of a
+/// name that is not visible, and of what may be a vector or not by such a name.
 #[derive(Clone, Copy, PartialEq, Eq, Debug)]
 pub enum Kind {
     Vectors {
@@ -32,7 +33,19 @@ pub enum Kind {
         constant: bool,
         vector: Vector,
     },
-    Other,
+    Other {
+        known: bool,
+    },
+}
+
+/// Whether it is known what it is: a name that is not visible may be anything.
+fn is_known(kind: Kind) -> bool
+    ensures { result ≡ spec.is_known kind }
+{
+    match kind {
+        Kind::Other { known } => known,
+        _ => true,
+    }
 }
 
 /// Whether it is a vector.
@@ -54,7 +67,9 @@ pub fn value_of(kind: Kind) -> Kind
             vector,
             reach: Reach::Value,
         },
-        _ => Kind::Other,
+        _ => Kind::Other {
+            known: is_known(kind),
+        },
     }
 }
 
@@ -75,7 +90,9 @@ pub fn pointer_alone(kind: Kind) -> Kind
 {
     match kind {
         Kind::Pointer { .. } => kind,
-        _ => Kind::Other,
+        _ => Kind::Other {
+            known: is_known(kind),
+        },
     }
 }
 
@@ -91,7 +108,9 @@ fn element_of(kind: Kind) -> Kind
             vector,
             reach: Reach::Element { space, constant },
         },
-        _ => Kind::Other,
+        _ => Kind::Other {
+            known: is_known(kind),
+        },
     }
 }
 
@@ -107,7 +126,9 @@ fn address_of(kind: Kind) -> Kind
             constant,
             vector,
         },
-        _ => Kind::Other,
+        _ => Kind::Other {
+            known: is_known(kind),
+        },
     }
 }
 
@@ -116,7 +137,7 @@ fn several(vector: Vector, reach: Reach, count: usize) -> Kind
     ensures { (ks : List ℕ) → length ks ≡ count → result ≡ spec.several vector reach (Some ks) }
 {
     if count == 1 {
-        return Kind::Other;
+        return Kind::Other { known: true };
     }
     Kind::Vectors {
         vector: Vector {
@@ -134,9 +155,9 @@ fn selection_kind(alloc: Global, kind: Kind, name: &[u8]) -> Result<Kind, Memory
     match kind {
         Kind::Vectors { vector, reach } => match selected(alloc, vector.count, name)? {
             Some(numbers) => Ok(several(vector, reach, numbers.len())),
-            None => Ok(Kind::Other),
+            None => Ok(Kind::Other { known: true }),
         },
-        _ => Ok(Kind::Other),
+        _ => Ok(Kind::Other { known: true }),
     }
 }
 
@@ -164,10 +185,12 @@ fn pointer_moved(op: Bin, a: Kind, b: Kind) -> Kind
     ensures { result ≡ spec.pointer_moved op a b }
 {
     match (op, a, b) {
-        (Bin::Add, Kind::Pointer { .. }, Kind::Other) => a,
-        (Bin::Add, Kind::Other, Kind::Pointer { .. }) => b,
-        (Bin::Sub, Kind::Pointer { .. }, Kind::Other) => a,
-        _ => Kind::Other,
+        (Bin::Add, Kind::Pointer { .. }, Kind::Other { .. }) => a,
+        (Bin::Add, Kind::Other { .. }, Kind::Pointer { .. }) => b,
+        (Bin::Sub, Kind::Pointer { .. }, Kind::Other { .. }) => a,
+        _ => Kind::Other {
+            known: is_known(a) && is_known(b),
+        },
     }
 }
 
@@ -176,7 +199,7 @@ pub fn joined_kind(op: Option<Bin>, a: Kind, b: Kind) -> Kind
     ensures { result ≡ spec.joined_kind op a b }
 {
     match op {
-        None => Kind::Other,
+        None => Kind::Other { known: true },
         Some(op) => {
             let vector = first_vector(a, b);
             if is_vector(vector) {
@@ -192,12 +215,12 @@ pub fn prefix_kind(prefix: Option<Prefix>, kind: Kind) -> Kind
     ensures { result ≡ spec.prefix_kind prefix kind }
 {
     match prefix {
-        Some(Prefix::Operator(Un::Not)) => Kind::Other,
+        Some(Prefix::Operator(Un::Not)) => Kind::Other { known: true },
         Some(Prefix::Operator(_)) => value_of(kind),
         Some(Prefix::Content) => element_of(kind),
         Some(Prefix::Address) => address_of(kind),
         Some(Prefix::Step(_)) => pointer_alone(kind),
-        _ => Kind::Other,
+        _ => Kind::Other { known: true },
     }
 }
 
@@ -214,7 +237,7 @@ pub fn postfix_kind(
         (Some(name), _) => selection_kind(alloc, kind, name),
         (None, Some(Postfix::Index)) => Ok(element_of(kind)),
         (None, Some(Postfix::Step(_))) => Ok(pointer_alone(kind)),
-        (None, None) => Ok(Kind::Other),
+        (None, None) => Ok(Kind::Other { known: true }),
     }
 }
 
@@ -231,7 +254,7 @@ pub fn called_kind(intrinsic: Option<Intrinsic>, argument: Kind) -> Kind
             },
             reach: Reach::Value,
         },
-        _ => Kind::Other,
+        _ => Kind::Other { known: true },
     }
 }
 
@@ -244,7 +267,7 @@ pub fn cast_kind(vector: Option<Vector>) -> Kind
             vector,
             reach: Reach::Value,
         },
-        None => Kind::Other,
+        None => Kind::Other { known: true },
     }
 }
 

@@ -33,7 +33,7 @@ pub(crate) fn front_kind(parts: &[Marked]) -> Kind
     ensures { result ≡ spec.front_kind (marks_of parts.now) }
 {
     match parts {
-        [] => Kind::Other,
+        [] => Kind::Other { known: true },
         [part, ..] => part.kind,
     }
 }
@@ -56,7 +56,7 @@ pub(crate) fn back_kind(parts: &[Marked]) -> Kind
 {
     match back(parts) {
         Some(part) => part.kind,
-        None => Kind::Other,
+        None => Kind::Other { known: true },
     }
 }
 
@@ -70,7 +70,7 @@ pub(crate) fn vector_among(parts: &[Marked]) -> Kind
             return value_of(part.kind);
         }
     }
-    Kind::Other
+    Kind::Other { known: true }
 }
 
 /// The vector type that is the first of some parts.
@@ -109,7 +109,7 @@ fn kind_by(
             if is_operator(form) {
                 return Ok(joined_kind(binary_of(word), front, back_kind(parts)));
             }
-            Ok(Kind::Other)
+            Ok(Kind::Other { known: true })
         }
     }
 }

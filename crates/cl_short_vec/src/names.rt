@@ -23,7 +23,7 @@ pub struct Entry<'a> {
 }
 
 /// What the name stands for: the last of these names that is it decides, as an inner scope hides the outer ones (C99,
-/// section 6.2.1).
+/// section 6.2.1). It is not known of a name that is not among them.
 #[tactic(auto, using(crate::proofs::Stacks::found_at, crate::proofs::Stacks::passed_at))]
 pub(crate) fn kind_named(names: &[Entry], name: &[u8]) -> Kind
     ensures { result ≡ names_of names.now name.now }
@@ -35,7 +35,7 @@ pub(crate) fn kind_named(names: &[Entry], name: &[u8]) -> Kind
             return names[index].kind;
         }
     }
-    Kind::Other
+    Kind::Other { known: false }
 }
 
 #[tactic(auto, using(crate::proofs::Stacks::names_push))]
@@ -127,7 +127,7 @@ fn behind_declarator<'a>(
         Some(vector) => declare(names, name, declared_kind(vector, base, tree)),
         None => {
             if declared_of(base).is_some() {
-                return declare(names, name, Kind::Other);
+                return declare(names, name, Kind::Other { known: true });
             }
             Ok(())
         }
@@ -155,10 +155,10 @@ fn parameter_kind(parts: &[Tree]) -> Kind
     ensures { result ≡ spec.parameter_kind (views parts.now) }
 {
     match parts {
-        [] => Kind::Other,
+        [] => Kind::Other { known: true },
         [base, ..] => match (vector_type(base), second_star(parts)) {
             (Some(vector), Some(_)) => pointer_to(vector, base),
-            _ => Kind::Other,
+            _ => Kind::Other { known: true },
         },
     }
 }
@@ -209,7 +209,11 @@ fn behind<'a>(names: &mut Vec<Entry<'a>>, tree: &'a Tree) -> Result<(), Memory>
     match tree.form {
         Form::DeclareNode => behind_declaration(names, &tree.parts),
         Form::ParamsNode => behind_parameters(names, &tree.parts),
-        Form::FunctionNode => declare(names, name_of(tree.word.bytes()), Kind::Other),
+        Form::FunctionNode => declare(
+            names,
+            name_of(tree.word.bytes()),
+            Kind::Other { known: false },
+        ),
         _ => Ok(()),
     }
 }

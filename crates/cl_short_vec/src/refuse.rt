@@ -283,12 +283,13 @@ fn fits(a: Kind, b: Kind) -> bool
     }
 }
 
-/// Whether two are vectors of one type.
-fn is_same(a: Kind, b: Kind) -> bool
-    ensures { result ≡ spec.is_same a b }
+/// Whether the second is a vector of the type of the first, as far as it is known what it is.
+fn agrees(a: Kind, b: Kind) -> bool
+    ensures { result ≡ spec.agrees a b }
 {
     match (a, b) {
         (Kind::Vectors { vector: v, .. }, Kind::Vectors { vector: u, .. }) => same_vector(v, u),
+        (Kind::Vectors { .. }, Kind::Other { known }) => !known,
         _ => false,
     }
 }
@@ -299,7 +300,7 @@ fn right_fits(setting: Option<Setting>, target: Kind, value: Kind) -> bool
 {
     match setting {
         Some(Setting::With(_)) => fits(target, value),
-        _ => is_same(target, value),
+        _ => agrees(target, value),
     }
 }
 
@@ -398,11 +399,11 @@ fn cast_fills(vector: Option<Vector>, parts: &[Marked]) -> Result<bool, Memory>
 
 /// Whether all parts are vectors of the type of this one.
 #[tactic(auto, using(crate::proofs::Views::mark_out))]
-fn all_same(kind: Kind, parts: &[Marked]) -> bool
-    ensures { result ≡ spec.all_same kind (marks_of parts.now) }
+fn all_agree(kind: Kind, parts: &[Marked]) -> bool
+    ensures { result ≡ spec.all_agree kind (marks_of parts.now) }
 {
     for part in parts {
-        if !is_same(kind, part.kind) {
+        if !agrees(kind, part.kind) {
             return false;
         }
     }
@@ -418,9 +419,20 @@ fn is_list(form: Form) -> bool
     }
 }
 
+/// Whether a value fits a vector variable that is declared there. In the head of a `for` it is left out of the scalar
+/// form, and with it any name that is not visible.
+fn initial_fits(around: Around, wanted: Kind, value: Kind) -> bool
+    ensures { result ≡ spec.initial_fits around wanted value }
+{
+    match around {
+        Around::Head => is_vector(value) && agrees(wanted, value),
+        _ => agrees(wanted, value),
+    }
+}
+
 /// Whether the initialiser behind that vector type is no vector of it, and no list.
-fn set_wrongly(vector: Option<Vector>, parts: &[Marked]) -> bool
-    ensures { result ≡ spec.set_wrongly vector (marks_of parts.now) }
+fn set_wrongly(around: Around, vector: Option<Vector>, parts: &[Marked]) -> bool
+    ensures { result ≡ spec.set_wrongly around vector (marks_of parts.now) }
 {
     match vector {
         None => false,
@@ -429,7 +441,7 @@ fn set_wrongly(vector: Option<Vector>, parts: &[Marked]) -> bool
                 vector,
                 reach: Reach::Value,
             };
-            !is_list(back_form(parts)) && !is_same(wanted, back_kind(parts))
+            !is_list(back_form(parts)) && !initial_fits(around, wanted, back_kind(parts))
         }
     }
 }
@@ -442,7 +454,9 @@ fn wrongly_set(role: Role, tree: &Tree, parts: &[Marked]) -> bool
     let word = tree.word.bytes();
     match role {
         Role::Declared(declaration) => {
-            is_variable(word, &tree.parts) && is_set(word) && set_wrongly(declaration.vector, parts)
+            is_variable(word, &tree.parts)
+                && is_set(word)
+                && set_wrongly(declaration.around, declaration.vector, parts)
         }
         _ => false,
     }
@@ -466,7 +480,7 @@ fn types_differ(role: Role, tree: &Tree, kind: Kind, parts: &[Marked]) -> Result
             }
             Ok(!cast_fills(front_type(parts), parts)?)
         }
-        Form::CallNode => Ok(is_vector(kind) && !all_same(vector_among(parts), parts)),
+        Form::CallNode => Ok(is_vector(kind) && !all_agree(vector_among(parts), parts)),
         Form::DeclaratorNode => Ok(wrongly_set(role, tree, parts)),
         _ => Ok(is_operator(tree.form) && !fits(front, back_kind(parts))),
     }

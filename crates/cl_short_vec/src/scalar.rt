@@ -219,15 +219,15 @@ fn two_by(
             let index = scaled(alloc, vector, b)?;
             element_at(alloc, span_of(tree), a, index)
         }
-        (Form::AssignNode, Kind::Pointer { vector, .. }, Kind::Other) => {
+        (Form::AssignNode, Kind::Pointer { vector, .. }, Kind::Other { .. }) => {
             let moved = moved_by(alloc, setting_of(tree.word.bytes()), vector, b)?;
             with_two(alloc, tree, a, moved)
         }
-        (Form::SumNode, Kind::Pointer { vector, .. }, Kind::Other) => {
+        (Form::SumNode, Kind::Pointer { vector, .. }, Kind::Other { .. }) => {
             let moved = scaled(alloc, vector, b)?;
             with_two(alloc, tree, a, moved)
         }
-        (Form::SumNode, Kind::Other, Kind::Pointer { vector, .. }) => {
+        (Form::SumNode, Kind::Other { .. }, Kind::Pointer { vector, .. }) => {
             let moved = scaled(alloc, vector, a)?;
             with_two(alloc, tree, moved, b)
         }

@@ -44,8 +44,8 @@ owns_declarators names type (more (node forms.DeclaratorNode w f l ps) ds) o h k
         h.0.0
     one None = by (is_some (declared_in type))
       where
-        by : (b : Bool) → OwnNames (if b then with_name names (name_in w) Other else names)
-        by true = owns_named names (name_in w) Other o h.0.0
+        by : (b : Bool) → OwnNames (if b then with_name names (name_in w) (Other true) else names)
+        by true = owns_named names (name_in w) (Other true) o h.0.0
         by false = o
 owns_declarators names type (more d ds) o h k = absurd k.0
 
@@ -56,11 +56,11 @@ Fewer names after = (n : List ℕ) (v : Vector) → after n ≡ Vectors v Variab
 fewer_one : (names : Names) (type d : Syntax) → Fewer names (behind_declared None names type d)
 fewer_one names type d n v e = by (is_some (declared_in type)) e
   where
-    at : (b : Bool) → (if b then Other else names n) ≡ Vectors v VariableReach → names n ≡ Vectors v VariableReach
+    at : (b : Bool) → (if b then (Other true) else names n) ≡ Vectors v VariableReach → names n ≡ Vectors v VariableReach
     at true e = absurd (false≢true (ap is_vector e))
     at false e = e
 
-    by : (b : Bool) → (if b then with_name names (name_in (word_of d)) Other else names) n ≡ Vectors v VariableReach →
+    by : (b : Bool) → (if b then with_name names (name_in (word_of d)) (Other true) else names) n ≡ Vectors v VariableReach →
         names n ≡ Vectors v VariableReach
     by true e = at (bytes_eq (name_in (word_of d)) n) e
     by false e = e

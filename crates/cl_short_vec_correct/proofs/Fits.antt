@@ -138,7 +138,7 @@ operand_fits (mark t (Vectors u r) ms) v s f = (
   λ c l. within_operand (mark t (Vectors u r) ms) c (subst (λ z. c < z) (sym s.1) l),
 )
 operand_fits (mark t (Pointer s c u) ms) v h f = (f v.of, refl, λ c l. tt)
-operand_fits (mark t Other ms) v h f = (f v.of, refl, λ c l. tt)
+operand_fits (mark t (Other b) ms) v h f = (f v.of, refl, λ c l. tt)
 
 -- ---- leaves, and what is no vector
 
@@ -171,7 +171,7 @@ pub pointer_fits : (of : IntType) (t : Syntax) (how : Made) (k : Kind) (ms : Mar
     FitsIf of t how (pointer_alone k) ms
 pointer_fits of t how (Vectors v r) ms = tt
 pointer_fits of t how (Pointer s c v) ms = tt
-pointer_fits of t how Other ms = tt
+pointer_fits of t how (Other b) ms = tt
 
 -- ---- parentheses, prefixes and selections
 
@@ -180,7 +180,7 @@ pub paren_fits : (of : IntType) (t : Syntax) (m : Mark) → FitsAlone m →
 unfolding FrontFits
 paren_fits of t (mark u (Vectors v r) ms) f = (refl, operand_fits (mark u (Vectors v r) ms) v (refl, refl) f)
 paren_fits of t (mark u (Pointer s c v) ms) f = tt
-paren_fits of t (mark u Other ms) f = tt
+paren_fits of t (mark u (Other b) ms) f = tt
 
 pub prefix_fits : (of : IntType) (o : Option Prefix) (t : Syntax) (m : Mark) → WholeKind (kind_at m) →
     FitsAlone m → FitsIf of t (made_by_prefix o) (prefix_kind o (kind_at m)) (marking m unmarked)
@@ -193,7 +193,7 @@ prefix_fits of (Some (prefixes.Operator uns.Minus)) t (mark u (Vectors v r) ms) 
 prefix_fits of (Some (prefixes.Operator uns.Flip)) t (mark u (Vectors v r) ms) h f =
     (refl, h, operand_fits (mark u (Vectors v r) ms) v (refl, refl) f)
 prefix_fits of (Some (prefixes.Operator op)) t (mark u (Pointer s c v) ms) h f = tt
-prefix_fits of (Some (prefixes.Operator op)) t (mark u Other ms) h f = tt
+prefix_fits of (Some (prefixes.Operator op)) t (mark u (Other b) ms) h f = tt
 prefix_fits of o t m h f = element_fits of t (prefix_kind o (kind_at m)) (marking m unmarked)
 
 below_by : (n : ℕ) (o : Option (List ℕ)) (ks : List ℕ) → allowed n o ≡ Some ks → all_below n ks ≡ true
@@ -224,7 +224,7 @@ selection_fits : (of : IntType) (t : Syntax) (name : List ℕ) (m : Mark) (other
     FitsIf of t made.Selected (selection_of (kind_at m) name) (marking m others)
 unfolding FrontFits
 selection_fits of t name (mark u (Pointer s c v) ms) others e f = tt
-selection_fits of t name (mark u Other ms) others e f = tt
+selection_fits of t name (mark u (Other b) ms) others e f = tt
 selection_fits of t name (mark u (Vectors v r) ms) others e f = by (selected v.count name) refl
   where
     m : Mark
@@ -237,7 +237,7 @@ selection_fits of t name (mark u (Vectors v r) ms) others e f = by (selected v.c
         (within_operand m (slice_index ks c) (selected_within v.count name ks c h l)))
 
     one : (ks : List ℕ) → selected v.count name ≡ Some ks → (b : Bool) →
-        FitsIf of t made.Selected (if b then Other else Vectors (vector v.of (length ks)) r) (marking m others)
+        FitsIf of t made.Selected (if b then (Other true) else Vectors (vector v.of (length ks)) r) (marking m others)
     one ks h true = tt
     one ks h false = (refl, (f v.of, type_made (form_of u) (word_of u) v.of (Vectors v r), each ks h))
 
@@ -268,16 +268,16 @@ signed_is types.Ulong h = refl
 -- the vector that two operands show, and what an operator makes of it
 record Shows (op : Bin) (j k : Kind) : Type 0 where
   value : Vector
-  among : (if is_vector j then value_of j else (if is_vector k then value_of k else Other)) ≡ Vectors value Value
+  among : (if is_vector j then value_of j else (if is_vector k then value_of k else (Other true))) ≡ Vectors value Value
   first : Suits value j
   second : Suits value k
   whole : is_bool value.of ≡ false
   joined : joined_kind (Some op) j k ≡ compared op (Vectors value Value)
 
 moved_no_vector : (op : Bin) (j k : Kind) → is_vector (pointer_moved op j k) ≡ false
-moved_no_vector bins.Add (Pointer s c v) Other = refl
-moved_no_vector bins.Add Other (Pointer s c v) = refl
-moved_no_vector bins.Sub (Pointer s c v) Other = refl
+moved_no_vector bins.Add (Pointer s c v) (Other b) = refl
+moved_no_vector bins.Add (Other b) (Pointer s c v) = refl
+moved_no_vector bins.Sub (Pointer s c v) (Other b) = refl
 moved_no_vector op j k = refl
 
 shows : (op : Bin) (j k : Kind) → is_vector (joined_kind (Some op) j k) ≡ true → fits j k ≡ true → WholeKind j →
@@ -292,19 +292,19 @@ shows op (Vectors v r) (Vectors u s) e f h i = record {
 }
 shows op (Vectors v r) (Pointer s c u) e f h i =
     record { value = v; among = refl; first = (refl, refl); second = tt; whole = h; joined = refl }
-shows op (Vectors v r) Other e f h i =
+shows op (Vectors v r) (Other b) e f h i =
     record { value = v; among = refl; first = (refl, refl); second = tt; whole = h; joined = refl }
 shows op (Pointer s c u) (Vectors v r) e f h i =
     record { value = v; among = refl; first = tt; second = (refl, refl); whole = i; joined = refl }
-shows op Other (Vectors v r) e f h i =
+shows op (Other b) (Vectors v r) e f h i =
     record { value = v; among = refl; first = tt; second = (refl, refl); whole = i; joined = refl }
 shows op (Pointer s c u) (Pointer p q v) e f h i =
     absurd (false≢true (sym (moved_no_vector op (Pointer s c u) (Pointer p q v)) ∙ e))
-shows op (Pointer s c u) Other e f h i =
-    absurd (false≢true (sym (moved_no_vector op (Pointer s c u) Other) ∙ e))
-shows op Other (Pointer s c u) e f h i =
-    absurd (false≢true (sym (moved_no_vector op Other (Pointer s c u)) ∙ e))
-shows op Other Other e f h i = absurd (false≢true (sym (moved_no_vector op Other Other) ∙ e))
+shows op (Pointer s c u) (Other b) e f h i =
+    absurd (false≢true (sym (moved_no_vector op (Pointer s c u) (Other b)) ∙ e))
+shows op (Other b) (Pointer s c u) e f h i =
+    absurd (false≢true (sym (moved_no_vector op (Other b) (Pointer s c u)) ∙ e))
+shows op (Other b) (Other y) e f h i = absurd (false≢true (sym (moved_no_vector op (Other b) (Other y)) ∙ e))
 
 -- the result of an operator on components of a vector
 compared_gives : (op : Bin) (v : Vector) → is_bool v.of ≡ false →

@@ -31,8 +31,8 @@ use Rattle.cl_short_vec.specs.Types.{vector_in, selection_in}
 use Rattle.cl_short_vec.specs.Kinds.{Names, later, behind, is_vector, called_kind, cast_kind, prefix_kind}
 use Rattle.cl_short_vec.specs.Marks.{Mark, mark, Marks, unmarked, marking, tree_at, kind_at, front_kind, back_kind}
 use Rattle.cl_short_vec.specs.Marks.{vector_among, kind_by, marked, marked_parts}
-use Rattle.cl_short_vec.specs.Faults.{misplaced, types_differ, refusals, refusals_in, fits, is_typed, is_same}
-use Rattle.cl_short_vec.specs.Faults.{all_same, given_by, sum, items_by, items_given, fills, inside_fills}
+use Rattle.cl_short_vec.specs.Faults.{misplaced, types_differ, refusals, refusals_in, fits, is_typed, agrees}
+use Rattle.cl_short_vec.specs.Faults.{all_agree, given_by, sum, items_by, items_given, fills, inside_fills}
 use Rattle.cl_short_vec.specs.Faults.{cast_fills}
 use Rattle.cl_short_vec.specs.Roles.{role_of, is_paren, is_list_cast}
 use Rattle.cl_short_vec.specs.Made.{made_in, made_by_prefix, is_comma}
@@ -56,17 +56,17 @@ abbrev AllAlone : Marks → Type 0
 AllAlone unmarked = Unit {0}
 AllAlone (marking m ms) = FitsAlone m × AllAlone ms
 
-pub suits_same : (v : Vector) (r : Reach) (k : Kind) → is_same (Vectors v r) k ≡ true → Suits v k
+pub suits_same : (v : Vector) (r : Reach) (k : Kind) → agrees (Vectors v r) k ≡ true → Suits v k
 suits_same v r (Vectors u s) h = same_parts v u h
 suits_same v r (Pointer s c u) h = tt
-suits_same v r Other h = tt
+suits_same v r (Other b) h = tt
 
-all_fit : (v : Vector) (r : Reach) (ms : Marks) → all_same (Vectors v r) ms ≡ true → AllAlone ms →
+all_fit : (v : Vector) (r : Reach) (ms : Marks) → all_agree (Vectors v r) ms ≡ true → AllAlone ms →
     AllFit v.of v.count ms
 unfolding AllFit
 all_fit v r unmarked h g = tt
 all_fit v r (marking m ms) h g =
-    let b = both_true (is_same (Vectors v r) (kind_at m)) (all_same (Vectors v r) ms) h in
+    let b = both_true (agrees (Vectors v r) (kind_at m)) (all_agree (Vectors v r) ms) h in
     (operand_fits m v (suits_same v r (kind_at m) b.0) g.0, all_fit v r ms b.1 g.1)
 
 call_shows : (o : Option Intrinsic) (z : Kind) → is_vector (called_kind o z) ≡ true →
@@ -76,7 +76,7 @@ call_shows o z h = absurd (false≢true h)
 
 call_fits : (of : IntType) (t : Syntax) (ms : Marks) →
     (is_vector (called_kind (intrinsic_in (name_in (word_of t))) (vector_among ms)) &&
-    not (all_same (vector_among ms) ms)) ≡ false → WholeKind (vector_among ms) → AllAlone ms →
+    not (all_agree (vector_among ms) ms)) ≡ false → WholeKind (vector_among ms) → AllAlone ms →
     FitsIf of t made.Called (called_kind (intrinsic_in (name_in (word_of t))) (vector_among ms)) ms
 call_fits of t ms e h g = by (is_vector k) refl e
   where
@@ -86,7 +86,7 @@ call_fits of t ms e h g = by (is_vector k) refl e
     k : Kind
     k = called_kind (intrinsic_in name) (vector_among ms)
 
-    by : (c : Bool) → is_vector k ≡ c → (c && not (all_same (vector_among ms) ms)) ≡ false →
+    by : (c : Bool) → is_vector k ≡ c → (c && not (all_agree (vector_among ms) ms)) ≡ false →
         fits_by (if c then made.Called else made.Number) t k ms (asked_of of k ms)
     by false x e = tt
     by true x e =
@@ -103,7 +103,7 @@ call_fits of t ms e h g = by (is_vector k) refl e
             whole = subst WholeKind q.4 h;
             gives = refl;
           },
-          all_fit q.1 q.2 ms (subst (λ z. all_same z ms ≡ true) q.4 (not_false (all_same (vector_among ms) ms) e)) g,
+          all_fit q.1 q.2 ms (subst (λ z. all_agree z ms ≡ true) q.4 (not_false (all_agree (vector_among ms) ms) e)) g,
         ))
 
 -- ---- lists
@@ -127,17 +127,17 @@ given v (Vectors u r) n h = by (same_type v.of u.of) refl h
     by true e g = (sym (same_type_is v.of u.of e), cc)
     by false e g = absurd cc
 given v (Pointer s c u) n h = cc
-given v Other n h = cc
+given v (Other b) n h = cc
 
 given_count : (v : Vector) (n : ℕ) (k : Kind) → Given v n k → count_in k ≡ n
 given_count v n (Vectors u r) h = h.1
 given_count v n (Pointer s c u) h = h
-given_count v n Other h = h
+given_count v n (Other b) h = h
 
 given_type : (v : Vector) (n : ℕ) (m : Mark) → Given v n (kind_at m) → type_at false v.of m ≡ v.of
 given_type v n (mark t (Vectors u r) ms) h = type_made (form_of t) (word_of t) v.of (Vectors u r) ∙ h.0
 given_type v n (mark t (Pointer s c u) ms) h = refl
-given_type v n (mark t Other ms) h = refl
+given_type v n (mark t (Other b) ms) h = refl
 
 items_plain : (form : Form) (x y z : Option ℕ) → is_comma form ≡ false → items_by form x y z ≡ z
 items_plain forms.ExprNode x y z e = absurd (false≢true (sym e))

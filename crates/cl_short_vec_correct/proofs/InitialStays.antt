@@ -23,7 +23,7 @@ use Rattle.cl_short_vec.specs.Marks.{Mark, mark, Marks, unmarked, marking, tree_
 use Rattle.cl_short_vec.specs.Marks.{marked_parts, kind_or_other}
 use Rattle.cl_short_vec.specs.Roles.{role_of, form_or_unit}
 use Rattle.cl_short_vec.specs.Faults.{misplaced, is_placed, is_private_at, types_differ, refusals, refusals_in}
-use Rattle.cl_short_vec.specs.Faults.{is_list, is_same, set_wrongly}
+use Rattle.cl_short_vec.specs.Faults.{is_list, agrees, set_wrongly}
 use Rattle.cl_short_vec.specs.Unit.{initialiser, initialiser_by}
 use Rattle.cl_short_vec_correct.proofs.Fits.{none_of, node_none, not_false}
 use Rattle.cl_short_vec_correct.proofs.Forms.{expression_names}
@@ -93,7 +93,7 @@ pub record InitialStays (names : Names) (w : List ℕ) (ps : Forest) (v : Vector
   pub variable : is_variable w ps ≡ true
   pub private : is_private_at around.Block space ≡ true
   pub value : IsMarkOf names m
-  pub same : is_same (Vectors v Value) (kind_at m) ≡ true
+  pub same : agrees (Vectors v Value) (kind_at m) ≡ true
   pub stays : refusals Used m ≡ []
 
 pub initial_stays : (names : Names) (w : List ℕ) (f l : ℕ) (ps : Forest) (v : Vector) (space : Option Space)
@@ -106,11 +106,11 @@ initial_stays names w f l ps v space m h s r e = record {
   variable = variable.0;
   private = variable.1;
   value = back_tree ps names true ps m h last unlisted;
-  same = not_false (is_same (Vectors v Value) (kind_at m))
-      (subst (λ b. (not b && not (is_same (Vectors v Value) (kind_at m))) ≡ false) unlisted
-      (subst (λ o. (not (is_list (form_or_unit o)) && not (is_same (Vectors v Value) (kind_or_other o))) ≡ false)
-      last (subst (λ b. ((b && true) && set_wrongly (Some v) ms) ≡ false) variable.0
-      (subst (λ b. ((is_variable w ps && b) && set_wrongly (Some v) ms) ≡ false) s shown.2))));
+  same = not_false (agrees (Vectors v Value) (kind_at m))
+      (subst (λ b. (not b && not (agrees (Vectors v Value) (kind_at m))) ≡ false) unlisted
+      (subst (λ o. (not (is_list (form_or_unit o)) && not (agrees (Vectors v Value) (kind_or_other o))) ≡ false)
+      last (subst (λ b. ((b && true) && set_wrongly around.Block (Some v) ms) ≡ false) variable.0
+      (subst (λ b. ((is_variable w ps && b) && set_wrongly around.Block (Some v) ms) ≡ false) s shown.2))));
   stays = used;
 }
   where

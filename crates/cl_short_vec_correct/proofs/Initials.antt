@@ -22,7 +22,7 @@ use Rattle.cl_short_vec.specs.Marks.{Mark, Marks, tree_at, kind_at, back, marked
 use Rattle.cl_short_vec.specs.Marks.{marked_parts}
 use Rattle.cl_short_vec.specs.Roles.{role_of, initial_role, form_or_unit}
 use Rattle.cl_short_vec.specs.Marks.{kind_or_other}
-use Rattle.cl_short_vec.specs.Faults.{is_private_at, is_placed, is_same, is_list, set_wrongly, misplaced}
+use Rattle.cl_short_vec.specs.Faults.{is_private_at, is_placed, agrees, is_list, set_wrongly, misplaced}
 use Rattle.cl_short_vec.specs.Faults.{no_component, types_differ}
 use Rattle.cl_short_vec.specs.Faults.{refusal_at, refusals, refusals_in}
 use Rattle.cl_short_vec.specs.Unit.{initialiser_by, initialiser}
@@ -65,7 +65,7 @@ pub record Stays (a : Around) (v : Vector) (space : Option Space) (names : Names
     (ps : Forest) : Type 0 where
   pub placed : is_placed a space w ps ≡ true
   pub right : is_variable w ps ≡ true → is_set w ≡ true →
-      set_wrongly (Some v) (marked_parts forms.DeclaratorNode ps names true ps) ≡ false
+      set_wrongly a (Some v) (marked_parts forms.DeclaratorNode ps names true ps) ≡ false
   pub parts : refusals_in (declaring a v space) (marked names (node forms.DeclaratorNode w f l ps)) true
       (marked_parts forms.DeclaratorNode ps names true ps) ≡ []
 
@@ -82,7 +82,7 @@ declarator_stays a v space names w f l ps r =
     (nothing_behind (refusals_in role m true ms) (refusal_at role m) r) in
     record {
       placed = not_true (is_placed a space w ps) x.0;
-      right = λ va se. and_false (is_variable w ps && is_set w) (set_wrongly (Some v) ms)
+      right = λ va se. and_false (is_variable w ps && is_set w) (set_wrongly a (Some v) ms)
           (ap (λ z. z && is_set w) va ∙ se) x.2;
       parts = nothing_front (refusals_in role m true ms) (refusal_at role m) r;
     }
@@ -142,16 +142,16 @@ pub record Initial (v : Vector) (names : Names) (d e : Syntax) : Type 0 where
   pub variable : is_variable (word_of d) (parts_of d) ≡ true
   pub value : IsExpressionOf true e
   pub sourced : Sourced e
-  pub same : is_same (Vectors v Value) (kind_at (marked names e)) ≡ true
+  pub same : agrees (Vectors v Value) (kind_at (marked names e)) ≡ true
   pub stays : refusals Used (marked names e) ≡ []
 
 same_by : (v : Vector) (names : Names) (ms : Marks) (e : Syntax) → back ms ≡ Some (marked names e) →
-    IsExpressionOf true e → set_wrongly (Some v) ms ≡ false →
-    is_same (Vectors v Value) (kind_at (marked names e)) ≡ true
+    IsExpressionOf true e → set_wrongly around.Block (Some v) ms ≡ false →
+    agrees (Vectors v Value) (kind_at (marked names e)) ≡ true
 same_by v names ms e b h s =
-    let y = subst (λ z. (not (is_list (form_or_unit z)) && not (is_same (Vectors v Value) (kind_or_other z))) ≡ false) b
+    let y = subst (λ z. (not (is_list (form_or_unit z)) && not (agrees (Vectors v Value) (kind_or_other z))) ≡ false) b
     s in
-    not_true (is_same (Vectors v Value) (kind_at (marked names e)))
+    not_true (agrees (Vectors v Value) (kind_at (marked names e)))
     (and_false (not (is_list (form_of (tree_at (marked names e))))) _
     (ap (λ z. not (is_list (form_of z))) (tree_is names e) ∙ ap not (expression_no_list e h)) y)
 

@@ -89,7 +89,7 @@ element_mark m h = by (kind_at m) refl h
 pub count_small : (k : Kind) → SmallKind k → count_in k ≤ 16
 count_small (Vectors v r) h = h
 count_small (Pointer s c v) h = omega arith
-count_small Other h = omega arith
+count_small (Other b) h = omega arith
 
 module _ (env : Env) where
   -- an element that is an expression, with the words of a source

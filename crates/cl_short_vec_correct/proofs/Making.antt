@@ -61,7 +61,7 @@ made_apart is listed form w f l ps k i n h = by (listed && is_comma form) (is_ve
 pub alone_no_vector : (k : Kind) → is_vector (pointer_alone k) ≡ false
 alone_no_vector (Vectors v r) = refl
 alone_no_vector (Pointer s c v) = refl
-alone_no_vector Other = refl
+alone_no_vector (Other b) = refl
 
 pub address_no_vector : (k : Kind) → is_vector (address_of k) ≡ false
 address_no_vector (Vectors v (Element s c)) = refl
@@ -70,7 +70,7 @@ address_no_vector k = refl
 element_of_pointer : (k : Kind) → is_vector (element_of k) ≡ true → is_element_in (element_of k) ≡ true
 element_of_pointer (Pointer s c v) h = refl
 element_of_pointer (Vectors v r) h = absurd (false≢true h)
-element_of_pointer Other h = absurd (false≢true h)
+element_of_pointer (Other b) h = absurd (false≢true h)
 
 -- a variable is a name
 pub variable_is : (form : Form) (w : List ℕ) (names : Names) (ms : Marks) → is_variable_made (made_in form w) ≡ true →
@@ -96,7 +96,7 @@ variable_is forms.AssignNode w names ms e v = absurd (false≢true (sym (alone_n
 variable_is form w names ms e v = absurd (by (is_operator form) (binary_in w) e v)
   where
     by : (z : Bool) (o : Option Bin) → is_variable_made (made_by_operator o) ≡ true →
-        is_vector (if z then joined_kind o (front_kind ms) (back_kind ms) else Other) ≡ true → ⊥
+        is_vector (if z then joined_kind o (front_kind ms) (back_kind ms) else (Other true)) ≡ true → ⊥
     by z (Some op) g h = false≢true g
     by true None g h = false≢true h
     by false None g h = false≢true h

@@ -48,17 +48,17 @@ use Rattle.cl_short_vec_correct.proofs.Making.{is_variable_made, is_element_made
 pub place_vector : (k : Kind) → is_place k ≡ true → is_vector k ≡ true
 place_vector (Vectors v r) h = refl
 place_vector (Pointer s c v) h = absurd (false≢true h)
-place_vector Other h = absurd (false≢true h)
+place_vector (Other b) h = absurd (false≢true h)
 
 value_no_place : (k : Kind) → is_place (value_of k) ≡ false
 value_no_place (Vectors v r) = refl
 value_no_place (Pointer s c v) = refl
-value_no_place Other = refl
+value_no_place (Other b) = refl
 
 alone_no_place : (k : Kind) → is_place (pointer_alone k) ≡ false
 alone_no_place (Vectors v r) = refl
 alone_no_place (Pointer s c v) = refl
-alone_no_place Other = refl
+alone_no_place (Other y) = refl
 
 either_no_place : (b : Bool) (j k : Kind) → is_place j ≡ false → is_place k ≡ false →
     is_place (if b then j else k) ≡ false
@@ -83,12 +83,12 @@ compared_place op (Vectors v r) = by (is_comparison op)
     by true = reach_place (vector (signed_of v.of) v.count) v r
     by false = refl
 compared_place op (Pointer s c v) = refl
-compared_place op Other = refl
+compared_place op (Other b) = refl
 
 moved_no_place : (op : Bin) (j k : Kind) → is_place (pointer_moved op j k) ≡ false
-moved_no_place bins.Add (Pointer s c v) Other = refl
-moved_no_place bins.Add Other (Pointer s c v) = refl
-moved_no_place bins.Sub (Pointer s c v) Other = refl
+moved_no_place bins.Add (Pointer s c v) (Other b) = refl
+moved_no_place bins.Add (Other b) (Pointer s c v) = refl
+moved_no_place bins.Sub (Pointer s c v) (Other b) = refl
 moved_no_place op j k = refl
 
 joined_no_place : (o : Option Bin) (j k : Kind) → is_place (joined_kind o j k) ≡ false
@@ -132,7 +132,7 @@ place_made forms.CastNode w f l ps names ms h t = absurd (false≢true (sym (cas
 place_made forms.ExprNode w f l ps names ms h t = absurd (false≢true (sym (alone_no_place (back_kind ms)) ∙ h))
 place_made forms.AssignNode w f l ps names ms h t = absurd (false≢true (sym (alone_no_place (front_kind ms)) ∙ h))
 place_made form w f l ps names ms h t = absurd (false≢true (sym (either_no_place (is_operator form)
-    (joined_kind (binary_in w) (front_kind ms) (back_kind ms)) Other
+    (joined_kind (binary_in w) (front_kind ms) (back_kind ms)) (Other true)
     (joined_no_place (binary_in w) (front_kind ms) (back_kind ms)) refl) ∙ h))
 
 -- ---- what is under it
@@ -171,7 +171,7 @@ numbers_under first (suc n) m h = (omega arith, numbers_under (first + 1) n m (o
 pub all_under : (k : Kind) → AllUnder (count_in k) (all_of k)
 all_under (Vectors v r) = numbers_under 0 v.count v.count (omega arith)
 all_under (Pointer s c v) = tt
-all_under Other = tt
+all_under (Other b) = tt
 
 numbers_many : (first n : ℕ) → length (numbers first 1 n) ≡ n
 numbers_many first zero = refl
@@ -180,7 +180,7 @@ numbers_many first (suc n) = ap suc (numbers_many (first + 1) n)
 pub all_many : (k : Kind) → is_vector k ≡ true → length (all_of k) ≡ count_in k
 all_many (Vectors v r) h = numbers_many 0 v.count
 all_many (Pointer s c v) h = absurd (false≢true h)
-all_many Other h = absurd (false≢true h)
+all_many (Other y) h = absurd (false≢true h)
 
 both : (a b : Bool) → a && b ≡ true → (a ≡ true) × (b ≡ true)
 both true b e = (refl, e)
@@ -234,12 +234,12 @@ pub selection_is : (m : ℕ) (j : Kind) (name ks : List ℕ) → is_place (selec
     (is_place j ≡ true → AllUnder m ks × (length ks ≡ count_in j)) →
     IsSelection m j (selection_of j name) (chosen (selected_in j name) ks)
 selection_is m (Pointer s c v) name ks p h = absurd (false≢true p)
-selection_is m Other name ks p h = absurd (false≢true p)
+selection_is m (Other y) name ks p h = absurd (false≢true p)
 selection_is m (Vectors v r) name ks p h = by (selected v.count name) (selected_below v.count name) p
   where
     found : (js : List ℕ) (b : Bool) → all_below v.count js ≡ true →
-        is_place (if b then Other else Vectors (vector v.of (length js)) r) ≡ true →
-        IsSelection m (Vectors v r) (if b then Other else Vectors (vector v.of (length js)) r) (picked ks js)
+        is_place (if b then (Other true) else Vectors (vector v.of (length js)) r) ≡ true →
+        IsSelection m (Vectors v r) (if b then (Other true) else Vectors (vector v.of (length js)) r) (picked ks js)
     found js true e q = absurd (false≢true q)
     found js false e q =
         let place = reach_place v (vector v.of (length js)) r ∙ q in

@@ -32,7 +32,7 @@ named_variable (Vectors v Variable) h e = (v, refl)
 named_variable (Vectors v Value) h e = absurd h
 named_variable (Vectors v (Element s c)) h e = absurd h
 named_variable (Pointer s c v) h e = absurd (false≢true e)
-named_variable Other h e = absurd (false≢true e)
+named_variable (Other b) h e = absurd (false≢true e)
 
 pub nothing_named : AreNamed no_names
 nothing_named name = tt
@@ -55,8 +55,8 @@ behind_declared_named (Some v) names type d n =
     with_named names (name_in (word_of d)) (declared_kind v type d) n (declared_named v type d)
 behind_declared_named None names type d n = by (is_some (declared_in type))
   where
-    by : (b : Bool) → AreNamed (if b then with_name names (name_in (word_of d)) Other else names)
-    by true = with_named names (name_in (word_of d)) Other n tt
+    by : (b : Bool) → AreNamed (if b then with_name names (name_in (word_of d)) (Other true) else names)
+    by true = with_named names (name_in (word_of d)) (Other true) n tt
     by false = n
 
 pub behind_declarator_named : (names : Names) (type d : Syntax) → AreNamed names →
@@ -86,7 +86,7 @@ pub behind_named : (names : Names) (t : Syntax) → AreNamed names → AreNamed 
 behind_named names (node forms.DeclareNode w f l none) n = n
 behind_named names (node forms.DeclareNode w f l (more type ds)) n = behind_declarators_named names type ds n
 behind_named names (node forms.ParamsNode w f l parts) n = behind_parameters_named names parts n
-behind_named names (node forms.FunctionNode w f l parts) n = with_named names (name_in w) Other n tt
+behind_named names (node forms.FunctionNode w f l parts) n = with_named names (name_in w) (Other false) n tt
 behind_named names t n = n
 
 behind_part_named : (names : Names) (parts : Forest) (front : Bool) (p : Syntax) → AreNamed names →

@@ -177,14 +177,14 @@ moved_is None v b c h = h
 two_assign : (w : List ℕ) (f l : ℕ) (ps : Forest) (j k : Kind) (a b : Syntax) → SmallKind j →
     is_some (setting_in w) ≡ true → IsExpression a → IsExpression b →
     IsExpression (two_by forms.AssignNode j k (node forms.AssignNode w f l ps) a b)
-two_assign w f l ps (Pointer space c v) Other a b n h i k = (h, i, moved_is (setting_in w) v b n k)
+two_assign w f l ps (Pointer space c v) (Other y) a b n h i k = (h, i, moved_is (setting_in w) v b n k)
 two_assign w f l ps j k a b n h i m = (h, i, m)
 
 two_sum : (w : List ℕ) (f l : ℕ) (ps : Forest) (j k : Kind) (a b : Syntax) → SmallKind j → SmallKind k →
     is_some (binary_in w) ≡ true → IsExpression a → IsExpression b →
     IsExpression (two_by forms.SumNode j k (node forms.SumNode w f l ps) a b)
-two_sum w f l ps (Pointer space c v) Other a b n m h i k = (h, i, scaled_is v b n k)
-two_sum w f l ps Other (Pointer space c v) a b n m h i k = (h, scaled_is v a m i, k)
+two_sum w f l ps (Pointer space c v) (Other y) a b n m h i k = (h, i, scaled_is v b n k)
+two_sum w f l ps (Other y) (Pointer space c v) a b n m h i k = (h, scaled_is v a m i, k)
 two_sum w f l ps j k a b n m h i o = (h, i, o)
 
 two_postfix : (w : List ℕ) (f l : ℕ) (ps : Forest) (j k : Kind) (a b : Syntax) → SmallKind j →

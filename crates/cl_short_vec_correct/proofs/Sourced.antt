@@ -162,11 +162,11 @@ two_unpointed : (form : Form) (j k : Kind) (w : List ℕ) (f l : ℕ) (ps : Fore
     Unpointed a → Unpointed b → Unpointed (two_by form j k (node form w f l ps) a b)
 two_unpointed forms.PostfixNode (Pointer space c v) k w f l ps a b n h i = (tt, (h, (scaled_unpointed v b i, tt)))
 two_unpointed forms.PostfixNode j k w f l ps a b n h i = (n, (h, (i, tt)))
-two_unpointed forms.AssignNode (Pointer space c v) Other w f l ps a b n h i =
+two_unpointed forms.AssignNode (Pointer space c v) (Other y) w f l ps a b n h i =
     (tt, (h, (moved_unpointed (setting_in w) v b i, tt)))
 two_unpointed forms.AssignNode j k w f l ps a b n h i = (n, (h, (i, tt)))
-two_unpointed forms.SumNode (Pointer space c v) Other w f l ps a b n h i = (tt, (h, (scaled_unpointed v b i, tt)))
-two_unpointed forms.SumNode Other (Pointer space c v) w f l ps a b n h i = (tt, (scaled_unpointed v a h, (i, tt)))
+two_unpointed forms.SumNode (Pointer space c v) (Other y) w f l ps a b n h i = (tt, (h, (scaled_unpointed v b i, tt)))
+two_unpointed forms.SumNode (Other y) (Pointer space c v) w f l ps a b n h i = (tt, (scaled_unpointed v a h, (i, tt)))
 two_unpointed forms.SumNode j k w f l ps a b n h i = (n, (h, (i, tt)))
 two_unpointed _ j k w f l ps a b n h i = (n, (h, (i, tt)))
 

@@ -29,7 +29,7 @@ use Rattle.cl_short_vec.specs.Types.{vector_type}
 use Rattle.cl_short_vec.specs.Kinds.{Names, is_vector, is_variable}
 use Rattle.cl_short_vec.specs.Marks.{kind_at, marked}
 use Rattle.cl_short_vec.specs.Order.{operator_in}
-use Rattle.cl_short_vec.specs.Faults.{is_private_at, right_fits, is_same, refusals}
+use Rattle.cl_short_vec.specs.Faults.{is_private_at, right_fits, agrees, refusals}
 use Rattle.cl_short_vec.specs.Unit.{set_block, declarator_lines}
 use Rattle.cl_short_vec.proofs.Small.{SmallNames}
 use Rattle.cl_short_vec_correct.specs.Sources.{Sourced}
@@ -86,7 +86,7 @@ module _ (P : Program) (f : Function) (asked : Asked) (vars : List Variable) (ar
     pub named : IsOwn (name_in (word_of d))
     pub value : IsExpressionOf true e
     pub value_sourced : Sourced e
-    pub same : is_same (Vectors v Value) (kind_at (marked names e)) ≡ true
+    pub same : agrees (Vectors v Value) (kind_at (marked names e)) ≡ true
     pub value_stays : refusals Used (marked names e) ≡ []
     -- the lines of the declarator, and others behind them
     pub before : Before

@@ -80,7 +80,7 @@ copies_are of x (c ∷ cs) = (tt, copies_are of x cs)
 count_small : (k : Kind) → SmallKind k → count_in k ≤ 16
 count_small (Vectors v r) h = h
 count_small (Pointer s c v) h = omega arith
-count_small Other h = omega arith
+count_small (Other b) h = omega arith
 
 element_steps_are : (m : Mark) → SmallKind (kind_at m) → IsExpression (scalar m) → StepsAre (element_steps m)
 element_steps_are m s h =

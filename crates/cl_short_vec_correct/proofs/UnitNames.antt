@@ -69,7 +69,7 @@ with_plain names name k n h q = by (bytes_eq name q)
 
 pub function_plain : (names : Names) (w : List ℕ) (f l : ℕ) (parts : Forest) → NoVectors names →
     NoVectors (kinds.behind names (node forms.FunctionNode w f l parts))
-function_plain names w f l parts n = with_plain names (name_in w) Other n refl
+function_plain names w f l parts n = with_plain names (name_in w) (Other false) n refl
 
 -- ---- parameters
 
@@ -120,8 +120,8 @@ declared_plain (Some v) space names type (node forms.DeclaratorNode w f l ps) h 
 declared_plain (Some v) space names type d h r n = absurd h
 declared_plain None space names type d h r n = by (is_some (declared_in type))
   where
-    by : (b : Bool) → NoVectors (if b then with_name names (name_in (word_of d)) Other else names)
-    by true = with_plain names (name_in (word_of d)) Other n refl
+    by : (b : Bool) → NoVectors (if b then with_name names (name_in (word_of d)) (Other true) else names)
+    by true = with_plain names (name_in (word_of d)) (Other true) n refl
     by false = n
 
 declarators_plain : (type : Syntax) (space : Option Space) (m : Mark) (ds all : Forest) (names : Names) →

@@ -28,7 +28,7 @@ use Rattle.cl_short_vec.specs.declared.roles.Role.TheVariants.{Used}
 use Rattle.cl_short_vec.specs.Types.{vector, numbers, selected, selection_in, picked}
 use Rattle.cl_short_vec.specs.Kinds.{Names, is_vector, several, selection_of, postfix_kind}
 use Rattle.cl_short_vec.specs.Marks.{Mark, mark, Marks, unmarked, kind_at, kind_by, marked, marked_parts}
-use Rattle.cl_short_vec.specs.Faults.{all_of, chosen, picked_by, components_of, is_same, right_fits}
+use Rattle.cl_short_vec.specs.Faults.{all_of, chosen, picked_by, components_of, agrees, right_fits}
 use Rattle.cl_short_vec.specs.Faults.{refusals}
 use Rattle.cl_short_vec.specs.Order.{type_in, count_in, under, operator_in, old_steps, steps_of}
 use Rattle.cl_short_vec.specs.Parts.{assigned_part}
@@ -56,15 +56,15 @@ numbers_many first by (suc n) = ap suc (numbers_many (first + by) by n)
 all_many : (k : Kind) → is_vector k ≡ true → length (all_of k) ≡ count_in k
 all_many (Vectors v r) h = numbers_many 0 1 v.count
 all_many (Pointer s c v) h = absurd (false≢true h)
-all_many Other h = absurd (false≢true h)
+all_many (Other b) h = absurd (false≢true h)
 
 several_many : (v : Vector) (r : Reach) (o : Option (List ℕ)) (ks : List ℕ) → is_vector (several v r o) ≡ true →
     length (chosen o ks) ≡ count_in (several v r o)
 several_many v r None ks h = absurd (false≢true h)
 several_many v r (Some js) ks h = by (nat_eq (length js) 1) h
   where
-    by : (b : Bool) → is_vector (if b then Other else Vectors (vector v.of (length js)) r) ≡ true →
-        length (picked ks js) ≡ count_in (if b then Other else Vectors (vector v.of (length js)) r)
+    by : (b : Bool) → is_vector (if b then (Other true) else Vectors (vector v.of (length js)) r) ≡ true →
+        length (picked ks js) ≡ count_in (if b then (Other true) else Vectors (vector v.of (length js)) r)
     by true g = absurd (false≢true g)
     by false g = length-map js (λ j. slice_index ks j)
 
@@ -74,7 +74,7 @@ selected_many : (s : Option (List ℕ)) (o : Option Postfix) (j : Kind) (ks : Li
 selected_many None o j ks h = all_many (postfix_kind None o j) h
 selected_many (Some name) o (Vectors v r) ks h = several_many v r (selected v.count name) ks h
 selected_many (Some name) o (Pointer s c v) ks h = absurd (false≢true h)
-selected_many (Some name) o Other ks h = absurd (false≢true h)
+selected_many (Some name) o (Other b) ks h = absurd (false≢true h)
 
 -- a target that is a vector stands for as many components as it has
 components_many : (t : Syntax) (names : Names) → is_vector (kind_at (marked names t)) ≡ true →
@@ -92,11 +92,11 @@ components_many (node form w f l (more p ps)) names h =
 selection_type : (k : Kind) (name : List ℕ) → is_vector (selection_of k name) ≡ true →
     (is_vector k ≡ true) × (type_in k ≡ type_in (selection_of k name))
 selection_type (Pointer s c v) name h = absurd (false≢true h)
-selection_type Other name h = absurd (false≢true h)
+selection_type (Other y) name h = absurd (false≢true h)
 selection_type (Vectors v r) name h = (refl, by (selected v.count name) h)
   where
-    one : (b : Bool) (n : ℕ) → is_vector (if b then Other else Vectors (vector v.of n) r) ≡ true →
-        v.of ≡ type_in (if b then Other else Vectors (vector v.of n) r)
+    one : (b : Bool) (n : ℕ) → is_vector (if b then (Other true) else Vectors (vector v.of n) r) ≡ true →
+        v.of ≡ type_in (if b then (Other true) else Vectors (vector v.of n) r)
     one true n g = absurd (false≢true g)
     one false n g = refl
 
@@ -141,7 +141,7 @@ operator_fits (Some op) of h g = (h, g)
 right_suits : (s : Option Setting) (v : Vector) (r : Reach) (k : Kind) → right_fits s (Vectors v r) k ≡ true → Suits v k
 right_suits (Some (setting.With op)) v r (Vectors u q) h = same_parts v u h
 right_suits (Some (setting.With op)) v r (Pointer s c u) h = tt
-right_suits (Some (setting.With op)) v r Other h = tt
+right_suits (Some (setting.With op)) v r (Other b) h = tt
 right_suits s v r k h = suits_same v r k h
 
 -- an operand that fits so many components of a type
@@ -152,12 +152,12 @@ right_is : (s : Option Setting) (k : Kind) (m : Mark) → is_vector k ≡ true �
     FitsAlone m → IsOf (type_in k) (count_in k) m
 right_is s (Vectors v r) m h g f = operand_fits m v (right_suits s v r (kind_at m) g) f
 right_is s (Pointer p c v) m h g f = absurd (false≢true h)
-right_is s Other m h g f = absurd (false≢true h)
+right_is s (Other b) m h g f = absurd (false≢true h)
 
 whole_type : (k : Kind) → is_vector k ≡ true → WholeKind k → is_bool (type_in k) ≡ false
 whole_type (Vectors v r) h i = i
 whole_type (Pointer s c v) h i = absurd (false≢true h)
-whole_type Other h i = absurd (false≢true h)
+whole_type (Other b) h i = absurd (false≢true h)
 
 -- ---- what is set
 
@@ -190,7 +190,7 @@ module _ (env : Env) (known : List Known) (leaves : Leaves) (no_flags : env.flag
 
   -- by an initialiser of a vector variable
   pub initial_worth : (names : Names) (v : Vector) (d : Mark) (te : Syntax) (j : ℕ) → WholeNames names →
-      IsExpressionOf true te → is_same (Vectors v Value) (kind_at (marked names te)) ≡ true →
+      IsExpressionOf true te → agrees (Vectors v Value) (kind_at (marked names te)) ≡ true →
       refusals Used (marked names te) ≡ [] →
       All env known leaves no_flags (steps_of v.of (marked names te)) → j < v.count →
       Seen env (assigned_part (initial_of v d (marked names te)) j) →

@@ -26,9 +26,9 @@ use Rattle.cl_meaning.specs.Visible.{inside, behind_parts}
 use Rattle.cl_meaning.specs.Meant.{parts_meant}
 use Rattle.cl_short_vec.specs.declared.nodes.Span.{Span}
 use Rattle.cl_short_vec.specs.declared.kinds.Kind.{Kind}
-use Rattle.cl_short_vec.specs.declared.kinds.Kind.TheVariants.{Other}
+use Rattle.cl_short_vec.specs.declared.kinds.Kind.TheVariants.{Vectors, Pointer, Other}
 use Rattle.cl_short_vec.specs.Types.{vector_type, selection_in}
-use Rattle.cl_short_vec.specs.Kinds.{Names, no_names, with_name, is_vector, value_of, behind_declared}
+use Rattle.cl_short_vec.specs.Kinds.{Names, no_names, with_name, is_other, is_vector, value_of, behind_declared}
 use Rattle.cl_short_vec.specs.Kinds.{behind_declarator}
 use Rattle.cl_short_vec.specs.Kinds.{behind_declarators, behind_declaration, pointed_by, parameter_kind}
 use Rattle.cl_short_vec.specs.Kinds.{behind_parameter, behind_parameters, behind_part, prefix_kind, postfix_kind}
@@ -44,11 +44,11 @@ use Rattle.cl_short_vec_correct.specs.Each.{ByForm, PartDoes, Throughout, Throug
 -- ---- nothing is a vector
 
 abbrev AllOther : Names → Type 0
-AllOther names = (q : List ℕ) → names q ≡ Other
+AllOther names = (q : List ℕ) → is_other (names q) ≡ true
 
 abbrev mutual
   NoVector : Mark → Type 0
-  NoVector (mark t k ms) = (k ≡ Other) × (vector_type t ≡ None) × AllPlain ms
+  NoVector (mark t k ms) = (is_other k ≡ true) × (vector_type t ≡ None) × AllPlain ms
 
   AllPlain : Marks → Type 0
   AllPlain unmarked = Unit {0}
@@ -71,85 +71,107 @@ own_type (node form w f l ps) h =
 
 -- ---- kinds
 
-kind_other : (m : Mark) → NoVector m → kind_at m ≡ Other
+kind_other : (m : Mark) → NoVector m → is_other (kind_at m) ≡ true
 kind_other (mark t k ms) h = h.0
 
 tree_plain : (m : Mark) → NoVector m → vector_type (tree_at m) ≡ None
 tree_plain (mark t k ms) h = h.1
 
-front_other : (ms : Marks) → AllPlain ms → front_kind ms ≡ Other
+other_no_vector : (k : Kind) → is_other k ≡ true → is_vector k ≡ false
+other_no_vector (Other b) h = refl
+other_no_vector (Vectors v r) h = absurd (false≢true h)
+other_no_vector (Pointer s c v) h = absurd (false≢true h)
+
+front_other : (ms : Marks) → AllPlain ms → is_other (front_kind ms) ≡ true
 front_other unmarked h = refl
 front_other (marking m ms) h = kind_other m h.0
 
-back_other : (ms : Marks) → AllPlain ms → back_kind ms ≡ Other
+back_other : (ms : Marks) → AllPlain ms → is_other (back_kind ms) ≡ true
 back_other unmarked h = refl
 back_other (marking m unmarked) h = kind_other m h.0
 back_other (marking m (marking n ns)) h = back_other (marking n ns) h.1
 
-among_other : (ms : Marks) → AllPlain ms → vector_among ms ≡ Other
+among_other : (ms : Marks) → AllPlain ms → is_other (vector_among ms) ≡ true
 among_other unmarked h = refl
 among_other (marking m ms) h =
-    ap (λ k. if is_vector k then value_of k else vector_among ms) (kind_other m h.0) ∙ among_other ms h.1
+    ap (λ b. is_other (if b then value_of (kind_at m) else vector_among ms))
+    (other_no_vector (kind_at m) (kind_other m h.0)) ∙ among_other ms h.1
 
 front_none : (ms : Marks) → AllPlain ms → front_type ms ≡ None
 front_none unmarked h = refl
 front_none (marking m ms) h = tree_plain m h.0
 
-prefix_other : (o : Option Prefix) → prefix_kind o Other ≡ Other
-prefix_other (Some (prefixes.Operator uns.Not)) = refl
-prefix_other (Some (prefixes.Operator op)) = refl
-prefix_other (Some prefixes.Content) = refl
-prefix_other (Some prefixes.Address) = refl
-prefix_other (Some (prefixes.Step op)) = refl
-prefix_other o = refl
+prefix_other : (o : Option Prefix) (k : Kind) → is_other k ≡ true → is_other (prefix_kind o k) ≡ true
+prefix_other (Some (prefixes.Operator uns.Not)) (Other b) h = refl
+prefix_other (Some (prefixes.Operator op)) (Other b) h = refl
+prefix_other (Some prefixes.Content) (Other b) h = refl
+prefix_other (Some prefixes.Address) (Other b) h = refl
+prefix_other (Some (prefixes.Step op)) (Other b) h = refl
+prefix_other o (Other b) h = refl
+prefix_other o (Vectors v r) h = absurd (false≢true h)
+prefix_other o (Pointer s c v) h = absurd (false≢true h)
 
-postfix_other : (s : Option (List ℕ)) (o : Option Postfix) → postfix_kind s o Other ≡ Other
-postfix_other (Some name) o = refl
-postfix_other None (Some postfixes.Index) = refl
-postfix_other None (Some (postfixes.Step op)) = refl
-postfix_other None None = refl
+postfix_other : (s : Option (List ℕ)) (o : Option Postfix) (k : Kind) → is_other k ≡ true →
+    is_other (postfix_kind s o k) ≡ true
+postfix_other (Some name) o (Other b) h = refl
+postfix_other None (Some postfixes.Index) (Other b) h = refl
+postfix_other None (Some (postfixes.Step op)) (Other b) h = refl
+postfix_other None None (Other b) h = refl
+postfix_other s o (Vectors v r) h = absurd (false≢true h)
+postfix_other s o (Pointer space c v) h = absurd (false≢true h)
 
-called_other : (i : Option Intrinsic) → called_kind i Other ≡ Other
-called_other (Some (intrinsics.Function g)) = refl
-called_other i = refl
+called_other : (i : Option Intrinsic) (k : Kind) → is_other k ≡ true → is_other (called_kind i k) ≡ true
+called_other (Some (intrinsics.Function g)) (Other b) h = refl
+called_other i (Other b) h = refl
+called_other i (Vectors v r) h = absurd (false≢true h)
+called_other i (Pointer s c v) h = absurd (false≢true h)
 
-moved_other : (op : Bin) → pointer_moved op Other Other ≡ Other
-moved_other bins.Add = refl
-moved_other bins.Sub = refl
-moved_other op = refl
+alone_other : (k : Kind) → is_other k ≡ true → is_other (pointer_alone k) ≡ true
+alone_other (Other b) h = refl
+alone_other (Vectors v r) h = absurd (false≢true h)
+alone_other (Pointer s c v) h = absurd (false≢true h)
 
-joined_other : (o : Option Bin) → joined_kind o Other Other ≡ Other
-joined_other None = refl
-joined_other (Some op) = moved_other op
+moved_other : (op : Bin) (a b : Bool) → is_other (pointer_moved op (Other a) (Other b)) ≡ true
+moved_other bins.Add a b = refl
+moved_other bins.Sub a b = refl
+moved_other op a b = refl
+
+joined_other : (o : Option Bin) (j k : Kind) → is_other j ≡ true → is_other k ≡ true →
+    is_other (joined_kind o j k) ≡ true
+joined_other None j k g h = refl
+joined_other (Some op) (Other a) (Other b) g h = moved_other op a b
+joined_other (Some op) (Other a) (Vectors v r) g h = absurd (false≢true h)
+joined_other (Some op) (Other a) (Pointer s c v) g h = absurd (false≢true h)
+joined_other (Some op) (Vectors v r) k g h = absurd (false≢true g)
+joined_other (Some op) (Pointer s c v) k g h = absurd (false≢true g)
 
 kind_plain : (names : Names) (form : Form) (w : List ℕ) (ms : Marks) → AllOther names → AllPlain ms →
-    kind_by names form w ms ≡ Other
+    is_other (kind_by names form w ms) ≡ true
 unfolding kind_by
 kind_plain names forms.VariableNode w ms n h = n (name_in w)
 kind_plain names forms.ParenNode w ms n h = front_other ms h
-kind_plain names forms.UnaryNode w ms n h =
-    ap (prefix_kind (prefix_in w)) (front_other ms h) ∙ prefix_other (prefix_in w)
+kind_plain names forms.UnaryNode w ms n h = prefix_other (prefix_in w) (front_kind ms) (front_other ms h)
 kind_plain names forms.PostfixNode w ms n h =
-    ap (postfix_kind (selection_in w) (postfix_in w)) (front_other ms h) ∙
-    postfix_other (selection_in w) (postfix_in w)
+    postfix_other (selection_in w) (postfix_in w) (front_kind ms) (front_other ms h)
 kind_plain names forms.CallNode w ms n h =
-    ap (called_kind (intrinsic_in (name_in w))) (among_other ms h) ∙ called_other (intrinsic_in (name_in w))
-kind_plain names forms.CastNode w ms n h = ap cast_kind (front_none ms h)
-kind_plain names forms.ExprNode w ms n h = ap pointer_alone (back_other ms h)
-kind_plain names forms.AssignNode w ms n h = ap pointer_alone (front_other ms h)
+    called_other (intrinsic_in (name_in w)) (vector_among ms) (among_other ms h)
+kind_plain names forms.CastNode w ms n h = ap (λ o. is_other (cast_kind o)) (front_none ms h)
+kind_plain names forms.ExprNode w ms n h = alone_other (back_kind ms) (back_other ms h)
+kind_plain names forms.AssignNode w ms n h = alone_other (front_kind ms) (front_other ms h)
 kind_plain names form w ms n h = by (is_operator form)
   where
-    by : (b : Bool) → (if b then joined_kind (binary_in w) (front_kind ms) (back_kind ms) else Other) ≡ Other
-    by true = ap (λ k. joined_kind (binary_in w) k (back_kind ms)) (front_other ms h) ∙
-        (ap (joined_kind (binary_in w) Other) (back_other ms h) ∙ joined_other (binary_in w))
+    by : (b : Bool) →
+        is_other (if b then joined_kind (binary_in w) (front_kind ms) (back_kind ms) else Other true) ≡ true
+    by true = joined_other (binary_in w) (front_kind ms) (back_kind ms) (front_other ms h) (back_other ms h)
     by false = refl
 
 -- ---- names
 
-with_other : (names : Names) (name : List ℕ) (k : Kind) → AllOther names → k ≡ Other → AllOther (with_name names name k)
+with_other : (names : Names) (name : List ℕ) (k : Kind) → AllOther names → is_other k ≡ true →
+    AllOther (with_name names name k)
 with_other names name k n h q = by (bytes_eq name q)
   where
-    by : (b : Bool) → (if b then k else names q) ≡ Other
+    by : (b : Bool) → is_other (if b then k else names q) ≡ true
     by true = h
     by false = n q
 
@@ -158,8 +180,8 @@ declared_other : (names : Names) (type d : Syntax) → vector_type type ≡ None
 declared_other names type d e n =
     subst (λ o. AllOther (behind_declared o names type d)) (sym e) (by (is_some (declared_in type)))
   where
-    by : (b : Bool) → AllOther (if b then with_name names (name_in (word_of d)) Other else names)
-    by true = with_other names (name_in (word_of d)) Other n refl
+    by : (b : Bool) → AllOther (if b then with_name names (name_in (word_of d)) (Other true) else names)
+    by true = with_other names (name_in (word_of d)) (Other true) n refl
     by false = n
 
 declarators_other : (names : Names) (type : Syntax) (ds : Forest) → vector_type type ≡ None → AllOther names →
@@ -168,10 +190,10 @@ declarators_other names type none e n = n
 declarators_other names type (more d ds) e n =
     declarators_other (behind_declarator names type d) type ds e (declared_other names type d e n)
 
-parameter_other : (ps : Forest) → have_vectors ps ≡ false → parameter_kind ps ≡ Other
+parameter_other : (ps : Forest) → have_vectors ps ≡ false → is_other (parameter_kind ps) ≡ true
 parameter_other none h = refl
 parameter_other (more type others) h =
-    ap (λ o. pointed_by o (second_star (more type others)) type)
+    ap (λ o. is_other (pointed_by o (second_star (more type others)) type))
     (own_type type (either_false (has_vectors type) (have_vectors others) h).0)
 
 parts_plain : (t : Syntax) → has_vectors t ≡ false → have_vectors (parts_of t) ≡ false
@@ -193,7 +215,7 @@ behind_other names (node forms.DeclareNode w f l (more type ds)) h n =
     declarators_other names type ds (own_type type (either_false (has_vectors type) (have_vectors ds) x).0) n
 behind_other names (node forms.ParamsNode w f l ps) h n =
     parameters_other names ps (parts_plain (node forms.ParamsNode w f l ps) h) n
-behind_other names (node forms.FunctionNode w f l ps) h n = with_other names (name_in w) Other n refl
+behind_other names (node forms.FunctionNode w f l ps) h n = with_other names (name_in w) (Other false) n refl
 behind_other names t h n = n
 
 behind_part_other : (names : Names) (all : Forest) (front : Bool) (p : Syntax) → have_vectors all ≡ false →
@@ -260,7 +282,7 @@ and_false false b e h = false≢true h
 module _ (S : SettingClaim) (D : DeclaratorClaim) where
   whole_idle : (env : Env) (sites : List Place) (s : Span) (m : Mark) → NoVector m → OfWhole S D env sites s m
   whole_idle env sites s (mark t k (marking a (marking b unmarked))) h = λ e.
-      absurd (and_false (is_assignment (form_of t)) (is_vector (kind_at a)) (ap is_vector (kind_other a h.2.0)) e)
+      absurd (and_false (is_assignment (form_of t)) (is_vector (kind_at a)) (other_no_vector (kind_at a) (kind_other a h.2.0)) e)
   whole_idle env sites s (mark t k unmarked) h = tt
   whole_idle env sites s (mark t k (marking a unmarked)) h = tt
   whole_idle env sites s (mark t k (marking a (marking b (marking c cs)))) h = tt

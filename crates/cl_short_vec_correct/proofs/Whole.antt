@@ -51,7 +51,7 @@ WholeVector (Some v) = is_bool v.of ≡ false
 abbrev pub WholeKind : Kind → Type 0
 WholeKind (Vectors v r) = is_bool v.of ≡ false
 WholeKind (Pointer s c v) = is_bool v.of ≡ false
-WholeKind Other = Unit {0}
+WholeKind (Other b) = Unit {0}
 
 abbrev mutual
   pub WholeMark : Mark → Type 0
@@ -100,17 +100,17 @@ either_whole false j k h i = i
 value_whole : (k : Kind) → WholeKind k → WholeKind (value_of k)
 value_whole (Vectors v r) h = h
 value_whole (Pointer s c v) h = tt
-value_whole Other h = tt
+value_whole (Other b) h = tt
 
 alone_whole : (k : Kind) → WholeKind k → WholeKind (pointer_alone k)
 alone_whole (Vectors v r) h = tt
 alone_whole (Pointer s c v) h = h
-alone_whole Other h = tt
+alone_whole (Other b) h = tt
 
 element_whole : (k : Kind) → WholeKind k → WholeKind (element_of k)
 element_whole (Vectors v r) h = tt
 element_whole (Pointer s c v) h = h
-element_whole Other h = tt
+element_whole (Other b) h = tt
 
 address_whole : (k : Kind) → WholeKind k → WholeKind (address_of k)
 address_whole (Vectors v (Element s c)) h = h
@@ -118,12 +118,12 @@ address_whole k h = tt
 
 several_whole : (v : Vector) (r : Reach) (o : Option (List ℕ)) → is_bool v.of ≡ false → WholeKind (several v r o)
 several_whole v r None h = tt
-several_whole v r (Some ks) h = either_whole (nat_eq (length ks) 1) Other (Vectors (vector v.of (length ks)) r) tt h
+several_whole v r (Some ks) h = either_whole (nat_eq (length ks) 1) (Other true) (Vectors (vector v.of (length ks)) r) tt h
 
 selection_whole : (k : Kind) (name : List ℕ) → WholeKind k → WholeKind (selection_of k name)
 selection_whole (Vectors v r) name h = several_whole v r (selected v.count name) h
 selection_whole (Pointer s c v) name h = tt
-selection_whole Other name h = tt
+selection_whole (Other b) name h = tt
 
 first_whole : (j k : Kind) → WholeKind j → WholeKind k → WholeKind (first_vector j k)
 first_whole j k h i = either_whole (is_vector j) (value_of j) (value_of k) (value_whole j h) (value_whole k i)
@@ -160,12 +160,12 @@ compared_whole op (Vectors v r) h =
     either_whole (is_comparison op) (Vectors (vector (signed_of v.of) v.count) r) (Vectors v r)
     (signed_whole v.of h) h
 compared_whole op (Pointer s c v) h = h
-compared_whole op Other h = tt
+compared_whole op (Other b) h = tt
 
 moved_whole : (op : Bin) (j k : Kind) → WholeKind j → WholeKind k → WholeKind (pointer_moved op j k)
-moved_whole bins.Add (Pointer s c v) Other h i = h
-moved_whole bins.Add Other (Pointer s c v) h i = i
-moved_whole bins.Sub (Pointer s c v) Other h i = h
+moved_whole bins.Add (Pointer s c v) (Other b) h i = h
+moved_whole bins.Add (Other b) (Pointer s c v) h i = i
+moved_whole bins.Sub (Pointer s c v) (Other b) h i = h
 moved_whole op j k h i = tt
 
 joined_whole : (o : Option Bin) (j k : Kind) → WholeKind j → WholeKind k → WholeKind (joined_kind o j k)
@@ -234,7 +234,7 @@ kind_whole names forms.CastNode w ms n h = cast_whole (front_type ms) (front_typ
 kind_whole names forms.ExprNode w ms n h = alone_whole (back_kind ms) (back_whole ms h)
 kind_whole names forms.AssignNode w ms n h = alone_whole (front_kind ms) (front_whole ms h)
 kind_whole names form w ms n h = either_whole (is_operator form) (joined_kind (binary_in w) (front_kind ms)
-    (back_kind ms)) Other (joined_whole (binary_in w) (front_kind ms) (back_kind ms) (front_whole ms h)
+    (back_kind ms)) (Other true) (joined_whole (binary_in w) (front_kind ms) (back_kind ms) (front_whole ms h)
     (back_whole ms h)) tt
 
 -- ---- names
@@ -256,8 +256,8 @@ behind_declared_whole (Some v) names type d h n =
     with_whole names (name_in (word_of d)) (declared_kind v type d) n (declared_whole v type d h)
 behind_declared_whole None names type d h n = by (is_some (declared_in type))
   where
-    by : (b : Bool) → WholeNames (if b then with_name names (name_in (word_of d)) Other else names)
-    by true = with_whole names (name_in (word_of d)) Other n tt
+    by : (b : Bool) → WholeNames (if b then with_name names (name_in (word_of d)) (Other true) else names)
+    by true = with_whole names (name_in (word_of d)) (Other true) n tt
     by false = n
 
 pub behind_declarator_whole : (names : Names) (type d : Syntax) → WholeNames names →
@@ -290,7 +290,7 @@ pub behind_whole : (names : Names) (t : Syntax) → WholeNames names → WholeNa
 behind_whole names (node forms.DeclareNode w f l none) n = n
 behind_whole names (node forms.DeclareNode w f l (more type ds)) n = behind_declarators_whole names type ds n
 behind_whole names (node forms.ParamsNode w f l parts) n = behind_parameters_whole names parts n
-behind_whole names (node forms.FunctionNode w f l parts) n = with_whole names (name_in w) Other n tt
+behind_whole names (node forms.FunctionNode w f l parts) n = with_whole names (name_in w) (Other false) n tt
 behind_whole names t n = n
 
 behind_part_whole : (names : Names) (parts : Forest) (front : Bool) (p : Syntax) → WholeNames names →

@@ -24,7 +24,7 @@ SameMeanings before after = (q : List ℕ) → meaning_of after q ≡ meaning_of
 
 pub alike_moved : (k : vectors.Kind) (q : List ℕ) (p s p' s' : Env) → SameMeanings p p' → SameMeanings s s' →
     StandsAlike k q p s → StandsAlike k q p' s'
-alike_moved Other q p s p' s' a b h = ap unnumbered (b q) ∙ h ∙ sym (ap unnumbered (a q))
+alike_moved (Other y) q p s p' s' a b h = ap unnumbered (b q) ∙ h ∙ sym (ap unnumbered (a q))
 alike_moved (Pointer sp c v) q p s p' s' a b (g, h, r) = (
   g,
   ap unnumbered (b q) ∙ h ∙ sym (ap unnumbered (a q)),

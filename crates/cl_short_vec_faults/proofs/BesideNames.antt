@@ -18,7 +18,7 @@ use Rattle.cl_meaning.specs.Faults.{Asked}
 use Rattle.cl_short_vec.specs.declared.kinds.Reach.TheVariants.{Value, Variable, Element}
 use Rattle.cl_short_vec.specs.declared.kinds.Kind as vectors
 use Rattle.cl_short_vec.specs.declared.kinds.Kind.TheVariants.{Vectors, Pointer, Other}
-use Rattle.cl_short_vec.specs.Kinds.{Names, with_name}
+use Rattle.cl_short_vec.specs.Kinds.{Names, with_name, is_other}
 use Rattle.cl_short_vec.specs.Nodes.{component_name, helper}
 use Rattle.cl_short_vec_faults.specs.Plainly.{has_point, unnumbered, StandsAlike, PointsAs, width_in}
 use Rattle.cl_short_vec_faults.specs.Law.{AllGive, CalleeGives}
@@ -213,7 +213,7 @@ pub alike_kept : (k : vectors.Kind) (q : List ℕ) (p s p' s' : Env) → meaning
     meaning_of s' q ≡ meaning_of s q →
     ((c : ℕ) → meaning_of s' (component_name q c) ≡ meaning_of s (component_name q c)) → StandsAlike k q p s →
     StandsAlike k q p' s'
-alike_kept Other q p s p' s' a b g h = ap unnumbered b ∙ h ∙ sym (ap unnumbered a)
+alike_kept (Other y) q p s p' s' a b g h = ap unnumbered b ∙ h ∙ sym (ap unnumbered a)
 alike_kept (Pointer sp c v) q p s p' s' a b g (e, h, r) = (
   e,
   ap unnumbered b ∙ h ∙ sym (ap unnumbered a),
@@ -253,7 +253,7 @@ pub record BesideBut (asked : Asked) (names : Names) (x : List ℕ) (bound : ℕ
   pub unflagged : plain.flags ≡ false
   pub gives : AllGive asked plain
   pub alone : KnownAlone plain
-  pub named : (q : List ℕ) → (names q ≡ Other → ⊥) → IsName q
+  pub named : (q : List ℕ) → is_other (names q) ≡ false → IsName q
 
 module _ (asked : Asked) (names : Names) (x : List ℕ) (n : ℕ) where
   pub but_begin : (p s : Env) → Beside asked names n p s → BesideBut asked names x n p s
@@ -325,7 +325,7 @@ module _ (asked : Asked) (names : Names) (x : List ℕ) (n : ℕ) where
   -- what the unit without vectors declares beside it
   but_form : (p s s' : Env) (y : List ℕ) (m : Meaning) → Declares s s' y m →
       ((q : List ℕ) → has_point q ≡ false → Apart x q → Apart y q) →
-      ((q : List ℕ) → has_point q ≡ false → Apart x q → (c : ℕ) → (names q ≡ Other → ⊥) →
+      ((q : List ℕ) → has_point q ≡ false → Apart x q → (c : ℕ) → is_other (names q) ≡ false →
       Apart y (component_name q c)) →
       ScopesBeside n p.scopes (into_last s.scopes y (firm m)) → BesideBut asked names x n p s →
       BesideBut asked names x n p s'
@@ -350,14 +350,14 @@ module _ (asked : Asked) (names : Names) (x : List ℕ) (n : ℕ) where
   }
     where
       by : (q : List ℕ) → has_point q ≡ false → Apart x q → (k : vectors.Kind) →
-          ((c : ℕ) → (k ≡ Other → ⊥) → Apart y (component_name q c)) → StandsAlike k q p s → StandsAlike k q p s'
-      by q e a Other g i = ap unnumbered (declares_other s s' y m (form_open p s h) d q (far q e a)) ∙ i
+          ((c : ℕ) → is_other k ≡ false → Apart y (component_name q c)) → StandsAlike k q p s → StandsAlike k q p s'
+      by q e a (Other b) g i = ap unnumbered (declares_other s s' y m (form_open p s h) d q (far q e a)) ∙ i
       by q e a (Pointer sp c v) g i = alike_kept (Pointer sp c v) q p s p s' refl
           (declares_other s s' y m (form_open p s h) d q (far q e a)) (λ c. declares_other s s' y m (form_open p s h) d
-          (component_name q c) (g c (λ i. absurd cc))) i
+          (component_name q c) (g c refl)) i
       by q e a (Vectors v r) g i = alike_kept (Vectors v r) q p s p s' refl
           (declares_other s s' y m (form_open p s h) d q (far q e a)) (λ c. declares_other s s' y m (form_open p s h) d
-          (component_name q c) (g c (λ i. absurd cc))) i
+          (component_name q c) (g c refl)) i
 
   -- a component of it
   pub but_component : (p s s' : Env) (c : ℕ) (m : Meaning) → IsName x → is_declared p x ≡ true →
@@ -417,7 +417,7 @@ module _ (asked : Asked) (names : Names) (x : List ℕ) (n : ℕ) where
       narrow_by q true = w
       narrow_by q false = h.narrow q
 
-      named_by : (q : List ℕ) (b : Bool) → bytes_eq x q ≡ b → ((if b then k else names q) ≡ Other → ⊥) → IsName q
+      named_by : (q : List ℕ) (b : Bool) → bytes_eq x q ≡ b → is_other (if b then k else names q) ≡ false → IsName q
       named_by q true a o = subst IsName ((bytes_decides x q).0 a) i
       named_by q false a o = h.named q o
 

@@ -45,7 +45,7 @@ pub call_claim : (asked : Asked) (p s : Env) (place : Role) (w : List ℕ) (f l 
     SoundTree asked p place (node forms.CallNode w f l P) → AllGive asked p →
     callee_of s (name_in w) ≡ callee_of p (name_in w) → s.owner ≡ p.owner →
     (are_flags_alone P ≡ true → are_flags_alone S ≡ true) →
-    Has asked p s place Other (node forms.CallNode w f l P) (node forms.CallNode w f l S)
+    Has asked p s place (Other true) (node forms.CallNode w f l P) (node forms.CallNode w f l S)
 unfolding inside kind_step
 call_claim asked p s place w f l P S x so g c ow fl =
     let q = name_in w in

@@ -92,7 +92,7 @@ indexed_none j k w f l ps a b = refl
 
 assigned_none : (j k : Kind) (w : List ℕ) (f l : ℕ) (ps : Forest) (a b : Syntax) →
     NoConstant (two_by forms.AssignNode j k (node forms.AssignNode w f l ps) a b)
-assigned_none (Pointer s c v) Other w f l ps a b = refl
+assigned_none (Pointer s c v) (Other y) w f l ps a b = refl
 assigned_none j k w f l ps a b = refl
 
 element_none : (j : Kind) (c : ℕ) (s : Span) (w : List ℕ) (f l : ℕ) (ps : Forest) (a b : Syntax) →
@@ -124,9 +124,9 @@ is_pointer k = false
 
 moved_pointer : (op : Bin) (j k : Kind) → is_pointer (pointer_moved op j k) ≡ true →
     (is_pointer j ≡ true) ⊎ (is_pointer k ≡ true)
-moved_pointer bins.Add (Pointer s c v) Other h = inl refl
-moved_pointer bins.Add Other (Pointer s c v) h = inr refl
-moved_pointer bins.Sub (Pointer s c v) Other h = inl refl
+moved_pointer bins.Add (Pointer s c v) (Other b) h = inl refl
+moved_pointer bins.Add (Other b) (Pointer s c v) h = inr refl
+moved_pointer bins.Sub (Pointer s c v) (Other y) h = inl refl
 moved_pointer op j k h = absurd (false≢true h)
 
 if_pointer : (b : Bool) (j k : Kind) → is_pointer j ≡ false → is_pointer k ≡ false →
@@ -178,12 +178,12 @@ prefix_none (Some prefixes.Size) k d a h = absurd (false≢true h)
 
 selection_no_pointer : (k : Kind) (name : List ℕ) → is_pointer (selection_of k name) ≡ false
 selection_no_pointer (Pointer s c v) name = refl
-selection_no_pointer Other name = refl
+selection_no_pointer (Other b) name = refl
 selection_no_pointer (Vectors v r) name = by (selected v.count name)
   where
     by : (o : Option (List ℕ)) → is_pointer (several v r o) ≡ false
     by None = refl
-    by (Some ks) = if_pointer (nat_eq (length ks) 1) Other (Vectors (vector v.of (length ks)) r) refl refl
+    by (Some ks) = if_pointer (nat_eq (length ks) 1) (Other true) (Vectors (vector v.of (length ks)) r) refl refl
 
 -- a pointer to vectors is no constant
 pub pointer_none : (names : Names) (t : Syntax) → IsExpressionOf true t →
@@ -265,14 +265,14 @@ never names form w f l ps h p =
 
 selection_place : (k : Kind) (name : List ℕ) → is_place (selection_of k name) ≡ true → is_place k ≡ true
 selection_place (Pointer s c v) name h = absurd (false≢true h)
-selection_place Other name h = absurd (false≢true h)
+selection_place (Other b) name h = absurd (false≢true h)
 selection_place (Vectors v Value) name h = by (selected v.count name) h
   where
     by : (o : Option (List ℕ)) → is_place (several v Value o) ≡ true → false ≡ true
     by None e = e
     by (Some ks) e = two (nat_eq (length ks) 1) e
       where
-        two : (b : Bool) → is_place (if b then Other else Vectors (vector v.of (length ks)) Value) ≡ true →
+        two : (b : Bool) → is_place (if b then (Other true) else Vectors (vector v.of (length ks)) Value) ≡ true →
             false ≡ true
         two true e = e
         two false e = e
@@ -400,10 +400,10 @@ sum_same : (j k : Kind) (w : List ℕ) (f l : ℕ) (ps : Forest) (ua ub pa pb : 
     constant_of ua ≡ constant_of pa → constant_of ub ≡ constant_of pb → (is_pointer j ≡ true → NoConstant pa) →
     (is_pointer k ≡ true → NoConstant pb) → constant_of (two_by forms.SumNode j k (node forms.SumNode w f l ps) ua ub) ≡
     binary_constant (binary_in w) (constant_of pa) (constant_of pb)
-sum_same (Pointer s c v) Other w f l ps ua ub pa pb x y g h =
+sum_same (Pointer s c v) (Other b) w f l ps ua ub pa pb x y g h =
     left_none (binary_in w) (constant_of ua) _ (x ∙ g refl) ∙
     sym (left_none (binary_in w) (constant_of pa) (constant_of pb) (g refl))
-sum_same Other (Pointer s c v) w f l ps ua ub pa pb x y g h =
+sum_same (Other b) (Pointer s c v) w f l ps ua ub pa pb x y g h =
     right_none (binary_in w) _ (constant_of ub) (y ∙ h refl) ∙
     sym (right_none (binary_in w) (constant_of pa) (constant_of pb) (h refl))
 sum_same j k w f l ps ua ub pa pb x y g h =
@@ -438,7 +438,7 @@ base_place (Vectors v r) name n e = by (is_place (Vectors v r)) e
     by true h = refl
     by false h = absurd (false≢true (sym h))
 base_place (Pointer s c v) name n e = absurd (false≢true (sym n))
-base_place Other name n e = absurd (false≢true (sym n))
+base_place (Other y) name n e = absurd (false≢true (sym n))
 
 first_false : (a b : Bool) → a || b ≡ false → a ≡ false
 first_false true b h = h
@@ -502,7 +502,7 @@ constants_same role names (node forms.AssignNode w f l (more a (more b none))) h
     (scalar (marked names a)) (scalar (marked (behind names a) b))
 constants_same role names (node forms.CondNode w f l (more c (more a (more b none)))) h r v =
     let t = node forms.CondNode w f l (more c (more a (more b none))) in
-    let q = parts_stay role t Other (marked_parts forms.CondNode (more c (more a (more b none))) names true (more c
+    let q = parts_stay role t (Other true) (marked_parts forms.CondNode (more c (more a (more b none))) names true (more c
     (more a (more b none)))) (λ x y p. refl) r in
     let na = behind names c in
     let nb = behind na a in

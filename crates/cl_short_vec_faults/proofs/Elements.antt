@@ -62,15 +62,17 @@ by_number s e c r q kinds.Nothing j h = absurd (none-some j h)
 module _ (asked : Asked) (p s : Env) (place : Role) (w : List ℕ) (f l : ℕ) (ta tb ua ub : Syntax)
     (i : indexes (postfix_in w) ≡ true) where
   -- an element of what points to no vectors
-  pub index_claim : (ja jb : vectors.Kind) → Has asked p s roles.Other ja ta ua → Has asked p s roles.Other jb tb ub →
+  pub index_claim : (known : Bool) (ja jb : vectors.Kind) → Has asked p s roles.Other ja ta ua →
+      Has asked p s roles.Other jb tb ub →
       SoundTree asked p place (node forms.PostfixNode w f l (forest2 ta tb)) → s.owner ≡ p.owner →
-      Has asked p s place Other (node forms.PostfixNode w f l (forest2 ta tb))
+      Has asked p s place (Other known) (node forms.PostfixNode w f l (forest2 ta tb))
       (node forms.PostfixNode w f l (forest2 ua ub))
   unfolding kind_step misfits
-  index_claim ja jb x y so ow =
+  index_claim known ja jb x y so ow =
       let k = (index_known (postfix_in w) x.kind y.kind i
       (two_plain asked p s place forms.PostfixNode w f l refl refl ja jb ta tb ua ub x y so).fit).0 in
-      two_same asked p s place forms.PostfixNode w f l refl refl ja jb ta tb ua ub x y so Other k.0 ow tt tt tt k.1 tt
+      two_same asked p s place forms.PostfixNode w f l refl refl ja jb ta tb ua ub x y so (Other known) k.0 ow tt tt tt
+      k.1 tt
 
   index_step : (o : Option Postfix) (a b k : Kind) → indexes o ≡ true → index_kind a b ≡ Some k →
       on_one o (λ q. postfix_kind q (Some a ∷ Some b ∷ [])) ≡ Some k

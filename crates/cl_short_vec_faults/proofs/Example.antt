@@ -127,7 +127,7 @@ unfolding v_names
 all_stand q n = by (bytes_eq (codes "v") q) refl
   where
     by : (b : Bool) → bytes_eq (codes "v") q ≡ b →
-        StandsAlike (if b then Vectors (vector types.Int 4) Variable else Other) q plain_v form_v
+        StandsAlike (if b then Vectors (vector types.Int 4) Variable else Other false) q plain_v form_v
     by true e = subst (λ z. StandsAlike (Vectors (vector types.Int 4) Variable) z plain_v form_v)
         ((bytes_decides (codes "v") q).0 e) v_stands
     by false e = others_stand q n e
@@ -150,7 +150,7 @@ plainly = record {
   narrow = λ q. by (bytes_eq (codes "v") q);
 }
   where
-    by : (b : Bool) → width_in (if b then Vectors (vector types.Int 4) Variable else Other) ≤ 16
+    by : (b : Bool) → width_in (if b then Vectors (vector types.Int 4) Variable else Other false) ≤ 16
     by true = omega arith
     by false = omega arith
 

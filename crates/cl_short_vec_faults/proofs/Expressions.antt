@@ -310,7 +310,7 @@ mutual
       let m = marked names' a in
       let m' = marked names'' b in
       let ms = marking i (marking m (marking m' unmarked)) in
-      let stay = parts_stay role t Other ms (λ x y q. refl) r in
+      let stay = parts_stay role t (Other true) ms (λ x y q. refl) r in
       let pl' = subst (λ z. Plainly z p s) (sym (expression_names names c h.0)) pl in
       let pl'' = subst (λ z. Plainly z p s) (sym (expression_names names' a h.1)) pl' in
       let here = plain_here asked p place forms.CondNode w f l (forest3 (plain_of c) (plain_of a) (plain_of b)) refl
@@ -342,9 +342,9 @@ mutual
       here.1.0 in
       subst (λ z. Has asked p s place (cast_kind z) (node forms.CastNode w f l (forest2 (plain_of c) (plain_of a)))
       (node forms.CastNode w f l (forest2 (scalar i) (scalar m)))) (sym nothing)
-      (subst (λ z. Has asked p s place Other (node forms.CastNode w f l (forest2 z (plain_of a)))
+      (subst (λ z. Has asked p s place (Other true) (node forms.CastNode w f l (forest2 z (plain_of a)))
       (node forms.CastNode w f l (forest2 (scalar i) (scalar m)))) (sym kept.1)
-      (subst (λ z. Has asked p s place Other (node forms.CastNode w f l (forest2 c (plain_of a)))
+      (subst (λ z. Has asked p s place (Other true) (node forms.CastNode w f l (forest2 c (plain_of a)))
       (node forms.CastNode w f l (forest2 z (scalar m)))) (sym kept.0)
       (cast_claim asked p s place w f l c (kind_at m) (plain_of a) (scalar m) h.0 x so' pl.owner)))
   claim asked p s names role place (node forms.UnaryNode w f l (more a none)) h n pl g r v so =

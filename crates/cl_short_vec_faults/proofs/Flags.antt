@@ -39,7 +39,7 @@ vector_unflagged (Vectors v Variable) q p s h e = h.0
 vector_unflagged (Vectors v Value) q p s h e = absurd h
 vector_unflagged (Vectors v (Element sp c)) q p s h e = absurd h
 vector_unflagged (Pointer sp c v) q p s h e = absurd (false≢true e)
-vector_unflagged Other q p s h e = absurd (false≢true e)
+vector_unflagged (Other z) q p s h e = absurd (false≢true e)
 
 unpointed_other : (b : Bool) (x y : Syntax) → b ≡ false → Unflagged y → Unflagged (if b then x else y)
 unpointed_other true x y e h = absurd (false≢true (sym e))

@@ -108,11 +108,11 @@ module _ (g : List ℕ → ℕ) (h : ℕ) where
       let s : Span = record { first = f; last = l } in
       up forms.PostfixNode w (height_of g (element_at s a (scaled v b)))
       (element_low g h s a (scaled v b) p (scaled_low g h v b q))
-  two_by_low forms.AssignNode w f l ps (Pointer space c v) Other a b p q =
+  two_by_low forms.AssignNode w f l ps (Pointer space c v) (Other y) a b p q =
       with_two (node forms.AssignNode w f l ps) a (moved_by (setting_in w) v b) p (moved_low (setting_in w) v b q)
-  two_by_low forms.SumNode w f l ps (Pointer space c v) Other a b p q =
+  two_by_low forms.SumNode w f l ps (Pointer space c v) (Other y) a b p q =
       with_two (node forms.SumNode w f l ps) a (scaled v b) p (scaled_low g h v b q)
-  two_by_low forms.SumNode w f l ps Other (Pointer space c v) a b p q =
+  two_by_low forms.SumNode w f l ps (Other y) (Pointer space c v) a b p q =
       with_two (node forms.SumNode w f l ps) (scaled v a) b (scaled_low g h v a p) q
   two_by_low form w f l ps j k a b p q = with_two (node form w f l ps) a b p q
 

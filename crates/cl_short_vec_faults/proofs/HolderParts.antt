@@ -262,7 +262,7 @@ module _ (follow : ExpressionsFollow) (asked : Asked) (names : Names) (plain for
   unfolding plain_of marked kind_by placing.role_of inside
   part_list (node forms.ListNode w f l ps) h np r so =
       let ms = marked_parts forms.ListNode ps names true ps in
-      let q = parts_stay Free (node forms.ListNode w f l ps) Other ms (λ x y p. refl) r in
+      let q = parts_stay Free (node forms.ListNode w f l ps) (Other true) ms (λ x y p. refl) r in
       let x = expression_pairs forms.ListNode list_holds ps (λ ns front p. refl) true None ps h np.1 q so.0 in
       let P = plains_of ps in
       let S = scalars ms in

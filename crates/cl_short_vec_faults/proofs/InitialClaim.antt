@@ -21,7 +21,7 @@ use Rattle.cl_short_vec.specs.declared.roles.Role.TheVariants.{Used}
 use Rattle.cl_short_vec.specs.Types.{vector_type}
 use Rattle.cl_short_vec.specs.Kinds.{Names, with_name}
 use Rattle.cl_short_vec.specs.Marks.{kind_at, marked}
-use Rattle.cl_short_vec.specs.Faults.{refusals, is_same}
+use Rattle.cl_short_vec.specs.Faults.{refusals, agrees}
 use Rattle.cl_short_vec.specs.Order.{initial_steps}
 use Rattle.cl_short_vec.specs.Unit.{declared_name, declarator_lines}
 use Rattle.cl_short_vec_faults.specs.PlainForm.{plain_of}
@@ -64,7 +64,7 @@ pub record Initial (asked : Asked) (names : Names) (bound : ℕ) (plain form : E
   pub shape : IsExpressionOf true value
   pub no_point : NoPoint value
   pub stays : refusals Used (marked names value) ≡ []
-  pub same : is_same (Vectors v Value) (kind_at (marked names value)) ≡ true
+  pub same : agrees (Vectors v Value) (kind_at (marked names value)) ≡ true
   pub leaves : NumbersAmong (behind_its_type plain type)
       (initial_steps v (declared_name (set_declarator w f l value)) (marked names value))
   pub sound : SoundTree asked (behind_its_type plain type) roles.Other (plain_of value)

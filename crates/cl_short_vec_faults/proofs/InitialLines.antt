@@ -27,7 +27,7 @@ use Rattle.cl_short_vec.specs.declared.kinds.Kind.{Kind}
 use Rattle.cl_short_vec.specs.declared.kinds.Kind.TheVariants.{Vectors, Pointer, Other}
 use Rattle.cl_short_vec.specs.declared.roles.Role.TheVariants.{Used}
 use Rattle.cl_short_vec.specs.Types.{numbers}
-use Rattle.cl_short_vec.specs.Kinds.{Names, with_name, is_vector}
+use Rattle.cl_short_vec.specs.Kinds.{Names, with_name, is_other, is_vector}
 use Rattle.cl_short_vec.specs.Marks.{Mark, tree_at, marked}
 use Rattle.cl_short_vec.specs.Nodes.{component_name, helper, declared_at}
 use Rattle.cl_short_vec.specs.Order.{Step, Offset, Number, Copy, Load, Set, Store, Named, steps_of, sets}
@@ -233,10 +233,10 @@ helping_new n (s ∷ (u ∷ us)) (r ∷ (v ∷ vs)) t y h k a b = helping_new n 
 nameless : (asked : Asked) (names : Names) (n : ℕ) (p s : Env) → Beside asked names n p s → is_vector (names []) ≡ false
 nameless asked names n p s h = by (names []) (h.named [])
   where
-    by : (k : Kind) → ((k ≡ Other → ⊥) → IsName []) → is_vector k ≡ false
-    by (Vectors v r) g = absurd (false≢true (g (λ e. absurd cc)).some)
+    by : (k : Kind) → (is_other k ≡ false → IsName []) → is_vector k ≡ false
+    by (Vectors v r) g = absurd (false≢true (g refl).some)
     by (Pointer s c v) g = refl
-    by Other g = refl
+    by (Other b) g = refl
 
 -- ---- the lines
 
@@ -373,7 +373,7 @@ module _ (follow : InitialsFollow) (asked : Asked) (outer names : Names) (bound 
       }
     where
       named_by : (r : List ℕ) (b : Bool) → bytes_eq q r ≡ b →
-          ((if b then Vectors v Variable else names r) ≡ Other → ⊥) → IsName r
+          is_other (if b then Vectors v Variable else names r) ≡ false → IsName r
       named_by r true a o = subst IsName ((bytes_decides q r).0 a) x.name'.is
       named_by r false a o = x.beside.named r o
 

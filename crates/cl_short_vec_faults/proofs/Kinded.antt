@@ -41,7 +41,7 @@ pointer_is s c v k h = record { root = h.0; reach' = h.1; pointer = some_same k 
 
 pub value_as : (j : vectors.Kind) (k : Kind) → KindAs j (Some k) → KindAs (pointer_alone j) (Some (value_kind k))
 value_as (Vectors v r) k h = tt
-value_as Other k h = tt
+value_as (Other b) k h = tt
 value_as (Pointer s c v) k h = (h.0, reach.Value, ap (λ z. on_one z (λ x. Some (value_kind x))) h.2)
 
 pub address_as : (j : vectors.Kind) (a k : Kind) → KindAs j (Some a) → address_kind a ≡ Some k →
@@ -50,7 +50,7 @@ address_as (Vectors v (Element s c)) a k h e = (h.0, reach.Value, sym e ∙ ap (
 address_as (Vectors v Value) a k h e = tt
 address_as (Vectors v Variable) a k h e = tt
 address_as (Pointer s c v) a k h e = tt
-address_as Other a k h e = tt
+address_as (Other b) a k h e = tt
 
 -- ---- operators
 
@@ -100,17 +100,17 @@ before_pointer op s e c r q (kinds.Number t p) j h = absurd (none-some j h)
 
 moved_as : (op : Bin) (j k : vectors.Kind) (a b i : Kind) → KindAs j (Some a) → KindAs k (Some b) →
     binary_kind op a b ≡ Some i → KindAs (pointer_moved op j k) (Some i)
-moved_as bins.Add (Pointer s c v) Other a b i h g e =
+moved_as bins.Add (Pointer s c v) (Other y) a b i h g e =
     let p = pointer_is s c v a h in
     let o = behind_pointer bins.Add s v.of c p.root p.reach' b i
     (ap (λ z. binary_kind bins.Add z b) (sym p.pointer) ∙ e) in
     (p.root, reach.Value, ap (λ z. Some z) o.moved)
-moved_as bins.Add Other (Pointer s c v) a b i h g e =
+moved_as bins.Add (Other y) (Pointer s c v) a b i h g e =
     let p = pointer_is s c v b g in
     let o = before_pointer bins.Add s v.of c p.root p.reach' a i
     (ap (λ z. binary_kind bins.Add a z) (sym p.pointer) ∙ e) in
     (p.root, reach.Value, ap (λ z. Some z) o.moved)
-moved_as bins.Sub (Pointer s c v) Other a b i h g e =
+moved_as bins.Sub (Pointer s c v) (Other y) a b i h g e =
     let p = pointer_is s c v a h in
     let o = behind_pointer bins.Sub s v.of c p.root p.reach' b i
     (ap (λ z. binary_kind bins.Sub z b) (sym p.pointer) ∙ e) in
@@ -123,9 +123,9 @@ joined_op op (Vectors v r) k a b i u w h g e = absurd (false≢true (sym u))
 joined_op op j (Vectors v r) a b i u w h g e = absurd (false≢true (sym w))
 joined_op op (Pointer s c v) (Pointer s' c' v') a b i u w h g e =
     moved_as op (Pointer s c v) (Pointer s' c' v') a b i h g e
-joined_op op (Pointer s c v) Other a b i u w h g e = moved_as op (Pointer s c v) Other a b i h g e
-joined_op op Other (Pointer s c v) a b i u w h g e = moved_as op Other (Pointer s c v) a b i h g e
-joined_op op Other Other a b i u w h g e = moved_as op Other Other a b i h g e
+joined_op op (Pointer s c v) (Other y) a b i u w h g e = moved_as op (Pointer s c v) (Other y) a b i h g e
+joined_op op (Other y) (Pointer s c v) a b i u w h g e = moved_as op (Other y) (Pointer s c v) a b i h g e
+joined_op op (Other y) (Other z) a b i u w h g e = moved_as op (Other y) (Other z) a b i h g e
 
 pub joined_as : (o : Option Bin) (j k : vectors.Kind) (a b i : Kind) → is_vector j ≡ false → is_vector k ≡ false →
     KindAs j (Some a) → KindAs k (Some b) →

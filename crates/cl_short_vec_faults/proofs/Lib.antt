@@ -122,3 +122,8 @@ pub mod LoopParts
 pub mod StatementLoops
 pub mod Declarations
 pub mod VectorNames
+pub mod KeptCounted
+pub mod KeptExpressions
+pub mod KeptStatements
+pub mod KeptNodes
+pub mod KeptUnits

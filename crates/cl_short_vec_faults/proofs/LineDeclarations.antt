@@ -25,7 +25,7 @@ use Rattle.cl_short_vec.specs.declared.roles.Role.TheVariants.{Used}
 use Rattle.cl_short_vec.specs.Types.{numbers, vector_type}
 use Rattle.cl_short_vec.specs.Kinds.{Names, with_name}
 use Rattle.cl_short_vec.specs.Marks.{Mark, tree_at, kind_at, marked}
-use Rattle.cl_short_vec.specs.Faults.{refusals, is_same}
+use Rattle.cl_short_vec.specs.Faults.{refusals, agrees}
 use Rattle.cl_short_vec.specs.Nodes.{component_name}
 use Rattle.cl_short_vec.specs.Order.{Named, Step, steps_of, sets, initial_steps}
 use Rattle.cl_short_vec.specs.Parts.{Assigned, assigned_part}
@@ -124,10 +124,10 @@ token_head f l (p ∷ qs) q h (inr i) = token_head f l qs q h.1 i
 
 -- ---- kinds
 
-wide_value : (v : Vector) (k : Kind) → is_same (Vectors v Value) k ≡ true → Wide v.count k
+wide_value : (v : Vector) (k : Kind) → agrees (Vectors v Value) k ≡ true → Wide v.count k
 wide_value v (Vectors u s) h = same_count v u h
 wide_value v (Pointer s c u) h = tt
-wide_value v Other h = tt
+wide_value v (Other b) h = tt
 
 count_small : (o : Option Vector) (v : Vector) → o ≡ Some v → SmallVector o → v.count ≤ 16
 count_small o v e h = subst SmallVector e h
@@ -137,7 +137,7 @@ count_small o v e h = subst SmallVector e h
 module _ (asked : Asked) (names : Names) (plain form : Env) (v : Vector) (t e : Syntax) (d : Mark)
     (b : InBlock asked names plain form) (ht : IsType t) (hv : vector_type t ≡ Some v)
     (own : IsOwnSpace (space_among (parts_of t))) (he : IsExpressionOf true e) (ne : NoPoint e)
-    (re : refusals Used (marked names e) ≡ []) (same : is_same (Vectors v Value) (kind_at (marked names e)) ≡ true)
+    (re : refusals Used (marked names e) ≡ []) (same : agrees (Vectors v Value) (kind_at (marked names e)) ≡ true)
     (so : SoundTree asked plain roles.Other (plain_of e)) where
   abbrev x : Named
   x = declared_name (tree_at d)

@@ -74,7 +74,7 @@ use Rattle.cl_short_vec_faults.proofs.LineFits.{node_steps, one_part, two_parts,
 pub small_count : (k : Kind) → SmallKind k → count_in k ≤ 16
 small_count (Vectors v r) h = h
 small_count (Pointer s c v) h = omega arith
-small_count Other h = omega arith
+small_count (Other b) h = omega arith
 
 -- the parts of a call are looked at where it is a vector
 abbrev Needs : Form → Kind → Type 0
@@ -213,7 +213,7 @@ module _ (asked : Asked) (names : Names) (plain form : Env) (alike : Plainly nam
   selected_inner : (name : List ℕ) (k : Kind) → is_inner (selected_role (Some name) k) ≡ true
   selected_inner name (Vectors v r) = refl
   selected_inner name (Pointer s c v) = refl
-  selected_inner name Other = refl
+  selected_inner name (Other b) = refl
 
   -- a selection, or an element
   postfix_steps : (of : IntType) (t : Syntax) (k : Kind) (s : Option (List ℕ)) (m : Mark) (items lists' : List Step) →

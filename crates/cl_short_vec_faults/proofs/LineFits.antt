@@ -95,7 +95,7 @@ paren_item listed role k h = paren_inner role k (item_no_list listed role h)
 pub alone_no_vector : (k : Kind) → is_vector (pointer_alone k) ≡ false
 alone_no_vector (Vectors v r) = refl
 alone_no_vector (Pointer s c v) = refl
-alone_no_vector Other = refl
+alone_no_vector (Other b) = refl
 
 address_no_vector : (k : Kind) → is_vector (address_of k) ≡ false
 address_no_vector (Vectors v (Element s c)) = refl
@@ -111,7 +111,7 @@ pub record IsElement (k : Kind) : Type 0 where
 element_is : (k : Kind) → is_vector (element_of k) ≡ true → IsElement (element_of k)
 element_is (Pointer s c v) h = record { vector = v; space = s; constant = c; is = refl }
 element_is (Vectors v r) h = absurd (false≢true h)
-element_is Other h = absurd (false≢true h)
+element_is (Other b) h = absurd (false≢true h)
 
 abbrev pub is_element_made : Made → Bool
 is_element_made made.Element = true
@@ -139,7 +139,7 @@ variable_only (Vectors v Variable) q p s h e = (v, refl)
 variable_only (Vectors v Value) q p s h e = absurd h
 variable_only (Vectors v (Element s' c)) q p s h e = absurd h
 variable_only (Pointer s' c v) q p s h e = absurd (false≢true e)
-variable_only Other q p s h e = absurd (false≢true e)
+variable_only (Other b) q p s h e = absurd (false≢true e)
 
 -- ---- numbers in a row
 

@@ -174,7 +174,7 @@ pointer_typed (Vectors v (Element s c)) env d q h = h
 pointer_typed (Vectors v Value) env d q h = tt
 pointer_typed (Vectors v Variable) env d q h = tt
 pointer_typed (Pointer s c v) env d q h = tt
-pointer_typed Other env d q h = tt
+pointer_typed (Other b) env d q h = tt
 
 helped_typed : (env : Env) (d : Declared) (s : Step) → HelpedBy env s → HelpedBy (typed_by env d) s
 helped_typed env d (Offset (mark t k ms)) h = pointer_typed k env d (step_name (Offset (mark t k ms))) h

@@ -76,7 +76,7 @@ module _ (env to : Env) (name : List ℕ) (m : Meaning) (a : Adds env to name m)
   stands_kept : (k : Kind) (q : List ℕ) (plain : Env) → bytes_eq name q ≡ false →
       (is_vector k ≡ true → (c : ℕ) → bytes_eq name (component_name q c) ≡ false) → StandsAlike k q plain env →
       StandsAlike k q plain to
-  stands_kept Other q plain e g h = same_meant q e ∙ h
+  stands_kept (Other b) q plain e g h = same_meant q e ∙ h
   stands_kept (Pointer s c v) q plain e g h = (h.0, same_meant q e ∙ h.1, h.2)
   stands_kept (Vectors v Variable) q plain e g h =
       (h.0, h.1, h.2, λ c l. same_meant (component_name q c) (g refl c) ∙ h.3 c l)
@@ -119,7 +119,7 @@ module _ (env to : Env) (name : List ℕ) (m : Meaning) (a : Adds env to name m)
   pointer_kept (Vectors v Value) q f d h = tt
   pointer_kept (Vectors v Variable) q f d h = tt
   pointer_kept (Pointer s c v) q f d h = tt
-  pointer_kept Other q f d h = tt
+  pointer_kept (Other b) q f d h = tt
 
   -- what a step declared is there still
   pub helped_kept : (s : Step) → is_declared env name ≡ false → is_declared env (step_name s) ≡ true →

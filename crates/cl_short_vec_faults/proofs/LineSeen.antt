@@ -151,7 +151,7 @@ alone_alike p s a h q i c n e = h q i c n (sym (alike_callee p s a q) ∙ e)
 
 pub stands_alike : (k : vectors.Kind) (q : List ℕ) (p s p' s' : Env) → Alike p p' → Alike s s' → StandsAlike k q p s →
     StandsAlike k q p' s'
-stands_alike Other q p s p' s' a b h =
+stands_alike (Other y) q p s p' s' a b h =
     ap unnumbered (b.meanings q) ∙ h ∙ sym (ap unnumbered (a.meanings q))
 stands_alike (Pointer s c v) q p f p' f' a b h = (
   h.0,
@@ -172,7 +172,7 @@ pub stands_moved : (k : vectors.Kind) (q : List ℕ) (p s p' s' : Env) → meani
     meaning_of s' q ≡ meaning_of s q →
     ((c : ℕ) → meaning_of s' (component_name q c) ≡ meaning_of s (component_name q c)) → StandsAlike k q p s →
     StandsAlike k q p' s'
-stands_moved Other q p s p' s' a b g h = ap unnumbered b ∙ h ∙ sym (ap unnumbered a)
+stands_moved (Other y) q p s p' s' a b g h = ap unnumbered b ∙ h ∙ sym (ap unnumbered a)
 stands_moved (Pointer sp c v) q p s p' s' a b g h = (
   h.0,
   ap unnumbered b ∙ h.1 ∙ sym (ap unnumbered a),

@@ -160,9 +160,9 @@ at_place P step (c ∷ cs) (suc j) h l = at_place P step cs j h.1 (omega arith)
 -- a right side that is a vector is as wide as the target
 pub right_wide : (o : Option Setting) (j k : Kind) → right_fits o j k ≡ true → is_vector j ≡ true → Wide (count_in j) k
 right_wide o (Pointer s c v) k h e = absurd (false≢true e)
-right_wide o Other k h e = absurd (false≢true e)
+right_wide o (Other b) k h e = absurd (false≢true e)
 right_wide o (Vectors v r) (Pointer s c u) h e = tt
-right_wide o (Vectors v r) Other h e = tt
+right_wide o (Vectors v r) (Other b) h e = tt
 right_wide (Some (settings.With op)) (Vectors v r) (Vectors u s) h e = same_count v u h
 right_wide None (Vectors v r) (Vectors u s) h e = same_count v u h
 right_wide (Some s') (Vectors v r) (Vectors u s) h e = same_count v u h

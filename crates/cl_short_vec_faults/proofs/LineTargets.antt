@@ -73,8 +73,8 @@ several_reach : (v : Vector) (r : Reach) (o : Option (List ℕ)) → is_place (s
 several_reach v r None h = absurd (false≢true h)
 several_reach v r (Some ks) h = by (nat_eq (length ks) 1) h
   where
-    by : (b : Bool) → is_place (if b then Other else Vectors (vector v.of (length ks)) r) ≡ true →
-        (u : Vector) × ((if b then Other else Vectors (vector v.of (length ks)) r) ≡ Vectors u r)
+    by : (b : Bool) → is_place (if b then (Other true) else Vectors (vector v.of (length ks)) r) ≡ true →
+        (u : Vector) × ((if b then (Other true) else Vectors (vector v.of (length ks)) r) ≡ Vectors u r)
     by true e = absurd (false≢true e)
     by false e = (vector v.of (length ks), refl)
 

@@ -239,7 +239,7 @@ differ_is (k ∷ ks) h =
 all_differ_of : (k : Kind) → AllDiffer (all_of k)
 all_differ_of (Vectors v r) = numbers_differ 0 v.count
 all_differ_of (Pointer s c v) = tt
-all_differ_of Other = tt
+all_differ_of (Other y) = tt
 
 second_no : (a b : Bool) → (a || b) ≡ false → b ≡ false
 second_no false b h = h

@@ -15,7 +15,7 @@ use Rattle.cl_short_vec.specs.declared.nodes.Span.{Span}
 use Rattle.cl_short_vec.specs.declared.kinds.Reach.TheVariants.{Value, Variable, Element}
 use Rattle.cl_short_vec.specs.declared.kinds.Kind as vectors
 use Rattle.cl_short_vec.specs.declared.kinds.Kind.TheVariants.{Vectors, Pointer, Other}
-use Rattle.cl_short_vec.specs.Kinds.{Names, with_name}
+use Rattle.cl_short_vec.specs.Kinds.{Names, with_name, is_other}
 use Rattle.cl_short_vec.specs.Nodes.{component_name, helper}
 use Rattle.cl_short_vec_faults.specs.Plainly.{has_point, unnumbered, StandsAlike, PointsAs, width_in}
 use Rattle.cl_short_vec_faults.specs.Law.{AllGive, CalleeGives}
@@ -150,7 +150,7 @@ alike_at : (k : vectors.Kind) (q : List ℕ) (p s p' s' : Env) → meaning_of p'
     meaning_of s' q ≡ meaning_of s q →
     ((c : ℕ) → meaning_of s' (component_name q c) ≡ meaning_of s (component_name q c)) → StandsAlike k q p s →
     StandsAlike k q p' s'
-alike_at Other q p s p' s' a b d h = ap unnumbered b ∙ h ∙ sym (ap unnumbered a)
+alike_at (Other y) q p s p' s' a b d h = ap unnumbered b ∙ h ∙ sym (ap unnumbered a)
 alike_at (Pointer sp c v) q p s p' s' a b d (g, h, r) = (
   g,
   ap unnumbered b ∙ h ∙ sym (ap unnumbered a),
@@ -202,10 +202,10 @@ module _ (asked : Asked) (names : Names) (n : ℕ) (p s : Env) (name : List ℕ)
       by true = x.narrow
       by false = h.plainly.narrow q
 
-  named_after : (q : List ℕ) → (after q ≡ Other → ⊥) → IsName q
+  named_after : (q : List ℕ) → is_other (after q) ≡ false → IsName q
   named_after q = by (bytes_eq name q) refl
     where
-      by : (b : Bool) → bytes_eq name q ≡ b → ((if b then k else names q) ≡ Other → ⊥) → IsName q
+      by : (b : Bool) → bytes_eq name q ≡ b → is_other (if b then k else names q) ≡ false → IsName q
       by true t z = subst IsName (same_name name q t) x.is
       by false t z = h.named q z
 
@@ -285,14 +285,14 @@ beside_names asked names others n p s e h = let y = h.plainly in record {
   unflagged = h.unflagged;
   gives = h.gives;
   alone = h.alone;
-  named = λ q z. h.named q (λ k. z (e q ∙ k));
+  named = λ q z. h.named q (sym (ap is_other (e q)) ∙ z);
 }
 
 -- a name that stands for no vector does not change them
-pub other_names : (names : Names) (name : List ℕ) → names name ≡ Other → (q : List ℕ) →
-    names q ≡ with_name names name Other q
-other_names names name h q = by (bytes_eq name q) refl
+pub other_names : (names : Names) (name : List ℕ) (visible : Bool) → names name ≡ Other visible → (q : List ℕ) →
+    names q ≡ with_name names name (Other visible) q
+other_names names name visible h q = by (bytes_eq name q) refl
   where
-    by : (b : Bool) → bytes_eq name q ≡ b → names q ≡ (if b then Other else names q)
+    by : (b : Bool) → bytes_eq name q ≡ b → names q ≡ (if b then Other visible else names q)
     by true e = ap names (sym (same_name name q e)) ∙ h
     by false e = refl

@@ -67,7 +67,7 @@ scalar_callee p q o m e h = sym (callee_numberless p q o) ∙ ap (callee_by p q)
 
 callee_by_kind : (k : vectors.Kind) (p s : Env) (q : List ℕ) → StandsAlike k q p s → s.functions ≡ p.functions →
     not (is_some (callee_of p q)) ≡ false → callee_of s q ≡ callee_of p q
-callee_by_kind Other p s q h f u = meant_callee p s q f h
+callee_by_kind (Other b) p s q h f u = meant_callee p s q f h
 callee_by_kind (Pointer s' c v) p s q h f u = meant_callee p s q f h.1
 callee_by_kind (Vectors v Variable) p s q h f u =
     let nothing : callee_of p q ≡ None =
@@ -108,7 +108,7 @@ kinds_meant p s q f e =
 
 variable_by : (k : vectors.Kind) (p s : Env) (q : List ℕ) → StandsAlike k q p s → s.flags ≡ p.flags →
     is_vector k ≡ false → (name_kind s q ≡ name_kind p q) × KindAs k (name_kind p q)
-variable_by Other p s q h f u = (kinds_meant p s q f h, tt)
+variable_by (Other b) p s q h f u = (kinds_meant p s q f h, tt)
 variable_by (Pointer s' c v) p s q h f u =
     (kinds_meant p s q f h.1, subst (λ z. PointsAs s' c v z) (sym (unflagged p q h.0)) h.2)
 variable_by (Vectors v r) p s q h f u = absurd (false≢true (sym u))
@@ -137,7 +137,7 @@ vector_same v p s q h = record {
 
 inside_stands : (k : vectors.Kind) (p s : Env) (n q : List ℕ) → StandsAlike k q p s →
     StandsAlike k q (in_arguments p n) (in_arguments s n)
-inside_stands Other p s n q h = h
+inside_stands (Other b) p s n q h = h
 inside_stands (Pointer s' c v) p s n q h = h
 inside_stands (Vectors v Variable) p s n q h = h
 inside_stands (Vectors v Value) p s n q h = h

@@ -62,7 +62,7 @@ use Rattle.cl_short_vec_faults.proofs.Placing.{Placed}
 small_width : (k : vectors.Kind) → width_in k ≤ 16 → SmallKind k
 small_width (Vectors v r) h = h
 small_width (Pointer s c v) h = h
-small_width Other h = tt
+small_width (Other b) h = tt
 
 pub small_names : (names : Names) (p s : Env) → Plainly names p s → SmallNames names
 small_names names p s h q = small_width (names q) (h.narrow q)
@@ -85,20 +85,20 @@ leaf_claim asked p s place form w f l j k e c ow n t g so st a = record {
 
 pub number_claim : (asked : Asked) (p s : Env) (place : Role) (w : List ℕ) (f l : ℕ) → s.owner ≡ p.owner →
     is_some (literal_in w) ≡ true → SoundTree asked p place (node forms.NumberNode w f l none) →
-    Has asked p s place Other (node forms.NumberNode w f l none) (node forms.NumberNode w f l none)
+    Has asked p s place (Other true) (node forms.NumberNode w f l none) (node forms.NumberNode w f l none)
 unfolding kind_step
 number_claim asked p s place w f l ow h so =
     let k = the_some (literal_in w) h in
-    leaf_claim asked p s place forms.NumberNode w f l Other (number k.0.0) refl refl ow tt tt tt so (ap literal_kind
+    leaf_claim asked p s place forms.NumberNode w f l (Other true) (number k.0.0) refl refl ow tt tt tt so (ap literal_kind
     k.1)
     tt
 
 pub truth_claim : (asked : Asked) (p s : Env) (place : Role) (w : List ℕ) (f l : ℕ) → s.owner ≡ p.owner →
     SoundTree asked p place (node forms.TruthNode w f l none) →
-    Has asked p s place Other (node forms.TruthNode w f l none) (node forms.TruthNode w f l none)
+    Has asked p s place (Other true) (node forms.TruthNode w f l none) (node forms.TruthNode w f l none)
 unfolding kind_step
 truth_claim asked p s place w f l ow so =
-    leaf_claim asked p s place forms.TruthNode w f l Other (number types.Int) refl refl ow tt tt tt so refl tt
+    leaf_claim asked p s place forms.TruthNode w f l (Other true) (number types.Int) refl refl ow tt tt tt so refl tt
 
 pub variable_claim : (asked : Asked) (p s : Env) (names : Names) (place : Role) (w : List ℕ) (f l : ℕ) →
     Plainly names p s → has_point (name_in w) ≡ false → is_vector (names (name_in w)) ≡ false →
@@ -120,7 +120,7 @@ element_kind_place (Vectors v (Element s c)) h = refl
 element_kind_place (Vectors v Value) h = absurd (false≢true h)
 element_kind_place (Vectors v Variable) h = absurd (false≢true h)
 element_kind_place (Pointer s c v) h = absurd (false≢true h)
-element_kind_place Other h = absurd (false≢true h)
+element_kind_place (Other y) h = absurd (false≢true h)
 
 postfix_element : (o : Option (List ℕ)) (k : vectors.Kind) (b : Bool) →
     element_by forms.PostfixNode o k b ≡ true → is_place k ≡ true
@@ -175,9 +175,9 @@ module _ (asked : Asked) (p s : Env) (names : Names) (place : Role) (w : List �
   unary_claim None e h r v = absurd h
   unary_claim (Some prefixes.Size) e h r v =
       let k = type_kept a names h (type_no_vector a names h r) in
-      subst (λ z. Has asked p s place Other (node forms.UnaryNode w f l (forest1 z))
+      subst (λ z. Has asked p s place (Other true) (node forms.UnaryNode w f l (forest1 z))
       (node forms.UnaryNode w f l (forest1 (scalar (marked names a))))) (sym k.1)
-      (subst (λ z. Has asked p s place Other (node forms.UnaryNode w f l (forest1 a))
+      (subst (λ z. Has asked p s place (Other true) (node forms.UnaryNode w f l (forest1 a))
       (node forms.UnaryNode w f l (forest1 z))) (sym k.0) (size_claim asked p s place w f l a h
       (subst (λ z. SoundTree asked p place (node forms.UnaryNode w f l (forest1 z))) k.1 so) e ow))
   unary_claim (Some (prefixes.Operator op)) e h r v =
@@ -210,7 +210,7 @@ module _ (asked : Asked) (p s : Env) (place : Role) (q : Option Postfix) (j : ve
 
   -- of a selection of one component
   pub behind_selection : (b : Bool) (o : Option (List ℕ)) (name : List ℕ) (c : ℕ) → b ≡ true → o ≡ Some name →
-      one_selected forms.PostfixNode o cs ≡ Some c → selection_of j name ≡ Other → Has asked p s place Other x (g c) →
+      one_selected forms.PostfixNode o cs ≡ Some c → selection_of j name ≡ (Other true) → Has asked p s place (Other true) x (g c) →
       Has asked p s place (postfix_kind o q j) (if b then x else n)
       (chosen_or (one_selected forms.PostfixNode o cs) g (if b then y else z))
   behind_selection true o name c e d i k h =
@@ -222,7 +222,7 @@ module _ (asked : Asked) (p s : Env) (place : Role) (q : Option Postfix) (j : ve
 -- ---- calls and casts
 
 pub called_other : (i : Option Intrinsic) (k : vectors.Kind) → is_vector (called_kind i k) ≡ false →
-    called_kind i k ≡ Other
+    called_kind i k ≡ (Other true)
 called_other (Some (intrinsics.Function g)) (Vectors v r) h = absurd (false≢true (sym h))
 called_other i k h = refl
 
@@ -281,10 +281,10 @@ index_other asked p s place w f l ps ja jb ta tb ua ub (Some name) i d v ow x y 
     absurd (false≢true (sym (ap is_some d)))
 index_other asked p s place w f l ps ja jb ta tb ua ub None i d v ow x y so = by ja (postfix_in w) i v x
   where
-    other : (j : vectors.Kind) → Has asked p s roles.Other j ta ua →
-        Has asked p s place Other (node forms.PostfixNode w f l (forest2 ta tb))
+    other : (known : Bool) (j : vectors.Kind) → Has asked p s roles.Other j ta ua →
+        Has asked p s place (Other known) (node forms.PostfixNode w f l (forest2 ta tb))
         (node forms.PostfixNode w f l (forest2 ua ub))
-    other j z = index_claim asked p s place w f l ta tb ua ub i j jb z y so ow
+    other known j z = index_claim asked p s place w f l ta tb ua ub i known j jb z y so ow
 
     by : (j : vectors.Kind) (q : Option Postfix) → indexes q ≡ true → is_vector (postfix_kind None q j) ≡ false →
         Has asked p s roles.Other j ta ua →
@@ -293,5 +293,5 @@ index_other asked p s place w f l ps ja jb ta tb ua ub None i d v ow x y so = by
     by j None i v x = absurd (false≢true i)
     by j (Some (postfixes.Step op)) i v x = absurd (false≢true i)
     by (Pointer sp c z) (Some postfixes.Index) i v x = absurd (false≢true (sym v))
-    by (Vectors z q) (Some postfixes.Index) i v x = other (Vectors z q) x
-    by Other (Some postfixes.Index) i v x = other Other x
+    by (Vectors z q) (Some postfixes.Index) i v x = other true (Vectors z q) x
+    by (Other b) (Some postfixes.Index) i v x = other b (Other b) x

@@ -50,8 +50,9 @@ alone_meant s q = refl
 -- ---- names that are announced
 
 -- a name that stands for nothing stands for no vector
-none_other : (k : vectors.Kind) (q : List ℕ) (p s : Env) → meaning_of p q ≡ None → StandsAlike k q p s → k ≡ Other
-none_other Other q p s e h = refl
+none_other : (k : vectors.Kind) (q : List ℕ) (p s : Env) → meaning_of p q ≡ None → StandsAlike k q p s →
+    (visible : Bool) × (k ≡ Other visible)
+none_other (Other visible) q p s e h = (visible, refl)
 none_other (Pointer sp c v) q p s e (g, h, (r, reach, i)) =
     absurd (none-some _ (sym (ap (λ z. on_one z kind_of_meaning) e) ∙ i))
 none_other (Vectors v Variable) q p s e (g, fixed, h, r) = absurd (none-some _ (sym (ap unnumbered e) ∙ h))
@@ -79,7 +80,7 @@ free_alike k q p s v h a b d e = by k v h
     same i = cases a b (sym (ap unnumbered e) ∙ i ∙ ap unnumbered d)
 
     by : (k : vectors.Kind) → is_vector k ≡ false → StandsAlike k q p s → FreeAlike a b
-    by Other v h = same h
+    by (Other b) v h = same h
     by (Pointer sp c u) v (g, h, r) = same h
     by (Vectors u r) v h = absurd (false≢true (sym v))
 
@@ -122,7 +123,7 @@ announced_unknown env name a i e =
     false≢true (sym n ∙ a)
 
 pub announced_other : (names : Names) (p s : Env) (name : List ℕ) → OneScope p → has_point name ≡ false →
-    Plainly names p s → announced p name ≡ true → names name ≡ Other
+    Plainly names p s → announced p name ≡ true → (visible : Bool) × (names name ≡ Other visible)
 announced_other names p s name o z h a =
     none_other (names name) name p s (announced_free p name o a) (h.names' name z)
 
@@ -170,11 +171,11 @@ module _ (asked : Asked) (names : Names) (n : ℕ) (p s : Env) (name : List ℕ)
   definition_same : definition_of s name ≡ definition_of p name
   definition_same = ap (definition_from name 0) h.plainly.functions
 
-  defined_fresh : (fixed : Bool) → (fixed ≡ false → meaning_of p name ≡ None) →
-      ((i : Intrinsic) → intrinsic_in name ≡ Some i → ⊥) → Fresh asked p s name Other
+  defined_fresh : (visible fixed : Bool) → (fixed ≡ false → meaning_of p name ≡ None) →
+      ((i : Intrinsic) → intrinsic_in name ≡ Some i → ⊥) → Fresh asked p s name (Other visible)
       (record { meaning = defined_meaning (definition_of p name); firm = fixed })
       (record { meaning = defined_meaning (definition_of s name); firm = fixed })
-  defined_fresh fixed free new = record {
+  defined_fresh visible fixed free new = record {
     is = is;
     narrow = omega arith;
     alike = ap unnumbered (meant_there s there' name _) ∙
@@ -191,10 +192,10 @@ module _ (asked : Asked) (names : Names) (n : ℕ) (p s : Env) (name : List ℕ)
 
   -- a function is visible behind its definition
   pub beside_function : ((i : Intrinsic) → intrinsic_in name ≡ Some i → ⊥) →
-      Beside asked (with_name names name Other) n (with_function p name) (with_function s name)
-  beside_function new = beside_named asked names n p s name Other (firm (defined_meaning (definition_of p name)))
+      Beside asked (with_name names name (Other false)) n (with_function p name) (with_function s name)
+  beside_function new = beside_named asked names n p s name (Other false) (firm (defined_meaning (definition_of p name)))
       (firm (defined_meaning (definition_of s name)))
-      (defined_fresh true (λ e. absurd (false≢true (sym e))) new) there h
+      (defined_fresh false true (λ e. absurd (false≢true (sym e))) new) there h
 
   -- a prototype declares its name where nothing does yet
   pub beside_prototype : is_vector (names name) ≡ false →
@@ -208,10 +209,10 @@ module _ (asked : Asked) (names : Names) (n : ℕ) (p s : Env) (name : List ℕ)
           (if b then declare s name (record { meaning = defined_meaning (definition_of s name); firm = false }) else s)
       by false e = h
       by true e =
-          let f = defined_fresh false (λ z. announced_free p name o e) (announced_unknown p name e) in
-          beside_names asked (with_name names name Other) names n _ _
-          (other_names names name (announced_other names p s name o is.plain h.plainly e))
-          (beside_named asked names n p s name Other _ _ f there h)
+          let (visible, k) = announced_other names p s name o is.plain h.plainly e in
+          let f = defined_fresh visible false (λ z. announced_free p name o e) (announced_unknown p name e) in
+          beside_names asked (with_name names name (Other visible)) names n _ _ (other_names names name visible k)
+          (beside_named asked names n p s name (Other visible) _ _ f there h)
 
 -- ---- in a function
 
@@ -243,7 +244,8 @@ module _ (asked : Asked) (names : Names) (n : ℕ) (p s : Env) (o : OneScope p) 
   own_announced g e a =
       let x = own g e in
       let m = firm (function_meaning g.kernel p.owner.number) in
-      let f : Fresh asked (opened p) (opened s) g.name Other m m = record {
+      let (visible, k) = announced_other names p s g.name o x.0.plain h.plainly a in
+      let f : Fresh asked (opened p) (opened s) g.name (Other visible) m m = record {
         is = x.0;
         narrow = omega arith;
         alike = ap unnumbered (meant_there (opened s) (opened_there s.scopes) g.name m) ∙
@@ -256,9 +258,8 @@ module _ (asked : Asked) (names : Names) (n : ℕ) (p s : Env) (o : OneScope p) 
       (last_entry p.scopes g.name m)
       (subst (λ z. Beside asked names n (declare (opened p) g.name m) (record s { scopes = z }))
       (last_entry s.scopes g.name m)
-      (beside_names asked (with_name names g.name Other) names n _ _
-      (other_names names g.name (announced_other names p s g.name o x.0.plain h.plainly a))
-      (beside_named asked names n (opened p) (opened s) g.name Other m m f (opened_there p.scopes)
+      (beside_names asked (with_name names g.name (Other visible)) names n _ _ (other_names names g.name visible k)
+      (beside_named asked names n (opened p) (opened s) g.name (Other visible) m m f (opened_there p.scopes)
       (beside_opened asked names n p s h))))
 
   own_by : (f : Option Signature) → slice_get p.functions p.owner.number ≡ f → Beside asked names n

@@ -157,7 +157,7 @@ abbrev param_meaning : Declared → Option Bool → ℕ → Meaning
 param_meaning d None x = meanings.Scalar d.of d.constant x
 param_meaning d (Some fixed) x = meanings.Pointer (pointed_space d) d.of d.constant (roots.Param x) fixed x
 
-pointed_none : (o : Option Vector) (type : Syntax) → pointed_by o None type ≡ Other
+pointed_none : (o : Option Vector) (type : Syntax) → pointed_by o None type ≡ (Other true)
 pointed_none None type = refl
 pointed_none (Some v) type = refl
 

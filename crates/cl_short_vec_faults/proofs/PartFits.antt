@@ -40,7 +40,7 @@ use Rattle.cl_short_vec.specs.Kinds.{several}
 use Rattle.cl_short_vec.specs.Kinds.{selection_of, pointer_alone, called_kind, cast_kind}
 use Rattle.cl_short_vec.specs.Marks.{Mark, mark, Marks, unmarked, marking, tree_at, kind_at, vector_among}
 use Rattle.cl_short_vec.specs.Faults.{misplaced, no_component, types_differ, least, refusals, refusals_in, refusal_at}
-use Rattle.cl_short_vec.specs.Faults.{is_end, fits, is_same, all_same, is_typed, inside_fills, cast_fills}
+use Rattle.cl_short_vec.specs.Faults.{is_end, fits, agrees, all_agree, is_typed, inside_fills, cast_fills}
 use Rattle.cl_short_vec.specs.Roles.{role_of, is_paren, is_list_cast}
 use Rattle.cl_short_vec.specs.Made.{made_by_prefix, made_by_selection, made_by_operator}
 use Rattle.cl_short_vec.specs.Order.{count_in, steps_in}
@@ -128,7 +128,7 @@ same_count v u h = let b = both_true (same_type v.of u.of) (nat_eq v.count u.cou
 pub has_wide : (n c : ℕ) (k : Kind) → Wide n k → c < n → is_vector k ≡ true → c < count_in k
 has_wide n c (Vectors u r) s l v = subst (λ z. c < z) (sym s) l
 has_wide n c (Pointer s' c' u) s l v = absurd (false≢true v)
-has_wide n c Other s l v = absurd (false≢true v)
+has_wide n c (Other b) s l v = absurd (false≢true v)
 
 -- the vector that two operands show
 record Shows (op : Bin) (j k : Kind) : Type 0 where
@@ -138,9 +138,9 @@ record Shows (op : Bin) (j k : Kind) : Type 0 where
   joined : count_in (joined_kind (Some op) j k) ≡ width
 
 moved_no_vector : (op : Bin) (j k : Kind) → is_vector (pointer_moved op j k) ≡ false
-moved_no_vector bins.Add (Pointer s c v) Other = refl
-moved_no_vector bins.Add Other (Pointer s c v) = refl
-moved_no_vector bins.Sub (Pointer s c v) Other = refl
+moved_no_vector bins.Add (Pointer s c v) (Other b) = refl
+moved_no_vector bins.Add (Other b) (Pointer s c v) = refl
+moved_no_vector bins.Sub (Pointer s c v) (Other b) = refl
 moved_no_vector op j k = refl
 
 compared_count : (op : Bin) (v : Vector) (r : Reach) → count_in (compared op (Vectors v r)) ≡ v.count
@@ -159,19 +159,19 @@ shows op (Vectors v r) (Vectors u s) e f = record {
 }
 shows op (Vectors v r) (Pointer s c u) e f =
     record { width = v.count; first = refl; second = tt; joined = compared_count op v _ }
-shows op (Vectors v r) Other e f =
+shows op (Vectors v r) (Other b) e f =
     record { width = v.count; first = refl; second = tt; joined = compared_count op v _ }
 shows op (Pointer s c u) (Vectors v r) e f =
     record { width = v.count; first = tt; second = refl; joined = compared_count op v _ }
-shows op Other (Vectors v r) e f =
+shows op (Other b) (Vectors v r) e f =
     record { width = v.count; first = tt; second = refl; joined = compared_count op v _ }
 shows op (Pointer s c u) (Pointer p q v) e f =
     absurd (false≢true (sym (moved_no_vector op (Pointer s c u) (Pointer p q v)) ∙ e))
-shows op (Pointer s c u) Other e f =
-    absurd (false≢true (sym (moved_no_vector op (Pointer s c u) Other) ∙ e))
-shows op Other (Pointer s c u) e f =
-    absurd (false≢true (sym (moved_no_vector op Other (Pointer s c u)) ∙ e))
-shows op Other Other e f = absurd (false≢true (sym (moved_no_vector op Other Other) ∙ e))
+shows op (Pointer s c u) (Other b) e f =
+    absurd (false≢true (sym (moved_no_vector op (Pointer s c u) (Other b)) ∙ e))
+shows op (Other b) (Pointer s c u) e f =
+    absurd (false≢true (sym (moved_no_vector op (Other b) (Pointer s c u)) ∙ e))
+shows op (Other b) (Other y) e f = absurd (false≢true (sym (moved_no_vector op (Other b) (Other y)) ∙ e))
 
 -- ---- nodes
 
@@ -209,12 +209,12 @@ module _ (asked : Asked) (env : Env) where
   pub pointer_asks : (t : Syntax) (how : Made) (k : Kind) (ms : Marks) → AsksIf t how (pointer_alone k) ms
   pointer_asks t how (Vectors v r) ms = tt
   pointer_asks t how (Pointer s c v) ms = tt
-  pointer_asks t how Other ms = tt
+  pointer_asks t how (Other b) ms = tt
 
   pub paren_asks : (t : Syntax) (m : Mark) → Alone m → AsksIf t made.Inside (kind_at m) (marking m unmarked)
   paren_asks t (mark u (Vectors v r) ms) f = operand_fits (mark u (Vectors v r) ms) v.count refl f
   paren_asks t (mark u (Pointer s c v) ms) f = tt
-  paren_asks t (mark u Other ms) f = tt
+  paren_asks t (mark u (Other b) ms) f = tt
 
   pub prefix_asks : (o : Option Prefix) (t : Syntax) (m : Mark) → Alone m →
       AsksIf t (made_by_prefix o) (prefix_kind o (kind_at m)) (marking m unmarked)
@@ -226,14 +226,14 @@ module _ (asked : Asked) (env : Env) where
   prefix_asks (Some (prefixes.Operator uns.Flip)) t (mark u (Vectors v r) ms) f =
       operand_fits (mark u (Vectors v r) ms) v.count refl f
   prefix_asks (Some (prefixes.Operator op)) t (mark u (Pointer s c v) ms) f = tt
-  prefix_asks (Some (prefixes.Operator op)) t (mark u Other ms) f = tt
+  prefix_asks (Some (prefixes.Operator op)) t (mark u (Other b) ms) f = tt
   prefix_asks o t m f = element_asks t (prefix_kind o (kind_at m)) (marking m unmarked)
 
   selection_asks : (t : Syntax) (name : List ℕ) (m : Mark) (others : Marks) →
       selection_in (word_of t) ≡ Some name → Alone m →
       AsksIf t made.Selected (selection_of (kind_at m) name) (marking m others)
   selection_asks t name (mark u (Pointer s c v) ms) others e f = tt
-  selection_asks t name (mark u Other ms) others e f = tt
+  selection_asks t name (mark u (Other b) ms) others e f = tt
   selection_asks t name (mark u (Vectors v r) ms) others e f = by (selected v.count name) refl
     where
       m : Mark
@@ -245,7 +245,7 @@ module _ (asked : Asked) (env : Env) where
           (subst (λ z. chosen_at z c < v.count) (sym h) (selected_within v.count name ks c h l))
 
       one : (ks : List ℕ) → selected v.count name ≡ Some ks → (b : Bool) →
-          AsksIf t made.Selected (if b then Other else Vectors (vector v.of (length ks)) r) (marking m others)
+          AsksIf t made.Selected (if b then (Other true) else Vectors (vector v.of (length ks)) r) (marking m others)
       one ks h true = tt
       one ks h false = λ of x c l. f of x (selected_at t (marking m others) c) (λ i. each ks h c l)
 
@@ -278,16 +278,16 @@ module _ (asked : Asked) (env : Env) where
 
   -- ---- calls
 
-  wide_same : (v : Vector) (r : Reach) (k : Kind) → is_same (Vectors v r) k ≡ true → Wide v.count k
+  wide_same : (v : Vector) (r : Reach) (k : Kind) → agrees (Vectors v r) k ≡ true → Wide v.count k
   wide_same v r (Vectors u s) h = same_count v u h
   wide_same v r (Pointer s c u) h = tt
-  wide_same v r Other h = tt
+  wide_same v r (Other b) h = tt
 
-  pub every_fits : (v : Vector) (r : Reach) (ms : Marks) → all_same (Vectors v r) ms ≡ true → AllAlone ms →
+  pub every_fits : (v : Vector) (r : Reach) (ms : Marks) → all_agree (Vectors v r) ms ≡ true → AllAlone ms →
       Every asked env v.count ms
   every_fits v r unmarked h g = tt
   every_fits v r (marking m ms) h g =
-      let b = both_true (is_same (Vectors v r) (kind_at m)) (all_same (Vectors v r) ms) h in
+      let b = both_true (agrees (Vectors v r) (kind_at m)) (all_agree (Vectors v r) ms) h in
       (operand_fits m v.count (wide_same v r (kind_at m) b.0) g.0, every_fits v r ms b.1 g.1)
 
 call_shows : (o : Option Intrinsic) (z : Kind) → is_vector (called_kind o z) ≡ true →
@@ -297,7 +297,7 @@ call_shows o z h = absurd (false≢true h)
 
 pub call_asks : (asked : Asked) (env : Env) (t : Syntax) (ms : Marks) →
     (is_vector (called_kind (intrinsic_in (name_in (word_of t))) (vector_among ms)) &&
-    not (all_same (vector_among ms) ms)) ≡ false → CallsKnown env (name_in (word_of t)) (many_in ms) →
+    not (all_agree (vector_among ms) ms)) ≡ false → CallsKnown env (name_in (word_of t)) (many_in ms) →
     AllAlone asked (in_arguments env (name_in (word_of t))) ms →
     AsksIf asked env t made.Called (called_kind (intrinsic_in (name_in (word_of t))) (vector_among ms)) ms
 call_asks asked env t ms e h g = by (is_vector k) refl e
@@ -308,13 +308,13 @@ call_asks asked env t ms e h g = by (is_vector k) refl e
     k : Kind
     k = called_kind (intrinsic_in name) (vector_among ms)
 
-    by : (c : Bool) → is_vector k ≡ c → (c && not (all_same (vector_among ms) ms)) ≡ false →
+    by : (c : Bool) → is_vector k ≡ c → (c && not (all_agree (vector_among ms) ms)) ≡ false →
         Asks asked env (if c then made.Called else made.Number) t k ms
     by false x e = tt
     by true x e =
         let q = call_shows (intrinsic_in name) (vector_among ms) x in
         let known = h q.0 q.3 in
-        let same = subst (λ z. all_same z ms ≡ true) q.4 (not_false (all_same (vector_among ms) ms) e) in
+        let same = subst (λ z. all_agree z ms ≡ true) q.4 (not_false (all_agree (vector_among ms) ms) e) in
         let wide : count_in k ≡ q.1.count =
         ap (λ z. count_in (called_kind z (vector_among ms))) q.3 ∙
         ap (λ z. count_in (called_kind (Some (intrinsics.Function q.0)) z)) q.4 in record {

@@ -57,7 +57,7 @@ pointer_inside (Vectors v (Element s c)) env n q h = h
 pointer_inside (Vectors v Value) env n q h = tt
 pointer_inside (Vectors v Variable) env n q h = tt
 pointer_inside (Pointer s c v) env n q h = tt
-pointer_inside Other env n q h = tt
+pointer_inside (Other b) env n q h = tt
 
 helped_inside : (env : Env) (n : List ℕ) (s : Step) → HelpedBy env s → HelpedBy (in_arguments env n) s
 helped_inside env n (Offset (mark t k ms)) h = pointer_inside k env n _ h

@@ -92,7 +92,7 @@ given_count v (Vectors u r) n h = by (same_type v.of u.of) h
     by true g = cc
     by false g = absurd cc
 given_count v (Pointer s c u) n h = cc
-given_count v Other n h = cc
+given_count v (Other b) n h = cc
 
 items_plain : (form : Form) (x y z : Option ℕ) → is_comma form ≡ false → items_by form x y z ≡ z
 items_plain forms.ExprNode x y z e = absurd (false≢true (sym e))

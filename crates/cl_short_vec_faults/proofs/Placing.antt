@@ -61,7 +61,7 @@ pub record Placed (asked : Asked) (p s : Env) (m : Mark) (t : Syntax) : Type 0 w
 count_small : (k : vectors.Kind) → SmallKind k → is_vector k ≡ true → count_in k ≤ 16
 count_small (Vectors v r) h e = h
 count_small (Pointer s c v) h e = absurd (false≢true e)
-count_small Other h e = absurd (false≢true e)
+count_small (Other b) h e = absurd (false≢true e)
 
 -- ---- variables
 
@@ -103,7 +103,7 @@ variable_placed asked p s w f l (Vectors v Variable) h e =
 variable_placed asked p s w f l (Vectors v Value) h e = absurd h
 variable_placed asked p s w f l (Vectors v (Element sp c)) h e = absurd h
 variable_placed asked p s w f l (Pointer sp c v) h e = absurd (false≢true e)
-variable_placed asked p s w f l Other h e = absurd (false≢true e)
+variable_placed asked p s w f l (Other b) h e = absurd (false≢true e)
 
 -- ---- elements
 
@@ -148,7 +148,7 @@ place_tests (Vectors v (Element s c)) k place e h =
     subst (λ z. Tests place z) (sym (some_same k _ h.1)) (number_tests place v.of (reach.Element s c h.0))
 place_tests (Vectors v Value) k place e h = absurd (false≢true e)
 place_tests (Pointer s c v) k place e h = absurd (false≢true e)
-place_tests Other k place e h = absurd (false≢true e)
+place_tests (Other b) k place e h = absurd (false≢true e)
 
 same_reach : (v : Vector) (n : ℕ) (r : vector_reach.Reach) (k : Option Kind) → KindAs (Vectors v r) k →
     KindAs (Vectors (vector v.of n) r) k
@@ -158,29 +158,29 @@ same_reach v n (Element s c) k h = h
 
 pub selected_as : (j : vectors.Kind) (name : List ℕ) (k : Option Kind) → KindAs j k → KindAs (selection_of j name) k
 selected_as (Pointer s c v) name k h = tt
-selected_as Other name k h = tt
+selected_as (Other b) name k h = tt
 selected_as (Vectors v r) name k h = by (selected v.count name)
   where
     by : (o : Option (List ℕ)) → KindAs (several v r o) k
     by None = tt
     by (Some ks) = one (nat_eq (length ks) 1)
       where
-        one : (b : Bool) → KindAs (if b then Other else Vectors (vector v.of (length ks)) r) k
+        one : (b : Bool) → KindAs (if b then (Other true) else Vectors (vector v.of (length ks)) r) k
         one true = tt
         one false = same_reach v (length ks) r k h
 
 -- a selection that is no vector is none of anything
 pub selected_other : (j : vectors.Kind) (name : List ℕ) → is_vector (selection_of j name) ≡ false →
-    selection_of j name ≡ Other
+    selection_of j name ≡ (Other true)
 selected_other (Pointer s c v) name h = refl
-selected_other Other name h = refl
+selected_other (Other b) name h = refl
 selected_other (Vectors v r) name h = by (selected v.count name) h
   where
-    by : (o : Option (List ℕ)) → is_vector (several v r o) ≡ false → several v r o ≡ Other
+    by : (o : Option (List ℕ)) → is_vector (several v r o) ≡ false → several v r o ≡ (Other true)
     by None e = refl
     by (Some ks) e = one (nat_eq (length ks) 1) e
       where
-        one : (b : Bool) → is_vector (if b then Other else Vectors (vector v.of (length ks)) r) ≡ false →
-            (if b then Other else Vectors (vector v.of (length ks)) r) ≡ Other
+        one : (b : Bool) → is_vector (if b then (Other true) else Vectors (vector v.of (length ks)) r) ≡ false →
+            (if b then (Other true) else Vectors (vector v.of (length ks)) r) ≡ (Other true)
         one true g = refl
         one false g = absurd (false≢true (sym g))

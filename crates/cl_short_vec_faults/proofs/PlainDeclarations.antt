@@ -169,10 +169,10 @@ beside_declared asked names after n m p s ip is h i e =
 
 -- such a declarator hides its name
 behind_other : (names : Names) (type d : Syntax) → vector_type type ≡ None → is_some (declared_in type) ≡ true →
-    behind_declarator names type d ≡ with_name names (name_in (word_of d)) Other
+    behind_declarator names type d ≡ with_name names (name_in (word_of d)) (Other true)
 behind_other names type d v e =
     ap (λ o. kinds.behind_declared o names type d) v ∙
-    ap (λ b. if b then with_name names (name_in (word_of d)) Other else names) e
+    ap (λ b. if b then with_name names (name_in (word_of d)) (Other true) else names) e
 
 pub no_parts : (env : Env) (b : Bool) → behind_parts env forms.DeclareNode b none ≡ env
 unfolding behind_parts

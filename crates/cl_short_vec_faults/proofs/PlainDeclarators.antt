@@ -336,7 +336,7 @@ module _ (follow : ExpressionsFollow) (asked : Asked) (names : Names) (n : ℕ) 
       AllStay (marked_parts forms.DeclaratorNode ps names true ps) →
       SoundTree asked p roles.Other (plain_of (node forms.DeclaratorNode w f l ps)) →
       SoundBut asked s roles.Other (scalar (marked names (node forms.DeclaratorNode w f l ps))) ×
-      Beside asked (with_name names (name_in w) Other) n (behind p (plain_of (node forms.DeclaratorNode w f l ps)))
+      Beside asked (with_name names (name_in w) (Other true)) n (behind p (plain_of (node forms.DeclaratorNode w f l ps)))
       (behind s (scalar (marked names (node forms.DeclaratorNode w f l ps)))) ×
       Walks p (behind p (plain_of (node forms.DeclaratorNode w f l ps)))
   unfolding plain_of inside
@@ -351,12 +351,12 @@ module _ (follow : ExpressionsFollow) (asked : Asked) (names : Names) (n : ℕ) 
       let k = last_kind (kinds_of p forms.DeclaratorNode true P) in
       let m = meant_both asked names n p s h d (declarator_in w f P) (declarator_in w f S) k same (name_in w) i refl
       refl in
-      subst (λ z. SoundBut asked s roles.Other z × Beside asked (with_name names (name_in w) Other) n
+      subst (λ z. SoundBut asked s roles.Other z × Beside asked (with_name names (name_in w) (Other true)) n
       (behind p (node forms.DeclaratorNode w f l P)) (behind s z) × Walks p (behind p (node forms.DeclaratorNode w f l
       P)))
       (sym (scalar_declarator names w f l ps)) (
         sound_declarator asked names n p s h d typed w f l i P S same g.plain' g.form' fit leave so g.sound,
-        goes_declarator asked names n p s h d typed w f l i P S same g.plain' g.form' fit leave so Other (omega
+        goes_declarator asked names n p s h d typed w f l i P S same g.plain' g.form' fit leave so (Other true) (omega
             arith) m,
         walks_declarator asked names n p s h d typed w f l i P S same g.plain' g.form' fit leave so,
       )

@@ -75,7 +75,7 @@ type_sound asked p s t h so = absurd h
 pub size_claim : (asked : Asked) (p s : Env) (place : Role) (w : List ℕ) (f l : ℕ) (t : Syntax) → IsType t →
     SoundTree asked p place (node forms.UnaryNode w f l (forest1 t)) → prefix_in w ≡ Some prefixes.Size →
     s.owner ≡ p.owner →
-    Has asked p s place Other (node forms.UnaryNode w f l (forest1 t)) (node forms.UnaryNode w f l (forest1 t))
+    Has asked p s place (Other true) (node forms.UnaryNode w f l (forest1 t)) (node forms.UnaryNode w f l (forest1 t))
 unfolding kind_step
 size_claim asked p s place w f l t h so e ow =
     let P = forest1 t in
@@ -99,7 +99,7 @@ size_claim asked p s place w f l t h so e ow =
 pub cast_claim : (asked : Asked) (p s : Env) (place : Role) (w : List ℕ) (f l : ℕ) (t : Syntax) (j : vectors.Kind)
     (ta ua : Syntax) → IsType t → Has asked p s roles.Other j ta ua →
     SoundTree asked p place (node forms.CastNode w f l (forest2 t ta)) → s.owner ≡ p.owner →
-    Has asked p s place Other (node forms.CastNode w f l (forest2 t ta)) (node forms.CastNode w f l (forest2 t ua))
+    Has asked p s place (Other true) (node forms.CastNode w f l (forest2 t ta)) (node forms.CastNode w f l (forest2 t ua))
 unfolding kind_step misfits
 cast_claim asked p s place w f l t j ta ua h x so ow =
     let P = forest2 t ta in
@@ -179,11 +179,11 @@ module _ (asked : Asked) (p s : Env) (place : Role) (w : List ℕ) (f l : ℕ) (
             KindAs (vector_kinds.prefix_kind (Some (prefixes.Operator op)) i) k
         by uns.Not i v = tt
         by uns.Plus (Pointer sp c z) v = tt
-        by uns.Plus Other v = tt
+        by uns.Plus (Other b) v = tt
         by uns.Plus (Vectors z r) v = absurd (false≢true (sym v))
         by uns.Minus (Pointer sp c z) v = tt
-        by uns.Minus Other v = tt
+        by uns.Minus (Other b) v = tt
         by uns.Minus (Vectors z r) v = absurd (false≢true (sym v))
         by uns.Flip (Pointer sp c z) v = tt
-        by uns.Flip Other v = tt
+        by uns.Flip (Other b) v = tt
         by uns.Flip (Vectors z r) v = absurd (false≢true (sym v))

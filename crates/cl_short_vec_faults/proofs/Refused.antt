@@ -168,7 +168,7 @@ used_free k h = ap (λ z. if z then Used else Free) h
 pub used_inner : (k : Kind) → is_inner (used_in k) ≡ true
 used_inner (Vectors v r) = refl
 used_inner (Pointer s c v) = refl
-used_inner Other = refl
+used_inner (Other b) = refl
 
 pub paren_inner : (role : Role) (k : Kind) → lists role forms.ParenNode ≡ false → is_inner (paren_role role k) ≡ true
 paren_inner Listed k h = absurd (false≢true (sym h))

@@ -89,10 +89,10 @@ two_made : (form : Form) → is_expression form ≡ true → (j k : Kind) (w : L
     →
     OfExpressions a → OfExpressions b → OfExpressions (two_by form j k (node form w f l ps) a b)
 two_made forms.PostfixNode e (Pointer s c v) k w f l ps a b h i = (refl, (inl h, (inl (scaled_made v b i), tt)))
-two_made forms.AssignNode e (Pointer s c v) Other w f l ps a b h i =
+two_made forms.AssignNode e (Pointer s c v) (Other y) w f l ps a b h i =
     (refl, (inl h, (inl (moved_made (setting_in w) v b i), tt)))
-two_made forms.SumNode e (Pointer s c v) Other w f l ps a b h i = (refl, (inl h, (inl (scaled_made v b i), tt)))
-two_made forms.SumNode e Other (Pointer s c v) w f l ps a b h i = (refl, (inl (scaled_made v a h), (inl i, tt)))
+two_made forms.SumNode e (Pointer s c v) (Other y) w f l ps a b h i = (refl, (inl h, (inl (scaled_made v b i), tt)))
+two_made forms.SumNode e (Other y) (Pointer s c v) w f l ps a b h i = (refl, (inl (scaled_made v a h), (inl i, tt)))
 two_made form e j k w f l ps a b h i = (e, (inl h, (inl i, tt)))
 
 chosen_made : (o : Option ℕ) (g : ℕ → Syntax) (t : Syntax) → ((c : ℕ) → OfExpressions (g c)) → OfExpressions t →

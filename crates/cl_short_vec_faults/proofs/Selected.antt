@@ -57,7 +57,7 @@ record Front (j : Kind) (name : List ℕ) : Type 0 where
 front_of : (j : Kind) (name : List ℕ) → selects_nothing j name ≡ false → is_vector (selection_of j name) ≡ false →
     Front j name
 front_of (Pointer s c v) name h n = absurd (false≢true (sym h))
-front_of Other name h n = absurd (false≢true (sym h))
+front_of (Other b) name h n = absurd (false≢true (sym h))
 front_of (Vectors v r) name h n =
     let k = the_some (selected v.count name) (not_false (is_some (selected v.count name)) h) in record {
       v = v;
@@ -69,7 +69,7 @@ front_of (Vectors v r) name h n =
           (ap (λ o. is_vector (several v r o)) (sym k.1) ∙ n);
     }
   where
-    by : (b : Bool) (u : Vector) → is_vector (if b then Other else Vectors u r) ≡ false → b ≡ true
+    by : (b : Bool) (u : Vector) → is_vector (if b then (Other true) else Vectors u r) ≡ false → b ≡ true
     by true u e = refl
     by false u e = absurd (false≢true (sym e))
 

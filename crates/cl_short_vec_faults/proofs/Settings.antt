@@ -124,14 +124,14 @@ module _ (asked : Asked) (p s : Env) (place : Role) (w : List ℕ) (f l : ℕ) (
       is_vector ja ≡ false → is_vector jb ≡ false → SmallKind ja → SmallKind jb →
       Has asked p s place (joined_kind (binary_in w) ja jb) (node forms.SumNode w f l (forest2 ta tb))
       (two_by forms.SumNode ja jb (node forms.SumNode w f l ps) ua ub)
-  sum_claim (Pointer sp c v) Other x y so u n ma mb =
-      sum_as (Pointer sp c v) Other (node forms.SumNode w f l (forest2 ua (scaled v ub))) x y so u n (λ k h t.
+  sum_claim (Pointer sp c v) (Other b) x y so u n ma mb =
+      sum_as (Pointer sp c v) (Other b) (node forms.SumNode w f l (forest2 ua (scaled v ub))) x y so u n (λ k h t.
       let i = pointer_is sp c v x.kind x.as' in
       let z = behind_scaled (binary_in w) sp v.of c i.root i.reach' x.kind y.kind k i.pointer h in
       sum_good ua (scaled v ub) x.kind (number types.Long) k x.good (scaled_good asked s v ub z.of z.reach' ma
       (good_as asked s roles.Other ub y.kind (kinds.Number z.of z.reach') z.number' y.good)) z.scaled' t)
-  sum_claim Other (Pointer sp c v) x y so u n ma mb =
-      sum_as Other (Pointer sp c v) (node forms.SumNode w f l (forest2 (scaled v ua) ub)) x y so u n (λ k h t.
+  sum_claim (Other b) (Pointer sp c v) x y so u n ma mb =
+      sum_as (Other b) (Pointer sp c v) (node forms.SumNode w f l (forest2 (scaled v ua) ub)) x y so u n (λ k h t.
       let i = pointer_is sp c v y.kind y.as' in
       let z = before_scaled (binary_in w) sp v.of c i.root i.reach' y.kind x.kind k i.pointer h in
       sum_good (scaled v ua) ub (number types.Long) y.kind k (scaled_good asked s v ua z.of z.reach' mb
@@ -139,8 +139,8 @@ module _ (asked : Asked) (p s : Env) (place : Role) (w : List ℕ) (f l : ℕ) (
   sum_claim (Pointer sp c v) (Pointer sp' c' v') x y so u n ma mb = operator_claim asked p s place forms.SumNode refl
       w f l
       (Pointer sp c v) (Pointer sp' c' v') ta tb ua ub x y so b ow u n
-  sum_claim Other Other x y so u n ma mb =
-      operator_claim asked p s place forms.SumNode refl w f l Other Other ta tb ua ub x y so b ow u n
+  sum_claim (Other z) (Other d) x y so u n ma mb =
+      operator_claim asked p s place forms.SumNode refl w f l (Other z) (Other d) ta tb ua ub x y so b ow u n
   sum_claim (Vectors v r) jb x y so u n ma mb = absurd (false≢true (sym u))
   sum_claim ja (Vectors v r) x y so u n ma mb = absurd (false≢true (sym n))
 
@@ -232,14 +232,15 @@ module _ (asked : Asked) (p s : Env) (place : Role) (w : List ℕ) (f l : ℕ) (
   moved_good v sp e c r op o q i x y t = absurd o
 
   -- what stands behind an assignment to a pointer to vectors
-  pointer_good : (v : Vector) (sp : Space) (c : Bool) (x : Has asked p s roles.Other (Pointer sp c v) ta ua)
-      (y : Has asked p s roles.Other Other tb ub) →
+  pointer_good : (v : Vector) (sp : Space) (c known : Bool) (x : Has asked p s roles.Other (Pointer sp c v) ta ua)
+      (y : Has asked p s roles.Other (Other known) tb ub) →
       SoundTree asked p place (node forms.AssignNode w f l (forest2 ta tb)) → v.count ≤ 16 → (o : Option Setting) →
       setting_in w ≡ o →
       Good asked s place (node forms.AssignNode w f l (forest2 ua (moved_by o v ub))) (value_kind x.kind)
   unfolding kind_step misfits
-  pointer_good v sp c x y so small (Some (settings.With op)) q =
-      let n = two_plain asked p s place forms.AssignNode w f l refl refl (Pointer sp c v) Other ta tb ua ub x y so in
+  pointer_good v sp c known x y so small (Some (settings.With op)) q =
+      let n = two_plain asked p s place forms.AssignNode w f l refl refl (Pointer sp c v) (Other known) ta tb ua ub x y
+      so in
       let i = pointer_is sp c v x.kind x.as' in
       let set : i.reach' ≡ reach.Variable false = pointer_set sp v.of c i.root each.Element i.reach'
       (subst (λ z. unassignable z ≡ false) i.pointer n.assignable) in
@@ -252,30 +253,30 @@ module _ (asked : Asked) (p s : Env) (place : Role) (w : List ℕ) (f l : ℕ) (
       let a = added op sp v.of c i.root y.kind m in
       let k : value_kind x.kind ≡ kinds.Pointer sp v.of c i.root each.Element reach.Value = ap value_kind e in
       let t = subst (λ z. Tests place z) k (tests_as place (kind_step p forms.AssignNode w (forest2 ta tb)
-      (Some x.kind ∷ Some y.kind ∷ [])) (value_kind x.kind) (set_step (Pointer sp c v) Other x y so) n.tested) in
+      (Some x.kind ∷ Some y.kind ∷ [])) (value_kind x.kind) (set_step (Pointer sp c v) (Other known) x y so) n.tested) in
       good_as asked s place (node forms.AssignNode w f l (forest2 ua (scaled v ub)))
       (kinds.Pointer sp v.of c i.root each.Element reach.Value) (value_kind x.kind) (sym k)
       (moved_good v sp v.of c i.root op a.steps q (scaled v ub) (good_as asked s roles.Other ua x.kind
       (kinds.Pointer sp v.of c i.root each.Element (reach.Variable false)) e x.good)
       (scaled_good asked s v ub a.of a.reach' small (good_as asked s roles.Other ub y.kind
       (kinds.Number a.of a.reach') a.number' y.good)) t)
-  pointer_good v sp c x y so small (Some settings.Plain) q = set_kept (Pointer sp c v) Other x y so
-  pointer_good v sp c x y so small None q = set_kept (Pointer sp c v) Other x y so
+  pointer_good v sp c known x y so small (Some settings.Plain) q = set_kept (Pointer sp c v) (Other known) x y so
+  pointer_good v sp c known x y so small None q = set_kept (Pointer sp c v) (Other known) x y so
 
   pub set_claim : (ja jb : vectors.Kind) (x : Has asked p s roles.Other ja ta ua)
       (y : Has asked p s roles.Other jb tb ub) → SoundTree asked p place (node forms.AssignNode w f l (forest2 ta tb)) →
       SmallKind ja →
       Has asked p s place (pointer_alone ja) (node forms.AssignNode w f l (forest2 ta tb))
       (two_by forms.AssignNode ja jb (node forms.AssignNode w f l ps) ua ub)
-  set_claim (Pointer sp c v) Other x y so m = record {
+  set_claim (Pointer sp c v) (Other b) x y so m = record {
     made = (refl, (inl x.made, (inl y.made, tt)));
     kind = value_kind x.kind;
-    plain = two_step asked p s place forms.AssignNode w f l refl refl (Pointer sp c v) Other ta tb ua ub x y so ∙
-        set_step (Pointer sp c v) Other x y so;
+    plain = two_step asked p s place forms.AssignNode w f l refl refl (Pointer sp c v) (Other b) ta tb ua ub x y so ∙
+        set_step (Pointer sp c v) (Other b) x y so;
     as' = value_as (Pointer sp c v) x.kind x.as';
-    good = pointer_good v sp c x y so m (setting_in w) refl;
+    good = pointer_good v sp c b x y so m (setting_in w) refl;
   }
   set_claim (Pointer sp c v) (Pointer sp' c' v') x y so m = set_same (Pointer sp c v) (Pointer sp' c' v') x y so
   set_claim (Pointer sp c v) (Vectors v' r) x y so m = set_same (Pointer sp c v) (Vectors v' r) x y so
-  set_claim Other jb x y so m = set_same Other jb x y so
+  set_claim (Other b) jb x y so m = set_same (Other b) jb x y so
   set_claim (Vectors v r) jb x y so m = set_same (Vectors v r) jb x y so

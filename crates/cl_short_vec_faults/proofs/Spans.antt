@@ -101,9 +101,9 @@ module _ (Q : ℕ → ℕ → Type 0) where
   two_has : (form : Form) (j k : Kind) (w : List ℕ) (f l : ℕ) (ps : Forest) (a b : Syntax) → Q f l →
       Has (two_by form j k (node form w f l ps) a b)
   two_has forms.PostfixNode (Pointer s c v) k w f l ps a b q = q
-  two_has forms.AssignNode (Pointer s c v) Other w f l ps a b q = q
-  two_has forms.SumNode (Pointer s c v) Other w f l ps a b q = q
-  two_has forms.SumNode Other (Pointer s c v) w f l ps a b q = q
+  two_has forms.AssignNode (Pointer s c v) (Other y) w f l ps a b q = q
+  two_has forms.SumNode (Pointer s c v) (Other y) w f l ps a b q = q
+  two_has forms.SumNode (Other y) (Pointer s c v) w f l ps a b q = q
   two_has form j k w f l ps a b q = q
 
   content_has : (form : Form) (o : Option Prefix) (k : Kind) (c : ℕ) (s : Span) (w : List ℕ) (f l : ℕ) (ps : Forest)

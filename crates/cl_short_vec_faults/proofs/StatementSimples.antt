@@ -16,9 +16,9 @@ use Rattle.cl_meaning.specs.Faults.{Asked}
 use Rattle.cl_check_sound.specs.Shape.{IsExpressionOf, IsStatementOf}
 use Rattle.cl_check_sound.proofs.Neutral.{neutral}
 use Rattle.cl_short_vec.specs.declared.kinds.Kind as vectors
-use Rattle.cl_short_vec.specs.declared.kinds.Kind.TheVariants.{Vectors, Other}
+use Rattle.cl_short_vec.specs.declared.kinds.Kind.TheVariants.{Vectors}
 use Rattle.cl_short_vec.specs.declared.roles.Role.TheVariants.{Free, Whole}
-use Rattle.cl_short_vec.specs.Kinds.{Names, is_vector, pointer_alone}
+use Rattle.cl_short_vec.specs.Kinds.{Names, is_other, is_vector, pointer_alone}
 use Rattle.cl_short_vec.specs.Kinds as kinds
 use Rattle.cl_short_vec.specs.Marks.{marked, marked_parts, kind_at, kind_by}
 use Rattle.cl_short_vec.specs.Roles.{role_of}
@@ -141,8 +141,8 @@ numbers_leaves plain (_ ∷ steps) h = (tt, numbers_leaves plain steps h)
 -- ---- an assignment to a vector
 
 -- what stands for a vector has a name
-no_vector : (k : vectors.Kind) → ((k ≡ Other → ⊥) → IsName []) → is_vector k ≡ false
-no_vector (Vectors v r) h = let x = (h (λ e. absurd cc)).some in absurd (false≢true x)
+no_vector : (k : vectors.Kind) → (is_other k ≡ false → IsName []) → is_vector k ≡ false
+no_vector (Vectors v r) h = let x = (h refl).some in absurd (false≢true x)
 no_vector _ h = refl
 
 -- what is visible at its lines

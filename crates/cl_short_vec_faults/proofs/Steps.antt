@@ -64,10 +64,10 @@ module _ (asked : Asked) (p s : Env) (place : Role) (w : List ℕ) (f l : ℕ) (
   content_claim (Pointer sp c v) x so e u = absurd (false≢true (sym u))
   content_claim (Vectors v r) x so e u =
       let k = unary_known asked p s place w f l ps (Vectors v r) ta ua ow x so (ap is_some e) in
-      unary_same asked p s place w f l ps (Vectors v r) ta ua ow x so Other k.0 k.1 tt
-  content_claim Other x so e u =
-      let k = unary_known asked p s place w f l ps Other ta ua ow x so (ap is_some e) in
-      unary_same asked p s place w f l ps Other ta ua ow x so Other k.0 k.1 tt
+      unary_same asked p s place w f l ps (Vectors v r) ta ua ow x so (Other true) k.0 k.1 tt
+  content_claim (Other b) x so e u =
+      let k = unary_known asked p s place w f l ps (Other b) ta ua ow x so (ap is_some e) in
+      unary_same asked p s place w f l ps (Other b) ta ua ow x so (Other b) k.0 k.1 tt
 
   pub address_claim : (j : vectors.Kind) → Has asked p s roles.Other j ta ua →
       SoundTree asked p place (node forms.UnaryNode w f l (forest1 ta)) → prefix_in w ≡ Some prefixes.Address →
@@ -104,10 +104,10 @@ module _ (asked : Asked) (p s : Env) (place : Role) (w : List ℕ) (f l : ℕ) (
       x.good) op (subst SteppingBefore e (prefix_steps w)) place t))
   before_claim (Vectors v r) op x so e m =
       let st = unary_set asked p s place w f l ps (Vectors v r) ta ua ow x so op e in
-      unary_same asked p s place w f l ps (Vectors v r) ta ua ow x so Other (value_kind x.kind) st.0 tt
-  before_claim Other op x so e m =
-      let st = unary_set asked p s place w f l ps Other ta ua ow x so op e in
-      unary_same asked p s place w f l ps Other ta ua ow x so Other (value_kind x.kind) st.0 tt
+      unary_same asked p s place w f l ps (Vectors v r) ta ua ow x so (Other true) (value_kind x.kind) st.0 tt
+  before_claim (Other b) op x so e m =
+      let st = unary_set asked p s place w f l ps (Other b) ta ua ow x so op e in
+      unary_same asked p s place w f l ps (Other b) ta ua ow x so (Other b) (value_kind x.kind) st.0 tt
 
 -- ---- parentheses
 
@@ -192,8 +192,8 @@ module _ (asked : Asked) (p s : Env) (place : Role) (w : List ℕ) (f l : ℕ) (
       (value_kind x.kind) (sym kv) (behind_good asked s v at ua sp v.of c i.root m
       (good_as asked s roles.Other ua x.kind (kinds.Pointer sp v.of c i.root each.Element (reach.Variable false)) k
       x.good) op (subst SteppingBehind e (postfix_steps w)) place t))
-  by_step (Vectors v r) (Some (postfixes.Step op)) e x so m = behind_same (Vectors v r) x so Other tt
-  by_step Other (Some (postfixes.Step op)) e x so m = behind_same Other x so Other tt
+  by_step (Vectors v r) (Some (postfixes.Step op)) e x so m = behind_same (Vectors v r) x so (Other true) tt
+  by_step (Other b) (Some (postfixes.Step op)) e x so m = behind_same (Other b) x so (Other b) tt
 
   pub step_claim : (j : vectors.Kind) → Has asked p s roles.Other j ta ua →
       SoundTree asked p place (node forms.PostfixNode w f l (forest1 ta)) → SmallKind j →

@@ -219,7 +219,7 @@ module _ (expressions : ExpressionsFollow) (declarations : DeclarationsFollow) (
       SoundTree asked p roles.Other (node forms.FunctionNode w f l (plains_of ts)) →
       SoundBut asked s roles.Other
       (node forms.FunctionNode w f l (all_scalarised (marked_parts forms.FunctionNode ts names true ts))) ×
-      Beside asked (with_name names (name_in w) Other) (suc l)
+      Beside asked (with_name names (name_in w) (Other false)) (suc l)
       (behind p (node forms.FunctionNode w f l (plains_of ts)))
       (behind s (node forms.FunctionNode w f l (all_scalarised (marked_parts forms.FunctionNode ts names true ts))))
   unfolding inside
@@ -273,9 +273,9 @@ module _ (expressions : ExpressionsFollow) (declarations : DeclarationsFollow) (
             match' = refl;
           }),
         ),
-        subst (λ z. Beside asked (with_name names name Other) (suc l) z (behind s (node forms.FunctionNode w f l us)))
+        subst (λ z. Beside asked (with_name names name (Other false)) (suc l) z (behind s (node forms.FunctionNode w f l us)))
             (sym (function_visible p w f l qs).1)
-            (subst (λ z. Beside asked (with_name names name Other) (suc l) (with_function p1 name) z)
+            (subst (λ z. Beside asked (with_name names name (Other false)) (suc l) (with_function p1 name) z)
             (sym (function_visible s w f l us).1)
             (beside_function asked names (suc l) p1 s1 name is one1 gives b1 nn.1)),
       )
@@ -290,7 +290,7 @@ module _ (expressions : ExpressionsFollow) (declarations : DeclarationsFollow) (
   pub functions_follow : FunctionsFollow
   functions_follow asked names n p s (node forms.FunctionNode w f l ts) h iu d st =
       let x = function_form names w f l ts in
-      let after = with_name names (name_in w) Other in
+      let after = with_name names (name_in w) (Other false) in
       let u = node forms.FunctionNode w f l (all_scalarised (marked_parts forms.FunctionNode ts names true ts)) in
       let r = function_follows asked names n p s w f l ts h iu (subst (IsDefined p) x.1 d) st
       (subst (SoundTree asked p roles.Other) x.1 st.sound) in

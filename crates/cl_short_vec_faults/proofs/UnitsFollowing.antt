@@ -1,6 +1,7 @@
 -- Where no node of the plain form of a unit is at fault, no node of the unit without vectors is, but perhaps by a size.
 use Rattle.std.proofs.Common.{◌≡◌, ℕ, suc, ◌≤◌, ◌<◌, ◌^◌, List, [], ◌∷◌, length, Option, None, Some, Bool, true, false}
 use Rattle.std.proofs.Common.{if◌then◌else◌, not, refl, ap, sym, ◌∙◌, subst, inl, inr, arith}
+use Rattle.std.proofs.lemmas.Bool.{false≢true}
 use Rattle.std.proofs.lemmas.Option.{none-some, same_Some}
 use Rattle.wg_num.specs.declared.types.Place.{Place}
 use Rattle.cl_token.specs.declared.token.Token.{Token}
@@ -85,7 +86,7 @@ start_beside asked places gs = record {
   unflagged = refl;
   gives = λ q c h. known_gives asked q (intrinsic_in q) c h;
   alone = λ q i c e h. known_only (intrinsic_in q) i c e h;
-  named = λ q h. absurd (h refl);
+  named = λ q h. absurd (false≢true (sym h));
 }
 
 -- ---- the node of a unit

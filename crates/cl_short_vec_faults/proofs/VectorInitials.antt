@@ -18,8 +18,7 @@ use Rattle.cl_check_sound.specs.Sound.{SoundTree, SoundParts}
 use Rattle.cl_check_sound.proofs.Neutral.{neutral}
 use Rattle.cl_short_vec.specs.declared.types.Vector.{Vector}
 use Rattle.cl_short_vec.specs.declared.kinds.Reach.TheVariants.{Value}
-use Rattle.cl_short_vec.specs.declared.kinds.Kind.{Kind}
-use Rattle.cl_short_vec.specs.declared.kinds.Kind.TheVariants.{Vectors, Pointer, Other}
+use Rattle.cl_short_vec.specs.declared.kinds.Kind.TheVariants.{Vectors}
 use Rattle.cl_short_vec.specs.declared.roles.Around.{Around}
 use Rattle.cl_short_vec.specs.declared.roles.Around.TheVariants as around
 use Rattle.cl_short_vec.specs.declared.roles.Role.{Role}
@@ -29,7 +28,7 @@ use Rattle.cl_short_vec.specs.Kinds as kinds
 use Rattle.cl_short_vec.specs.Marks.{Mark, Marks, tree_at, kind_at, back, marked, marked_parts}
 use Rattle.cl_short_vec.specs.Marks.{kind_or_other}
 use Rattle.cl_short_vec.specs.Roles.{role_of, initial_role, initial_at, form_or_unit}
-use Rattle.cl_short_vec.specs.Faults.{is_same, is_list, set_wrongly, misplaced, refusals, refusals_in, is_initial}
+use Rattle.cl_short_vec.specs.Faults.{agrees, is_list, set_wrongly, misplaced, refusals, refusals_in, is_initial}
 use Rattle.cl_short_vec.specs.Unit.{initialiser_by, initialiser}
 use Rattle.cl_short_vec_faults.specs.PlainForm.{plain_of, plains_of}
 use Rattle.cl_short_vec_faults.specs.Plainly.{NoPoint, NoPoints}
@@ -179,15 +178,19 @@ expression_no_list : (e : Syntax) → IsExpressionOf true e → is_list (form_of
 expression_no_list (node forms.ListNode w f l ps) h = absurd h
 expression_no_list (node form w f l ps) h = refl
 
+first_holds : (b d : Bool) → b && d ≡ true → b ≡ true
+first_holds true d h = refl
+first_holds false d h = absurd (false≢true h)
+
 same_by : (v : Vector) (names : Names) (ms : Marks) (e : Syntax) → back ms ≡ Some (marked names e) →
-    IsExpressionOf true e → set_wrongly (Some v) ms ≡ false →
-    is_same (Vectors v Value) (kind_at (marked names e)) ≡ true
+    IsExpressionOf true e → set_wrongly around.Block (Some v) ms ≡ false →
+    agrees (Vectors v Value) (kind_at (marked names e)) ≡ true
 same_by v names ms e b h s =
-    let y = subst (λ z. (not (is_list (form_or_unit z)) && not (is_same (Vectors v Value) (kind_or_other z))) ≡ false) b
+    let y = subst (λ z. (not (is_list (form_or_unit z)) && not (agrees (Vectors v Value) (kind_or_other z))) ≡ false) b
     s in
-    not_false (is_same (Vectors v Value) (kind_at (marked names e)))
+    not_false (agrees (Vectors v Value) (kind_at (marked names e)))
     (and_false (not (is_list (form_of (tree_at (marked names e)))))
-    (not (is_same (Vectors v Value) (kind_at (marked names e))))
+    (not (agrees (Vectors v Value) (kind_at (marked names e))))
     (ap (λ z. not (is_list (form_of z))) (tree_is names e) ∙ ap not (expression_no_list e h)) y)
 
 -- a list is refused there
@@ -202,10 +205,17 @@ refused_list r i names (node forms.ListNode w f l ps) (inr h) s =
     i))
 refused_list r i names e (inr h) s = absurd h
 
-same_vector : (v : Vector) (k : Kind) → is_same (Vectors v Value) k ≡ true → is_vector k ≡ true
-same_vector v (Vectors u r) h = refl
-same_vector v (Pointer s c u) h = absurd (false≢true h)
-same_vector v Other h = absurd (false≢true h)
+-- in the head of a `for` it is a vector
+head_by : (v : Vector) (names : Names) (ms : Marks) (e : Syntax) → back ms ≡ Some (marked names e) →
+    IsExpressionOf true e → set_wrongly around.Head (Some v) ms ≡ false → is_vector (kind_at (marked names e)) ≡ true
+head_by v names ms e b h s =
+    let k = kind_at (marked names e) in
+    let y = subst (λ z. (not (is_list (form_or_unit z)) && not (is_vector (kind_or_other z) &&
+    agrees (Vectors v Value) (kind_or_other z))) ≡ false) b s in
+    first_holds (is_vector k) (agrees (Vectors v Value) k)
+    (not_false (is_vector k && agrees (Vectors v Value) k)
+    (and_false (not (is_list (form_of (tree_at (marked names e))))) (not (is_vector k && agrees (Vectors v Value) k))
+    (ap (λ z. not (is_list (form_of z))) (tree_is names e) ∙ ap not (expression_no_list e h)) y))
 
 -- a vector of that type that stands behind a variable's name
 pub record InitialPart (asked : Asked) (p : Env) (v : Vector) (names : Names) (w : List ℕ) (f l : ℕ) (ps : Forest)
@@ -215,7 +225,7 @@ pub record InitialPart (asked : Asked) (p : Env) (v : Vector) (names : Names) (w
   pub shape : IsExpressionOf true value
   pub no_point : NoPoint value
   pub stays : refusals Used (marked names value) ≡ []
-  pub same : is_same (Vectors v Value) (kind_at (marked names value)) ≡ true
+  pub same : agrees (Vectors v Value) (kind_at (marked names value)) ≡ true
   pub sound : SoundTree asked p roles.Other (plain_of value)
   pub ordered : Ordered (node forms.DeclaratorNode w f l (more value none))
 
@@ -308,6 +318,5 @@ module _ (asked : Asked) (p : Env) (v : Vector) (space : Option Space) (names : 
           let hl = starless_lengths w f l (more q qs) h ss in
           let x = the_last around.Head q qs hl np o st va e so in
           let is = refused_list Barred refl names x.value x.is x.stays in
-          let v' = same_vector v (kind_at (marked names x.value)) (same_by v names ms x.value x.at is (st.right va e))
-          in
+          let v' = head_by v names ms x.value x.at is (st.right va e) in
           absurd (false≢true (sym (kind_placed Barred x.value names is x.stays) ∙ v'))

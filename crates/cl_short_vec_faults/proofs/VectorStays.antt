@@ -94,7 +94,7 @@ pub record Stays (a : Around) (v : Vector) (space : Option Space) (names : Names
     (ps : Forest) : Type 0 where
   pub placed : is_placed a space w ps ≡ true
   pub right : is_variable w ps ≡ true → is_set w ≡ true →
-      set_wrongly (Some v) (marked_parts forms.DeclaratorNode ps names true ps) ≡ false
+      set_wrongly a (Some v) (marked_parts forms.DeclaratorNode ps names true ps) ≡ false
   pub parts : refusals_in (declaring a v space) (marked names (node forms.DeclaratorNode w f l ps)) true
       (marked_parts forms.DeclaratorNode ps names true ps) ≡ []
 
@@ -112,7 +112,7 @@ declarator_stays a v space names w f l ps r =
     (none_of (refusals_in role m true ms) (refusal_at role m) r).1 in
     record {
       placed = not_false (is_placed a space w ps) x.1;
-      right = λ va se. and_false (is_variable w ps && is_set w) (set_wrongly (Some v) ms)
+      right = λ va se. and_false (is_variable w ps && is_set w) (set_wrongly a (Some v) ms)
           (ap (λ z. z && is_set w) va ∙ se) y;
       parts = x.0;
     }

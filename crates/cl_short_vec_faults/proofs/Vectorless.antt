@@ -68,8 +68,8 @@ declared_plain (Some v) space names type (node forms.DeclaratorNode w f l ps) h 
 declared_plain (Some v) space names type d h r n = absurd h
 declared_plain None space names type d h r n = by (is_some (declared_in type))
   where
-    by : (b : Bool) → NoVectors (if b then with_name names (name_in (word_of d)) Other else names)
-    by true = with_plain names (name_in (word_of d)) Other n refl
+    by : (b : Bool) → NoVectors (if b then with_name names (name_in (word_of d)) (Other true) else names)
+    by true = with_plain names (name_in (word_of d)) (Other true) n refl
     by false = n
 
 declarators_plain : (type : Syntax) (space : Option Space) (m : Mark) (ds all : Forest) (names : Names) →
@@ -107,7 +107,7 @@ declaration_plain names t h r n = absurd h
 
 pub item_plain : (names : Names) (t : Syntax) → IsFunctionOf true t ⊎ (IsPrototypeOf true t ⊎ IsDeclarationOf true t) →
     refusals Outer (marked names t) ≡ [] → NoVectors names → NoVectors (kinds.behind names t)
-item_plain names (node forms.FunctionNode w f l parts) (inl h) r n = with_plain names (name_in w) Other n refl
+item_plain names (node forms.FunctionNode w f l parts) (inl h) r n = with_plain names (name_in w) (Other false) n refl
 item_plain names (node forms.PrototypeNode w f l parts) (inr (inl h)) r n = n
 item_plain names t (inr (inr h)) r n = declaration_plain names t h r n
 item_plain names t (inl h) r n = absurd h

@@ -4,8 +4,7 @@ use Rattle.std.specs.Prelude.{◌≡◌, ℕ, ◌≤◌, ◌<◌, ◌^◌, lengt
 use Rattle.cl_meaning.specs.Environment.{Env, Scope, is_firm}
 use Rattle.cl_meaning.specs.Faults.{Asked}
 use Rattle.cl_short_vec.specs.declared.nodes.Span.{Span}
-use Rattle.cl_short_vec.specs.declared.kinds.Kind.TheVariants.{Other}
-use Rattle.cl_short_vec.specs.Kinds.{Names}
+use Rattle.cl_short_vec.specs.Kinds.{Names, is_other}
 use Rattle.cl_short_vec.specs.Nodes.{component_name, helper}
 use Rattle.cl_short_vec_faults.specs.Plainly.{has_point, Plainly}
 use Rattle.cl_short_vec_faults.specs.Law.{AllGive}
@@ -46,4 +45,4 @@ pub record Beside (asked : Asked) (names : Names) (bound : ℕ) (plain form : En
   pub gives : AllGive asked plain
   pub alone : KnownAlone plain
   -- what stands for a vector or a pointer to vectors is a name of the source
-  pub named : (q : List ℕ) → (names q ≡ Other → ⊥) → IsName q
+  pub named : (q : List ℕ) → is_other (names q) ≡ false → IsName q

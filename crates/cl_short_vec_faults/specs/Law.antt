@@ -65,7 +65,7 @@ KindAs (Pointer s c v) k = PointsAs s c v k
 KindAs (Vectors v Variable) k = (fixed : Bool) × (k ≡ Some (kinds.Number v.of (reach.Variable fixed)))
 KindAs (Vectors v (Element s c)) k = (r : Root) × (k ≡ Some (kinds.Number v.of (reach.Element s c r)))
 KindAs (Vectors v Value) k = Unit {0}
-KindAs Other k = Unit {0}
+KindAs (Other b) k = Unit {0}
 
 -- Where no node of the plain form of an expression is at fault, no node of what stands for it without vectors is, and
 -- both have the same kind.

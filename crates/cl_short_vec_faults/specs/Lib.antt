@@ -7,3 +7,5 @@ pub mod Beside
 pub mod Leaves
 pub mod UnitLaw
 pub mod Lines
+pub mod Kept
+pub mod KeptLaw

@@ -27,7 +27,7 @@ use Rattle.cl_short_vec.specs.Types.{vector_type}
 use Rattle.cl_short_vec.specs.Kinds.{Names, with_name, is_vector}
 use Rattle.cl_short_vec.specs.Kinds as vectors
 use Rattle.cl_short_vec.specs.Marks.{Mark, tree_at, kind_at, marked}
-use Rattle.cl_short_vec.specs.Faults.{refusals, is_same}
+use Rattle.cl_short_vec.specs.Faults.{refusals, agrees}
 use Rattle.cl_short_vec.specs.Nodes.{component_name}
 use Rattle.cl_short_vec.specs.Order.{Step, Number, operator_in, setting_steps}
 use Rattle.cl_short_vec.specs.Order.{initial_steps}
@@ -124,7 +124,7 @@ InitialsFollow = (asked : Asked) (names : Names) (plain form : Env) (v : Vector)
     let n = marked names e in
     let ss = initial_steps v x n in InBlock asked names plain form → IsType t → vector_type t ≡ Some v →
     IsOwnSpace (space_among (parts_of t)) → has_point x.name ≡ false → (x.name ≡ [] → ⊥) → flag_in x.name ≡ None →
-    IsExpressionOf true e → NoPoint e → refusals Used n ≡ [] → is_same (Vectors v Value) (kind_at n) ≡ true →
+    IsExpressionOf true e → NoPoint e → refusals Used n ≡ [] → agrees (Vectors v Value) (kind_at n) ≡ true →
     SoundTree asked plain roles.Other (plain_of e) → InOrder e → last_of e < 2 ^ 64 →
     Each (IsNumberLeaf plain) ss →
     ((q : List ℕ) → InRange (first_of e) (last_of e) q → is_declared form q ≡ false) →

@@ -66,7 +66,7 @@ PointsAs s c v k = (r : Root) × (p : Reach) × (k ≡ Some (kinds.Pointer s v.o
 -- number there, and here one for each component. Neither it nor a pointer to vectors has the name of a memory fence,
 -- which would hide it in the argument of a fence.
 abbrev pub StandsAlike : vectors.Kind → List ℕ → (plain form : Env) → Type 0
-StandsAlike Other q plain form = meant_by form q ≡ meant_by plain q
+StandsAlike (Other b) q plain form = meant_by form q ≡ meant_by plain q
 StandsAlike (Pointer s c v) q plain form = (flag_in q ≡ None) × (meant_by form q ≡ meant_by plain q) ×
     PointsAs s c v (on_one (meaning_of plain q) kind_of_meaning)
 StandsAlike (Vectors v Variable) q plain form =
@@ -78,7 +78,7 @@ StandsAlike (Vectors v r) q plain form = ⊥
 abbrev pub width_in : vectors.Kind → ℕ
 width_in (Vectors v r) = v.count
 width_in (Pointer s c v) = v.count
-width_in Other = 0
+width_in (Other b) = 0
 
 -- What is visible in the plain form is visible in the form too, where names stand for these vectors, none of more than
 -- 16 components.

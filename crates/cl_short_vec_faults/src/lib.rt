@@ -1,6 +1,8 @@
-//! The unit without vectors is at fault only where the unit is with a number in the place of each vector.
+//! The unit without vectors is at fault only where the unit is with a number in the place of each vector. It differs
+//! from the unit only where that has to do with vectors.
 #![tactic(auto)]
 
+ghost use Rattle.cl_short_vec_faults.specs.KeptLaw.{FormsKeep};
 ghost use Rattle.cl_short_vec_faults.specs.Law.{ComponentsFollow, ExpressionsFollow};
 ghost use Rattle.cl_short_vec_faults.specs.Lines.{InitialsFollow, SettingsFollow};
 ghost use Rattle.cl_short_vec_faults.specs.Parts.{PartsFollow};
@@ -41,4 +43,12 @@ pub fn initials_law()
 /// 6.1.2, 6.1.7, 6.3 and 6.12.8).
 pub fn units_law()
     ensures { UnitsFollow }
+{}
+
+/// The unit without vectors differs from a unit of which no condition on vectors is told in these points alone:
+/// declarations with a vector type are replaced by declarations and assignments, vector statements by a block of them,
+/// any other vector type is that of the components, a selection of one component is that component's variable or
+/// element, and what is added to a pointer to vectors is counted in components (OpenCL 1.2, sections 6.1.2 and 6.1.7).
+pub fn kept_law()
+    ensures { FormsKeep }
 {}

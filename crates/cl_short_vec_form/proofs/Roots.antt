@@ -96,13 +96,13 @@ two_postfix w f l ps j k x y = refl
 
 two_assign : (w : List ℕ) (f l : ℕ) (ps : Forest) (j k : Kind) (x y : Syntax) →
     Expresses (two_by forms.AssignNode j k (node forms.AssignNode w f l ps) x y)
-two_assign w f l ps (Pointer space c v) Other x y = refl
+two_assign w f l ps (Pointer space c v) (Other b) x y = refl
 two_assign w f l ps j k x y = refl
 
 two_sum : (w : List ℕ) (f l : ℕ) (ps : Forest) (j k : Kind) (x y : Syntax) →
     Expresses (two_by forms.SumNode j k (node forms.SumNode w f l ps) x y)
-two_sum w f l ps (Pointer space c v) Other x y = refl
-two_sum w f l ps Other (Pointer space c v) x y = refl
+two_sum w f l ps (Pointer space c v) (Other b) x y = refl
+two_sum w f l ps (Other b) (Pointer space c v) x y = refl
 two_sum w f l ps j k x y = refl
 
 two_root : (form : Form) (w : List ℕ) (f l : ℕ) (ps : Forest) (j k : Kind) (x y : Syntax) →

@@ -76,11 +76,11 @@ two_larger (node form w f l ps) a b x y h = omega arith
 two_count : (form : Form) (j k : Kind) (t a b : Syntax) →
     count_nodes (two_by form j k t a b) ≤ count_nodes a + (count_nodes b + 8)
 two_count forms.PostfixNode (Pointer space c v) k t a b = omega arith
-two_count forms.AssignNode (Pointer space c v) Other t a b =
+two_count forms.AssignNode (Pointer space c v) (Other y) t a b =
     let h = moved_count (setting_in (word_of t)) v b in
     two_larger t a b a (moved_by (setting_in (word_of t)) v b) (omega arith)
-two_count forms.SumNode (Pointer space c v) Other t a b = two_larger t a b a (scaled v b) (omega arith)
-two_count forms.SumNode Other (Pointer space c v) t a b = two_larger t a b (scaled v a) b (omega arith)
+two_count forms.SumNode (Pointer space c v) (Other y) t a b = two_larger t a b a (scaled v b) (omega arith)
+two_count forms.SumNode (Other y) (Pointer space c v) t a b = two_larger t a b (scaled v a) b (omega arith)
 two_count form j k t a b = two_parts t a b
 
 element_count : (form : Form) (k : Kind) (c : ℕ) (s : Span) (t a b : Syntax) →

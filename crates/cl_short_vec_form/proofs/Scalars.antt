@@ -193,13 +193,13 @@ moved_calm None v b h = h
 
 two_assign : (w : List ℕ) (f l : ℕ) (ps : Forest) (j k : Kind) (x y : Syntax) → Calm x → Calm y →
     Calm (two_by forms.AssignNode j k (node forms.AssignNode w f l ps) x y)
-two_assign w f l ps (Pointer space c v) Other x y h i = (refl, refl, (h, (moved_calm (setting_in w) v y i, tt)))
+two_assign w f l ps (Pointer space c v) (Other b) x y h i = (refl, refl, (h, (moved_calm (setting_in w) v y i, tt)))
 two_assign w f l ps j k x y h i = (refl, refl, (h, (i, tt)))
 
 two_sum : (w : List ℕ) (f l : ℕ) (ps : Forest) (j k : Kind) (x y : Syntax) → Calm x → Calm y →
     Calm (two_by forms.SumNode j k (node forms.SumNode w f l ps) x y)
-two_sum w f l ps (Pointer space c v) Other x y h i = (refl, refl, (h, (scaled_calm v y i, tt)))
-two_sum w f l ps Other (Pointer space c v) x y h i = (refl, refl, (scaled_calm v x h, (i, tt)))
+two_sum w f l ps (Pointer space c v) (Other b) x y h i = (refl, refl, (h, (scaled_calm v y i, tt)))
+two_sum w f l ps (Other b) (Pointer space c v) x y h i = (refl, refl, (scaled_calm v x h, (i, tt)))
 two_sum w f l ps j k x y h i = (refl, refl, (h, (i, tt)))
 
 two_postfix : (w : List ℕ) (f l : ℕ) (ps : Forest) (j k : Kind) (x y : Syntax) → Calm x → Calm y →

@@ -61,7 +61,7 @@ others_wide m ms c h = omega arith
 pub count_wide : (k : Kind) (c : ℕ) → 1 ≤ c → kind_width k ≤ c → count_in k ≤ c
 count_wide (Vectors v r) c h i = i
 count_wide (Pointer s d v) c h i = h
-count_wide Other c h i = h
+count_wide (Other b) c h i = h
 
 -- ---- the components of a place
 
@@ -70,7 +70,7 @@ all_wide (Vectors v r) =
     let h = numbers_length 0 1 v.count in
     omega arith
 all_wide (Pointer s c v) = omega arith
-all_wide Other = omega arith
+all_wide (Other b) = omega arith
 
 pub map_length : (f : ℕ → ℕ) (js : List ℕ) → length (map f js) ≡ length js
 map_length f [] = refl
@@ -88,7 +88,7 @@ several_wide None v r ks b h = right_most (length ks) 1 b h
 several_wide (Some js) v r ks b h = by (nat_eq (length js) 1) refl
   where
     by : (z : Bool) → nat_eq (length js) 1 ≡ z → length (picked ks js) ≤
-        max (kind_width (if z then Other else Vectors (vector v.of (length js)) r)) b
+        max (kind_width (if z then (Other true) else Vectors (vector v.of (length js)) r)) b
     by true e =
         let i = map_length (λ j. slice_index ks j) js in
         let n = eqb-true (length js) 1 e in
@@ -104,7 +104,7 @@ selection_wide None p j ks b h =
     (all_wide (postfix_kind None p j))
 selection_wide (Some name) p (Vectors v r) ks b h = several_wide (selected v.count name) v r ks b h
 selection_wide (Some name) p (Pointer s c v) ks b h = right_most (length ks) 1 b h
-selection_wide (Some name) p Other ks b h = right_most (length ks) 1 b h
+selection_wide (Some name) p (Other y) ks b h = right_most (length ks) 1 b h
 
 by_wide : (names : Names) (form : Form) (w : List ℕ) (ms : Marks) (ks : List ℕ) (b : ℕ) → length ks ≤ b →
     length (components_by form w (kind_by names form w ms) (front_kind ms) ks) ≤

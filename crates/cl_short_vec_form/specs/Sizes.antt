@@ -14,7 +14,7 @@ named_width (Some v) = v.count
 abbrev pub kind_width : Kind → ℕ
 kind_width (Vectors v reach) = v.count
 kind_width (Pointer space constant v) = v.count
-kind_width Other = 1
+kind_width (Other b) = 1
 
 unfoldable mutual
   pub widest : Mark → ℕ

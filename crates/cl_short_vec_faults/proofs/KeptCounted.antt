@@ -20,13 +20,13 @@ use Rattle.cl_short_vec.specs.Plain.{is_pointed}
 use Rattle.cl_short_vec.specs.Marks.{Mark, mark, Marks, unmarked, marking, kind_at}
 use Rattle.cl_short_vec.specs.Nodes.{with_parts}
 use Rattle.cl_short_vec.specs.Scalar.{prefixed, postfixed, one_by, moved_by, two_by}
-use Rattle.cl_short_vec_kept.specs.Kept.{renewed, counted_prefix, counted_postfix, counted_one, counted_setting}
-use Rattle.cl_short_vec_kept.specs.Kept.{counted_two, counted_parts, counted_or}
+use Rattle.cl_short_vec_faults.specs.Kept.{renewed, counted_prefix, counted_postfix, counted_one, counted_setting}
+use Rattle.cl_short_vec_faults.specs.Kept.{counted_two, counted_parts, counted_or}
 use Rattle.std.proofs.lemmas.Bool.{false≢true}
 use Rattle.cl_short_vec.specs.Types.{selection_in}
 use Rattle.cl_short_vec.specs.Faults.{components_of}
 use Rattle.cl_short_vec.specs.Scalar.{one_selected, one_component, scalar, scalars}
-use Rattle.cl_short_vec_kept.specs.Kept.{Stays, AllStay}
+use Rattle.cl_short_vec_faults.specs.Kept.{Stays, AllStay}
 
 -- ---- nodes
 
@@ -70,9 +70,9 @@ setting_kept o v t a b = refl
 pub two_kept : (form : Form) (j k : Kind) (t a b : Syntax) →
     two_by form j k t a b ≡ counted_or (counted_two form j k t a b) (renewed form t (forest2 a b))
 two_kept forms.PostfixNode (Pointer s c v) k t a b = refl
-two_kept forms.AssignNode (Pointer s c v) Other t a b = setting_kept (setting_in (word_of t)) v t a b
-two_kept forms.SumNode (Pointer s c v) Other t a b = refl
-two_kept forms.SumNode Other (Pointer s c v) t a b = refl
+two_kept forms.AssignNode (Pointer s c v) (Other y) t a b = setting_kept (setting_in (word_of t)) v t a b
+two_kept forms.SumNode (Pointer s c v) (Other y) t a b = refl
+two_kept forms.SumNode (Other y) (Pointer s c v) t a b = refl
 two_kept form j k t a b = refl
 
 pub two_stays : (t : Syntax) (k : Kind) (a b : Mark) (p q u : Syntax) →

@@ -23,10 +23,10 @@ use Rattle.cl_short_vec.specs.Scalar.{scalar, scalars}
 use Rattle.cl_short_vec.specs.Unit.{scalarised}
 use Rattle.cl_short_vec_faults.proofs.Refused.{none_of, node_none, parts_stay, free_apart}
 use Rattle.cl_short_vec_faults.proofs.Refused as refused
-use Rattle.cl_short_vec_kept.specs.Kept.{Stays, AllStay, StaysTree}
-use Rattle.cl_short_vec_kept.proofs.Counted.{node_stays}
-use Rattle.cl_short_vec_kept.proofs.Expressions.{type_stays, expression_stays}
-use Rattle.cl_short_vec_kept.proofs.Statements.{declaration_stays}
+use Rattle.cl_short_vec_faults.specs.Kept.{Stays, AllStay, StaysTree}
+use Rattle.cl_short_vec_faults.proofs.KeptCounted.{node_stays}
+use Rattle.cl_short_vec_faults.proofs.KeptExpressions.{type_stays, expression_stays}
+use Rattle.cl_short_vec_faults.proofs.KeptStatements.{declaration_stays}
 
 -- ---- nothing is refused in parts
 
@@ -77,8 +77,8 @@ list_stays : (names : Names) (t : Syntax) → IsListOf true t → refusals Free 
 unfolding marked kind_by role_of
 list_stays names (node forms.ListNode w f l ps) h r =
     let ms = marked_parts forms.ListNode ps names true ps in
-    node_stays forms.ListNode w f l ps Other ms refl (all_free forms.ListNode ps names true ps h
-    (parts_stay Free (node forms.ListNode w f l ps) Other ms (λ x y p. refl) r))
+    node_stays forms.ListNode w f l ps (Other true) ms refl (all_free forms.ListNode ps names true ps h
+    (parts_stay Free (node forms.ListNode w f l ps) (Other true) ms (λ x y p. refl) r))
 list_stays names t h r = absurd h
 
 lengths_stay : (all : Forest) (names : Names) (front : Bool) (ps : Forest) → AreLengthsOf true ps →
@@ -125,8 +125,8 @@ declarator_stays : (names : Names) (d : Declaration) (t : Syntax) → IsDeclarat
 unfolding marked kind_by role_of
 declarator_stays names d (node forms.DeclaratorNode w f l ps) h e r =
     let ms = marked_parts forms.DeclaratorNode ps names true ps in
-    node_stays forms.DeclaratorNode w f l ps Other ms refl (declarator_parts w f l names ps ps h
-    (parts_stay (Declared d) (node forms.DeclaratorNode w f l ps) Other ms
+    node_stays forms.DeclaratorNode w f l ps (Other true) ms refl (declarator_parts w f l names ps ps h
+    (parts_stay (Declared d) (node forms.DeclaratorNode w f l ps) (Other true) ms
     (λ x y p. initial_free d (is_variable w ps) (y && is_set w) e) r))
 declarator_stays names d t h e r = absurd h
 
@@ -154,7 +154,7 @@ declaration_tree names role (node forms.DeclareNode w f l (more ty ds)) h r =
     let all = marking (marked names ty) ms in
     declaration_stays t (marked names ty) ms (type_stays ty names h.0) (λ e. (
       type_stays ty names h.0,
-      declarators_stay role w f l ps Other all ps names' ds e h.1 (each_none role t Other all r).1,
+      declarators_stay role w f l ps (Other true) all ps names' ds e h.1 (each_none role t (Other true) all r).1,
     ))
 declaration_tree names role t h r = absurd h
 
@@ -167,9 +167,9 @@ star_stays names w f l = inl (refl, (none, refl, tt))
 
 pub result_stays : (names : Names) (t : Syntax) → IsResult t → Stays (marked names t) (scalar (marked names t))
 unfolding marked marked_parts kind_by scalars
-result_stays names (node forms.ResultNode w f l none) h = node_stays forms.ResultNode w f l none Other unmarked refl tt
+result_stays names (node forms.ResultNode w f l none) h = node_stays forms.ResultNode w f l none (Other true) unmarked refl tt
 result_stays names (node forms.ResultNode w f l (more t none)) h =
-    node_stays forms.ResultNode w f l (more t none) Other (marking (marked names t) unmarked) refl
+    node_stays forms.ResultNode w f l (more t none) (Other true) (marking (marked names t) unmarked) refl
     (type_stays t names h, tt)
 result_stays names t h = absurd h
 
@@ -205,7 +205,7 @@ all_params all names front (more p ps) h =
 
 pub params_stay : (names : Names) (t : Syntax) → IsParams t → Stays (marked names t) (scalar (marked names t))
 unfolding marked kind_by
-params_stay names (node forms.ParamsNode w f l ps) h = node_stays forms.ParamsNode w f l ps Other
+params_stay names (node forms.ParamsNode w f l ps) h = node_stays forms.ParamsNode w f l ps (Other true)
     (marked_parts forms.ParamsNode ps names true ps) refl (all_params ps names true ps h)
 params_stay names t h = absurd h
 
@@ -216,17 +216,17 @@ attribute_stays : (names : Names) (w : List ℕ) (f l : ℕ) (ps : Forest) → A
 unfolding marked kind_by role_of
 attribute_stays names w f l ps h r =
     let ms = marked_parts forms.AttributeNode ps names true ps in
-    node_stays forms.AttributeNode w f l ps Other ms refl (all_free forms.AttributeNode ps names true ps h
-    (parts_stay Free (node forms.AttributeNode w f l ps) Other ms (λ x y p. refl) r))
+    node_stays forms.AttributeNode w f l ps (Other true) ms refl (all_free forms.AttributeNode ps names true ps h
+    (parts_stay Free (node forms.AttributeNode w f l ps) (Other true) ms (λ x y p. refl) r))
 
 pub head_stays : (names : Names) (t : Syntax) → IsHeadOf true t → refusals Free (marked names t) ≡ [] →
     Stays (marked names t) (scalar (marked names t))
 unfolding marked marked_parts kind_by scalars role_of
-head_stays names (node forms.HeadNode w f l none) h r = node_stays forms.HeadNode w f l none Other unmarked refl tt
+head_stays names (node forms.HeadNode w f l none) h r = node_stays forms.HeadNode w f l none (Other true) unmarked refl tt
 head_stays names (node forms.HeadNode w f l (more (node forms.AttributeNode w' f' l' ps) none)) h r =
     let q = node forms.AttributeNode w' f' l' ps in
     let t = node forms.HeadNode w f l (more q none) in
     let ms = marking (marked names q) unmarked in
-    node_stays forms.HeadNode w f l (more q none) Other ms refl
-    (attribute_stays names w' f' l' ps h (parts_stay Free t Other ms (λ x y p. refl) r).0, tt)
+    node_stays forms.HeadNode w f l (more q none) (Other true) ms refl
+    (attribute_stays names w' f' l' ps h (parts_stay Free t (Other true) ms (λ x y p. refl) r).0, tt)
 head_stays names t h r = absurd h

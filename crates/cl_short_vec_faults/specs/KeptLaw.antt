@@ -7,7 +7,7 @@ use Rattle.cl_short_vec.specs.Plain.{has_vectors}
 use Rattle.cl_short_vec.specs.Marks.{marked}
 use Rattle.cl_short_vec.specs.Faults.{refusal_of}
 use Rattle.cl_short_vec.specs.Unit.{scalarised_of}
-use Rattle.cl_short_vec_kept.specs.Kept.{StaysTree}
+use Rattle.cl_short_vec_faults.specs.Kept.{StaysTree}
 
 -- A unit that has no vectors is itself; of any other one, of which no condition on vectors is told, all stays but what
 -- has to do with vectors.

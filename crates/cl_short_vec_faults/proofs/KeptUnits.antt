@@ -25,13 +25,13 @@ use Rattle.cl_short_vec.specs.Unit.{scalarised, all_scalarised, block_lines, loo
 use Rattle.cl_short_vec_faults.specs.Law.{is_of_vectors}
 use Rattle.cl_short_vec_faults.proofs.Refused.{parts_stay, part_none, kind_placed}
 use Rattle.cl_short_vec_faults.proofs.Refused as refused
-use Rattle.cl_short_vec_kept.specs.Kept.{Stays, AllStay, StaysTree, AllStayTrees, LinesStay, LoopStays, sets_whole}
-use Rattle.cl_short_vec_kept.specs.Law.{FormsKeep}
-use Rattle.cl_short_vec_kept.proofs.Expressions.{expression_stays}
-use Rattle.cl_short_vec_kept.proofs.Counted.{node_stays}
-use Rattle.cl_short_vec_kept.proofs.Statements.{simple_stays, line_stays}
-use Rattle.cl_short_vec_kept.proofs.Nodes.{EachNone, each_none, free_stays, optional_stays}
-use Rattle.cl_short_vec_kept.proofs.Nodes.{declaration_tree, result_stays, params_stay, head_stays}
+use Rattle.cl_short_vec_faults.specs.Kept.{Stays, AllStay, StaysTree, AllStayTrees, LinesStay, LoopStays, sets_whole}
+use Rattle.cl_short_vec_faults.specs.KeptLaw.{FormsKeep}
+use Rattle.cl_short_vec_faults.proofs.KeptExpressions.{expression_stays}
+use Rattle.cl_short_vec_faults.proofs.KeptCounted.{node_stays}
+use Rattle.cl_short_vec_faults.proofs.KeptStatements.{simple_stays, line_stays}
+use Rattle.cl_short_vec_faults.proofs.KeptNodes.{EachNone, each_none, free_stays, optional_stays}
+use Rattle.cl_short_vec_faults.proofs.KeptNodes.{declaration_tree, result_stays, params_stay, head_stays}
 
 -- ---- expressions as parts of statements
 
@@ -71,7 +71,7 @@ simple_parts : (names : Names) (w : List ℕ) (f l : ℕ) (ps : Forest) → IsOp
 unfolding marked marked_parts scalars role_of kind_by
 simple_parts names w f l none h r e = tt
 simple_parts names w f l (more a none) h r e =
-    let q = part_none Free (node forms.SimpleNode w f l (more a none)) Other (marked names a) r in
+    let q = part_none Free (node forms.SimpleNode w f l (more a none)) (Other true) (marked names a) r in
     (expression_stays names Whole a h q (assigns_none names a h e (kind_placed Whole a names h q)), tt)
 simple_parts names w f l (more a (more b bs)) h r e = absurd h
 
@@ -83,8 +83,8 @@ unfolding marked scalarised kind_by
 simple_tree names w f l ps h r =
     let t = node forms.SimpleNode w f l ps in
     let ms = marked_parts forms.SimpleNode ps names true ps in
-    simple_stays t Other ms (scalar (mark t Other ms))
-    (λ e. node_stays forms.SimpleNode w f l ps Other ms refl (simple_parts names w f l ps h r e))
+    simple_stays t (Other true) ms (scalar (mark t (Other true) ms))
+    (λ e. node_stays forms.SimpleNode w f l ps (Other true) ms refl (simple_parts names w f l ps h r e))
 
 -- in the head of a `for`
 head_simple : (names : Names) (w : List ℕ) (f l : ℕ) (ps : Forest) → IsOptionalOf true ps →
@@ -94,8 +94,8 @@ unfolding marked kind_by role_of
 head_simple names w f l ps h r =
     let t = node forms.SimpleNode w f l ps in
     let ms = marked_parts forms.SimpleNode ps names true ps in
-    node_stays forms.SimpleNode w f l ps Other ms refl (optional_stays forms.SimpleNode ps names ps h
-    (parts_stay Head t Other ms (λ x y p. refl) r))
+    node_stays forms.SimpleNode w f l ps (Other true) ms refl (optional_stays forms.SimpleNode ps names ps h
+    (parts_stay Head t (Other true) ms (λ x y p. refl) r))
 
 return_tree : (names : Names) (w : List ℕ) (f l : ℕ) (ps : Forest) → IsOptionalOf true ps →
     refusals Free (marked names (node forms.ReturnNode w f l ps)) ≡ [] →
@@ -105,8 +105,8 @@ unfolding marked scalarised kind_by role_of
 return_tree names w f l ps h r =
     let t = node forms.ReturnNode w f l ps in
     let ms = marked_parts forms.ReturnNode ps names true ps in
-    node_stays forms.ReturnNode w f l ps Other ms refl (optional_stays forms.ReturnNode ps names ps h
-    (parts_stay Free t Other ms (λ x y p. refl) r))
+    node_stays forms.ReturnNode w f l ps (Other true) ms refl (optional_stays forms.ReturnNode ps names ps h
+    (parts_stay Free t (Other true) ms (λ x y p. refl) r))
 
 -- ---- the parts of statements
 
@@ -181,7 +181,7 @@ mutual
         block_lines ms,
         refl,
         lines_stay ps names true ps h
-            (parts_stay Free (node forms.BlockNode w f l ps) Other ms (λ x y p. refl) r),
+            (parts_stay Free (node forms.BlockNode w f l ps) (Other true) ms (λ x y p. refl) r),
       )
   statement_tree names (node forms.SimpleNode w f l ps) h r = simple_tree names w f l ps h r
   statement_tree names (node forms.IfNode w f l ps) h r =
@@ -189,54 +189,54 @@ mutual
         all_scalarised ms,
         refl,
         trees_stay forms.IfNode ps names true ps (if_parts w f l ps h)
-            (parts_stay Free (node forms.IfNode w f l ps) Other ms (λ x y p. refl) r),
+            (parts_stay Free (node forms.IfNode w f l ps) (Other true) ms (λ x y p. refl) r),
       )
   statement_tree names (node forms.WhileNode w f l ps) h r =
       let ms = marked_parts forms.WhileNode ps names true ps in (
         all_scalarised ms,
         refl,
         trees_stay forms.WhileNode ps names true ps (while_parts w f l ps h)
-            (parts_stay Free (node forms.WhileNode w f l ps) Other ms (λ x y p. refl) r),
+            (parts_stay Free (node forms.WhileNode w f l ps) (Other true) ms (λ x y p. refl) r),
       )
   statement_tree names (node forms.DoNode w f l ps) h r =
       let ms = marked_parts forms.DoNode ps names true ps in (
         all_scalarised ms,
         refl,
         trees_stay forms.DoNode ps names true ps (do_parts w f l ps h)
-            (parts_stay Free (node forms.DoNode w f l ps) Other ms (λ x y p. refl) r),
+            (parts_stay Free (node forms.DoNode w f l ps) (Other true) ms (λ x y p. refl) r),
       )
   statement_tree names (node forms.ForNode w f l ps) h r =
       let ms = marked_parts forms.ForNode ps names true ps in (
         loop_parts ms,
         refl,
-        loop_stays w f l ps Other ms ps names ps (for_parts w f l ps h)
-            (each_none Free (node forms.ForNode w f l ps) Other ms r),
+        loop_stays w f l ps (Other true) ms ps names ps (for_parts w f l ps h)
+            (each_none Free (node forms.ForNode w f l ps) (Other true) ms r),
       )
   statement_tree names (node forms.SwitchNode w f l ps) h r =
       let ms = marked_parts forms.SwitchNode ps names true ps in (
         all_scalarised ms,
         refl,
         trees_stay forms.SwitchNode ps names true ps (switch_parts w f l ps h)
-            (parts_stay Free (node forms.SwitchNode w f l ps) Other ms (λ x y p. refl) r),
+            (parts_stay Free (node forms.SwitchNode w f l ps) (Other true) ms (λ x y p. refl) r),
       )
   statement_tree names (node forms.CaseNode w f l ps) h r =
       let ms = marked_parts forms.CaseNode ps names true ps in (
         all_scalarised ms,
         refl,
         trees_stay forms.CaseNode ps names true ps (case_parts w f l ps h)
-            (parts_stay Free (node forms.CaseNode w f l ps) Other ms (λ x y p. refl) r),
+            (parts_stay Free (node forms.CaseNode w f l ps) (Other true) ms (λ x y p. refl) r),
       )
   statement_tree names (node forms.DefaultNode w f l ps) h r =
       let ms = marked_parts forms.DefaultNode ps names true ps in (
         all_scalarised ms,
         refl,
         trees_stay forms.DefaultNode ps names true ps (default_parts w f l ps h)
-            (parts_stay Free (node forms.DefaultNode w f l ps) Other ms (λ x y p. refl) r),
+            (parts_stay Free (node forms.DefaultNode w f l ps) (Other true) ms (λ x y p. refl) r),
       )
   statement_tree names (node forms.BreakNode w f l none) h r =
-      node_stays forms.BreakNode w f l none Other unmarked refl tt
+      node_stays forms.BreakNode w f l none (Other true) unmarked refl tt
   statement_tree names (node forms.ContinueNode w f l none) h r =
-      node_stays forms.ContinueNode w f l none Other unmarked refl tt
+      node_stays forms.ContinueNode w f l none (Other true) unmarked refl tt
   statement_tree names (node forms.ReturnNode w f l ps) h r = return_tree names w f l ps h r
   statement_tree names t h r = absurd h
 
@@ -345,7 +345,7 @@ function_tree names (node forms.FunctionNode w f l ps) h r =
       all_scalarised ms,
       refl,
       function_parts ps names true ps h
-          (parts_stay Outer (node forms.FunctionNode w f l ps) Other ms (λ x y p. refl) r),
+          (parts_stay Outer (node forms.FunctionNode w f l ps) (Other true) ms (λ x y p. refl) r),
     )
 function_tree names t h r = absurd h
 
@@ -374,8 +374,8 @@ prototype_tree : (names : Names) (t : Syntax) → IsPrototypeOf true t → refus
 unfolding marked kind_by role_of scalarised
 prototype_tree names (node forms.PrototypeNode w f l ps) h r =
     let ms = marked_parts forms.PrototypeNode ps names true ps in
-    node_stays forms.PrototypeNode w f l ps Other ms refl (prototype_parts ps names true ps h
-    (parts_stay Outer (node forms.PrototypeNode w f l ps) Other ms (λ x y p. refl) r))
+    node_stays forms.PrototypeNode w f l ps (Other true) ms refl (prototype_parts ps names true ps h
+    (parts_stay Outer (node forms.PrototypeNode w f l ps) (Other true) ms (λ x y p. refl) r))
 prototype_tree names t h r = absurd h
 
 -- ---- units
@@ -405,8 +405,8 @@ unit_tree names (node forms.UnitNode w f l ps) h r =
     let ms = marked_parts forms.UnitNode ps names true ps in (
       all_scalarised ms,
       refl,
-      items_stay w f l ps Other ms ps names true ps h
-          (each_none Free (node forms.UnitNode w f l ps) Other ms r),
+      items_stay w f l ps (Other true) ms ps names true ps h
+          (each_none Free (node forms.UnitNode w f l ps) (Other true) ms r),
     )
 unit_tree names t h r = absurd h
 

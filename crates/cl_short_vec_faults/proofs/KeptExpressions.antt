@@ -40,9 +40,9 @@ use Rattle.cl_short_vec_faults.proofs.PlainForms.{postfix_unpointed, unpointed_s
 use Rattle.cl_short_vec_faults.proofs.Places.{place_form, content_place, index_place, selected_place, picked_many}
 use Rattle.cl_short_vec_faults.proofs.Selected.{Selected, selected_part}
 use Rattle.cl_short_vec_faults.proofs.Operands.{element_is_place, cast_other}
-use Rattle.cl_short_vec_kept.specs.Kept.{ContentOf, ElementOf, Stays, AllStay}
-use Rattle.cl_short_vec_kept.specs.Kept.{ComponentStays}
-use Rattle.cl_short_vec_kept.proofs.Counted.{is_selecting, OneKept, one_kept, two_kept, two_stays, node_stays}
+use Rattle.cl_short_vec_faults.specs.Kept.{ContentOf, ElementOf, Stays, AllStay}
+use Rattle.cl_short_vec_faults.specs.Kept.{ComponentStays}
+use Rattle.cl_short_vec_faults.proofs.KeptCounted.{is_selecting, OneKept, one_kept, two_kept, two_stays, node_stays}
 
 -- ---- types
 
@@ -302,7 +302,7 @@ mutual
       let m = marked names' a in
       let m' = marked names'' b in
       let ms = marking i (marking m (marking m' unmarked)) in
-      let stay = parts_stay role t Other ms (λ x y q. refl) r in
+      let stay = parts_stay role t (Other true) ms (λ x y q. refl) r in
       inl (
         refl,
         (

@@ -65,9 +65,9 @@ counted_setting o v t a b = None
 -- of two operands, of which one is a pointer and the other one is counted in components
 abbrev pub counted_two : Form → (front back : Kind) → Syntax → (a b : Syntax) → Option Syntax
 counted_two forms.PostfixNode (Pointer space c v) k t a b = Some (element_at (span_of t) a (scaled v b))
-counted_two forms.AssignNode (Pointer space c v) Other t a b = counted_setting (setting_in (word_of t)) v t a b
-counted_two forms.SumNode (Pointer space c v) Other t a b = Some (with_parts t (forest2 a (scaled v b)))
-counted_two forms.SumNode Other (Pointer space c v) t a b = Some (with_parts t (forest2 (scaled v a) b))
+counted_two forms.AssignNode (Pointer space c v) (Other y) t a b = counted_setting (setting_in (word_of t)) v t a b
+counted_two forms.SumNode (Pointer space c v) (Other y) t a b = Some (with_parts t (forest2 a (scaled v b)))
+counted_two forms.SumNode (Other y) (Pointer space c v) t a b = Some (with_parts t (forest2 (scaled v a) b))
 counted_two form j k t a b = None
 
 -- what stands for a pointer to vectors with what is counted beside it, where these stand for its parts
