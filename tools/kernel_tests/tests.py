@@ -1,4 +1,5 @@
 """The runs of one test, and what is wrong with them."""
+import json
 import os
 import shutil
 import subprocess
@@ -11,6 +12,7 @@ from .folders import EXPECTED, Wrong, with_defines, words_of_defines, write
 from .runs import call
 
 PORT = os.path.join(os.path.dirname(os.path.dirname(os.path.realpath(__file__))), 'port')
+sys.path.insert(0, os.path.dirname(PORT))
 
 
 class Result:
@@ -37,24 +39,41 @@ class Room:
 
 
 def ported(case):
-    """The source of a case behind tools/port, and the arguments that become several."""
+    """The source of a case behind tools/port, and its launch file: an argument that becomes several is written so."""
     path = os.path.join(case.folder, case.source)
     words = case.defines + words_of_defines(case.document)
     kernels = {launch.get('kernel') for launch in case.launches() if isinstance(launch, dict)}
     for name in sorted(name for name in kernels if isinstance(name, str)):
         words += ['--kernel', name]
-    ran = subprocess.run([sys.executable, PORT, *words, path], capture_output=True)
-    if ran.returncode:
-        lines = ran.stderr.decode(errors='replace').strip().split('\n')
-        raise Wrong(lines[-1] if lines[-1] else 'port: status %d' % ran.returncode)
-    return ran.stdout
+    with Room({}) as room:
+        parts = os.path.join(room, 'parts')
+        ran = subprocess.run([sys.executable, PORT, '--arguments', parts, *words, path], capture_output=True)
+        if ran.returncode:
+            lines = ran.stderr.decode(errors='replace').strip().split('\n')
+            raise Wrong(lines[-1] if lines[-1] else 'port: status %d' % ran.returncode)
+        with open(parts, encoding='utf-8') as file:
+            several = {kernel: {int(number): each for number, each in own.items()}
+                       for kernel, own in json.load(file).items()}
+    return ran.stdout, launch_of(case, several, path)
+
+
+def launch_of(case, several, path):
+    """The launch file of a case, with an argument for each number of a vector or a structure."""
+    if not several:
+        return case.files[case.launch]
+    from port_parts.kernels import parameters
+    counts = {kernel: len(kinds) for kernel, kinds in
+              parameters(path, case.defines + words_of_defines(case.document)).items()}
+    if launches.in_parts(case.document, case.launches(), several, counts):
+        return launches.text_of(case.document).encode()
+    return case.files[case.launch]
 
 
 def files_for(case, is_ported):
     """The files with which a case is run."""
     files = dict(case.files)
     if is_ported:
-        files[case.source] = ported(case)
+        files[case.source], files[case.launch] = ported(case)
     else:
         files[case.launch] = with_defines(files[case.launch], case.defines)
     return files
@@ -62,7 +81,6 @@ def files_for(case, is_ported):
 
 def kinds_of(case):
     """The type of the numbers of each buffer, as the parameters say to which it is bound, where that is easily seen."""
-    sys.path.insert(0, os.path.dirname(PORT))
     from port_parts.kernels import element_types
     try:
         found = element_types(os.path.join(case.folder, case.source), case.defines + words_of_defines(case.document))

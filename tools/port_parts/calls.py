@@ -81,7 +81,7 @@ class Calls:
         if isinstance(kind, Struct):
             return self.struct_parts(node, context)
         if isinstance(kind, Pointer):
-            return [self.pointer_argument(node, kind, context, alternatives)]
+            return [self.pointer_argument(node, kind, context, alternatives, call, number)]
         return [self.converted(node, kind, context)]
 
     def vector_argument(self, node, kind, context):
@@ -96,12 +96,13 @@ class Calls:
             parts = self.kept(kind, parts, context)
         return parts
 
-    def pointer_argument(self, node, kind, context, alternatives):
+    def pointer_argument(self, node, kind, context, alternatives, call, number):
         """A pointer as an argument."""
-        if self.is_native(node) and is_plain(kind.to):
+        parameter = call.symbol.node.parameters[number] if call.symbol.node is not None else None
+        wanted = cells_of(kind.to, kind.space) if parameter is None or parameter.cells is None else parameter.cells
+        if self.is_native(node) and is_plain(kind.to) and wanted.name == types.spelled(kind.to):
             return self.native(node, context)
         found = self.pointer(node, context)
-        wanted = cells_of(kind.to, kind.space)
         if found.cells.name != wanted.name or found.cells.size != wanted.size:
             raise Refused(node.token, 'a pointer to other numbers than the parameter has', 'pointer_cast')
         if found.which is None:
@@ -185,7 +186,7 @@ class Calls:
         inner = stripped(node)
         if inner.kind == 'assign':
             inner = stripped(inner.right)
-        if inner.kind in ('name', 'number') or inner.kind == 'cast':
+        if inner.kind in ('name', 'number', 'cast', 'list'):
             return []
         if inner.kind != 'call' or inner.name not in ('async_work_group_copy', 'async_work_group_strided_copy'):
             raise Refused(node.token, 'an event of this form', 'copy_by_a_group')
@@ -193,8 +194,6 @@ class Calls:
 
     def copy_by_group(self, node, context):
         """The loop with which each item of a group copies its part."""
-        if node.name.endswith('strided_copy'):
-            raise Refused(node.token, node.name, 'copy_by_a_group')
         to, source = (self.pointer(each, context, True) for each in node.arguments[:2])
         if to.which is not None or source.which is not None or to.cells.name != source.cells.name:
             raise Refused(node.token, 'a copy among pointers of this form', 'copy_by_a_group')
@@ -202,10 +201,15 @@ class Calls:
             raise Refused(node.token, 'a copy by a group inside an expression', 'copy_by_a_group')
         self.notes.add('async_work_group_copy is a loop in which each item copies a part', node.token)
         count = context.keep(self.value(node.arguments[2], context), types.ULONG)
+        each, steps = to.cells.count(to.kind), {}
+        if node.name.endswith('strided_copy'):
+            if each > 1:
+                raise Refused(node.token, 'a copy with steps of this form', 'copy_by_a_group')
+            strided = to if to.space == 'global' else source
+            steps[strided] = context.keep(self.value(node.arguments[3], context), types.ULONG)
         at = context.variable(types.ULONG)
-        each = to.cells.count(to.kind)
-        to_text, source_text = (['%s[' % found.bases[0], found.index.plus(self.index_of(at)).text(), ']']
-                                for found in (to, source))
+        to_text, source_text = (['%s[' % found.bases[0], found.index.plus(self.index_of(
+            '%s * %s' % (at, steps[found]) if found in steps else at)).text(), ']'] for found in (to, source))
         context.steps.append(Step(None, [
             'for (%s = %s; %s < %s%s; %s += %s) ' % (at, LOCAL_LINEAR, at, '%dUL * ' % each if each > 1 else '', count,
                                                      at, GROUP_SIZE), to_text, ' = ', source_text, ';']))

@@ -62,6 +62,9 @@ class Declarations:
         if words:
             found.type = Scalar(number_word(words, found.token))
         if found.type is None:
+            symbol = self.scope.find(self.peek().text)
+            if symbol is not None and symbol.kind == 'refused':
+                raise symbol.refused
             raise Refused(found.token, 'syntax: a type is expected at %r' % self.peek().text)
         return found
 
@@ -246,8 +249,8 @@ class Declarations:
             lengths.append(found[0])
             self.expect(']')
         for length in reversed(lengths):
-            if isinstance(kind, Pointer):
-                raise Refused(self.peek(), 'an array of pointers')
+            if isinstance(kind, Array) and isinstance(kind.of, Pointer):
+                raise Refused(self.peek(), 'an array of arrays of pointers')
             kind = Array(kind, length)
         return kind
 

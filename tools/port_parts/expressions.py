@@ -1,7 +1,8 @@
 """Expressions are read from tokens, each with its type."""
 from . import built_in, constants, types, typing
 from .notes import Refused
-from .tokens import characters
+from .starts import completed
+from .tokens import characters, in_source
 from .tree import Node, Symbol, stripped
 from .types import Array, Pointer, Scalar, Vector
 
@@ -101,13 +102,32 @@ class Expressions:
         kind = self.type_name()
         self.expect(')')
         if self.is_next('{'):
-            raise Refused(start, 'a compound literal')
+            return self.behind(self.literal(start, kind))
         if isinstance(kind, Vector) and self.is_next('('):
             return self.vector(start, kind)
         node = self.made('cast', start, kind, operand=self.cast())
         if isinstance(kind, Pointer):
             self.casts.append(node)
         return node
+
+    def literal(self, start, kind):
+        """A compound literal: of numbers and vectors what is in the braces, else a variable without a name."""
+        listed = self.initial()
+        if isinstance(kind, (types.Struct, Array)):
+            kind = completed(kind, listed, start)
+            if isinstance(types.element(kind), Vector) or types.size_of(kind) is None:
+                raise Refused(start, 'a compound literal of this type')
+            return self.made('literal', start, kind, list=listed)
+        plain = all(item.kind != 'list' and not item.places for item in listed.items)
+        if not isinstance(kind, (Scalar, Vector)) or not plain or not listed.items:
+            raise Refused(start, 'a compound literal of this form')
+        if isinstance(kind, Scalar):
+            return self.made('cast', start, kind, operand=listed.items[0])
+        counts = sum(item.type.count if isinstance(item.type, Vector) else 1 for item in listed.items)
+        zeros = [self.made('number', in_source(start, '0'), types.INT, value=0) for _ in range(kind.count - counts)]
+        if counts > kind.count:
+            raise Refused(start, '%d components for a vector of %d' % (counts, kind.count))
+        return self.made('vector', start, kind, items=listed.items + zeros)
 
     def vector(self, start, kind):
         """A vector that is made of a list of numbers and vectors."""
@@ -178,6 +198,8 @@ class Expressions:
                 if typing.pointed(node.base) is None and typing.pointed(node.at) is not None:
                     node.base, node.at = node.at, node.base
                 node.type = typing.index_type(node)
+                if isinstance(node.type, Pointer):
+                    node = self.chosen_pointer(node)
             elif text in ('.', '->'):
                 point = self.take()
                 node = Node('member', node.token, base=node, point=point, is_arrow=text == '->', name=self.take())
@@ -247,6 +269,8 @@ class Expressions:
         else:
             if len(arguments) != len(symbol.type.parameters):
                 raise Refused(token, '%s takes %d arguments' % (token.text, len(symbol.type.parameters)))
+            if isinstance(symbol.type.result, Pointer):
+                return self.call_written_out(token, symbol, arguments)
             node.type = symbol.type.result
             self.calls.append((self.function, symbol, node))
         return node

@@ -17,7 +17,7 @@ def decide(symbol, notes, names):
     """Gives a variable its form and, where it stands in an array of numbers, its elements."""
     kind = symbol.type
     symbol.cells = None
-    if isinstance(kind, Other):
+    if isinstance(element(kind), Other):
         symbol.form = EVENT
     elif isinstance(kind, Pointer):
         symbol.moving_names = names.like(symbol.name + '_of'), names.like(symbol.name + '_at')
@@ -35,9 +35,39 @@ def look_at_casts(casts):
         for base in bases_of(node.operand):
             if base.kind == 'variable':
                 own = own_type(base)
-                if all(types.is_number(leaf) for leaf, _ in types.leaves(own)) \
-                        and unit < min(types.SIZES[leaf.name] for leaf, _ in types.leaves(own)):
+                if all(types.is_number(leaf) for leaf, _ in types.leaves(own)) and unit < elements_of(base)[1]:
                     base.unit = min(unit, base.unit or unit)
+
+
+def look_at_arguments(calls):
+    """An object and the parameter that leads to it have the same elements: where they would not, the smallest numbers
+    of both. What one call asks for may change what another one has, so this goes on until nothing changes."""
+    pairs = [(base, parameter) for _, called, node in calls if called.node is not None
+             for argument, parameter in zip(node.arguments, called.node.parameters)
+             if isinstance(parameter.type, Pointer) and isinstance(argument.type, (Pointer, Array))
+             for base in bases_of(argument) if base.kind == 'variable']
+    is_done = False
+    while not is_done:
+        is_done = True
+        for base, parameter in pairs:
+            if elements_of(base) != elements_of(parameter):
+                unit = min(smallest(base), smallest(parameter))
+                is_done = is_done and base.unit == parameter.unit == unit
+                base.unit = parameter.unit = unit
+
+
+def smallest(symbol):
+    """The bytes of the smallest number of what a variable holds or leads to."""
+    own = min(types.SIZES.get(leaf.name, 1) for leaf, _ in types.leaves(own_type(symbol)))
+    return min(own, symbol.unit or own)
+
+
+def elements_of(symbol):
+    """The name and size of the elements that a variable, or what it leads to, stands in."""
+    if symbol.unit is not None:
+        return types.BY_SIZE[symbol.unit], symbol.unit
+    cells = cells_of(own_type(symbol), symbol.type.space if isinstance(symbol.type, Pointer) else symbol.space)
+    return (cells.name, cells.size) if cells is not None else None
 
 
 def share_cells(symbol, notes):

@@ -231,6 +231,8 @@ class Places:
             return found.at(Index(found.cells.before(found.kind, node.offset)), node.type)
         if node.kind == 'unary' and node.op.text == '*':
             return self.pointer(node.operand, context, is_twice)
+        if node.kind == 'literal':
+            return self.literal_place(node, context)
         raise Refused(node.token, 'a place that is none')
 
     def number(self, node, context, is_twice):

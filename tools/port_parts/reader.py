@@ -3,10 +3,12 @@ from . import types
 from .declarations import Declarations
 from .expressions import Expressions
 from .notes import Refused
+from .starts import completed
 from .statements import Statements
 from .tokens import Token
 from .tree import Node, Scope, Symbol
 from .types import Array, Function, Other, Pointer
+from .written_out import WrittenOut
 
 
 class Declarator:
@@ -16,7 +18,7 @@ class Declarator:
         self.symbol, self.initial = symbol, initial
 
 
-class Reader(Expressions, Statements, Declarations):
+class Reader(Expressions, Statements, Declarations, WrittenOut):
     """Reads a unit from its tokens."""
 
     def __init__(self, tokens, notes):
@@ -25,7 +27,7 @@ class Reader(Expressions, Statements, Declarations):
         self.end = Token('end', 'the end', last and last.file, last.line if last else 1, 0, True)
         self.scope, self.function, self.calls, self.casts = Scope(), None, [], []
         self.aligned = None
-        self.symbols, self.refused = [], []
+        self.symbols, self.refused, self.arrays_of_pointers = [], [], []
 
     def peek(self, ahead=0):
         """The next token, or one behind it."""
@@ -59,23 +61,39 @@ class Reader(Expressions, Statements, Declarations):
             part = self.outer_or_refused()
             if part is not None:
                 parts.append(part)
+        self.look_at_arrays_of_pointers()
         return parts
 
     def outer_or_refused(self):
-        """A part of the source. A function that is refused is kept as that, since it may not be needed."""
+        """A part of the source. What is refused is kept as that, since it may not be needed."""
         start, outside = self.at, self.scope
         try:
             return self.outer()
         except Refused as refused:
             name = self.skip_function(start)
-            if name is None:
+            names = [name] if name is not None else self.skip_declaration(start)
+            if not names:
                 raise
             self.scope, self.function = outside, None
-            symbol = Symbol('refused', name.text, types.VOID, name)
-            symbol.refused = refused
-            outside.names[name.text] = symbol
-            self.refused.append(symbol)
+            for name in names:
+                symbol = Symbol('refused', name.text, types.VOID, name)
+                symbol.refused = refused
+                outside.names[name.text] = symbol
+                self.refused.append(symbol)
             return None
+
+    def skip_declaration(self, start):
+        """Goes behind the declaration that begins there; the names that it declares."""
+        depth, names, self.at = 0, [], start
+        while self.at < len(self.tokens):
+            token = self.take()
+            if token.kind == 'name' and depth == 0 and self.peek().text in (';', ',', '=', '['):
+                names.append(token)
+            if token.kind == 'mark':
+                depth += {'(': 1, '[': 1, '{': 1, ')': -1, ']': -1, '}': -1}.get(token.text, 0)
+                if depth == 0 and token.text == ';':
+                    return names
+        return []
 
     def skip_function(self, start):
         """Goes to the end of the function that begins there; its name, or None where it is none."""
@@ -120,9 +138,11 @@ class Reader(Expressions, Statements, Declarations):
                 raise Refused(self.peek(), 'syntax: a name is expected')
             self.attributes(found)
             if 'typedef' in found.storage:
+                if isinstance(kind, Array) and isinstance(kind.of, Pointer):
+                    raise Refused(name, 'an array of pointers')
                 self.scope.names[name.text] = Symbol('typedef', name.text, kind, name, found.space or 'private')
             else:
-                declarators.append(self.variable(found, name, kind))
+                declarators += self.variable(found, name, kind)
             if not self.is_next(','):
                 break
             self.take()
@@ -132,7 +152,7 @@ class Reader(Expressions, Statements, Declarations):
         return Node('declaration', found.token, declarators=declarators, specifiers=found, end=end)
 
     def variable(self, found, name, kind):
-        """One variable of a declaration."""
+        """One variable of a declaration; none where it is written out."""
         space = 'private' if isinstance(kind, Pointer) else found.space or 'private'
         if self.function is None and space == 'private':
             if not (found.is_const or isinstance(kind, Pointer) and kind.space == 'constant'):
@@ -151,21 +171,26 @@ class Reader(Expressions, Statements, Declarations):
         if self.is_next('='):
             self.take()
             initial = self.initial()
+        if isinstance(kind, Array) and isinstance(kind.of, Pointer):
+            self.symbols.pop()
+            self.keep_pointers(symbol, initial)
+            return []
         symbol.type = completed(kind, initial, name)
         symbol.initial = initial
         if isinstance(symbol.type, Pointer) and initial is not None:
             symbol.sources.append(initial)
-        elif isinstance(kind, Other) and kind.name != 'event_t':
-            raise Refused(name, 'floating point, or a type without values here: %s' % kind.name)
-        if isinstance(kind, types.Void) or types.size_of(symbol.type) is None and not isinstance(kind, Other):
+        elif isinstance(types.element(kind), Other) and types.element(kind).name != 'event_t':
+            raise Refused(name, 'floating point, or a type without values here: %s' % types.element(kind).name)
+        if isinstance(kind, types.Void) or types.size_of(symbol.type) is None \
+                and not isinstance(types.element(kind), Other):
             raise Refused(name, 'a variable of a type without a size')
-        return Declarator(symbol, initial)
+        return [Declarator(symbol, initial)]
 
     def whole_function(self, found, name, result):
         """A function or its prototype."""
         self.expect('(')
         outside = self.scope
-        self.scope = Scope(outside)
+        self.scope, mark = Scope(outside), len(self.symbols)
         parameters = self.parameters()
         self.attributes(found)
         kind = Function(result, [symbol.type for symbol in parameters], [symbol.name for symbol in parameters])
@@ -174,7 +199,7 @@ class Reader(Expressions, Statements, Declarations):
             symbol = Symbol('function', name.text, kind, name)
             symbol.is_called = False
             outside.names[name.text] = symbol
-            self.symbols.append(symbol)
+            self.symbols += [] if isinstance(result, Pointer) else [symbol]
         is_kernel = 'kernel' in found.storage
         node = Node('function', found.token, symbol=symbol, parameters=parameters, is_kernel=is_kernel,
                     specifiers=found, name=name, body=None)
@@ -189,9 +214,10 @@ class Reader(Expressions, Statements, Declarations):
             node.body = self.block()
             self.function = None
         self.scope = outside
-        if isinstance(result, (Pointer, Other)) or isinstance(result, types.Array):
-            raise Refused(name, 'a function that returns a pointer' if isinstance(result, Pointer)
-                          else 'floating point, or a type without values here')
+        if isinstance(result, Pointer):
+            return self.keep_body(node, name, mark)
+        if isinstance(result, (Other, types.Array)):
+            raise Refused(name, 'floating point, or a type without values here')
         return node
 
     def parameters(self):
@@ -218,23 +244,3 @@ class Reader(Expressions, Statements, Declarations):
             self.take()
         self.expect(')')
         return found
-
-
-def completed(kind, initial, name):
-    """The type of an array whose first length is left out, with the length that its initialiser gives."""
-    if not (isinstance(kind, Array) and kind.length is None):
-        return kind
-    if initial is None or initial.kind not in ('list', 'string'):
-        raise Refused(name, 'the length of an array is left out')
-    if initial.kind == 'string':
-        return Array(kind.of, len(initial.values))
-    at, most = 0, 0
-    per = len(list(types.leaves(kind.of)))
-    has_inner = any(item.kind in ('list', 'string') or item.type == kind.of for item in initial.items) or per == 1
-    if any(item.places for item in initial.items) or has_inner:
-        for item in initial.items:
-            at = item.places[0] if item.places else at
-            at += 1
-            most = max(most, at)
-        return Array(kind.of, most)
-    return Array(kind.of, -(-len(initial.items) // per))

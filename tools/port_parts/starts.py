@@ -120,3 +120,23 @@ def place_number(kind, place, item):
             raise Refused(item.token, 'no field %s' % place)
         return names.index(place)
     return place
+
+
+def completed(kind, initial, name):
+    """The type of an array whose first length is left out, with the length that its initialiser gives."""
+    if not (isinstance(kind, Array) and kind.length is None):
+        return kind
+    if initial is None or initial.kind not in ('list', 'string'):
+        raise Refused(name, 'the length of an array is left out')
+    if initial.kind == 'string':
+        return Array(kind.of, len(initial.values))
+    at, most = 0, 0
+    per = len(list(types.leaves(kind.of)))
+    has_inner = any(item.kind in ('list', 'string') or item.type == kind.of for item in initial.items) or per == 1
+    if any(item.places for item in initial.items) or has_inner:
+        for item in initial.items:
+            at = item.places[0] if item.places else at
+            at += 1
+            most = max(most, at)
+        return Array(kind.of, most)
+    return Array(kind.of, -(-len(initial.items) // per))

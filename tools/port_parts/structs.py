@@ -4,6 +4,7 @@ from .cells import Address, Index, cells_of
 from .context import Step
 from .notes import Refused
 from .places import Target
+from .starts import numbers_of
 from .tree import stripped
 
 MOST_COPIED = 256
@@ -31,6 +32,18 @@ class Structs:
         if inner.kind == 'choose':
             return self.chosen_struct(inner, context)
         return self.address(inner, context, True)
+
+    def literal_place(self, node, context):
+        """The place of a compound literal: a new variable, whose numbers are stored first."""
+        self.notes.add('a compound literal is a variable', node.token)
+        place = self.result_place(self.new_struct(node.type, context), node.type)
+        values = numbers_of(node.type, node.list)
+        for number, (leaf, at) in enumerate(self.places_of_leaves(place, node.type)):
+            target = Target(None, place.at(Index(at), leaf))
+            text = self.leaf(values.get(number), leaf, context)
+            text = text if target.is_whole() else context.keep(text, leaf)
+            context.steps.append(Step(target.store('=', text, False)))
+        return place
 
     def new_struct(self, kind, context):
         """A new variable for a structure."""

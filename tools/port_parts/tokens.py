@@ -65,7 +65,9 @@ def cut_line(content, file, line, found):
             continue
         token = TOKEN.match(content, at)
         if not token:
-            raise Refused(Token('mark', content[at], file, line, at, True), 'no token of C: %r' % content[at])
+            is_byte = '\udc80' <= content[at] <= '\udcff'
+            what = 'the byte 0x%02X' % (ord(content[at]) & 0xFF) if is_byte else repr(content[at])
+            raise Refused(Token('mark', content[at], file, line, at, True), 'no token of C: %s' % what)
         found.append(Token(token.lastgroup, token[0], file, line, at, is_apart))
         at, is_apart = token.end(), False
 

@@ -61,8 +61,9 @@ def parts_of(node):
         part = node.__dict__.get(name)
         if isinstance(part, Node):
             yield part
+    listed = node.list.items if node.kind == 'literal' else ()
     for name in ('items', 'arguments'):
-        for part in node.__dict__.get(name) or ():
+        for part in node.__dict__.get(name) or listed:
             if isinstance(part, Node):
                 yield part
 

@@ -37,6 +37,7 @@ class Unit(Numbers, Places, Vectors, Calls, Rewrites, Bodies, Variables, Structs
         """Looks at all variables and functions before anything is written."""
         pointers.look_at(self.reader.symbols)
         forms.look_at_casts(self.reader.casts)
+        forms.look_at_arguments(self.reader.calls)
         outer = {}
         for symbol in self.reader.symbols:
             if symbol.kind == 'function':

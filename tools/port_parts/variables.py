@@ -212,10 +212,12 @@ class Variables:
         text = [in_source(symbol.token, symbol.out), '[%d]' % cells.count(symbol.type)]
         if initial is None:
             return spec, text, []
+        if initial.kind == 'literal' and initial.type == symbol.type:
+            initial = initial.list
         if isinstance(symbol.type, Struct) and initial.kind != 'list':
             place = self.address_of_symbol(symbol)
             return spec, text, [self.copied(place, self.struct_place(initial, context, True)), ';']
-        if isinstance(element(symbol.type), Vector):
+        if isinstance(element(symbol.type), Vector) and symbol.unit is None:
             return spec, text, self.cells_of_vectors(symbol, initial)
         values = numbers_of(symbol.type, initial)
         if cells.size == 0 or all(types.SIZES[leaf.name] == cells.size for leaf, _ in types.leaves(symbol.type)):

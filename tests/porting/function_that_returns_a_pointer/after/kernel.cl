@@ -1,0 +1,4 @@
+__kernel void k(__global int *a)
+{
+  a[get_global_id(0)] += 1;
+}
