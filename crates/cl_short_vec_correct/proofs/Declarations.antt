@@ -56,11 +56,13 @@ Fewer names after = (n : List ℕ) (v : Vector) → after n ≡ Vectors v Variab
 fewer_one : (names : Names) (type d : Syntax) → Fewer names (behind_declared None names type d)
 fewer_one names type d n v e = by (is_some (declared_in type)) e
   where
-    at : (b : Bool) → (if b then (Other true) else names n) ≡ Vectors v VariableReach → names n ≡ Vectors v VariableReach
+    at : (b : Bool) → (if b then (Other true) else names n) ≡ Vectors v VariableReach →
+        names n ≡ Vectors v VariableReach
     at true e = absurd (false≢true (ap is_vector e))
     at false e = e
 
-    by : (b : Bool) → (if b then with_name names (name_in (word_of d)) (Other true) else names) n ≡ Vectors v VariableReach →
+    by : (b : Bool) →
+        (if b then with_name names (name_in (word_of d)) (Other true) else names) n ≡ Vectors v VariableReach →
         names n ≡ Vectors v VariableReach
     by true e = at (bytes_eq (name_in (word_of d)) n) e
     by false e = e

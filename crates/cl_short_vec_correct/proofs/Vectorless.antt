@@ -282,7 +282,8 @@ and_false false b e h = false≢true h
 module _ (S : SettingClaim) (D : DeclaratorClaim) where
   whole_idle : (env : Env) (sites : List Place) (s : Span) (m : Mark) → NoVector m → OfWhole S D env sites s m
   whole_idle env sites s (mark t k (marking a (marking b unmarked))) h = λ e.
-      absurd (and_false (is_assignment (form_of t)) (is_vector (kind_at a)) (other_no_vector (kind_at a) (kind_other a h.2.0)) e)
+      absurd (and_false (is_assignment (form_of t)) (is_vector (kind_at a))
+      (other_no_vector (kind_at a) (kind_other a h.2.0)) e)
   whole_idle env sites s (mark t k unmarked) h = tt
   whole_idle env sites s (mark t k (marking a unmarked)) h = tt
   whole_idle env sites s (mark t k (marking a (marking b (marking c cs)))) h = tt

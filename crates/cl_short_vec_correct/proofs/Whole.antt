@@ -118,7 +118,8 @@ address_whole k h = tt
 
 several_whole : (v : Vector) (r : Reach) (o : Option (List ℕ)) → is_bool v.of ≡ false → WholeKind (several v r o)
 several_whole v r None h = tt
-several_whole v r (Some ks) h = either_whole (nat_eq (length ks) 1) (Other true) (Vectors (vector v.of (length ks)) r) tt h
+several_whole v r (Some ks) h =
+    either_whole (nat_eq (length ks) 1) (Other true) (Vectors (vector v.of (length ks)) r) tt h
 
 selection_whole : (k : Kind) (name : List ℕ) → WholeKind k → WholeKind (selection_of k name)
 selection_whole (Vectors v r) name h = several_whole v r (selected v.count name) h

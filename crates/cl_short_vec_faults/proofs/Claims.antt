@@ -183,16 +183,19 @@ module _ (asked : Asked) (p s : Env) (place : Role) (w : List ℕ) (f l : ℕ) (
     (ta tb ua ub : Syntax) (x : Has asked p s roles.Other ja ta ua) (y : Has asked p s roles.Other jb tb ub)
     (ow : s.owner ≡ p.owner) where
   pub and_claim : SoundTree asked p place (node forms.AndNode w f l (forest2 ta tb)) →
-      Has asked p s place (Other true) (node forms.AndNode w f l (forest2 ta tb)) (node forms.AndNode w f l (forest2 ua ub))
+      Has asked p s place (Other true) (node forms.AndNode w f l (forest2 ta tb))
+      (node forms.AndNode w f l (forest2 ua ub))
   unfolding kind_step misfits
   and_claim so =
       let k = pair_known logic_kind x.kind y.kind (two_plain asked p s place forms.AndNode w f l refl refl ja jb ta tb
       ua
       ub x y so).fit in
-      two_same asked p s place forms.AndNode w f l refl refl ja jb ta tb ua ub x y so (Other true) k.0 ow tt tt tt k.1 tt
+      two_same asked p s place forms.AndNode w f l refl refl ja jb ta tb ua ub x y so (Other true)
+      k.0 ow tt tt tt k.1 tt
 
   pub or_claim : SoundTree asked p place (node forms.OrNode w f l (forest2 ta tb)) →
-      Has asked p s place (Other true) (node forms.OrNode w f l (forest2 ta tb)) (node forms.OrNode w f l (forest2 ua ub))
+      Has asked p s place (Other true) (node forms.OrNode w f l (forest2 ta tb))
+      (node forms.OrNode w f l (forest2 ua ub))
   unfolding kind_step misfits
   or_claim so =
       let k = pair_known logic_kind x.kind y.kind (two_plain asked p s place forms.OrNode w f l refl refl ja jb ta tb ua
@@ -221,7 +224,8 @@ pub choice_claim : (asked : Asked) (p s : Env) (place : Role) (w : List ℕ) (f 
     (tc ta tb uc ua ub : Syntax) → Has asked p s roles.Other jc tc uc → Has asked p s roles.Other ja ta ua →
     Has asked p s roles.Other jb tb ub → s.owner ≡ p.owner →
     SoundTree asked p place (node forms.CondNode w f l (forest3 tc ta tb)) →
-    Has asked p s place (Other true) (node forms.CondNode w f l (forest3 tc ta tb)) (node forms.CondNode w f l (forest3 uc ua
+    Has asked p s place (Other true) (node forms.CondNode w f l (forest3 tc ta tb))
+    (node forms.CondNode w f l (forest3 uc ua
     ub))
 unfolding kind_step misfits
 choice_claim asked p s place w f l jc ja jb tc ta tb uc ua ub z x y ow so =

@@ -502,7 +502,8 @@ constants_same role names (node forms.AssignNode w f l (more a (more b none))) h
     (scalar (marked names a)) (scalar (marked (behind names a) b))
 constants_same role names (node forms.CondNode w f l (more c (more a (more b none)))) h r v =
     let t = node forms.CondNode w f l (more c (more a (more b none))) in
-    let q = parts_stay role t (Other true) (marked_parts forms.CondNode (more c (more a (more b none))) names true (more c
+    let q = parts_stay role t (Other true)
+    (marked_parts forms.CondNode (more c (more a (more b none))) names true (more c
     (more a (more b none)))) (λ x y p. refl) r in
     let na = behind names c in
     let nb = behind na a in

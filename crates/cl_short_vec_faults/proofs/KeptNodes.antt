@@ -167,7 +167,8 @@ star_stays names w f l = inl (refl, (none, refl, tt))
 
 pub result_stays : (names : Names) (t : Syntax) → IsResult t → Stays (marked names t) (scalar (marked names t))
 unfolding marked marked_parts kind_by scalars
-result_stays names (node forms.ResultNode w f l none) h = node_stays forms.ResultNode w f l none (Other true) unmarked refl tt
+result_stays names (node forms.ResultNode w f l none) h =
+    node_stays forms.ResultNode w f l none (Other true) unmarked refl tt
 result_stays names (node forms.ResultNode w f l (more t none)) h =
     node_stays forms.ResultNode w f l (more t none) (Other true) (marking (marked names t) unmarked) refl
     (type_stays t names h, tt)
@@ -222,7 +223,8 @@ attribute_stays names w f l ps h r =
 pub head_stays : (names : Names) (t : Syntax) → IsHeadOf true t → refusals Free (marked names t) ≡ [] →
     Stays (marked names t) (scalar (marked names t))
 unfolding marked marked_parts kind_by scalars role_of
-head_stays names (node forms.HeadNode w f l none) h r = node_stays forms.HeadNode w f l none (Other true) unmarked refl tt
+head_stays names (node forms.HeadNode w f l none) h r =
+    node_stays forms.HeadNode w f l none (Other true) unmarked refl tt
 head_stays names (node forms.HeadNode w f l (more (node forms.AttributeNode w' f' l' ps) none)) h r =
     let q = node forms.AttributeNode w' f' l' ps in
     let t = node forms.HeadNode w f l (more q none) in

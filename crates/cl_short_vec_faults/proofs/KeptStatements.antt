@@ -22,7 +22,8 @@ use Rattle.cl_short_vec.specs.Unit.{lines_of, assigned_of, set_block, whole_by, 
 use Rattle.cl_short_vec.specs.Unit.{declaration, declaration_lines, block_line, scalarised}
 use Rattle.cl_short_vec.specs.Unit.{lines_by, declaration_by, line_of, declarator_lines, vector_lines, initialiser}
 use Rattle.cl_short_vec.specs.Unit.{declared_name, name_span}
-use Rattle.cl_short_vec_faults.specs.Kept.{Stays, AllStay, sets_by, sets_whole, SimpleStays, DeclarationStays, StaysTree}
+use Rattle.cl_short_vec_faults.specs.Kept.{Stays, AllStay, sets_by, sets_whole, SimpleStays, DeclarationStays}
+use Rattle.cl_short_vec_faults.specs.Kept.{StaysTree}
 use Rattle.cl_short_vec_faults.specs.Kept.{typed_vectors, declares_vectors, DeclaresOrAssigns, AllDeclareOrAssign}
 
 -- ---- the lines of steps

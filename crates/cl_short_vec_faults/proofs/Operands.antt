@@ -89,7 +89,8 @@ pub number_claim : (asked : Asked) (p s : Env) (place : Role) (w : List ℕ) (f 
 unfolding kind_step
 number_claim asked p s place w f l ow h so =
     let k = the_some (literal_in w) h in
-    leaf_claim asked p s place forms.NumberNode w f l (Other true) (number k.0.0) refl refl ow tt tt tt so (ap literal_kind
+    leaf_claim asked p s place forms.NumberNode w f l (Other true) (number k.0.0) refl refl ow tt tt tt so
+    (ap literal_kind
     k.1)
     tt
 
@@ -210,7 +211,8 @@ module _ (asked : Asked) (p s : Env) (place : Role) (q : Option Postfix) (j : ve
 
   -- of a selection of one component
   pub behind_selection : (b : Bool) (o : Option (List ℕ)) (name : List ℕ) (c : ℕ) → b ≡ true → o ≡ Some name →
-      one_selected forms.PostfixNode o cs ≡ Some c → selection_of j name ≡ (Other true) → Has asked p s place (Other true) x (g c) →
+      one_selected forms.PostfixNode o cs ≡ Some c → selection_of j name ≡ (Other true) →
+      Has asked p s place (Other true) x (g c) →
       Has asked p s place (postfix_kind o q j) (if b then x else n)
       (chosen_or (one_selected forms.PostfixNode o cs) g (if b then y else z))
   behind_selection true o name c e d i k h =

@@ -193,7 +193,8 @@ module _ (asked : Asked) (names : Names) (n : ℕ) (p s : Env) (name : List ℕ)
   -- a function is visible behind its definition
   pub beside_function : ((i : Intrinsic) → intrinsic_in name ≡ Some i → ⊥) →
       Beside asked (with_name names name (Other false)) n (with_function p name) (with_function s name)
-  beside_function new = beside_named asked names n p s name (Other false) (firm (defined_meaning (definition_of p name)))
+  beside_function new = beside_named asked names n p s name (Other false)
+      (firm (defined_meaning (definition_of p name)))
       (firm (defined_meaning (definition_of s name)))
       (defined_fresh false true (λ e. absurd (false≢true (sym e))) new) there h
 

@@ -336,7 +336,8 @@ module _ (follow : ExpressionsFollow) (asked : Asked) (names : Names) (n : ℕ) 
       AllStay (marked_parts forms.DeclaratorNode ps names true ps) →
       SoundTree asked p roles.Other (plain_of (node forms.DeclaratorNode w f l ps)) →
       SoundBut asked s roles.Other (scalar (marked names (node forms.DeclaratorNode w f l ps))) ×
-      Beside asked (with_name names (name_in w) (Other true)) n (behind p (plain_of (node forms.DeclaratorNode w f l ps)))
+      Beside asked (with_name names (name_in w) (Other true)) n
+      (behind p (plain_of (node forms.DeclaratorNode w f l ps)))
       (behind s (scalar (marked names (node forms.DeclaratorNode w f l ps)))) ×
       Walks p (behind p (plain_of (node forms.DeclaratorNode w f l ps)))
   unfolding plain_of inside

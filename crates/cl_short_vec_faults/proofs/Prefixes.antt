@@ -99,7 +99,8 @@ size_claim asked p s place w f l t h so e ow =
 pub cast_claim : (asked : Asked) (p s : Env) (place : Role) (w : List ℕ) (f l : ℕ) (t : Syntax) (j : vectors.Kind)
     (ta ua : Syntax) → IsType t → Has asked p s roles.Other j ta ua →
     SoundTree asked p place (node forms.CastNode w f l (forest2 t ta)) → s.owner ≡ p.owner →
-    Has asked p s place (Other true) (node forms.CastNode w f l (forest2 t ta)) (node forms.CastNode w f l (forest2 t ua))
+    Has asked p s place (Other true) (node forms.CastNode w f l (forest2 t ta))
+    (node forms.CastNode w f l (forest2 t ua))
 unfolding kind_step misfits
 cast_claim asked p s place w f l t j ta ua h x so ow =
     let P = forest2 t ta in

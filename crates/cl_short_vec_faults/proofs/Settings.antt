@@ -253,7 +253,8 @@ module _ (asked : Asked) (p s : Env) (place : Role) (w : List ℕ) (f l : ℕ) (
       let a = added op sp v.of c i.root y.kind m in
       let k : value_kind x.kind ≡ kinds.Pointer sp v.of c i.root each.Element reach.Value = ap value_kind e in
       let t = subst (λ z. Tests place z) k (tests_as place (kind_step p forms.AssignNode w (forest2 ta tb)
-      (Some x.kind ∷ Some y.kind ∷ [])) (value_kind x.kind) (set_step (Pointer sp c v) (Other known) x y so) n.tested) in
+      (Some x.kind ∷ Some y.kind ∷ [])) (value_kind x.kind)
+      (set_step (Pointer sp c v) (Other known) x y so) n.tested) in
       good_as asked s place (node forms.AssignNode w f l (forest2 ua (scaled v ub)))
       (kinds.Pointer sp v.of c i.root each.Element reach.Value) (value_kind x.kind) (sym k)
       (moved_good v sp v.of c i.root op a.steps q (scaled v ub) (good_as asked s roles.Other ua x.kind

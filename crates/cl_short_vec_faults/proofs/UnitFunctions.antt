@@ -273,7 +273,8 @@ module _ (expressions : ExpressionsFollow) (declarations : DeclarationsFollow) (
             match' = refl;
           }),
         ),
-        subst (λ z. Beside asked (with_name names name (Other false)) (suc l) z (behind s (node forms.FunctionNode w f l us)))
+        subst (λ z. Beside asked (with_name names name (Other false)) (suc l) z
+            (behind s (node forms.FunctionNode w f l us)))
             (sym (function_visible p w f l qs).1)
             (subst (λ z. Beside asked (with_name names name (Other false)) (suc l) (with_function p1 name) z)
             (sym (function_visible s w f l us).1)
