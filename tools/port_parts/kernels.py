@@ -6,9 +6,19 @@ from .reader import Reader
 from .tokens import cut
 
 
+def kept(words):
+    """The words of a build that say what the preprocessor is to know."""
+    found, is_next = [], False
+    for word in words:
+        if is_next or word.startswith(('-D', '-I', '-U')):
+            found.append(word)
+            is_next = word in ('-D', '-I', '-U')
+    return found
+
+
 def parameter_symbols(path, words):
     """By kernel, its parameters."""
-    tokens, _ = cut(expanded(path, words), path)
+    tokens, _ = cut(expanded(path, kept(words)), path)
     return {part.symbol.name: part.parameters
             for part in Reader(tokens, Notes(path)).unit() if part.kind == 'function' and part.is_kernel}
 
