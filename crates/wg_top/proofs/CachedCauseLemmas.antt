@@ -3,7 +3,7 @@ use Rattle.std.proofs.Common.{◌≡◌, ◌<◌, ◌≤◌, ◌^◌, ◌++◌, 
 use Rattle.std.proofs.Common.{Option, Some}
 use Rattle.std.proofs.Common.{None, inl, inr, refl}
 use Rattle.std.proofs.Common.{sym, ◌∙◌, ap, subst, arith}
-use Rattle.std.specs.Prelude.{◌⊎◌, All, Contains}
+use Rattle.std.specs.Prelude.{◌⊎◌, All, Contains, IfSome, IsUtf8}
 use Rattle.std.proofs.lemmas.List.{length-map}
 use Rattle.std.proofs.lemmas.List.Elements.{All-contains, All-weaker, Contains-append_left}
 use Rattle.std.proofs.lemmas.List.Elements.{Contains-append_right}
@@ -129,6 +129,18 @@ pub held_shells : (files : Option FileMap) (source : List ℕ) (text : Text) (he
     All (IsHeld files source text) held → All (λ h. IsShell (object_of h.object) h.shell) held
 held_shells files source text held all =
     All-weaker (IsHeld files source text) (λ h. IsShell (object_of h.object) h.shell) (λ h is. is.shell) held all
+
+-- the name of an entry is text
+entry_utf8 : (files : Option FileMap) (source : List ℕ) (text : Text) (kernel : List ℕ) (o : PlainObject)
+    (entry : Option Entry) → HasObject files source text kernel o entry → IfSome entry (λ e. IsUtf8 e.name)
+entry_utf8 files source text kernel o None has = tt
+entry_utf8 files source text kernel o (Some entry) has = has.1.utf8
+
+pub held_names : (files : Option FileMap) (source : List ℕ) (text : Text) (held : List Held) →
+    All (IsHeld files source text) held → All (λ h. IfSome h.entry (λ e. IsUtf8 e.name)) held
+held_names files source text held all =
+    All-weaker (IsHeld files source text) (λ h. IfSome h.entry (λ e. IsUtf8 e.name))
+    (λ h is. entry_utf8 files source text h.kernel.now (object_of h.object) h.entry is.has) held all
 
 pub cause_over : (old mid new : Standing) (ask : Files) (e : RunError) → mid.files ≡ old.files → HasNoFewer old mid →
     HasNoFewer mid new → CachedCause mid new ask e → CachedCause old new ask e

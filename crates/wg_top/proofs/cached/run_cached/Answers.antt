@@ -9,7 +9,7 @@ use Rattle.wg_top.specs.declared.cached.Held.{Held}
 use Rattle.wg_top.specs.Causes.{Standing, standing, HasNoFewer}
 use Rattle.wg_top.specs.Cached.{CachedRead}
 use Rattle.wg_top.specs.Holding.{IsHeld, IsNamedIn}
-use Rattle.wg_top.proofs.CachedCauseLemmas.{cached_launch, cached_read, cached_holding, stands_over, held_shells}
+use Rattle.wg_top.proofs.CachedCauseLemmas.{cached_launch, cached_read, cached_holding, stands_over, held_shells, held_names}
 use Rattle.wg_top.proofs.CachedCauseLemmas.{held_done, held_cause, held_leaves}
 use Rattle.wg_top.proofs.cached.run_cached.Goals as goal
 
@@ -49,6 +49,28 @@ run_held-requires-clause-shells g c =
     (subst (λ (f : Option FileMap). All (IsHeld f source text) c.in-Ok-hold_all.held.items) same
     c.in-Ok-hold_all.ensures.ok) in
     held_shells old.files source text held all
+
+pub run_held-requires-clause-names : goal.run_held-requires-clause-names
+run_held-requires-clause-names g c =
+    let old : Standing = standing g.S.Store.files g.S.Store.faults g.S.Store.misses c.args.store.now in
+    let first : Standing = standing g.S.Store.files g.S.Store.faults g.S.Store.misses c.load_source.new.store in
+    let second : Standing = standing g.S.Store.files g.S.Store.faults g.S.Store.misses c.load_launch.new.store in
+    let ask : Files = files_of c.args.files in
+    let text : Text = text_of c.in-Ok-load_launch.text in
+    let source : List ℕ = c.deref.result.now in
+    let read : CachedRead old.files ask source text =
+    cached_read old.files first.files ask c.in-Ok.bytes.items c.deref.result.now c.in-Ok-load_launch.text
+    c.in-Ok.ensures.ok c.deref.ensures.value c.in-Ok.ensures.files_stay c.in-Ok-load_launch.ensures.is
+    c.in-Ok-load_launch.ensures.ok in
+    let same : second.files ≡ old.files = c.in-Ok-load_launch.ensures.files_stay ∙ c.in-Ok.ensures.files_stay in
+    let before : HasNoFewer old second =
+    stands_over old first second c.in-Ok.ensures.stands c.in-Ok-load_launch.ensures.stands in
+    let held : List Held = c.deref-in-Ok-hold_all.result.now in
+    let all : All (IsHeld old.files source text) held =
+    subst (λ (hs : List Held). All (IsHeld old.files source text) hs) (sym c.deref-in-Ok-hold_all.ensures.value)
+    (subst (λ (f : Option FileMap). All (IsHeld f source text) c.in-Ok-hold_all.held.items) same
+    c.in-Ok-hold_all.ensures.ok) in
+    held_names old.files source text held all
 
 pub returns-in-Ok-hold_all-clause-ok : goal.returns-in-Ok-hold_all-clause-ok
 returns-in-Ok-hold_all-clause-ok g c =
