@@ -70,7 +70,7 @@ keeps_below n = record {
   fresh = λ s h. omega (arith, h);
 }
 
-fewer : (program : Program) (s : State) → all_lacking (round program s).rows + counts (round program s).grew ≤
+pub fewer : (program : Program) (s : State) → all_lacking (round program s).rows + counts (round program s).grew ≤
     all_lacking s.rows
 fewer program s = round_from (λ t. all_lacking t.rows + counts t.grew ≤ all_lacking s.rows)
     (keeps_below (all_lacking s.rows)) program s (omega arith)
@@ -93,7 +93,7 @@ fresh_lacking : (n : ℕ) → lacking (replicate n fresh) ≡ n
 fresh_lacking zero = refl
 fresh_lacking (suc n) = let one = fresh_lacking n in omega (arith, one)
 
-start_lacking : (list : List Function) → all_lacking (map start_row list) ≤ entries_of list
+pub start_lacking : (list : List Function) → all_lacking (map start_row list) ≤ entries_of list
 start_lacking [] = omega arith
 start_lacking (f ∷ list) =
     let one = fresh_lacking (length f.variables) in

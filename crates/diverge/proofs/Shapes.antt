@@ -4,7 +4,7 @@ use Rattle.std.proofs.Common.{replicate, refl, ap, ap₂, ◌∙◌}
 use Rattle.cl_model.specs.Tree.{Function, Program}
 use Rattle.diverge.specs.declared.known.Entry.{Entry}
 use Rattle.diverge.specs.Known.{Row, State, fresh, change_row, with_entry, with_result_entry}
-use Rattle.diverge.specs.Rounds.{start, start_row, marks_of, round_limit, rounds, varying_of}
+use Rattle.diverge.specs.Rounds.{start, start_row, marks_of, round_limit, rounds, known_of, varying_of}
 use Rattle.diverge.specs.declared.rounds.Varying.{Varying}
 use Rattle.diverge.specs.Marks.{FitsProgram, marks}
 use Rattle.diverge.proofs.Kept.{Keeps, rounds_kept}
@@ -56,10 +56,7 @@ varying_shape program list h =
     (start_shape program.functions)
 
 -- of an answer
-pub answer_shape : {E : Type 0} (program : Program) (answer : Result Varying E) (n : ℕ) (s t : State) →
-    t ≡ rounds program n s → n ≡ round_limit program → s ≡ start program
-    → IfOk answer (λ v. marks v ≡ map marks_of t.rows) → IfOk answer (λ v. FitsProgram program (marks v))
-answer_shape program (Ok v) n s t h k q e =
-    varying_shape program (marks v) (e ∙ ap (λ (u : State). map marks_of u.rows) (h ∙ ap (λ m. rounds program m s) k ∙
-    ap (rounds program (round_limit program)) q))
-answer_shape program (Err x) n s t h k q e = e
+pub answer_shape : {E : Type 0} (program : Program) (answer : Result Varying E) (t : State) → t ≡ known_of program →
+    IfOk answer (λ v. marks v ≡ map marks_of t.rows) → IfOk answer (λ v. FitsProgram program (marks v))
+answer_shape program (Ok v) t h e = varying_shape program (marks v) (e ∙ ap (λ (u : State). map marks_of u.rows) h)
+answer_shape program (Err x) t h e = e

@@ -54,11 +54,12 @@ fn round(program: &Program, known: &mut Known)
     }
 }
 
-// Rounds until one adds nothing, at most so many.
-fn settle(program: &Program, limit: usize, known: &mut Known)
-    ensures { state_of known.new ≡ spec.rounds (program_of program.now) limit (state_of known.old) }
+// Rounds until one adds nothing. Each other leaves fewer entries that do not vary.
+fn settle(program: &Program, known: &mut Known)
+    ensures { state_of known.old ≡ spec.start (program_of program.now) →
+        state_of known.new ≡ spec.known_of (program_of program.now) }
 {
-    for _ in 0..limit {
+    loop {
         round(program, known);
         if !known.grew {
             return;
@@ -94,23 +95,6 @@ fn start(alloc: Global, program: &Program) -> Result<Known, Memory>
     Ok(Known { rows, grew: false })
 }
 
-// One more than there are entries; `Memory` where no memory could hold so many.
-fn round_limit(program: &Program) -> Result<usize, Memory>
-    ensures { IfOk result (λ n. n ≡ spec.round_limit (program_of program.now)) }
-{
-    let mut count = 1usize;
-    for own in &program.functions {
-        match own.vars.len().checked_add(1) {
-            None => return Err(Memory),
-            Some(more) => match count.checked_add(more) {
-                None => return Err(Memory),
-                Some(sum) => count = sum,
-            },
-        }
-    }
-    Ok(count)
-}
-
 // Which variables of a function vary.
 fn marks_of(alloc: Global, row: &Row) -> Result<Vec<bool>, Memory>
     ensures { IfOk result (λ v. v.items ≡ spec.marks_of (row_of row.now)) }
@@ -144,7 +128,6 @@ pub fn analyse(alloc: Global, program: &Program) -> Result<Varying, Memory>
     ensures shape { IfOk result (λ v. FitsProgram (program_of program.now) (marks v)) }
 {
     let mut known = start(alloc, program)?;
-    let limit = round_limit(program)?;
-    settle(program, limit, &mut known);
+    settle(program, &mut known);
     listed(alloc, &known)
 }
