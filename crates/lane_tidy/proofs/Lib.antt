@@ -1,6 +1,7 @@
 pub mod Accessing
 pub mod Agreeing
 pub mod Choosing
+pub mod Clearing
 pub mod Copying
 pub mod Ending
 pub mod Frames
@@ -17,6 +18,7 @@ pub mod Narrowing
 pub mod Offsetting
 pub mod Plainly
 pub mod Planned
+pub mod Setting
 pub mod Sharing
 pub mod Sound
 pub mod Tests

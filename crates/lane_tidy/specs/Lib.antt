@@ -1,4 +1,5 @@
 pub mod Accesses
+pub mod Clearing
 pub mod Constants
 pub mod Hoisted
 pub mod Joined
