@@ -1,14 +1,15 @@
 -- The walk that folds lines: what is counted, what is known, and what becomes of a line.
 use Rattle.std.proofs.Common.{◌≡◌, ℕ, zero, suc, ◌+◌, ◌<◌, ◌≤◌, pos, List, [], ◌∷◌, ◌++◌, append_assoc, length, get_or}
 use Rattle.std.proofs.Common.{map, drop, refl, ap, ap₂, sym, ◌∙◌, arith, Global, Option, Some, None, if◌then◌else◌}
-use Rattle.std.proofs.Common.{slice_get}
+use Rattle.std.proofs.Common.{slice_get, ⊎_elim}
 use Rattle.std.specs.Prelude.{◌&&◌, ◌||◌, nat_eq}
 use Rattle.std.specs.Prelude.{Bool as Test, true, false}
 use Rattle.std.specs.declared.vec.Vec.{Vec}
 use mathlib.Core.Path.{fun_ext}
 use Rattle.std.proofs.lemmas.List.{drop_all, append-nil}
 use Rattle.std.proofs.lemmas.Option.{same_Some, none-some}
-use Rattle.std.proofs.lemmas.Bool.{eqb-true}
+use Rattle.std.proofs.lemmas.Bool.{eqb-true, ne_eqb, eq-eqb}
+use Rattle.std.proofs.lemmas.Bool.Decides.{eqb_tells}
 use Rattle.cl_model.specs.Steps.{nth}
 use Rattle.cl_model.specs.declared.program.VarKind.{VarKind}
 use Rattle.kir.specs.declared.line.Atom.{Atom}
@@ -18,12 +19,12 @@ use Rattle.kir.specs.Tree.{Work, Lines, NoLine, SetThen, IfThen, LoopThen, Kerne
 use Rattle.kir.specs.Listed.{line_before, lines_in, lines_of, work_of}
 use Rattle.kir.proofs.Firsts.{first_left}
 use Rattle.kir.proofs.Rows.{if_listed, loop_listed}
-use Rattle.kir_simplify.specs.Reading.{sets_in}
+use Rattle.kir_simplify.specs.Reading.{sets_in, up_to_two}
 use Rattle.kir_simplify.specs.Simple.{is_plain, is_set_once}
 use Rattle.kir_simplify.specs.Passes.{Known, learned, learnt, known_atom, known_work, settled_work}
 use Rattle.kir_simplify.specs.Passes.{nothing_known, copied, constant_value, or_offset, with_offsets, holds_offset}
 use Rattle.kir_simplify.specs.Passes.{offsets_of, folded, folded_of}
-use Rattle.kir_simplify.specs.Tables.{known_where, listed, plain_of, put_known, unlearned, offset_of_line}
+use Rattle.kir_simplify.specs.Tables.{known_where, listed, is_one_at, plain_of, put_known, unlearned, offset_of_line}
 use Rattle.kir_simplify.specs.Offsets.{is_offset}
 use Rattle.kir_simplify.specs.declared.settling.Learned.{Learned}
 
@@ -66,56 +67,87 @@ sets_first c (line.Loop' site first _ test answer _ body) rest =
 sets_first c (line.Barrier site) rest = omega arith
 
 pub count_step : (old mid new : List ℕ) (ls : List Line) (i : ℕ) (l : Line) → i < length ls → l ≡ get_or ls i l →
-    ((c : ℕ) → get_or new c 0 ≡ sets_in c (line_before l NoLine) + get_or mid c 0) →
-    ((c : ℕ) → sets_in c (lines_of (drop i ls)) + get_or mid c 0 ≡ sets_in c (lines_of ls) + get_or old c 0) →
-    (c : ℕ) → sets_in c (lines_of (drop (i + 1) ls)) + get_or new c 0 ≡ sets_in c (lines_of ls) + get_or old c 0
+    ((c : ℕ) → up_to_two (get_or new c 0) ≡ up_to_two (sets_in c (line_before l NoLine) + get_or mid c 0)) →
+    ((c : ℕ) → up_to_two (sets_in c (lines_of (drop i ls)) + get_or mid c 0) ≡
+    up_to_two (sets_in c (lines_of ls) + get_or old c 0)) →
+    (c : ℕ) → up_to_two (sets_in c (lines_of (drop (i + 1) ls)) + get_or new c 0) ≡
+    up_to_two (sets_in c (lines_of ls) + get_or old c 0)
 count_step old mid new ls i l lt is one so_far c =
     let first = ap (λ xs. sets_in c (lines_of xs)) (first_left ls i l lt is) ∙
     sets_first c l (lines_of (drop (i + 1) ls)) in
     swapped _ _ _ _ _ _ (one c) first (so_far c)
   where
-    swapped : (r n s m f t : ℕ) → n ≡ s + m → f ≡ s + r → f + m ≡ t → r + n ≡ t
+    swapped : (r n s m f t : ℕ) → up_to_two n ≡ up_to_two (s + m) → f ≡ s + r → up_to_two (f + m) ≡ up_to_two t →
+        up_to_two (r + n) ≡ up_to_two t
     swapped r n s m f t e g h = omega (arith, e, g, h)
 
 pub count_end : (old new : List ℕ) (ls : List Line) (i : ℕ) → length ls ≤ i →
-    ((c : ℕ) → sets_in c (lines_of (drop i ls)) + get_or new c 0 ≡ sets_in c (lines_of ls) + get_or old c 0) →
-    (c : ℕ) → get_or new c 0 ≡ sets_in c (lines_of ls) + get_or old c 0
+    ((c : ℕ) → up_to_two (sets_in c (lines_of (drop i ls)) + get_or new c 0) ≡
+    up_to_two (sets_in c (lines_of ls) + get_or old c 0)) →
+    (c : ℕ) → up_to_two (get_or new c 0) ≡ up_to_two (sets_in c (lines_of ls) + get_or old c 0)
 count_end old new ls i done h c =
-    none _ _ _ (ap (λ xs. sets_in c (lines_of xs) + get_or new c 0) (sym (drop_all i ls done)) ∙ h c)
+    none _ _ (ap (λ xs. up_to_two (sets_in c (lines_of xs) + get_or new c 0)) (sym (drop_all i ls done)) ∙ h c)
   where
-    none : (n s o : ℕ) → 0 + n ≡ s + o → n ≡ s + o
-    none n s o e = omega (arith, e)
+    none : (n t : ℕ) → up_to_two (0 + n) ≡ t → up_to_two n ≡ t
+    none n t e = omega (arith, e)
 
 pub if_counted : (l : Line) (site : ℕ) (test : Atom) (chosen other : Vec Line Global) (old mid new : List ℕ) →
     l ≡ line.If site test chosen other →
-    ((c : ℕ) → get_or mid c 0 ≡ sets_in c (lines_of chosen.items) + get_or old c 0) →
-    ((c : ℕ) → get_or new c 0 ≡ sets_in c (lines_of other.items) + get_or mid c 0) →
-    (c : ℕ) → get_or new c 0 ≡ sets_in c (line_before l NoLine) + get_or old c 0
+    ((c : ℕ) → up_to_two (get_or mid c 0) ≡ up_to_two (sets_in c (lines_of chosen.items) + get_or old c 0)) →
+    ((c : ℕ) → up_to_two (get_or new c 0) ≡ up_to_two (sets_in c (lines_of other.items) + get_or mid c 0)) →
+    (c : ℕ) → up_to_two (get_or new c 0) ≡ up_to_two (sets_in c (line_before l NoLine) + get_or old c 0)
 if_counted l site test chosen other old mid new e a b c =
-    both _ _ _ _ _ (a c) (b c) ∙ sym (ap (λ x. x + get_or old c 0)
+    both _ _ _ _ _ (a c) (b c) ∙ sym (ap (λ x. up_to_two (x + get_or old c 0))
     (ap (λ x. sets_in c (line_before x NoLine)) e ∙ ap (sets_in c) (if_listed site test chosen other NoLine)))
   where
-    both : (m n s t o : ℕ) → m ≡ s + o → n ≡ t + m → n ≡ (s + (t + 0)) + o
+    both : (m n s t o : ℕ) → up_to_two m ≡ up_to_two (s + o) → up_to_two n ≡ up_to_two (t + m) →
+        up_to_two n ≡ up_to_two ((s + (t + 0)) + o)
     both m n s t o e f = omega (arith, e, f)
 
 pub loop_counted : (l : Line) (site : ℕ) (first : Test) (test : Vec Line Global) (answer : Atom)
     (body : Vec Line Global) (old mid new : List ℕ) → l ≡ line.Loop site first test answer body →
-    ((c : ℕ) → get_or mid c 0 ≡ sets_in c (lines_of test.items) + get_or old c 0) →
-    ((c : ℕ) → get_or new c 0 ≡ sets_in c (lines_of body.items) + get_or mid c 0) →
-    (c : ℕ) → get_or new c 0 ≡ sets_in c (line_before l NoLine) + get_or old c 0
+    ((c : ℕ) → up_to_two (get_or mid c 0) ≡ up_to_two (sets_in c (lines_of test.items) + get_or old c 0)) →
+    ((c : ℕ) → up_to_two (get_or new c 0) ≡ up_to_two (sets_in c (lines_of body.items) + get_or mid c 0)) →
+    (c : ℕ) → up_to_two (get_or new c 0) ≡ up_to_two (sets_in c (line_before l NoLine) + get_or old c 0)
 loop_counted l site first test answer body old mid new e a b c =
-    both _ _ _ _ _ (a c) (b c) ∙ sym (ap (λ x. x + get_or old c 0)
+    both _ _ _ _ _ (a c) (b c) ∙ sym (ap (λ x. up_to_two (x + get_or old c 0))
     (ap (λ x. sets_in c (line_before x NoLine)) e ∙ ap (sets_in c) (loop_listed site first test answer body NoLine)))
   where
-    both : (m n s t o : ℕ) → m ≡ s + o → n ≡ t + m → n ≡ (s + (t + 0)) + o
+    both : (m n s t o : ℕ) → up_to_two m ≡ up_to_two (s + o) → up_to_two n ≡ up_to_two (t + m) →
+        up_to_two n ≡ up_to_two ((s + (t + 0)) + o)
     both m n s t o e f = omega (arith, e, f)
 
 pub all_counted : (new : List ℕ) (zeros : List ℕ) (lines : Lines) → ((c : ℕ) → get_or zeros c 0 ≡ 0) →
-    ((c : ℕ) → get_or new c 0 ≡ sets_in c lines + get_or zeros c 0) → (c : ℕ) → get_or new c 0 ≡ sets_in c lines
+    ((c : ℕ) → up_to_two (get_or new c 0) ≡ up_to_two (sets_in c lines + get_or zeros c 0)) →
+    (c : ℕ) → up_to_two (get_or new c 0) ≡ up_to_two (sets_in c lines)
 all_counted new zeros lines z h c = none _ _ _ (h c) (z c)
   where
-    none : (n s o : ℕ) → n ≡ s + o → o ≡ 0 → n ≡ s
+    none : (n s o : ℕ) → up_to_two n ≡ up_to_two (s + o) → o ≡ 0 → up_to_two n ≡ up_to_two s
     none n s o e f = omega (arith, e, f)
+
+-- a count that is one
+pub same_one : (n s : ℕ) → up_to_two n ≡ up_to_two s → nat_eq n 1 ≡ nat_eq s 1
+same_one n s e =
+    ⊎_elim (λ h. one h.0 h.1) (λ h. other h.0 h.1) (eqb_tells n 1)
+  where
+    one : nat_eq n 1 ≡ true → n ≡ 1 → nat_eq n 1 ≡ nat_eq s 1
+    one t q = t ∙ sym (eq-eqb s 1 (omega (arith, e, q)))
+
+    other : nat_eq n 1 ≡ false → (n ≡ 1 → ⊥) → nat_eq n 1 ≡ nat_eq s 1
+    other t q = t ∙ sym (ne_eqb s 1 (λ r. q (omega (arith, e, r))))
+
+-- which cells hold offsets, by such counts
+pub offsets_found : (found : ℕ → Test) (sets seen : List ℕ) (kinds own : List VarKind) (ls lines body : List Line) →
+    ((c : ℕ) → found c ≡ holds_offset (is_one_at seen) own c (lines_of lines)) → seen ≡ sets → own ≡ kinds →
+    lines ≡ body → ((c : ℕ) → up_to_two (get_or sets c 0) ≡ up_to_two (sets_in c (lines_of ls))) → ls ≡ body → (c : ℕ)
+    → found c ≡ holds_offset (λ n. nat_eq (sets_in n (lines_of body)) 1) kinds c (lines_of body)
+offsets_found found sets seen kinds own ls lines body h es ek el counted eb c =
+    h c ∙
+    (ap (λ (xs : List ℕ). holds_offset (is_one_at xs) own c (lines_of lines)) es ∙
+    (ap (λ (ks : List VarKind). holds_offset (is_one_at sets) ks c (lines_of lines)) ek ∙
+    (ap (λ (b : List Line). holds_offset (is_one_at sets) kinds c (lines_of b)) el ∙
+    ap (λ (once : ℕ → Test). holds_offset once kinds c (lines_of body))
+    (fun_ext (λ n. same_one _ _ (counted n ∙ ap (λ (b : List Line). up_to_two (sets_in n (lines_of b))) eb))))))
 
 -- ---- what is known
 

@@ -75,7 +75,7 @@ abbrev pub unlearned : List Learned → Known → Known
 unlearned [] known = known
 unlearned (l ∷ later) known = put_known (unlearned later known) l.cell l.before
 
--- one line alone sets the cell, where the list says how many do
+-- one line alone sets the cell, where the list says whether none, one or more do
 abbrev pub is_one_at : List ℕ → ℕ → Test
 is_one_at counts c = nat_eq (slice_index_or counts c 0) 1
 

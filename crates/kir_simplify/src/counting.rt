@@ -1,9 +1,9 @@
-//! How many lines set each cell.
+//! How many lines set each cell: none, one or more, for which 2 stands.
 
 ghost use Rattle.std.specs.Prelude.{◌≡◌, ℕ, ◌+◌, ◌<◌, IfOk, OnOk, slice_index_or, vec_len};
 ghost use Rattle.kir.specs.Listed.{line_before, lines_of};
 ghost use Rattle.kir.specs.Tree.{NoLine};
-ghost use Rattle.kir_simplify.specs.Reading.{one_if, sets_in};
+ghost use Rattle.kir_simplify.specs.Reading.{one_if, sets_in, up_to_two};
 ghost use Rattle.kir_simplify.specs.Tables.{is_one_at};
 
 use kir::Line;
@@ -26,27 +26,24 @@ pub(crate) fn make_room<T: Copy + Drop>(
     Ok(())
 }
 
-/// A line that sets the cell. Memory where it was refused, and where 64 bits do not number the lines.
-fn count_cell(sets: &mut Vec<u64>, to: u32) -> Result<(), Memory>
-    ensures { OnOk result ((c : ℕ) → slice_index_or sets.new.items c 0 ≡
-        one_if c to + slice_index_or sets.old.items c 0) }
+/// A line that sets the cell. Memory where it was refused.
+fn count_cell(sets: &mut Vec<u8>, to: u32) -> Result<(), Memory>
+    ensures { OnOk result ((c : ℕ) → up_to_two (slice_index_or sets.new.items c 0) ≡
+        up_to_two (one_if c to + slice_index_or sets.old.items c 0)) }
 {
     let at = to as usize;
     make_room(sets, at, 0)?;
-    match sets[at].checked_add(1) {
-        Some(more) => {
-            sets[at] = more;
-            Ok(())
-        }
-        None => Err(Memory),
+    if sets[at] < 2 {
+        sets[at] += 1;
     }
+    Ok(())
 }
 
 /// The lines that set cells, and those inside them.
 #[cycle(count)]
-pub(crate) fn count_lines(sets: &mut Vec<u64>, lines: &[Line]) -> Result<(), Memory>
-    ensures { OnOk result ((c : ℕ) → slice_index_or sets.new.items c 0 ≡
-        sets_in c (lines_of lines.now) + slice_index_or sets.old.items c 0) }
+pub(crate) fn count_lines(sets: &mut Vec<u8>, lines: &[Line]) -> Result<(), Memory>
+    ensures { OnOk result ((c : ℕ) → up_to_two (slice_index_or sets.new.items c 0) ≡
+        up_to_two (sets_in c (lines_of lines.now) + slice_index_or sets.old.items c 0)) }
 {
     for line in lines {
         count_line(sets, line)?;
@@ -56,9 +53,9 @@ pub(crate) fn count_lines(sets: &mut Vec<u64>, lines: &[Line]) -> Result<(), Mem
 
 /// A line, and those inside it.
 #[cycle(count)]
-fn count_line(sets: &mut Vec<u64>, line: &Line) -> Result<(), Memory>
-    ensures { OnOk result ((c : ℕ) → slice_index_or sets.new.items c 0 ≡
-        sets_in c (line_before line.now NoLine) + slice_index_or sets.old.items c 0) }
+fn count_line(sets: &mut Vec<u8>, line: &Line) -> Result<(), Memory>
+    ensures { OnOk result ((c : ℕ) → up_to_two (slice_index_or sets.new.items c 0) ≡
+        up_to_two (sets_in c (line_before line.now NoLine) + slice_index_or sets.old.items c 0)) }
 {
     match line {
         Line::Set { to, .. } | Line::Load { to, .. } => count_cell(sets, *to),
@@ -75,8 +72,9 @@ fn count_line(sets: &mut Vec<u64>, line: &Line) -> Result<(), Memory>
 }
 
 /// How many of the lines, and of those inside them, set each cell.
-pub(crate) fn counted(alloc: Global, lines: &[Line]) -> Result<Vec<u64>, Memory>
-    ensures { IfOk result (λ sets. (c : ℕ) → slice_index_or sets.items c 0 ≡ sets_in c (lines_of lines.now)) }
+pub(crate) fn counted(alloc: Global, lines: &[Line]) -> Result<Vec<u8>, Memory>
+    ensures { IfOk result (λ sets. (c : ℕ) → up_to_two (slice_index_or sets.items c 0) ≡
+        up_to_two (sets_in c (lines_of lines.now))) }
 {
     let mut sets = Vec::new(alloc);
     count_lines(&mut sets, lines)?;
@@ -84,7 +82,7 @@ pub(crate) fn counted(alloc: Global, lines: &[Line]) -> Result<Vec<u64>, Memory>
 }
 
 /// Whether one line alone sets the cell.
-pub(crate) fn is_one(sets: &[u64], cell: u32) -> bool
+pub(crate) fn is_one(sets: &[u8], cell: u32) -> bool
     ensures { result ≡ is_one_at sets.now cell }
 {
     match sets.get(cell as usize) {

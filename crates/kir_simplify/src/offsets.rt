@@ -17,8 +17,8 @@ use wg_num::Memory;
 /// What all lines of a kernel say of its cells.
 #[derive(Drop)]
 pub(crate) struct CellFacts {
-    /// How many lines set each.
-    pub(crate) sets: Vec<u64>,
+    /// How many lines set each: none, one or more.
+    pub(crate) sets: Vec<u8>,
     /// Which hold the offset of a pointer that is a parameter.
     pub(crate) offsets: Vec<bool>,
 }
@@ -39,7 +39,7 @@ fn is_offset(params: &[VarKind], work: &Work) -> bool
 }
 
 /// The cell that the line sets to such an offset, where no other line sets it.
-fn offset_cell(sets: &[u64], params: &[VarKind], line: &Line) -> Option<u32>
+fn offset_cell(sets: &[u8], params: &[VarKind], line: &Line) -> Option<u32>
     ensures { result ≡ offset_of_line (is_one_at sets.now) params.now line.now }
 {
     match line {
@@ -72,7 +72,7 @@ fn mark_offset(offsets: &mut Vec<bool>, cell: u32) -> Result<(), Memory>
 /// Which cells one of these lines sets to such an offset, where no other line sets them.
 fn offsets_among(
     alloc: Global,
-    sets: &[u64],
+    sets: &[u8],
     params: &[VarKind],
     lines: &[Line],
 ) -> Result<Vec<bool>, Memory>
