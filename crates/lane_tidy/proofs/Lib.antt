@@ -1,7 +1,6 @@
 pub mod Accessing
 pub mod Agreeing
 pub mod Choosing
-pub mod Clearing
 pub mod Copying
 pub mod Ending
 pub mod Frames
@@ -15,12 +14,14 @@ pub mod Leaving
 pub mod Making
 pub mod Moving
 pub mod Narrowing
+pub mod Needing
 pub mod Offsetting
 pub mod Plainly
 pub mod Planned
 pub mod Setting
 pub mod Sharing
 pub mod Sound
+pub mod Starting
 pub mod Tests
 pub mod Tidying
 pub mod Typing

@@ -1,9 +1,10 @@
 //! Marks on the registers of a code.
 
-ghost use Rattle.std.specs.Prelude.{◌≡◌, ℕ, ◌<◌, ◌||◌, length, IfOk, slice_index_or, false, true};
+ghost use Rattle.std.specs.Prelude.{◌≡◌, ℕ, ◌<◌, ◌||◌, ◌&&◌, length, IfOk, slice_index_or, false, not};
 ghost use Rattle.lane_code.specs.declared.step.Reg.{Reg};
 ghost use Rattle.lane_code.specs.Fits.{is_below};
 ghost use Rattle.lane_tidy.specs.Reads.{same_reg, is_among, is_read};
+ghost use Rattle.lane_tidy.specs.Constants.{is_put};
 ghost use Rattle.lane_tidy.specs.Marks.{place_of, room_for};
 
 use crate::reads::reads_of;
@@ -35,8 +36,21 @@ pub(crate) fn mark_one(marks: &mut [bool], x: Reg)
     }
 }
 
+/// Takes the mark of the register, if there is one and it has a mark.
+pub(crate) fn unmark(marks: &mut [bool], x: Option<Reg>)
+    ensures { (y : Reg) → place_of y < length marks.old →
+        slice_index_or marks.new (place_of y) false ≡ slice_index_or marks.old (place_of y) false && not (is_put x y) }
+{
+    if let Some(x) = x {
+        let at = place_of(x);
+        if at < marks.len() {
+            marks[at] = false;
+        }
+    }
+}
+
 /// Marks the registers.
-fn mark_all(marks: &mut [bool], registers: &[Reg])
+pub(crate) fn mark_all(marks: &mut [bool], registers: &[Reg])
     ensures { (y : Reg) → place_of y < length marks.old →
         slice_index_or marks.new (place_of y) false ≡ slice_index_or marks.old (place_of y) false || is_among
         registers.now y }
