@@ -45,10 +45,10 @@ class CheckedExpressions:
 
     def check_variable(self, node, may_be_flag):
         """Checks a name."""
+        if may_be_flag and node.text in FLAGS:
+            return 'int'
         symbol = self.lookup(node.text)
         if symbol is None:
-            if may_be_flag and node.text in FLAGS:
-                return 'int'
             return self.wrong(node, 401)
         node.symbol = symbol
         return symbol.type

@@ -5,7 +5,7 @@ it is a vector, a pointer to vectors or anything else; the second knows the role
 vector may stand there, and notes the faults, parts before the whole."""
 from .check_vectors import numbers_of_selection
 from .numbers import BUILT_IN, COMPARISONS, SIGNED_OF, UNSIGNED_OF
-from .symbols import VectorType, vector_type
+from .symbols import FENCES, FLAGS, VectorType, vector_type
 from .tree import Node, all_nodes
 
 VALUE, VARIABLE, ELEMENT = 'value', 'variable', 'element'
@@ -77,6 +77,8 @@ class Kinds:
     def visit(self, node, names):
         """Notes the kinds of a node and of its parts."""
         inside = dict(names) if node.parts else names
+        if node.form == 'call' and node.parts and node.text in FENCES:
+            inside.update(dict.fromkeys(FLAGS))
         for at, part in enumerate(node.parts):
             self.visit(part, inside)
             self.pass_on(node, at, part, inside)

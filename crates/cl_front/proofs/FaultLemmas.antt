@@ -24,7 +24,7 @@ use Rattle.cl_check_sound.proofs.Spelled.{spelled_wide}
 use Rattle.cl_check_sound.proofs.Expanded.{expanded_read}
 use Rattle.cl_short_vec.specs.Unit.{scalarised_of}
 use Rattle.cl_short_vec_faults.specs.SoundBut.{is_of_size}
-use Rattle.cl_short_vec_faults.specs.UnitLaw.{NoFlags, PlainStands, FormStands}
+use Rattle.cl_short_vec_faults.specs.UnitLaw.{PlainStands, FormStands}
 use Rattle.cl_short_vec_faults.proofs.UnitsStand.{units_stand}
 use Rattle.cl_short_vec_correct.proofs.Returns.{returns_refused}
 use Rattle.cl_short_vec_correct.proofs.Barriers.{barriers_refused}
@@ -72,10 +72,10 @@ form_refused places kernel unit k token h (inr r) s =
 
 pub source_plain : (source : List ℕ) (defines : List Define) (kernel : List ℕ) (expanded : List Token) (unit : Syntax)
     (k : Fault) (token : ℕ) → IsSource source defines expanded unit →
-    IsRefused (places_of source expanded) kernel (scalarised_of unit) k token → DefinesFit defines → NoFlags unit →
+    IsRefused (places_of source expanded) kernel (scalarised_of unit) k token → DefinesFit defines →
     is_of_size k ≡ false → PlainStands (places_of source expanded) kernel unit → ⊥
-source_plain source defines kernel expanded unit k token s r fit flags size plain =
-    let names = source_names source s.read.0 expanded defines unit s.read.1.cuts s.read.1.expands s.spelled flags in
+source_plain source defines kernel expanded unit k token s r fit size plain =
+    let names = source_names source s.read.0 expanded defines unit s.read.1.cuts s.read.1.expands s.spelled in
     form_refused (places_of source expanded) kernel unit k token
     (units_stand (places_of source expanded) kernel expanded unit s.spelled
     (source_few source s.read.0 expanded defines unit s.read.1.short s.read.1.cuts s.read.1.expands s.spelled)

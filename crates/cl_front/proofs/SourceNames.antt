@@ -21,7 +21,6 @@ use Rattle.cl_short_vec_correct.proofs.TokensKept.{expanded_plain}
 use Rattle.cl_short_vec_faults.specs.Beside.{has_bytes, IsName}
 use Rattle.cl_short_vec_faults.specs.Plainly.{NoPointBy, NoPoint, NoPoints}
 use Rattle.cl_short_vec_faults.specs.UnitLaw.{DeclaredNameBy, DeclaredNames, AllDeclaredNames}
-use Rattle.cl_short_vec_faults.specs.UnitLaw.{NoFlagBy, NoFlags, AllNoFlags}
 use Rattle.cl_short_vec_faults.proofs.Ordered.{in_to, last_in_within, unit_ordered}
 
 -- ---- names
@@ -39,14 +38,12 @@ word_no_point forms.VariableNode w h = h.1
 word_no_point forms.CallNode w h = h.1
 word_no_point form w h = tt
 
-word_declared : (form : Form) (w : List ℕ) (parts : Forest) → WordBy form w → NoFlagBy form w parts →
-    DeclaredNameBy form w parts
-word_declared forms.DeclaratorNode w parts h k = own_is_name (name_in w) h
-word_declared forms.ParamNode w parts h k = (own_is_name (name_in w) h, k)
-word_declared forms.DeclareNode w parts h k = k
-word_declared forms.FunctionNode w parts h k = own_is_name (name_in w) h
-word_declared forms.PrototypeNode w parts h k = own_is_name (name_in w) h
-word_declared form w parts h k = tt
+word_declared : (form : Form) (w : List ℕ) → WordBy form w → DeclaredNameBy form w
+word_declared forms.DeclaratorNode w h = own_is_name (name_in w) h
+word_declared forms.ParamNode w h = own_is_name (name_in w) h
+word_declared forms.FunctionNode w h = own_is_name (name_in w) h
+word_declared forms.PrototypeNode w h = own_is_name (name_in w) h
+word_declared form w h = tt
 
 mutual
   words_no_point : (t : Syntax) → HasWords t → NoPoint t
@@ -57,22 +54,20 @@ mutual
   words_no_points (more p ps) h = (words_no_point p h.0, words_no_points ps h.1)
 
 mutual
-  words_declared : (t : Syntax) → HasWords t → NoFlags t → DeclaredNames t
-  words_declared (node form w f l parts) h k =
-      (word_declared form w parts h.0 k.0, all_words_declared parts h.1 k.1)
+  words_declared : (t : Syntax) → HasWords t → DeclaredNames t
+  words_declared (node form w f l parts) h = (word_declared form w h.0, all_words_declared parts h.1)
 
-  all_words_declared : (ps : Forest) → HaveWords ps → AllNoFlags ps → AllDeclaredNames ps
-  all_words_declared none h k = tt
-  all_words_declared (more p ps) h k = (words_declared p h.0 k.0, all_words_declared ps h.1 k.1)
+  all_words_declared : (ps : Forest) → HaveWords ps → AllDeclaredNames ps
+  all_words_declared none h = tt
+  all_words_declared (more p ps) h = (words_declared p h.0, all_words_declared ps h.1)
 
--- No name in the unit of a source has a point in it, and what is declared has a name of a source; if no vectors are
--- named as a memory fence, what is declared behind a vector type has another name.
+-- No name in the unit of a source has a point in it, and what is declared has a name of a source.
 pub source_names : (source : List ℕ) (tokens expanded : List Token) (defines : List Define) (unit : Syntax) →
-    Cuts source tokens → Expands tokens defines expanded → SpellsUnit unit expanded → NoFlags unit →
+    Cuts source tokens → Expands tokens defines expanded → SpellsUnit unit expanded →
     NoPoint unit × DeclaredNames unit
-source_names source tokens expanded defines unit cuts expands spelled flags =
+source_names source tokens expanded defines unit cuts expands spelled =
     let words = unit_words unit expanded spelled (expanded_plain source tokens expanded defines cuts expands) in
-    (words_no_point unit words, words_declared unit words flags)
+    (words_no_point unit words, words_declared unit words)
 
 -- ---- the number of tokens
 

@@ -13,7 +13,7 @@ use Rattle.cl_short_vec.specs.Kinds.{no_names}
 use Rattle.cl_short_vec.specs.Marks.{marked}
 use Rattle.cl_short_vec.specs.Unit.{scalarised_of}
 use Rattle.cl_short_vec_faults.specs.SoundBut.{is_of_size}
-use Rattle.cl_short_vec_faults.specs.UnitLaw.{NoFlags, PlainStands}
+use Rattle.cl_short_vec_faults.specs.UnitLaw.{PlainStands}
 use Rattle.cl_short_vec_correct.specs.Each.{EachIsDone}
 use Rattle.cl_short_vec_correct.specs.Law.{ReturnsRefused, BarriersRefused, NumbersScaled, OffsetsScaled, ContentsStand}
 use Rattle.cl_short_vec_correct.specs.Law.{VectorsAre}
@@ -33,14 +33,12 @@ pub record TypedForm (source : List ℕ) (defines : List Define) (kernel : List 
       (start_of (places_of source h.expanded) (scalarised_of h.unit)) []
 
 -- The unit without vectors of a refused source is what it should be. Where the fault is not the length of an array or a
--- limit of size, and no vector variable, array of vectors or pointer to vectors has the name of a memory fence, the
--- unit with a number in the place of each vector is at fault too, or a leaf of a vector statement that should be a
--- number is none.
+-- limit of size, the unit with a number in the place of each vector is at fault too, or a leaf of a vector statement
+-- that should be a number is none.
 pub record FaultyForm (source : List ℕ) (defines : List Define) (kernel : List ℕ) (condition : Condition)
     (place : Place) (h : IsFaulty source defines kernel condition place) : Type 0 where
   pub form : IsScalarFormOf h.unit (scalarised_of h.unit)
-  pub plain : NoFlags h.unit → is_of_size h.fault ≡ false →
-      PlainStands (places_of source h.expanded) kernel h.unit → ⊥
+  pub plain : is_of_size h.fault ≡ false → PlainStands (places_of source h.expanded) kernel h.unit → ⊥
 
 -- of an error
 abbrev pub ErrorForm : List ℕ → List Define → (kernel : List ℕ) → SourceError → Type 0

@@ -10,5 +10,6 @@ pub mod Refused
 pub mod Slices
 pub mod Units
 pub mod Plainness
+pub mod Unselected
 pub mod Rows
 pub mod Small

@@ -8,7 +8,7 @@ use Rattle.cl_tree.specs.declared.tree.Tree.TheViews.{out-Tree}
 use Rattle.cl_tree.specs.Syntax.{Syntax, Forest, more, view, views}
 use Rattle.cl_meaning.proofs.Views.{view_out}
 use Rattle.cl_short_vec.specs.declared.marks.Marked.{Marked}
-use Rattle.cl_short_vec.specs.Kinds.{Names, later}
+use Rattle.cl_short_vec.specs.Kinds.{Names, within, later}
 use Rattle.cl_short_vec.specs.Marks.{Marks, unmarked, marking, marked, marked_parts, marked_node}
 use Rattle.cl_short_vec.specs.View.{mark_of, marks_of}
 
@@ -54,15 +54,20 @@ module _ (form : Form) (all : Forest) (ts : List Tree) (i : ℕ) (done : List Ma
   marks_done h = sym (onto_none done) ∙
       (ap (λ (z : List Tree). onto done (marked_parts form all names front (views z))) (sym (drop_all i ts h)) ∙ inner)
 
+-- what names stand for at the parts of a node
+abbrev pub inner_names : Names → Tree → Names
+inner_names names t = within (out-Tree t).form (out-Tree t).word names
+
 -- a node with its parts
 pub tree_marked : (names names' : Names) (t : Tree) (ms : Marks) → names' ≡ names →
-    ms ≡ marked_parts (out-Tree t).form (views (out-Tree t).parts.items) names true (views (out-Tree t).parts.items) →
-    marked_node names' (view t) ms ≡ marked names (view t)
+    ms ≡ marked_parts (out-Tree t).form (views (out-Tree t).parts.items) (inner_names names t) true
+    (views (out-Tree t).parts.items) → marked_node names' (view t) ms ≡ marked names (view t)
 unfolding marked
 tree_marked names names' t ms n h =
     ap (λ z. marked_node z (view t) ms) n ∙ (ap (λ z. marked_node names (view t) z) h ∙
-    (ap (λ (s : Syntax). marked_node names s (marked_parts (out-Tree t).form (views (out-Tree t).parts.items) names true
-    (views (out-Tree t).parts.items))) (view_out t) ∙ sym (ap (λ s. marked names s) (view_out t))))
+    (ap (λ (s : Syntax). marked_node names s (marked_parts (out-Tree t).form (views (out-Tree t).parts.items)
+    (inner_names names t) true (views (out-Tree t).parts.items))) (view_out t) ∙
+    sym (ap (λ s. marked names s) (view_out t))))
 
 pub ok_onto : {A E : Type 0} (r : Result A E) (P Q : A → Type 0) → IfOk r P → ((a : A) → P a → Q a) → IfOk r Q
 ok_onto (Ok a) P Q h f = f a h

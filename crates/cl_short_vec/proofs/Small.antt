@@ -4,7 +4,7 @@ use Rattle.std.proofs.Common.{Bool, true, false, ◌&&◌, if◌then◌else◌, 
 use Rattle.std.proofs.lemmas.Bool.{false≢true}
 use Rattle.std.proofs.lemmas.Bool.Decides.{nat_tests}
 use Rattle.std.specs.Str.{bytes_eq}
-use Rattle.std.specs.Prelude.{slice_index}
+use Rattle.std.specs.Prelude.{slice_index, codes}
 use lib.Pointwise.{pointwise}
 use Rattle.wg_num.specs.declared.types.Bin.{Bin}
 use Rattle.wg_num.specs.declared.types.Bin.TheVariants as bins
@@ -33,6 +33,7 @@ use Rattle.cl_short_vec.specs.Types.{selection_in, named_in, allowed, all_below,
 use Rattle.cl_short_vec.specs.Kinds.{Names, no_names, with_name, is_variable, declared_kind, behind_declared}
 use Rattle.cl_short_vec.specs.Kinds.{behind_declarator, behind_declarators, pointed_by, parameter_kind, pointer_to}
 use Rattle.cl_short_vec.specs.Kinds.{behind_parameter, behind_parameters, behind, behind_part, later}
+use Rattle.cl_short_vec.specs.Kinds.{calls_fence, with_fences, within}
 use Rattle.cl_short_vec.specs.Kinds.{is_vector, value_of, first_vector, pointer_alone, element_of, address_of, several}
 use Rattle.cl_short_vec.specs.Kinds.{selection_of, compared, pointer_moved, joined_kind, prefix_kind, postfix_kind}
 use Rattle.cl_short_vec.specs.Kinds.{called_kind, cast_kind, is_operator}
@@ -294,13 +295,28 @@ later_small form parts names front p n = behind_small names p n
 
 -- ---- trees
 
+fences_small : (names : Names) → SmallNames names → SmallNames (with_fences names)
+fences_small names n q =
+    let inner = with_name names (codes "CLK_LOCAL_MEM_FENCE") (Other true) in
+    either_small (bytes_eq (codes "CLK_GLOBAL_MEM_FENCE") q) (Other true) (inner q) tt
+    (either_small (bytes_eq (codes "CLK_LOCAL_MEM_FENCE") q) (Other true) (names q) tt (n q))
+
+pub within_small : (form : Form) (w : List ℕ) (names : Names) → SmallNames names → SmallNames (within form w names)
+within_small forms.CallNode w names n = by (calls_fence (intrinsic_in (name_in w)))
+  where
+    by : (b : Bool) → SmallNames (if b then with_fences names else names)
+    by true = fences_small names n
+    by false = n
+within_small form w names n = n
+
 mutual
   unfolding marked marked_parts
 
   pub marked_small : (t : Syntax) (names : Names) → SmallNames names → SmallMark (marked names t)
   marked_small (node form w f l parts) names n =
-      let h = parts_small form parts names true parts n in
-      (kind_small names form w (marked_parts form parts names true parts) n h, h)
+      let inner = within form w names in
+      let h = parts_small form parts inner true parts (within_small form w names n) in
+      (kind_small names form w (marked_parts form parts inner true parts) n h, h)
 
   parts_small : (form : Form) (all : Forest) (names : Names) (front : Bool) (ps : Forest) → SmallNames names →
       SmallMarks (marked_parts form all names front ps)

@@ -1,5 +1,5 @@
 -- Which expressions are vectors, and what names stand for.
-use Rattle.std.specs.Prelude.{ℕ, List, Option, None, Some, if◌then◌else◌, nat_eq, length}
+use Rattle.std.specs.Prelude.{ℕ, List, Option, None, Some, if◌then◌else◌, nat_eq, length, codes}
 use Rattle.std.specs.Prelude.{Bool, true, false, not, ◌&&◌}
 use Rattle.std.specs.Str.{bytes_eq}
 use Rattle.wg_num.specs.declared.types.Bin.{Bin}
@@ -17,11 +17,11 @@ use Rattle.cl_meaning.specs.declared.operators.Postfix.{Postfix}
 use Rattle.cl_meaning.specs.declared.operators.Postfix.TheVariants as postfixes
 use Rattle.cl_meaning.specs.declared.names.Intrinsic.{Intrinsic}
 use Rattle.cl_meaning.specs.declared.names.Intrinsic.TheVariants as intrinsics
-use Rattle.cl_meaning.specs.Spelling.{name_in, is_const, dimensions_in}
+use Rattle.cl_meaning.specs.Spelling.{name_in, is_const, dimensions_in, intrinsic_in}
 use Rattle.cl_meaning.specs.Types.{space_among, declared_in}
 use Rattle.cl_meaning.specs.Conversions.{is_comparison}
 use Rattle.cl_meaning.specs.Declarations.{star_in, second_star, word_of, parts_of}
-use Rattle.cl_meaning.specs.Kinds.{is_some}
+use Rattle.cl_meaning.specs.Kinds.{is_some, is_fence}
 use Rattle.cl_short_vec.specs.declared.types.Vector.{Vector}
 use Rattle.cl_short_vec.specs.declared.kinds.Reach.{Reach}
 use Rattle.cl_short_vec.specs.declared.kinds.Reach.TheVariants.{Value, Variable, Element}
@@ -103,6 +103,22 @@ behind names t = names
 abbrev pub behind_part : Names → (declaration : Forest) → (front : Bool) → Syntax → Names
 behind_part names (more type ds) false p = behind_declarator names type p
 behind_part names parts front p = names
+
+-- whether a name that is known without a declaration is that of a barrier or a fence
+abbrev pub calls_fence : Option Intrinsic → Bool
+calls_fence None = false
+calls_fence (Some i) = is_fence i
+
+-- The names of fences stand for no vectors.
+abbrev pub with_fences : Names → Names
+with_fences names = with_name (with_name names (codes "CLK_LOCAL_MEM_FENCE") (Other true))
+    (codes "CLK_GLOBAL_MEM_FENCE") (Other true)
+
+-- what names stand for at the parts of a node of that production with these own words: in the argument of a fence, the
+-- names of fences are known first
+abbrev pub within : Form → List ℕ → Names → Names
+within forms.CallNode w names = if calls_fence (intrinsic_in (name_in w)) then with_fences names else names
+within form w names = names
 
 -- what is visible behind a part of a node of that production with these parts
 abbrev pub later : Form → Forest → Names → (front : Bool) → Syntax → Names

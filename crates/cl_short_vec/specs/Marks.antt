@@ -8,7 +8,7 @@ use Rattle.cl_short_vec.specs.declared.types.Vector.{Vector}
 use Rattle.cl_short_vec.specs.declared.kinds.Kind.{Kind}
 use Rattle.cl_short_vec.specs.declared.kinds.Kind.TheVariants.{Other}
 use Rattle.cl_short_vec.specs.Types.{vector_type, selection_in}
-use Rattle.cl_short_vec.specs.Kinds.{Names, later, is_vector, value_of, pointer_alone, joined_kind, prefix_kind}
+use Rattle.cl_short_vec.specs.Kinds.{Names, within, later, is_vector, value_of, pointer_alone, joined_kind, prefix_kind}
 use Rattle.cl_short_vec.specs.Kinds.{postfix_kind, called_kind, cast_kind, is_operator}
 
 mutual
@@ -72,7 +72,7 @@ unfoldable mutual
   -- a tree, where names stand for these
   pub marked : Names → Syntax → Mark
   marked names (node form w f l parts) =
-      marked_node names (node form w f l parts) (marked_parts form parts names true parts)
+      marked_node names (node form w f l parts) (marked_parts form parts (within form w names) true parts)
 
   pub marked_parts : Form → Forest → Names → (front : Bool) → Forest → Marks
   marked_parts form all names front none = unmarked

@@ -108,6 +108,7 @@ element_component form k c s t a b = with_parts t (forest2 a b)
 abbrev pub content_component : Form → Option Prefix → Kind → ℕ → Span → Syntax → Syntax → Syntax
 content_component forms.UnaryNode (Some prefixes.Content) (Pointer space d v) c s t p =
     element_at s (paren_at (span_of t) p) (further c (long_at 0 (span_of t)))
+content_component forms.PostfixNode o k c s t p = paren_at (span_of t) p
 content_component form o k c s t p = with_parts t (forest1 p)
 
 -- ---- expressions

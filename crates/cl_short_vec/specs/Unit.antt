@@ -158,7 +158,8 @@ lengths_at v (marking m ms) = more (length_or_part v m) (lengths_at v ms)
 -- what stands for a declarator behind a vector type: its components, or the array of their elements
 abbrev pub declarators_by : Vector → Syntax → Marks → Forest
 declarators_by v d parts = if nat_eq (dimensions_in (word_of d)) 0 then
-    component_declarators (declared_name d) (numbers 0 1 v.count) else forest1 (with_parts d (lengths_at v parts))
+    component_declarators (declared_name d) (numbers 0 1 v.count) else
+    forest1 (at forms.DeclaratorNode (word_of d) (span_of d) (lengths_at v parts))
 
 abbrev pub declarators_of : Vector → Mark → Forest
 declarators_of v (mark d k parts) = declarators_by v d parts

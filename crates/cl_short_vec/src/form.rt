@@ -41,9 +41,8 @@ fn form_of(alloc: Global, unit: &Tree) -> Result<Result<Tree, VectorRefusal>, Me
 /// steps, and a vector variable is one variable for each component.
 ///
 /// `Refused` with the first condition of E501 to E503 where one stands at a node of the unit. `Memory` where memory was
-/// refused, where a number has no room, or where a vector type or a selection would be left in the answer: that this
-/// last case never comes is no clause.
-#[tactic(auto, using(crate::proofs::Plainness::none_selected))]
+/// refused, or where a number has no room.
+#[tactic(auto, using(crate::proofs::Plainness::none_selected, crate::proofs::Unselected::unselected))]
 pub fn scalarise(alloc: Global, unit: Tree) -> Result<Tree, VectorError>
     ensures sound { IfOk result (λ t. refusal_of (view unit) ≡ None) }
     ensures form { IfOk result (λ t. view t ≡ scalarised_of (view unit)) }
@@ -54,12 +53,7 @@ pub fn scalarise(alloc: Global, unit: Tree) -> Result<Tree, VectorError>
         return Ok(unit);
     }
     match form_of(alloc, &unit) {
-        Ok(Ok(form)) => {
-            if has_vectors(&form) {
-                return Err(VectorError::Memory);
-            }
-            Ok(form)
-        }
+        Ok(Ok(form)) => Ok(form),
         Ok(Err(refusal)) => Err(VectorError::Refused(refusal)),
         Err(Memory) => Err(VectorError::Memory),
     }

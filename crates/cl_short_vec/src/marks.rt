@@ -11,7 +11,7 @@ use crate::kinds::{
     Kind, called_kind, cast_kind, is_operator, is_vector, joined_kind, pointer_alone, postfix_kind,
     prefix_kind, value_of,
 };
-use crate::names::{Entry, kind_named, later};
+use crate::names::{Entry, kind_named, later, within};
 use crate::selections::selection_of;
 use crate::types::{Vector, vector_type};
 use cl_meaning::{binary_of, intrinsic_of, name_of, postfix_of, prefix_of};
@@ -164,6 +164,7 @@ fn mark_tree<'a>(
     ensures kept { OnOk result (names.new.items ≡ names.old.items) }
 {
     let depth = names.len();
+    within(names, tree.form, tree.word.bytes())?;
     let parts = mark_parts(alloc, names, tree.form, &tree.parts)?;
     names.truncate(depth);
     mark_node(alloc, names, tree, parts)

@@ -3,13 +3,14 @@
 ghost use Rattle.std.specs.Prelude.{◌≡◌, ◌++◌, take, length, OnOk};
 ghost use Rattle.cl_tree.specs.Syntax.{view, views};
 ghost use Rattle.cl_meaning.specs.Types as types;
+ghost use Rattle.cl_meaning.specs.Spelling.{intrinsic_in};
 ghost use Rattle.cl_meaning.specs.Declarations.{parts_of};
 ghost use Rattle.cl_short_vec.specs.Kinds as spec;
 ghost use Rattle.cl_short_vec.specs.View.{names_of};
 
 use crate::kinds::{Kind, Reach};
 use crate::types::{Vector, vector_type};
-use cl_meaning::{declared_of, dimensions_of, is_const, name_of, space_of};
+use cl_meaning::{Intrinsic, declared_of, dimensions_of, intrinsic_of, is_const, name_of, space_of};
 use cl_model::Space;
 use cl_scope::{second_star, star_in};
 use cl_tree::{Form, Tree};
@@ -237,6 +238,45 @@ fn behind_part<'a>(
             }
             behind_declarator(names, base, part)
         }
+    }
+}
+
+/// Whether a call of that name is of a barrier or a fence.
+#[tactic(auto)]
+fn calls_fence(name: &[u8]) -> bool
+    ensures { result ≡ spec.calls_fence (intrinsic_in name.now) }
+{
+    match intrinsic_of(name) {
+        Some(Intrinsic::Barrier) | Some(Intrinsic::Fence) => true,
+        _ => false,
+    }
+}
+
+/// The names of fences stand for no vectors.
+#[tactic(auto, using(crate::proofs::Stacks::kept_on))]
+fn declare_fences(names: &mut Vec<Entry>) -> Result<(), Memory>
+    ensures declared { OnOk result (names_of names.new.items ≡ spec.with_fences (names_of names.old.items)) }
+    ensures kept { OnOk result (take (length names.old.items) names.new.items ≡ names.old.items) }
+{
+    let fence = Kind::Other { known: true };
+    declare(names, "CLK_LOCAL_MEM_FENCE".as_bytes(), fence)?;
+    declare(names, "CLK_GLOBAL_MEM_FENCE".as_bytes(), fence)
+}
+
+/// Goes to the parts of a node of that production with these own words. In the argument of a fence, the names of fences
+/// are known first (OpenCL 1.2, section 6.12.8). `Memory` where memory was refused.
+pub(crate) fn within(names: &mut Vec<Entry>, form: Form, word: &[u8]) -> Result<(), Memory>
+    ensures declared { OnOk result (names_of names.new.items ≡ spec.within form word.now (names_of names.old.items)) }
+    ensures kept { OnOk result (take (length names.old.items) names.new.items ≡ names.old.items) }
+{
+    match form {
+        Form::CallNode => {
+            if calls_fence(name_of(word)) {
+                return declare_fences(names);
+            }
+            Ok(())
+        }
+        _ => Ok(()),
     }
 }
 

@@ -307,6 +307,7 @@ fn content_component(
             let index = further(alloc, component, first)?;
             element_at(alloc, span, pointer, index)
         }
+        (Form::PostfixNode, _, _) => paren_at(alloc, span_of(tree), part),
         _ => with_one(alloc, tree, part),
     }
 }

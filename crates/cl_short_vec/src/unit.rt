@@ -448,7 +448,8 @@ fn put_declarator(
         return put_components(alloc, list, variable, &components);
     }
     let parts = lengths_at(alloc, vector, &declarator.parts)?;
-    let tree = with_parts(alloc, declarator.tree, parts)?;
+    let word = declarator.tree.word.bytes();
+    let tree = node(alloc, Form::DeclaratorNode, word, span_of(declarator.tree), parts)?;
     push(list, tree)
 }
 

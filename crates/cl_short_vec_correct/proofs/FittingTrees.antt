@@ -28,7 +28,7 @@ use Rattle.cl_short_vec.specs.declared.kinds.Kind.TheVariants.{Vectors, Pointer,
 use Rattle.cl_short_vec.specs.declared.made.Made.TheVariants as made
 use Rattle.cl_short_vec.specs.declared.roles.Role.TheVariants.{Free, Typed}
 use Rattle.cl_short_vec.specs.Types.{vector_in, selection_in}
-use Rattle.cl_short_vec.specs.Kinds.{Names, later, behind, is_vector, called_kind, cast_kind, prefix_kind}
+use Rattle.cl_short_vec.specs.Kinds.{Names, within, later, behind, is_vector, called_kind, cast_kind, prefix_kind}
 use Rattle.cl_short_vec.specs.Marks.{Mark, mark, Marks, unmarked, marking, tree_at, kind_at, front_kind, back_kind}
 use Rattle.cl_short_vec.specs.Marks.{vector_among, kind_by, marked, marked_parts}
 use Rattle.cl_short_vec.specs.Faults.{misplaced, types_differ, refusals, refusals_in, fits, is_typed, agrees}
@@ -39,7 +39,7 @@ use Rattle.cl_short_vec.specs.Made.{made_in, made_by_prefix, is_comma}
 use Rattle.cl_short_vec.specs.Order.{type_in, count_in}
 use Rattle.cl_short_vec.specs.Parts.{width_by, width_of, item_width, filled_at}
 use Rattle.cl_short_vec_correct.proofs.Whole.{WholeKind, WholeNames, mark_whole, among_whole}
-use Rattle.cl_short_vec_correct.proofs.Whole.{later_whole, parts_whole}
+use Rattle.cl_short_vec_correct.proofs.Whole.{later_whole, within_whole, parts_whole}
 use Rattle.cl_short_vec_correct.proofs.Fitting.{type_by, type_at, Within, IsOperand, EitherFits, CallFits}
 use Rattle.cl_short_vec_correct.proofs.Fitting.{fits_by, Fitting, ItemsFit, AllFit, ListFits, InsideFits, FilledFits}
 use Rattle.cl_short_vec_correct.proofs.Fitting.{asked_of}
@@ -287,12 +287,12 @@ alone_all (more p ps) form all names front h g =
 -- a node of that production with these parts
 abbrev NodeMark : Names → Form → List ℕ → ℕ → ℕ → Forest → Mark
 NodeMark names form w f l parts = mark (node form w f l parts)
-    (kind_by names form w (marked_parts form parts names true parts)) (marked_parts form parts names true parts)
+    (kind_by names form w (marked_parts form parts (within form w names) true parts)) (marked_parts form parts (within form w names) true parts)
 
 operand_node : (names : Names) (form : Form) (w : List ℕ) (f l : ℕ) (parts : Forest) →
     IsExpressionOf true (node form w f l parts) → WholeNames names →
     NoneRefused (NodeMark names form w f l parts) →
-    AllGood parts (marked_parts form parts names true parts) → FitsAlone (NodeMark names form w f l parts)
+    AllGood parts (marked_parts form parts (within form w names) true parts) → FitsAlone (NodeMark names form w f l parts)
 unfolding Fitting marked_parts kind_by made_in types_differ
 operand_node names forms.NumberNode w f l none h n r g of = tt
 operand_node names forms.TruthNode w f l none h n r g of = tt
@@ -399,15 +399,16 @@ operand_node names forms.PostfixNode w f l (more a (more b none)) h n r g of =
     postfix_fits of (selection_in w) (postfix_in w) (node forms.PostfixNode w f l (more a (more b none)))
     (marked names a) (marking (marked (behind names a) b) unmarked) refl (g.0 h.1).operand
 operand_node names forms.CallNode w f l parts h n r g of =
-    let ms = marked_parts forms.CallNode parts names true parts in
+    let inner = within forms.CallNode w names in
+    let ms = marked_parts forms.CallNode parts inner true parts in
     let t = node forms.CallNode w f l parts in
     call_fits of t ms (node_none r.0 t (kind_by names forms.CallNode w ms) ms r.1).2
-    (among_whole ms (parts_whole forms.CallNode parts names true parts n))
-    (alone_all parts forms.CallNode parts names true h g)
+    (among_whole ms (parts_whole forms.CallNode parts inner true parts (within_whole forms.CallNode w names n)))
+    (alone_all parts forms.CallNode parts inner true h g)
 operand_node names form w f l parts h n r g of = absurd h
 
 items_node : (names : Names) (form : Form) (w : List ℕ) (f l : ℕ) (parts : Forest) →
-    IsExpressionOf true (node form w f l parts) → AllGood parts (marked_parts form parts names true parts) →
+    IsExpressionOf true (node form w f l parts) → AllGood parts (marked_parts form parts (within form w names) true parts) →
     FitsAlone (NodeMark names form w f l parts) → (v : Vector) (n : ℕ) →
     items_given v (NodeMark names form w f l parts) ≡ Some n → Items v n (NodeMark names form w f l parts)
 unfolding marked_parts
@@ -417,11 +418,11 @@ items_node names forms.ExprNode w f l (more a (more b none)) h g o v n e =
     (marked names a) (marked (behind names a) b) v n (λ i d. (g.0 h.0).items v i d) (g.1.0 h.1).operand e
 items_node names forms.ExprNode w f l parts h g o v n e = absurd h
 items_node names form w f l parts h g o v n e =
-    single_items (node form w f l parts) (kind_by names form w (marked_parts form parts names true parts))
-    (marked_parts form parts names true parts) v n refl o e
+    single_items (node form w f l parts) (kind_by names form w (marked_parts form parts (within form w names) true parts))
+    (marked_parts form parts (within form w names) true parts) v n refl o e
 
 inside_node : (names : Names) (form : Form) (w : List ℕ) (f l : ℕ) (parts : Forest) →
-    IsExpressionOf true (node form w f l parts) → AllGood parts (marked_parts form parts names true parts) →
+    IsExpressionOf true (node form w f l parts) → AllGood parts (marked_parts form parts (within form w names) true parts) →
     (v : Vector) → is_paren form ≡ true → inside_fills v (NodeMark names form w f l parts) ≡ true →
     InsideFits v.of v.count (NodeMark names form w f l parts)
 unfolding marked_parts
@@ -436,7 +437,7 @@ inside_node names form w f l parts h g v p e = absurd (false≢true p)
 good_node : (names : Names) (form : Form) (w : List ℕ) (f l : ℕ) (parts : Forest) →
     IsExpressionOf true (node form w f l parts) → WholeNames names →
     NoneRefused (NodeMark names form w f l parts) →
-    AllGood parts (marked_parts form parts names true parts) → Good (NodeMark names form w f l parts)
+    AllGood parts (marked_parts form parts (within form w names) true parts) → Good (NodeMark names form w f l parts)
 good_node names form w f l parts h n r g =
     let o = operand_node names form w f l parts h n r g in record {
       operand = o;
@@ -453,10 +454,10 @@ mutual
   pub good : (t : Syntax) (names : Names) → IsExpressionOf true t → WholeNames names →
       NoneRefused (marked names t) → Good (marked names t)
   good (node form w f l parts) names h n r =
-      let ms = marked_parts form parts names true parts in
+      let ms = marked_parts form parts (within form w names) true parts in
       let k = kind_by names form w ms in
       let t = node form w f l parts in
-      good_node names form w f l parts h n r (all_good form parts names true parts n
+      good_node names form w f l parts h n r (all_good form parts (within form w names) true parts (within_whole form w names n)
       (parts_none r.0 (mark t k ms) true ms (node_none r.0 t k ms r.1).0))
 
   all_good : (form : Form) (all : Forest) (names : Names) (front : Bool) (ps : Forest) →

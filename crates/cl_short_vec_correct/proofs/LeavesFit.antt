@@ -19,7 +19,7 @@ use Rattle.cl_short_vec.specs.declared.kinds.Kind.TheVariants.{Vectors, Pointer,
 use Rattle.cl_short_vec.specs.declared.made.Made.{Made}
 use Rattle.cl_short_vec.specs.declared.made.Made.TheVariants as made
 use Rattle.cl_short_vec.specs.Types.{numbers}
-use Rattle.cl_short_vec.specs.Kinds.{Names, later, is_vector}
+use Rattle.cl_short_vec.specs.Kinds.{Names, within, later, is_vector}
 use Rattle.cl_short_vec.specs.Marks.{Mark, mark, Marks, kind_at, vector_among, kind_by, marked, marked_parts}
 use Rattle.cl_short_vec.specs.Made.{made_of}
 use Rattle.cl_short_vec.specs.Nodes.{component_name}
@@ -33,8 +33,8 @@ use Rattle.cl_short_vec_correct.specs.Sources.{is_sourced, Sourced, AllSourced}
 use Rattle.cl_short_vec.proofs.OwnNames.{front_blank}
 use Rattle.cl_short_vec_correct.proofs.Sourced.{SourcedMark, marked_sourced}
 use Rattle.cl_short_vec_correct.proofs.StepFits.{IsElementMark, ComponentFits, LeafFits}
-use Rattle.cl_short_vec_correct.proofs.Says.{Says}
-use Rattle.cl_short_vec_correct.proofs.Reaches.{AreNamed, named_variable}
+use Rattle.cl_short_vec_correct.proofs.Says.{Says, within_says}
+use Rattle.cl_short_vec_correct.proofs.Reaches.{AreNamed, named_variable, within_named}
 use Rattle.cl_short_vec_correct.proofs.Making.{is_variable_made, is_element_made, made_apart}
 use Rattle.cl_short_vec_correct.proofs.Making.{is_made_of_parts, variable_is, element_is, parts_are, AreTypesOr}
 use Rattle.cl_short_vec_correct.proofs.Making.{operands_are}
@@ -180,16 +180,18 @@ module _ (env : Env) where
         SmallMark (marked names t) → NamesFit env names → Each (LeafFits env) (steps_in listed of (marked names t))
     leaves_fit (node form w f l parts) names listed of h s m n =
         let t = node form w f l parts in
-        let ms = marked_parts form parts names true parts in
+        let inner = within form w names in
+        let fit : NamesFit env inner = (within_named form w names n.0, within_says form w names env n.1) in
+        let ms = marked_parts form parts inner true parts in
         let k = kind_by names form w ms in
         let is = expression_form t h in
         let words = parts_sourced form w f l parts s in
         let first = type_in (vector_among ms) in
         node_leaves form w f l parts names listed of ms (all_steps true of ms) (all_steps false first ms)
         (list_steps (type_in k) ms) (expression_is t names m h) s (marked_sourced t names s) m.0 n
-        (λ e. all_fit parts form parts names true true of is (parts_are t listed k e h) words m.1 n)
-        (λ e. all_fit parts form parts names true false first is (parts_are t listed k e h) words m.1 n)
-        (lists_fit parts form parts names true (type_in k) is (operands_are t h) words m.1 n)
+        (λ e. all_fit parts form parts inner true true of is (parts_are t listed k e h) words m.1 fit)
+        (λ e. all_fit parts form parts inner true false first is (parts_are t listed k e h) words m.1 fit)
+        (lists_fit parts form parts inner true (type_in k) is (operands_are t h) words m.1 fit)
 
     pub all_fit : (ps : Forest) (form : Form) (all : Forest) (names : Names) (front listed : Bool) (of : IntType) →
         is_expression form ≡ true → AreExpressionsOf true ps → AllSourced ps →

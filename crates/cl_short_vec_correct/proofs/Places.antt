@@ -30,7 +30,7 @@ use Rattle.cl_short_vec.specs.declared.roles.Role.{Role}
 use Rattle.cl_short_vec.specs.declared.roles.Role.TheVariants.{Target}
 use Rattle.cl_short_vec.specs.Types.{vector, selection_in, numbers, all_below, is_width, allowed, named_in, selected}
 use Rattle.cl_short_vec.specs.Types.{picked, signed_of}
-use Rattle.cl_short_vec.specs.Kinds.{Names, is_vector, value_of, first_vector, pointer_alone, several, selection_of}
+use Rattle.cl_short_vec.specs.Kinds.{Names, within, is_vector, value_of, first_vector, pointer_alone, several, selection_of}
 use Rattle.cl_short_vec.specs.Kinds.{compared, pointer_moved, joined_kind, prefix_kind, called_kind, cast_kind}
 use Rattle.cl_short_vec.specs.Kinds.{is_operator}
 use Rattle.cl_short_vec.specs.Marks.{mark, Marks, unmarked, marking, kind_at, vector_among, front_type}
@@ -286,7 +286,7 @@ pub target_place : (t : Syntax) (names : Names) → IsExpressionOf true t → re
 unfolding marked marked_parts refusals refusals_in
 target_place (node form w f l parts) names h r v =
     let t = node form w f l parts in
-    let ms = marked_parts form parts names true parts in
+    let ms = marked_parts form parts (within form w names) true parts in
     let k = kind_by names form w ms in
     let at = nothing_behind (refusals_in Target (mark t k ms) true ms) (least (first_of t) (misplaced Target t k)
     (no_component Target (mark t k ms)) (types_differ Target t k ms)) r in

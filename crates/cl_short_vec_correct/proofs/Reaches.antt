@@ -1,11 +1,12 @@
 -- What names stand for, as declarations and parameters tell: a vector that a name stands for is a variable.
 use Rattle.std.proofs.Common.{◌≡◌, ℕ, List, Option, None, Some, Bool, true, false, if◌then◌else◌, refl}
+use Rattle.std.specs.Prelude.{codes}
 use Rattle.std.proofs.lemmas.Bool.{false≢true}
 use Rattle.std.specs.Str.{bytes_eq}
 use Rattle.cl_tree.specs.declared.tree.Form.{Form}
 use Rattle.cl_tree.specs.declared.tree.Form.TheVariants as forms
 use Rattle.cl_tree.specs.Syntax.{Syntax, node, Forest, none, more}
-use Rattle.cl_meaning.specs.Spelling.{name_in}
+use Rattle.cl_meaning.specs.Spelling.{name_in, intrinsic_in}
 use Rattle.cl_meaning.specs.Types.{declared_in}
 use Rattle.cl_meaning.specs.Declarations.{word_of, parts_of, second_star}
 use Rattle.cl_meaning.specs.Kinds.{is_some}
@@ -17,6 +18,7 @@ use Rattle.cl_short_vec.specs.Types.{vector_type}
 use Rattle.cl_short_vec.specs.Kinds.{Names, no_names, with_name, is_variable, declared_kind, behind_declared, is_vector}
 use Rattle.cl_short_vec.specs.Kinds.{behind_declarator, behind_declarators, pointed_by, parameter_kind, pointer_to}
 use Rattle.cl_short_vec.specs.Kinds.{behind_parameter, behind_parameters, behind, behind_part, later}
+use Rattle.cl_short_vec.specs.Kinds.{calls_fence, with_fences, within}
 
 -- no value and no element
 abbrev pub IsNamed : Kind → Type 0
@@ -98,3 +100,15 @@ pub later_named : (form : Form) (parts : Forest) (names : Names) (front : Bool) 
     AreNamed (later form parts names front p)
 later_named forms.DeclareNode parts names front p n = behind_part_named names parts front p n
 later_named form parts names front p n = behind_named names p n
+
+pub within_named : (form : Form) (w : List ℕ) (names : Names) → AreNamed names → AreNamed (within form w names)
+within_named forms.CallNode w names n = by (calls_fence (intrinsic_in (name_in w)))
+  where
+    inner : Names
+    inner = with_name names (codes "CLK_LOCAL_MEM_FENCE") (Other true)
+
+    by : (b : Bool) → AreNamed (if b then with_fences names else names)
+    by true = with_named inner (codes "CLK_GLOBAL_MEM_FENCE") (Other true)
+        (with_named names (codes "CLK_LOCAL_MEM_FENCE") (Other true) n tt) tt
+    by false = n
+within_named form w names n = n

@@ -9,7 +9,7 @@ use Rattle.wg_num.specs.declared.types.IntType.{IntType}
 use Rattle.cl_tree.specs.declared.tree.Form.{Form}
 use Rattle.cl_tree.specs.declared.tree.Form.TheVariants as forms
 use Rattle.cl_tree.specs.Syntax.{Syntax, node, Forest, none, more}
-use Rattle.cl_meaning.specs.Spelling.{name_in}
+use Rattle.cl_meaning.specs.Spelling.{name_in, intrinsic_in}
 use Rattle.cl_meaning.specs.declared.kind.Entry.{Entry}
 use Rattle.cl_meaning.specs.declared.kind.Meaning.TheVariants as meanings
 use Rattle.cl_meaning.specs.Environment.{Env, Scope, found_in, into_last, empty_scope, meaning_in, meaning_of}
@@ -20,8 +20,8 @@ use Rattle.cl_short_vec.specs.declared.types.Vector.{Vector}
 use Rattle.cl_short_vec.specs.declared.kinds.Reach.{Reach}
 use Rattle.cl_short_vec.specs.declared.kinds.Reach.TheVariants.{Variable}
 use Rattle.cl_short_vec.specs.declared.kinds.Kind.{Kind}
-use Rattle.cl_short_vec.specs.declared.kinds.Kind.TheVariants.{Vectors}
-use Rattle.cl_short_vec.specs.Kinds.{Names, no_names, is_vector}
+use Rattle.cl_short_vec.specs.declared.kinds.Kind.TheVariants.{Vectors, Other}
+use Rattle.cl_short_vec.specs.Kinds.{Names, no_names, calls_fence, with_fences, within, is_vector}
 use Rattle.cl_short_vec.specs.Nodes.{component_name}
 use Rattle.cl_short_vec_correct.specs.Sources.{is_sourced}
 use Rattle.cl_short_vec_correct.proofs.LineWords.{has_point, component_point}
@@ -74,6 +74,28 @@ is_no_vector k v r e h = false≢true (sym h ∙ ap is_vector e)
 
 pub says_nothing : (names : Names) (env : Env) → NoVectors names → Says names env
 says_nothing names env n name v e c l = absurd (is_no_vector (names name) v Variable e (n name))
+
+-- and none stands for one that did not in the argument of a fence
+pub within_says : (form : Form) (w : List ℕ) (names : Names) (env : Env) → Says names env →
+    Says (within form w names) env
+within_says forms.CallNode w names env h = by (calls_fence (intrinsic_in (name_in w)))
+  where
+    fences : Says (with_fences names) env
+    fences name v e c l =
+        hidden (bytes_eq (codes "CLK_GLOBAL_MEM_FENCE") name) (bytes_eq (codes "CLK_LOCAL_MEM_FENCE") name) e
+      where
+        hidden : (x y : Bool) →
+            (if x then Other true else (if y then Other true else names name)) ≡ Vectors v Variable →
+            (constant : Bool) × (y : ℕ) × (meaning_of env (component_name name c) ≡
+            Some (meanings.Scalar v.of constant y))
+        hidden true y i = absurd (is_no_vector (Other true) v Variable i refl)
+        hidden false true i = absurd (is_no_vector (Other true) v Variable i refl)
+        hidden false false i = h name v i c l
+
+    by : (b : Bool) → Says (if b then with_fences names else names) env
+    by true = fences
+    by false = h
+within_says form w names env h = h
 
 pub owns_nothing : (names : Names) → NoVectors names → OwnNames names
 owns_nothing names n name v e = absurd (is_no_vector (names name) v Variable e (n name))

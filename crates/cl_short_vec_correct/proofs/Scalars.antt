@@ -26,7 +26,7 @@ use Rattle.cl_short_vec.specs.declared.kinds.Kind.{Kind}
 use Rattle.cl_short_vec.specs.declared.kinds.Kind.TheVariants.{Pointer, Other}
 use Rattle.cl_short_vec.specs.Types.{vector_in, selection_in}
 use Rattle.cl_short_vec.specs.Plain.{is_pointed}
-use Rattle.cl_short_vec.specs.Kinds.{Names, later}
+use Rattle.cl_short_vec.specs.Kinds.{Names, within, later}
 use Rattle.cl_short_vec.specs.Marks.{kind_at, marked, marked_parts}
 use Rattle.cl_short_vec.specs.Faults.{components_of}
 use Rattle.cl_short_vec.specs.Nodes.{long_at, paren_at, scaled, further}
@@ -164,7 +164,7 @@ through w f l ps k c s p q h i = by (is_some (selection_in w)) refl
     by : (z : Bool) → is_some (selection_in w) ≡ z → IsExpression (if z then q else
         content_component forms.PostfixNode (prefix_in w) k c s (node forms.PostfixNode w f l ps) p)
     by true e = h
-    by false e = i e
+    by false e = (i e).2
 
 -- ---- two parts
 
@@ -304,13 +304,16 @@ mutual
       two_postfix w f l (more a (more b none)) (kind_at (marked names a)) (kind_at (marked n b))
       (scalar (marked names a)) (scalar (marked n b)) (mark_small (marked names a) s.1.0) (h.0, ha, hb) ha hb
   expression_is (node forms.CallNode w f l none) names s h = tt
-  expression_is (node forms.CallNode w f l (more a none)) names s h = (expression_is a names s.1.0 h.0, tt)
-  expression_is (node forms.CallNode w f l (more a (more b none))) names s h = (
-    expression_is a names s.1.0 h.0,
-    (expression_is b (later forms.CallNode (more a (more b none)) names true a) s.1.1.0 h.1.0, tt),
-  )
+  expression_is (node forms.CallNode w f l (more a none)) names s h =
+      (expression_is a (within forms.CallNode w names) s.1.0 h.0, tt)
+  expression_is (node forms.CallNode w f l (more a (more b none))) names s h =
+      let inner = within forms.CallNode w names in (
+        expression_is a inner s.1.0 h.0,
+        (expression_is b (later forms.CallNode (more a (more b none)) inner true a) s.1.1.0 h.1.0, tt),
+      )
   expression_is (node forms.CallNode w f l (more a (more b (more c cs)))) names s h =
-      expressions_are forms.CallNode (more a (more b (more c cs))) names true (more a (more b (more c cs))) s.1 h
+      let ps = more a (more b (more c cs)) in
+      expressions_are forms.CallNode ps (within forms.CallNode w names) true ps s.1 h
   expression_is t names s h = absurd h
 
   pub expressions_are : (form : Form) (all : Forest) (names : Names) (front : Bool) (ps : Forest) →
@@ -411,13 +414,16 @@ mutual
       element_part w f l (more a (more b none)) (kind_at (marked names a)) c s (scalar (marked names a))
       (scalar (marked n b)) (mark_small (marked names a) m.1.0) z (h.0, ha, hb) ha hb
   place_is (node forms.CallNode w f l none) names c s m z h = tt
-  place_is (node forms.CallNode w f l (more a none)) names c s m z h = (expression_is a names m.1.0 h.0, tt)
-  place_is (node forms.CallNode w f l (more a (more b none))) names c s m z h = (
-    expression_is a names m.1.0 h.0,
-    (expression_is b (later forms.CallNode (more a (more b none)) names true a) m.1.1.0 h.1.0, tt),
-  )
+  place_is (node forms.CallNode w f l (more a none)) names c s m z h =
+      (expression_is a (within forms.CallNode w names) m.1.0 h.0, tt)
+  place_is (node forms.CallNode w f l (more a (more b none))) names c s m z h =
+      let inner = within forms.CallNode w names in (
+        expression_is a inner m.1.0 h.0,
+        (expression_is b (later forms.CallNode (more a (more b none)) inner true a) m.1.1.0 h.1.0, tt),
+      )
   place_is (node forms.CallNode w f l (more a (more b (more d ds)))) names c s m z h =
-      expressions_are forms.CallNode (more a (more b (more d ds))) names true (more a (more b (more d ds))) m.1 h
+      let ps = more a (more b (more d ds)) in
+      expressions_are forms.CallNode ps (within forms.CallNode w names) true ps m.1 h
   place_is t names c s m z h = absurd h
 
 -- a list of initialisers

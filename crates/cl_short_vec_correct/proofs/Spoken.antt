@@ -30,7 +30,7 @@ use Rattle.cl_short_vec.specs.Kinds.{Names, with_name, is_variable, pointer_to, 
 use Rattle.cl_short_vec.specs.Kinds.{is_vector}
 use Rattle.cl_short_vec.specs.Marks.{Mark, Marks, marked, marked_parts}
 use Rattle.cl_short_vec.specs.Faults.{is_private_at, is_placed}
-use Rattle.cl_short_vec.specs.Nodes.{span_of, component_name, constant_word, with_parts}
+use Rattle.cl_short_vec.specs.Nodes.{span_of, at, component_name, constant_word, with_parts}
 use Rattle.cl_short_vec.specs.Order.{Named, Step, sets, steps_of, initial_steps}
 use Rattle.cl_short_vec.specs.Parts.{Assigned}
 use Rattle.cl_short_vec.specs.Scalar.{component_words, scalar}
@@ -164,14 +164,14 @@ by_apart v (node form w f l ps) ms n c h k a = by (nat_eq (dimensions_in w) 0)
     x = declared_name (node form w f l ps)
 
     by : (b : Bool) → EachApart (component_name n c) (if b then component_declarators x (numbers 0 1 v.count) else
-        forest1 (with_parts (node form w f l ps) (lengths_at v ms)))
+        forest1 (at forms.DeclaratorNode w (span_of (node form w f l ps)) (lengths_at v ms)))
     by true = components_each_apart x (numbers 0 1 v.count) n c (front_blank w) h.1 k.1 a
     by false = (plain_apart (name_in w) n c h.1, tt)
 
 pub by_components : (v : Vector) (d : Syntax) (ms : Marks) → is_variable (word_of d) (parts_of d) ≡ true →
     declarators_by v d ms ≡ component_declarators (declared_name d) (numbers 0 1 v.count)
 by_components v d ms h = ap (λ (b : Bool). if b then component_declarators (declared_name d) (numbers 0 1 v.count) else
-    forest1 (with_parts d (lengths_at v ms))) (variable_zero (word_of d) (parts_of d) h)
+    forest1 (at forms.DeclaratorNode (word_of d) (span_of d) (lengths_at v ms))) (variable_zero (word_of d) (parts_of d) h)
 
 -- ---- the lines that stand for one: without an initialiser
 

@@ -26,7 +26,7 @@ use Rattle.cl_short_vec.specs.declared.kinds.Kind.TheVariants.{Vectors, Pointer,
 use Rattle.cl_short_vec.specs.declared.made.Made.{Made}
 use Rattle.cl_short_vec.specs.declared.made.Made.TheVariants as made
 use Rattle.cl_short_vec.specs.Types.{numbers, selection_in}
-use Rattle.cl_short_vec.specs.Kinds.{Names, later, is_vector}
+use Rattle.cl_short_vec.specs.Kinds.{Names, within, later, is_vector}
 use Rattle.cl_short_vec.specs.Marks.{Mark, tree_at, kind_at, kind_by, marked, marked_parts}
 use Rattle.cl_short_vec.specs.Marks.{vector_among}
 use Rattle.cl_short_vec.specs.Faults.{components_of}
@@ -195,14 +195,15 @@ mutual
       append_are (steps_in false inner (marked names a)) [] (steps_are false inner a names s.1.0 k) tt)
   steps_are listed of (node forms.UnaryNode w f l (more a (more b bs))) names s h = absurd h
   steps_are listed of (node form w f l ps) names s h =
+      let inner = within form w names in
       let m = marked names (node form w f l ps) in
-      let ms = marked_parts form ps names true ps in
+      let ms = marked_parts form ps inner true ps in
       let o = operands form w f l ps refl h in
       by_are (made_of listed (node form w f l ps) (kind_at m)) of m (all_steps true of ms)
       (all_steps false (type_in (vector_among ms)) ms) (list_steps (type_in (kind_at m)) ms) s.0
-      (expression_is (node form w f l ps) names s h) (all_are true of form ps names true ps s.1 o)
-      (all_are false (type_in (vector_among ms)) form ps names true ps s.1 o)
-      (lists_are (type_in (kind_at m)) form ps names true ps s.1 o)
+      (expression_is (node form w f l ps) names s h) (all_are true of form ps inner true ps s.1 o)
+      (all_are false (type_in (vector_among ms)) form ps inner true ps s.1 o)
+      (lists_are (type_in (kind_at m)) form ps inner true ps s.1 o)
 
   all_are : (listed : Bool) (of : IntType) (form : Form) (all : Forest) (names : Names) (front : Bool) (ps : Forest) →
       SmallMarks (marked_parts form all names front ps) → AreExpressionsOf true ps →

@@ -16,7 +16,7 @@ use Rattle.cl_check_sound.proofs.Grown.{each_append}
 use Rattle.cl_short_vec.specs.declared.kinds.Kind.{Kind}
 use Rattle.cl_short_vec.specs.declared.roles.Role.TheVariants.{Target}
 use Rattle.cl_short_vec.specs.Types.{selection_in}
-use Rattle.cl_short_vec.specs.Kinds.{Names, later, is_vector, selection_of, postfix_kind}
+use Rattle.cl_short_vec.specs.Kinds.{Names, within, later, is_vector, selection_of, postfix_kind}
 use Rattle.cl_short_vec.specs.Marks.{Mark, mark, Marks, marking, tree_at, kind_at, kind_by, marked, marked_parts}
 use Rattle.cl_short_vec.specs.Roles.{is_place}
 use Rattle.cl_short_vec.specs.Faults.{selected_in, chosen, picked_by, components_of, refusals}
@@ -140,7 +140,7 @@ module _ (env : Env) where
         (marked_sourced t names s) n p e)
     place_fits (node form w f l parts) names h s m n p =
         let t = node form w f l parts in
-        whole_fits form w f l parts names (marked_parts form parts names true parts) (expression_is t names m h) s
+        whole_fits form w f l parts names (marked_parts form parts (within form w names) true parts) (expression_is t names m h) s
         (marked_sourced t names s) n p refl
 
   -- ---- steps

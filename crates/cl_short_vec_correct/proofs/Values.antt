@@ -26,7 +26,7 @@ use Rattle.cl_short_vec.specs.declared.kinds.Kind.{Kind}
 use Rattle.cl_short_vec.specs.declared.kinds.Kind.TheVariants.{Vectors, Pointer, Other}
 use Rattle.cl_short_vec.specs.declared.roles.Role.TheVariants.{Used}
 use Rattle.cl_short_vec.specs.Types.{vector, numbers, selected, selection_in, picked}
-use Rattle.cl_short_vec.specs.Kinds.{Names, is_vector, several, selection_of, postfix_kind}
+use Rattle.cl_short_vec.specs.Kinds.{Names, within, is_vector, several, selection_of, postfix_kind}
 use Rattle.cl_short_vec.specs.Marks.{Mark, mark, Marks, unmarked, kind_at, kind_by, marked, marked_parts}
 use Rattle.cl_short_vec.specs.Faults.{all_of, chosen, picked_by, components_of, agrees, right_fits}
 use Rattle.cl_short_vec.specs.Faults.{refusals}
@@ -85,7 +85,7 @@ components_many (node forms.ParenNode w f l (more p ps)) names h = components_ma
 components_many (node forms.PostfixNode w f l (more p ps)) names h =
     selected_many (selection_in w) (postfix_in w) (kind_at (marked names p)) (components_of (marked names p)) h
 components_many (node form w f l (more p ps)) names h =
-    all_many (kind_by names form w (marked_parts form (more p ps) names true (more p ps))) h
+    all_many (kind_by names form w (marked_parts form (more p ps) (within form w names) true (more p ps))) h
 
 -- ---- the type of a target
 

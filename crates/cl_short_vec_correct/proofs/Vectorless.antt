@@ -1,6 +1,7 @@
 -- A unit that names no vector type and selects nothing has no vector statement: each of none does its steps.
 use Rattle.std.proofs.Common.{◌≡◌, ℕ, List, Option, None, Some, Bool, true, false, ◌&&◌, ◌||◌, if◌then◌else◌, refl}
 use Rattle.std.proofs.Common.{ap, sym, ◌∙◌, subst}
+use Rattle.std.specs.Prelude.{codes}
 use Rattle.std.proofs.lemmas.Bool.{false≢true}
 use Rattle.std.specs.Str.{bytes_eq}
 use Rattle.wg_num.specs.declared.types.Place.{Place}
@@ -33,6 +34,7 @@ use Rattle.cl_short_vec.specs.Kinds.{behind_declarator}
 use Rattle.cl_short_vec.specs.Kinds.{behind_declarators, behind_declaration, pointed_by, parameter_kind}
 use Rattle.cl_short_vec.specs.Kinds.{behind_parameter, behind_parameters, behind_part, prefix_kind, postfix_kind}
 use Rattle.cl_short_vec.specs.Kinds.{called_kind, cast_kind, joined_kind, pointer_moved, pointer_alone, is_operator}
+use Rattle.cl_short_vec.specs.Kinds.{calls_fence, with_fences, within}
 use Rattle.cl_short_vec.specs.Kinds as kinds
 use Rattle.cl_short_vec.specs.Plain.{is_about_vectors, has_vectors, have_vectors}
 use Rattle.cl_short_vec.specs.Marks.{Mark, mark, Marks, unmarked, marking, tree_at, kind_at, front_kind, back_kind}
@@ -229,6 +231,18 @@ later_other : (form : Form) (all : Forest) (names : Names) (front : Bool) (p : S
 later_other forms.DeclareNode all names front p h k n = behind_part_other names all front p h n
 later_other form all names front p h k n = behind_other names p k n
 
+within_other : (form : Form) (w : List ℕ) (names : Names) → AllOther names → AllOther (within form w names)
+within_other forms.CallNode w names n = by (calls_fence (intrinsic_in (name_in w)))
+  where
+    inner : Names
+    inner = with_name names (codes "CLK_LOCAL_MEM_FENCE") (Other true)
+
+    by : (b : Bool) → AllOther (if b then with_fences names else names)
+    by true = with_other inner (codes "CLK_GLOBAL_MEM_FENCE") (Other true)
+        (with_other names (codes "CLK_LOCAL_MEM_FENCE") (Other true) n refl) refl
+    by false = n
+within_other form w names n = n
+
 -- ---- trees
 
 mutual
@@ -238,8 +252,8 @@ mutual
   plain_marks (node form w f l ps) names h n =
       let t = node form w f l ps in
       let q = parts_plain t h in
-      let x = plain_parts form ps names true ps q q n in
-      (kind_plain names form w (marked_parts form ps names true ps) n x, own_type t h, x)
+      let x = plain_parts form ps (within form w names) true ps q q (within_other form w names n) in
+      (kind_plain names form w (marked_parts form ps (within form w names) true ps) n x, own_type t h, x)
 
   plain_parts : (form : Form) (all : Forest) (names : Names) (front : Bool) (ps : Forest) → have_vectors all ≡ false →
       have_vectors ps ≡ false → AllOther names → AllPlain (marked_parts form all names front ps)

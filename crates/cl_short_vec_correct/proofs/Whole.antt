@@ -1,6 +1,7 @@
 -- The components of the vectors of a marked tree are no bools.
 use Rattle.std.proofs.Common.{◌≡◌, ℕ, nat_eq, List, length, Option, Some, None}
 use Rattle.std.proofs.Common.{Bool, true, false, not, if◌then◌else◌, refl, sym}
+use Rattle.std.specs.Prelude.{codes}
 use Rattle.std.proofs.lemmas.Bool.{false≢true}
 use Rattle.std.specs.Str.{bytes_eq}
 use lib.Pointwise.{pointwise}
@@ -40,6 +41,7 @@ use Rattle.cl_short_vec.specs.Kinds.{behind_parameter, behind_parameters, behind
 use Rattle.cl_short_vec.specs.Kinds.{is_vector, value_of, first_vector, pointer_alone, element_of, address_of, several}
 use Rattle.cl_short_vec.specs.Kinds.{selection_of, compared, pointer_moved, joined_kind, prefix_kind, postfix_kind}
 use Rattle.cl_short_vec.specs.Kinds.{called_kind, cast_kind, is_operator}
+use Rattle.cl_short_vec.specs.Kinds.{calls_fence, with_fences, within}
 use Rattle.cl_short_vec.specs.Marks.{Mark, mark, Marks, unmarked, marking, tree_at, kind_at, front_kind, back_kind}
 use Rattle.cl_short_vec.specs.Marks.{vector_among, front_type, kind_by, marked, marked_parts}
 use Rattle.cl_short_vec.proofs.Rows.{found, rows_pass}
@@ -304,6 +306,18 @@ pub later_whole : (form : Form) (parts : Forest) (names : Names) (front : Bool) 
 later_whole forms.DeclareNode parts names front p n = behind_part_whole names parts front p n
 later_whole form parts names front p n = behind_whole names p n
 
+pub within_whole : (form : Form) (w : List ℕ) (names : Names) → WholeNames names → WholeNames (within form w names)
+within_whole forms.CallNode w names n = by (calls_fence (intrinsic_in (name_in w)))
+  where
+    inner : Names
+    inner = with_name names (codes "CLK_LOCAL_MEM_FENCE") (Other true)
+
+    by : (b : Bool) → WholeNames (if b then with_fences names else names)
+    by true = with_whole inner (codes "CLK_GLOBAL_MEM_FENCE") (Other true)
+        (with_whole names (codes "CLK_LOCAL_MEM_FENCE") (Other true) n tt) tt
+    by false = n
+within_whole form w names n = n
+
 -- ---- trees
 
 mutual
@@ -311,8 +325,8 @@ mutual
 
   pub marked_whole : (t : Syntax) (names : Names) → WholeNames names → WholeMark (marked names t)
   marked_whole (node form w f l parts) names n =
-      let h = parts_whole form parts names true parts n in
-      (kind_whole names form w (marked_parts form parts names true parts) n h, h)
+      let h = parts_whole form parts (within form w names) true parts (within_whole form w names n) in
+      (kind_whole names form w (marked_parts form parts (within form w names) true parts) n h, h)
 
   pub parts_whole : (form : Form) (all : Forest) (names : Names) (front : Bool) (ps : Forest) → WholeNames names →
       WholeMarks (marked_parts form all names front ps)

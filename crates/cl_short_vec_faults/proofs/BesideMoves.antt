@@ -25,13 +25,12 @@ SameMeanings before after = (q : List ℕ) → meaning_of after q ≡ meaning_of
 pub alike_moved : (k : vectors.Kind) (q : List ℕ) (p s p' s' : Env) → SameMeanings p p' → SameMeanings s s' →
     StandsAlike k q p s → StandsAlike k q p' s'
 alike_moved (Other y) q p s p' s' a b h = ap unnumbered (b q) ∙ h ∙ sym (ap unnumbered (a q))
-alike_moved (Pointer sp c v) q p s p' s' a b (g, h, r) = (
-  g,
+alike_moved (Pointer sp c v) q p s p' s' a b (h, r) = (
   ap unnumbered (b q) ∙ h ∙ sym (ap unnumbered (a q)),
   subst (λ z. PointsAs sp c v (on_one z kind_of_meaning)) (sym (a q)) r,
 )
-alike_moved (Vectors v Variable) q p s p' s' a b (g, fixed, h, r) =
-    (g, fixed, ap unnumbered (a q) ∙ h, λ c l. ap unnumbered (b (component_name q c)) ∙ r c l)
+alike_moved (Vectors v Variable) q p s p' s' a b (fixed, h, r) =
+    (fixed, ap unnumbered (a q) ∙ h, λ c l. ap unnumbered (b (component_name q c)) ∙ r c l)
 alike_moved (Vectors v Value) q p s p' s' a b h = absurd h
 alike_moved (Vectors v (Element sp c)) q p s p' s' a b h = absurd h
 
@@ -61,6 +60,7 @@ plainly_moved names p s p' s' m h = record {
   owner = m.owner;
   declared = m.declared;
   flags = m.flags;
+  outside = m.unflagged;
   in_body = m.in_body;
   in_loop = m.in_loop';
   in_switch = m.in_switch';

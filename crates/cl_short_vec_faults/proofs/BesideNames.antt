@@ -214,13 +214,12 @@ pub alike_kept : (k : vectors.Kind) (q : List ℕ) (p s p' s' : Env) → meaning
     ((c : ℕ) → meaning_of s' (component_name q c) ≡ meaning_of s (component_name q c)) → StandsAlike k q p s →
     StandsAlike k q p' s'
 alike_kept (Other y) q p s p' s' a b g h = ap unnumbered b ∙ h ∙ sym (ap unnumbered a)
-alike_kept (Pointer sp c v) q p s p' s' a b g (e, h, r) = (
-  e,
+alike_kept (Pointer sp c v) q p s p' s' a b g (h, r) = (
   ap unnumbered b ∙ h ∙ sym (ap unnumbered a),
   subst (λ z. PointsAs sp c v (on_one z kind_of_meaning)) (sym a) r,
 )
-alike_kept (Vectors v Variable) q p s p' s' a b g (e, fixed, h, r) =
-    (e, fixed, ap unnumbered a ∙ h, λ c l. ap unnumbered (g c) ∙ r c l)
+alike_kept (Vectors v Variable) q p s p' s' a b g (fixed, h, r) =
+    (fixed, ap unnumbered a ∙ h, λ c l. ap unnumbered (g c) ∙ r c l)
 alike_kept (Vectors v Value) q p s p' s' a b g h = absurd h
 alike_kept (Vectors v (Element sp c)) q p s p' s' a b g h = absurd h
 
@@ -390,6 +389,7 @@ module _ (asked : Asked) (names : Names) (x : List ℕ) (n : ℕ) where
       owner = h.owner;
       declared = h.declared';
       flags = h.flags;
+      outside = h.unflagged;
       in_body = h.in_body;
       in_loop = h.in_loop';
       in_switch = h.in_switch';
@@ -430,6 +430,7 @@ module _ (asked : Asked) (names : Names) (x : List ℕ) (n : ℕ) where
       owner = h.owner;
       declared = h.declared';
       flags = h.flags;
+      outside = h.unflagged;
       in_body = h.in_body;
       in_loop = h.in_loop';
       in_switch = h.in_switch';

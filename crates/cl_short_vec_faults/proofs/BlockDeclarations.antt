@@ -41,10 +41,9 @@ use Rattle.cl_short_vec_faults.specs.PlainForm.{plain_of, plains_of}
 use Rattle.cl_short_vec_faults.specs.Plainly.{NoPoints}
 use Rattle.cl_short_vec_faults.specs.Law.{ExpressionsFollow}
 use Rattle.cl_short_vec_faults.specs.SoundBut.{AllSoundBut}
-use Rattle.cl_short_vec_faults.specs.Beside.{Beside}
+use Rattle.cl_short_vec_faults.specs.Beside.{IsName, Beside}
 use Rattle.cl_short_vec_faults.specs.Leaves.{NumbersAmong, InitialLeaves, AllLeavesFit}
-use Rattle.cl_short_vec_faults.specs.UnitLaw.{NoFlagAmong, AllDeclaredNames}
-use Rattle.cl_short_vec_faults.proofs.VectorNames.{IsVectorName}
+use Rattle.cl_short_vec_faults.specs.UnitLaw.{AllDeclaredNames}
 use Rattle.cl_short_vec_faults.proofs.InitialClaim.{InitialLinesFollow, set_declarator}
 use Rattle.cl_short_vec_faults.proofs.Ordered.{Ordered, OrderedIn, ordered_le, ordered_in_le}
 use Rattle.cl_short_vec_faults.proofs.Building.{NoFault}
@@ -172,7 +171,7 @@ module _ (follow : ExpressionsFollow) (initials : InitialLinesFollow) (asked : A
     module _ (names : Names) (n : ℕ) (p s : Env) (be : Beside asked names n (untyped p o) s)
         (typed : p.declared ≡ declared_in T) (sound_type : SoundTree asked s roles.Other T) (w : List ℕ) (f l : ℕ)
         (ps : Forest) (hd : IsDeclaratorOf true (node forms.DeclaratorNode w f l ps)) (np : NoPoints ps)
-        (i : IsVectorName (name_in w)) (le : n ≤ f) (ord : Ordered (node forms.DeclaratorNode w f l ps))
+        (i : IsName (name_in w)) (le : n ≤ f) (ord : Ordered (node forms.DeclaratorNode w f l ps))
         (r : refusals (declaring around.Block v its_space) (marked names (node forms.DeclaratorNode w f l ps)) ≡ [])
         (so : SoundTree asked p roles.Other (plain_of (node forms.DeclaratorNode w f l ps))) where
       abbrev t : Syntax
@@ -345,7 +344,7 @@ module _ (follow : ExpressionsFollow) (initials : InitialLinesFollow) (asked : A
     -- ---- all of them
 
     pub declarator_lines_follow : (ds all : Forest) (names : Names) (p s : Env) (bp : Before) (k n i m : ℕ) → n ≤ i →
-        AreDeclaratorsOf true ds → NoPoints ds → AllDeclaredNames ds → NoFlagAmong (Some v) ds → OrderedIn i ds m →
+        AreDeclaratorsOf true ds → NoPoints ds → AllDeclaredNames ds → OrderedIn i ds m →
         m ≤ 2 ^ 64 →
         AllStayAs (declaring around.Block v its_space) (marked_parts forms.DeclareNode (more type all) names false ds) →
         Beside asked names n (untyped p o) s → p.declared ≡ declared_in T → p.in_body ≡ false →
@@ -360,7 +359,7 @@ module _ (follow : ExpressionsFollow) (initials : InitialLinesFollow) (asked : A
         (vector_lines v mt (marked_parts forms.DeclareNode (more type all) names false ds))) ×
         Walks p (behind_parts p forms.DeclareNode false (plains_of ds))
     unfolding marked_parts plain_of plains_of AllLeavesFit marked
-    declarator_lines_follow none all names p s bp k n i m le hs np dn nf ord few' r be typed ib st so lv = (
+    declarator_lines_follow none all names p s bp k n i m le hs np dn ord few' r be typed ib st so lv = (
       tt,
       subst (λ z. Beside asked names m (untyped z o) (behind_parts s forms.BlockNode false none)) (sym (no_parts p
           false))
@@ -368,7 +367,7 @@ module _ (follow : ExpressionsFollow) (initials : InitialLinesFollow) (asked : A
           (beside_later asked names n m (untyped p o) s (let a = ordered_in_le none i m ord in omega arith) be)),
       subst (Walks p) (sym (no_parts p false)) (walks_same p),
     )
-    declarator_lines_follow (more (node forms.DeclaratorNode w f l ps) ds) all names p s bp k n i m le hs np dn nf ord
+    declarator_lines_follow (more (node forms.DeclaratorNode w f l ps) ds) all names p s bp k n i m le hs np dn ord
         few' r
         be typed ib st so lv =
         let c = node forms.DeclaratorNode w f l ps in
@@ -381,7 +380,7 @@ module _ (follow : ExpressionsFollow) (initials : InitialLinesFollow) (asked : A
         let a = ord.0 in
         let small : suc l ≤ m = ordered_in_le ds (suc l) m ord.2 in
         let x = declarator_line names n p s be typed (st s) w f l ps hs.0 np.0.1
-        (record { is = dn.0.0; no_flag = nf.0 }) (omega arith) ord.1 r.0 so.0 ib
+        dn.0.0 (omega arith) ord.1 r.0 so.0 ib
         (omega arith) lv.0 in
         let be' = subst (λ z. Beside asked z (suc l) (untyped p' o) s') (sym (behind_vector names type c v vector)) x.1
         in
@@ -392,7 +391,7 @@ module _ (follow : ExpressionsFollow) (initials : InitialLinesFollow) (asked : A
         (marked_parts forms.DeclareNode (more type all) after false ds)) e' lv.2 in
         let y = λ (j : ℕ). declarator_lines_follow ds all after p' s' (Some l) j (suc l) (suc l) m (omega arith) hs.1
         np.1
-        dn.1 nf.1 ord.2 few' r.1 be' (x.2.declared' ∙ typed) (x.2.in_body ∙ ib) st so' lv' in
+        dn.1 ord.2 few' r.1 be' (x.2.declared' ∙ typed) (x.2.in_body ∙ ib) st so' lv' in
         let ep = sym (declarators_behind p false C (plains_of ds) refl) in
         let es = sym (joined_behind asked forms.BlockNode these others s) in (
           joined_sound asked forms.BlockNode these others s k (x.0 (Some k)) (λ j. (y j).0),
@@ -402,5 +401,5 @@ module _ (follow : ExpressionsFollow) (initials : InitialLinesFollow) (asked : A
               (untyped (behind_parts p' forms.DeclareNode false (plains_of ds)) o) z) es (y 0).1),
           subst (Walks p) ep (walks_then p p' (behind_parts p' forms.DeclareNode false (plains_of ds)) x.2 (y 0).2),
         )
-    declarator_lines_follow (more c ds) all names p s bp k n i m le hs np dn nf ord few' r be typed ib st so lv = absurd
+    declarator_lines_follow (more c ds) all names p s bp k n i m le hs np dn ord few' r be typed ib st so lv = absurd
         hs.0

@@ -31,7 +31,7 @@ use Rattle.cl_short_vec.specs.declared.kinds.Kind.TheVariants.{Vectors, Pointer,
 use Rattle.cl_short_vec.specs.declared.roles.Role.{Role}
 use Rattle.cl_short_vec.specs.declared.roles.Role.TheVariants.{Free, Used, Base, Typed, Listed}
 use Rattle.cl_short_vec.specs.Types.{vector, signed_of, vector_type, selection_in, selected}
-use Rattle.cl_short_vec.specs.Kinds.{Names, behind, is_vector, value_of, first_vector, compared}
+use Rattle.cl_short_vec.specs.Kinds.{Names, within, behind, is_vector, value_of, first_vector, compared}
 use Rattle.cl_short_vec.specs.Kinds.{pointer_moved, joined_kind, prefix_kind, postfix_kind, selection_of, several}
 use Rattle.cl_short_vec.specs.Kinds.{cast_kind}
 use Rattle.cl_short_vec.specs.Plain.{is_pointed}
@@ -261,7 +261,7 @@ never : {A : Type 0} (names : Names) (form : Form) (w : List ℕ) (f l : ℕ) (p
     is_place (kind_at (marked names (node form w f l ps))) ≡ true → A
 unfolding marked
 never names form w f l ps h p =
-    absurd (false≢true (sym h ∙ place_form form w names (marked_parts form ps names true ps) p))
+    absurd (false≢true (sym h ∙ place_form form w names (marked_parts form ps (within form w names) true ps) p))
 
 selection_place : (k : Kind) (name : List ℕ) → is_place (selection_of k name) ≡ true → is_place k ≡ true
 selection_place (Pointer s c v) name h = absurd (false≢true h)
@@ -647,5 +647,5 @@ constants_same role names (node forms.PostfixNode w f l (more a (more b none))) 
     (scalar (marked names a)) (scalar (marked (behind names a) b))
 constants_same role names (node forms.CallNode w f l parts) h r v =
     called_none w f l (kind_at (marked names (node forms.CallNode w f l parts))) parts (marked_parts forms.CallNode
-    parts names true parts) ∙ sym (call_none w f l (plains_of parts))
+    parts (within forms.CallNode w names) true parts) ∙ sym (call_none w f l (plains_of parts))
 constants_same role names t h r v = absurd h

@@ -19,7 +19,6 @@ use Rattle.cl_short_vec.specs.Marks.{Marks, tree_at, marked, marked_parts}
 use Rattle.cl_short_vec.specs.Scalar.{scalars}
 use Rattle.cl_short_vec.specs.Unit.{vector_lines, lines_by, scalarised}
 use Rattle.cl_short_vec.proofs.Small.{SmallVector, type_small}
-use Rattle.cl_short_vec_faults.specs.UnitLaw.{NoFlagAmong}
 use Rattle.cl_short_vec_faults.specs.PlainForm.{plain_of, plains_of}
 use Rattle.cl_short_vec_faults.specs.Law.{ExpressionsFollow}
 use Rattle.cl_short_vec_faults.specs.SoundBut.{AllSoundBut}
@@ -84,7 +83,7 @@ module _ (follow : ExpressionsFollow) (initials : InitialLinesFollow) (asked : A
       let after = behind_declarators names type ds in
       let x = declarator_lines_follow follow initials asked names v few type h e plain.declared ds ds names
       (typed_env plain T) form (Some (last_of T)) 0 bound (suc (last_of type)) (suc l) (omega arith) hs st.no_point.1.1
-      st.declared.1.1 (subst (λ z. NoFlagAmong z ds) e st.declared.0) o (omega arith) stay st.beside refl ib
+      st.declared.1.1 o (omega arith) stay st.beside refl ib
       (λ z. type_sound asked plain z T hT so.0) so.1
       (leaves_behind (Some v) (ap vector_type (tree_is names type) ∙ e)) in (
         any_before asked form (Some 0) b lines x.0,

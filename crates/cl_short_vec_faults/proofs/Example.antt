@@ -1,9 +1,9 @@
--- One expression, `v.x + 1` where `v` is a vector of four numbers, for which all that the law asks holds; and why no
--- vector has the name of a memory fence.
-use Rattle.std.proofs.Common.{◌≡◌, ℕ, zero, suc, ◌<◌, ◌≤◌, List, [], Option, None, Some, Bool, true, false, refl, ap}
+-- One expression, `v.x + 1` where `v` is a vector of four numbers, for which all that the law asks holds; and a fence
+-- beside a vector that has the name of one.
+use Rattle.std.proofs.Common.{◌≡◌, ℕ, zero, suc, ◌<◌, ◌≤◌, List, [], ◌∷◌, Option, None, Some, Bool, true, false, refl, ap}
 use Rattle.std.proofs.Common.{sym, ◌∙◌}
 use Rattle.std.proofs.Common.{subst, if◌then◌else◌, inr, arith}
-use Rattle.std.proofs.lemmas.Option.{none-some}
+use Rattle.std.proofs.lemmas.Option.{none-some, same_Some}
 use Rattle.std.proofs.lemmas.Bool.{false≢true}
 use Rattle.std.specs.Prelude.{codes}
 use Rattle.std.specs.Fmt.{digits}
@@ -36,15 +36,17 @@ use Rattle.cl_short_vec.specs.Kinds.{Names, no_names, with_name}
 use Rattle.cl_short_vec.specs.Nodes.{component_name}
 use Rattle.cl_short_vec.specs.Marks.{kind_by, marked, marked_parts}
 use Rattle.cl_short_vec.specs.Faults.{components_of, misplaced, no_component, types_differ, refusals, refusals_in}
-use Rattle.cl_short_vec.specs.declared.roles.Role.TheVariants.{Free}
+use Rattle.cl_short_vec.specs.declared.refuse.VectorFault.TheVariants as vector_faults
+use Rattle.cl_short_vec.specs.declared.roles.Role.TheVariants.{Free, Whole}
 use Rattle.cl_short_vec.specs.Roles.{role_of}
 use Rattle.cl_short_vec.specs.Scalar.{scalar, scalars, component_at}
 use Rattle.cl_short_vec_faults.specs.PlainForm.{plain_of, plains_of}
+use Rattle.cl_short_vec_faults.specs.Parts.{KnownAlone}
 use Rattle.cl_short_vec_faults.specs.Law.{AllGive, CalleeGives, Follows}
 use Rattle.cl_short_vec_faults.proofs.Expressions.{expressions_follow}
 use Rattle.cl_short_vec_faults.specs.Plainly.{has_point, meant_by, StandsAlike, width_in, Plainly}
 
--- ---- why no vector has the name of a memory fence
+-- ---- a vector with the name of a memory fence
 
 -- the call `barrier(CLK_LOCAL_MEM_FENCE.x)`
 fence : Syntax
@@ -57,24 +59,11 @@ fence_names = with_name no_names (codes "CLK_LOCAL_MEM_FENCE") (Vectors (vector 
 unknown : Asked
 unknown = record { kernel = []; calls = []; missing = [] }
 
--- the variable in the plain form, and its first component in the form
-plain_env : Env
-plain_env = declare (at_start [] []) (codes "CLK_LOCAL_MEM_FENCE") (firm (meanings.Scalar types.Int false 0))
-
-form_env : Env
-form_env = declare (at_start [] []) (codes "CLK_LOCAL_MEM_FENCE.0") (firm (meanings.Scalar types.Int false 0))
-
-plain_fence : at_fault unknown (looked_at plain_env roles.Whole (plain_of fence)) faults.BarrierFlags ≡ false
-unfolding plain_of plains_of fence plain_env visible.inside visible.restored visible.behind_parts visible.behind
-    visible.left visible.later visible.kinds_of visible.kind_of known_names.intrinsic_in known_names.flag_in
-plain_fence = refl
-
-form_fence : at_fault unknown (looked_at form_env roles.Whole (scalar (marked fence_names fence)))
-    faults.BarrierFlags ≡ true
-unfolding fence fence_names form_env scalar scalars component_at components_of marked marked_parts kind_by selected
-    selection_in digits visible.inside visible.restored visible.behind_parts visible.behind visible.left visible.later
-    visible.kinds_of visible.kind_of known_names.intrinsic_in known_names.flag_in unknown operators.postfix_in
-form_fence = refl
+-- the name is that of the fence, and no component is selected of one
+fence_refused : refusals Whole (marked fence_names fence) ≡ record { fault = vector_faults.NoComponent; token = 2 } ∷ []
+unfolding fence fence_names marked marked_parts kind_by components_of selected selection_in refusals refusals_in
+    misplaced no_component types_differ role_of known_names.intrinsic_in operators.postfix_in
+fence_refused = refl
 
 -- ---- an expression that the law is about
 
@@ -104,8 +93,8 @@ unnamed name q h n = by (bytes_eq name q) refl
     by true e = absurd (false≢true (sym n ∙ sym (ap has_point ((bytes_decides name q).0 e)) ∙ h))
 
 v_stands : StandsAlike (Vectors (vector types.Int 4) Variable) (codes "v") plain_v form_v
-unfolding plain_v form_v known_names.flag_in digits
-v_stands = (refl, false, refl, component)
+unfolding plain_v form_v digits
+v_stands = (false, refl, component)
   where
     component : (c : ℕ) → c < 4 → meant_by form_v (component_name (codes "v") c) ≡ Some (meanings.Scalar types.Int
         false 0)
@@ -139,6 +128,7 @@ plainly = record {
   owner = refl;
   declared = refl;
   flags = refl;
+  outside = refl;
   in_body = refl;
   in_loop = refl;
   in_switch = refl;
@@ -176,6 +166,15 @@ give q c = by (bytes_eq (codes "v") q)
     by true e = absurd (none-some c e)
     by false e = none_given (known_names.intrinsic_in q) q c e
 
+alone : KnownAlone plain_v
+unfolding plain_v
+alone q i c e = by (bytes_eq (codes "v") q)
+  where
+    by : (b : Bool) → kinds.callee_by plain_v q (meaning_in (if b then Some (firm (meanings.Scalar types.Int false 0))
+        else None)) ≡ Some c → c ≡ kinds.known i
+    by true k = absurd (none-some c k)
+    by false k = same_Some _ _ (sym k ∙ ap kinds.known_as e)
+
 -- what stands for it, `v.0 + 1`, is at fault at no node, and is an int
 sum_follows : Follows unknown form_v roles.Other (scalar (marked v_names sum)) (Some (kinds.number types.Int))
 unfolding sum v_names plain_v plain_of plains_of marked marked_parts kind_by components_of selected selection_in
@@ -184,7 +183,7 @@ unfolding sum v_names plain_v plain_of plains_of marked marked_parts kind_by com
     operators.postfix_in operators.binary_in literals.literal_in reading.outcome_of
     reading.parts_of wraps.modulus wraps.half judged.misfits kinds.kind_step digits
 sum_follows = (expressions_follow unknown v_names plain_v form_v Free roles.Other sum (refl, inr (refl, tt), refl)
-    (tt, ((tt, ((refl, tt), tt)), ((tt, tt), tt))) plainly give refl refl
+    (tt, ((tt, ((refl, tt), tt)), ((tt, tt), tt))) plainly (give, alone) refl refl
     (((tt, (variable, tt)), ((tt, (one, tt)), tt)), (whole, tt))).0
   where
     variable : (k : Fault) → at_fault unknown (looked_at plain_v roles.Other (node forms.VariableNode (codes "v") 0 0

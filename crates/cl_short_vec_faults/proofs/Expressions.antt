@@ -1,5 +1,5 @@
 -- The law on expressions, by induction on the expression.
-use Rattle.std.proofs.Common.{◌≡◌, [], Option, None, Some, Bool, true, false, refl, ap, sym, ◌∙◌, ◌&&◌}
+use Rattle.std.proofs.Common.{◌≡◌, ℕ, List, [], Option, None, Some, Bool, true, false, not, refl, ap, sym, ◌∙◌, ◌&&◌}
 use Rattle.std.proofs.Common.{if◌then◌else◌, subst, inl, inr}
 use Rattle.std.proofs.lemmas.Bool.{false≢true}
 use Rattle.cl_tree.specs.declared.tree.Form.TheVariants as forms
@@ -9,9 +9,9 @@ use Rattle.cl_meaning.specs.Spelling.{name_in, prefix_in, postfix_in, intrinsic_
 use Rattle.cl_meaning.specs.declared.operators.Postfix.{Postfix}
 use Rattle.cl_meaning.specs.declared.kind.Role.{Role}
 use Rattle.cl_meaning.specs.declared.kind.Role.TheVariants as roles
-use Rattle.cl_meaning.specs.Environment.{Env}
-use Rattle.cl_meaning.specs.Kinds.{is_some}
-use Rattle.cl_meaning.specs.Visible.{in_arguments}
+use Rattle.cl_meaning.specs.Environment.{Env, meaning_of}
+use Rattle.cl_meaning.specs.Kinds.{is_some, callee_of, are_flags_alone}
+use Rattle.cl_meaning.specs.Visible.{is_fence_callee, in_arguments}
 use Rattle.cl_meaning.specs.Faults.{Asked}
 use Rattle.cl_check_sound.specs.Shape.{IsExpressionOf, AreExpressionsOf, indexes}
 use Rattle.cl_check_sound.specs.Sound.{SoundTree}
@@ -22,7 +22,7 @@ use Rattle.cl_short_vec.specs.declared.roles.Role as vector_roles
 use Rattle.cl_short_vec.specs.declared.roles.Role.TheVariants.{Free, Used, Target, Base, Listed, Typed}
 use Rattle.cl_short_vec.specs.Types.{selection_in}
 use Rattle.cl_short_vec.specs.Plain.{is_pointed}
-use Rattle.cl_short_vec.specs.Kinds.{Names, later, is_vector, postfix_kind, cast_kind}
+use Rattle.cl_short_vec.specs.Kinds.{Names, calls_fence, with_fences, within, later, is_vector, postfix_kind, cast_kind}
 use Rattle.cl_short_vec.specs.Marks.{mark, unmarked, marking, kind_at, kind_by, marked, marked_parts}
 use Rattle.cl_short_vec.specs.Marks.{vector_among, front_type}
 use Rattle.cl_short_vec.specs.Roles.{is_place, is_paren, back_form, role_of, paren_role, selected_role}
@@ -32,8 +32,11 @@ use Rattle.cl_short_vec.specs.Scalar.{postfixed, scalar, scalars, component_at}
 use Rattle.cl_short_vec.proofs.Small.{SmallKind, mark_small, marked_small}
 use Rattle.cl_short_vec_faults.specs.PlainForm.{plain_of, plains_of}
 use Rattle.cl_short_vec_faults.specs.Plainly.{NoPoint, NoPoints, Plainly}
-use Rattle.cl_short_vec_faults.specs.Law.{AllGive, is_of_vectors, KindAs, ExpressionsFollow, ComponentsFollow}
-use Rattle.cl_short_vec_faults.proofs.Naming.{callee_same, plainly_inside, give_inside}
+use Rattle.cl_short_vec_faults.specs.Law.{Called, is_of_vectors, KindAs, ExpressionsFollow, ComponentsFollow}
+use Rattle.cl_short_vec_faults.proofs.Naming.{callee_same, plainly_inside, give_inside, alone_inside, other_callee}
+use Rattle.cl_short_vec_faults.proofs.Naming.{fence_callee}
+use Rattle.cl_short_vec_faults.proofs.Flags.{fences_fenced}
+use Rattle.cl_short_vec_faults.proofs.FenceArguments.{fence_arguments}
 use Rattle.cl_short_vec_faults.proofs.Refused.{AllStay, parts_stay, part_none, apart, inner_apart, used_free}
 use Rattle.cl_short_vec_faults.proofs.Refused.{paren_inner}
 use Rattle.cl_short_vec_faults.proofs.Refused.{item_free, free_apart, free_no_vector, expression_names}
@@ -50,7 +53,7 @@ use Rattle.cl_short_vec_faults.proofs.Selected.{selected_part, component_there}
 use Rattle.cl_short_vec_faults.proofs.Placing.{Placed, variable_placed, selected_other}
 use Rattle.cl_short_vec_faults.proofs.Operands.{small_names, number_claim, truth_claim, variable_claim, type_no_vector}
 use Rattle.cl_short_vec_faults.proofs.Operands.{unary_claim, behind_step, behind_selection, called_other, cast_other}
-use Rattle.cl_short_vec_faults.proofs.Operands.{scalar_call, call_flags, one_more, behind_type, index_other}
+use Rattle.cl_short_vec_faults.proofs.Operands.{scalar_call, one_more, behind_type, index_other}
 use Rattle.cl_short_vec_faults.proofs.PlacedParts.{unary_placed, index_placed, paren_placed, selection_placed}
 
 small_at : (t : Syntax) (names : Names) (p s : Env) → Plainly names p s → SmallKind (kind_at (marked names t))
@@ -64,7 +67,7 @@ mutual
   unfolding scalar scalars marked marked_parts kind_by plain_of plains_of role_of
 
   pub claim : (asked : Asked) (p s : Env) (names : Names) (role : vector_roles.Role) (place : Role) (t : Syntax) →
-      IsExpressionOf true t → NoPoint t → Plainly names p s → AllGive asked p → refusals role (marked names t) ≡ [] →
+      IsExpressionOf true t → NoPoint t → Plainly names p s → Called asked p → refusals role (marked names t) ≡ [] →
       is_of_vectors role (marked names t) ≡ false → SoundTree asked p place (plain_of t) →
       Claim asked p s place (marked names t) (plain_of t)
   claim asked p s names role place (node forms.NumberNode w f l none) h n pl g r v so =
@@ -423,25 +426,49 @@ mutual
       (scalar m) (scalar m') (selection_in w) h.0 o d.0 pl.owner x y so
   claim asked p s names role place (node forms.CallNode w f l parts) h n pl g r v so =
       let t = node forms.CallNode w f l parts in
-      let ms = marked_parts forms.CallNode parts names true parts in
+      let q = name_in w in
+      let ms = marked_parts forms.CallNode parts (within forms.CallNode w names) true parts in
       let k = kind_at (marked names t) in
       let d = apart role t k ms v in
       let stay = parts_stay role t k ms (λ x y q. used_free k d.0) r in
       let here = call_here asked p place w f l (plains_of parts) (plains_made parts h) so in
-      let same = callee_same names p s (name_in w) pl n.0 here.1 in
-      let pl' = plainly_inside names p s (name_in w) pl same in
-      let x = claims asked (in_arguments p (name_in w)) (in_arguments s (name_in w)) parts names true parts h n.1 pl'
-      (give_inside asked p (name_in w) g) stay here.0 in
+      let same = callee_same names p s q pl n.0 here.1 in
+      let x = arguments asked p s names q parts (calls_fence (intrinsic_in q)) refl h n.1 pl g stay here.0 same here.1
+      here.2 in
       subst (λ z. Has asked p s place k (node forms.CallNode w f l (plains_of parts)) z)
       (sym (scalar_call w f l parts k ms))
       (subst (λ z. Has asked p s place z (node forms.CallNode w f l (plains_of parts))
       (node forms.CallNode w f l (scalars ms))) (sym (called_other (intrinsic_in (name_in w)) (vector_among ms) d.0))
-      (call_claim asked p s place w f l (plains_of parts) (scalars ms) x so g same pl.owner
-      (call_flags parts parts names p s h n.1 pl stay)))
+      (call_claim asked p s place w f l (plains_of parts) (scalars ms) x.0 so g.0 same pl.owner x.1))
   claim asked p s names role place t h n pl g r v so = absurd h
 
+  -- the arguments of a call, where names stand for these
+  arguments : (asked : Asked) (p s : Env) (names : Names) (q : List ℕ) (parts : Forest) (b : Bool) →
+      calls_fence (intrinsic_in q) ≡ b → AreExpressionsOf true parts → NoPoints parts → Plainly names p s →
+      Called asked p →
+      AllStay (marked_parts forms.CallNode parts (if b then with_fences names else names) true parts) →
+      SoundHere asked (in_arguments p q) (plains_of parts) → callee_of s q ≡ callee_of p q →
+      not (is_some (callee_of p q)) ≡ false →
+      (is_fence_callee (callee_of p q) ≡ true → are_flags_alone (plains_of parts) ≡ true) →
+      AllHave asked (in_arguments p q) (in_arguments s q) (plains_of parts)
+      (scalars (marked_parts forms.CallNode parts (if b then with_fences names else names) true parts)) ×
+      (is_fence_callee (callee_of s q) ≡ true →
+      are_flags_alone (scalars (marked_parts forms.CallNode parts (if b then with_fences names else names) true parts)) ≡
+      true)
+  arguments asked p s names q parts true e h n pl g st so same u fl =
+      let f = fence_callee p q g.1 e u in
+      let x = fence_arguments asked (in_arguments p q) (in_arguments s q) f (ap is_fence_callee same ∙ f) pl.owner parts
+      parts (with_fences names) h (fences_fenced names) st (fl f) so in
+      (x.0, λ i. x.1)
+  arguments asked p s names q parts false e h n pl g st so same u fl =
+      let o = other_callee p q (meaning_of p q) e in (
+        claims asked (in_arguments p q) (in_arguments s q) parts names true parts h n
+            (plainly_inside names p s q pl same o) (give_inside asked p q g.0, alone_inside p q g.1) st so,
+        λ i. absurd (false≢true (sym o ∙ sym (ap is_fence_callee same) ∙ i)),
+      )
+
   claims : (asked : Asked) (p s : Env) (all : Forest) (names : Names) (front : Bool) (ps : Forest) →
-      AreExpressionsOf true ps → NoPoints ps → Plainly names p s → AllGive asked p →
+      AreExpressionsOf true ps → NoPoints ps → Plainly names p s → Called asked p →
       AllStay (marked_parts forms.CallNode all names front ps) → SoundHere asked p (plains_of ps) →
       AllHave asked p s (plains_of ps) (scalars (marked_parts forms.CallNode all names front ps))
   claims asked p s all names front none h n pl g st so = record {
@@ -461,11 +488,11 @@ mutual
       (claims asked p s all names' false as' h.1 n.1 pl' g st.1 so.1)
 
   pub placed : (asked : Asked) (p s : Env) (names : Names) (role : vector_roles.Role) (place : Role) (t : Syntax) →
-      IsExpressionOf true t → NoPoint t → Plainly names p s → AllGive asked p → refusals role (marked names t) ≡ [] →
+      IsExpressionOf true t → NoPoint t → Plainly names p s → Called asked p → refusals role (marked names t) ≡ [] →
       is_place (kind_at (marked names t)) ≡ true → SoundTree asked p place (plain_of t) →
       Placed asked p s (marked names t) (plain_of t)
   placed asked p s names role place (node forms.VariableNode w f l none) h n pl g r e so =
-      variable_placed asked p s w f l (names (name_in w)) (pl.names' (name_in w) n.0) e
+      variable_placed asked p s w f l (names (name_in w)) (pl.names' (name_in w) n.0) pl.flags pl.outside e
   placed asked p s names role place (node forms.VariableNode w f l (more a as')) h n pl g r e so = absurd h
   placed asked p s names role place (node forms.ParenNode w f l none) h n pl g r e so = absurd h
   placed asked p s names role place (node forms.ParenNode w f l (more a none)) h n pl g r e so =
@@ -525,7 +552,7 @@ mutual
   placed asked p s names role place (node forms.PostfixNode w f l (more a (more b (more c cs)))) h n pl g r e so =
       absurd h
   placed asked p s names role place (node form w f l ps) h n pl g r e so =
-      absurd (false≢true (place_form form w names (marked_parts form ps names true ps) e))
+      absurd (false≢true (place_form form w names (marked_parts form ps (within form w names) true ps) e))
 
 -- ---- the laws
 

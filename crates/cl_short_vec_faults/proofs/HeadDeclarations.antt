@@ -20,7 +20,6 @@ use Rattle.cl_short_vec.specs.Roles.{around_of}
 use Rattle.cl_short_vec.specs.Scalar.{scalar, scalars}
 use Rattle.cl_short_vec.specs.Unit.{all_declarators, declaration_by, scalarised}
 use Rattle.cl_short_vec.proofs.Small.{SmallVector, type_small}
-use Rattle.cl_short_vec_faults.specs.UnitLaw.{NoFlagAmong}
 use Rattle.cl_short_vec_faults.specs.PlainForm.{plain_of, plains_of}
 use Rattle.cl_short_vec_faults.specs.Law.{ExpressionsFollow}
 use Rattle.cl_short_vec_faults.specs.SoundBut.{SoundBut}
@@ -66,7 +65,7 @@ module _ (follow : ExpressionsFollow) (asked : Asked) (names : Names) (bound : â
       (declaration_stays role names w f l type ds st.stays) in
       let x = vector_declarators follow asked (suc l) v few type e (around_of role) one ds ds names (typed_env plain T)
       (typed_env form T) (Some (last_of T)) (last_of T) (suc (last_of type)) (suc l) hs st.no_point.1.1
-      st.declared.1.1 (subst (Î» z. NoFlagAmong z ds) e st.declared.0) st.ordered.2 stay
+      st.declared.1.1 st.ordered.2 stay
       (beside_typed asked names (suc l) plain form T be) (type_declared type v h e)
       so.1 in
       let after = behind_declarators names type ds in

@@ -111,7 +111,7 @@ module _ (expressions : ExpressionsFollow) where
   all_sound asked names n p s a b all front (more e es) h np be st so =
       let e' = plain_of e in
       let u = scalar (marked names e) in
-      let x = expressions asked names p s Free roles.Other e h.0 np.0 be.plainly be.gives st.0
+      let x = expressions asked names p s Free roles.Other e h.0 np.0 be.plainly (be.gives, be.alone) st.0
       (free_apart e names h.0 st.0) so.0 in
       let so' = subst (λ z. SoundParts asked z forms.AttributeNode (Some (last_of e')) (plains_of es))
       (neutral p e' (plain_made e h.0)) so.1 in

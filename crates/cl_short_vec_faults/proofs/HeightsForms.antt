@@ -105,10 +105,13 @@ declarators_low : (g : List ℕ → ℕ) (v : Vector) (m : Mark) → height_of_a
 declarators_low g v (mark d k parts) =
     let n = mark_height g (mark d k parts) in
     let cs = component_declarators (declared_name d) (numbers 0 1 v.count) in
-    let x = with_parts d (lengths_at v parts) in
+    let ls = lengths_at v parts in
+    let x = at forms.DeclaratorNode (word_of d) (span_of d) ls in
+    let m = marks_height g parts in
     either_lines g n (nat_eq (dimensions_in (word_of d)) 0) cs (forest1 x)
     (components_low g n (declared_name d) (numbers 0 1 v.count))
-    (one_low g n x (with_low g d (lengths_at v parts) (marks_height g parts) (lengths_low g v parts)))
+    (one_low g n x (through (height_of g x) m n (quiet g m (height_of_all g ls) (lengths_low g v parts))
+    (parts_below g (form_of d) (word_of d) m)))
 
 all_declarators_low : (g : List ℕ → ℕ) (v : Vector) (ms : Marks) →
     height_of_all g (all_declarators v ms) ≤ marks_height g ms

@@ -8,7 +8,7 @@ use Rattle.cl_tree.specs.Nodes.{forest1}
 use Rattle.cl_limits.specs.Heights.{is_branch, own_height, height_of, height_of_all}
 use Rattle.cl_meaning.specs.Spelling.{name_in}
 use Rattle.cl_short_vec.specs.Plain.{is_pointed}
-use Rattle.cl_short_vec.specs.Kinds.{Names, later}
+use Rattle.cl_short_vec.specs.Kinds.{Names, within, later}
 use Rattle.cl_short_vec.specs.Marks.{marked, marked_parts}
 use Rattle.cl_short_vec.specs.Unit.{scalarised}
 use Rattle.cl_short_vec_faults.specs.PlainForm.{plain_by, plain_of, plains_of}
@@ -22,7 +22,7 @@ mutual
   pub marked_height : (g : List ℕ → ℕ) (names : Names) (t : Syntax) →
       mark_height g (marked names t) ≡ height_of g t
   marked_height g names (node form w f l parts) =
-      ap (node_height g form w) (marked_parts_height g form parts names true parts)
+      ap (node_height g form w) (marked_parts_height g form parts (within form w names) true parts)
 
   marked_parts_height : (g : List ℕ → ℕ) (form : Form) (all : Forest) (names : Names) (first : Bool) (ps : Forest) →
       marks_height g (marked_parts form all names first ps) ≡ height_of_all g ps

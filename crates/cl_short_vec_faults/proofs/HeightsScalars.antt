@@ -132,6 +132,9 @@ module _ (g : List ℕ → ℕ) (h : ℕ) where
       up forms.UnaryNode w (height_of g (element_at s (paren_at r p) (further c (long_at 0 r))))
       (element_low g h s (paren_at r p) (further c (long_at 0 r)) (paren_low g h r p e)
       (further_low g h c (long_at 0 r) (leaf_low g h)))
+  content_low forms.PostfixNode w f l ps o k c s p e =
+      let r : Span = record { first = f; last = l } in
+      up forms.PostfixNode w (height_of g (paren_at r p)) (paren_low g h r p e)
   content_low form w f l ps o k c s p e = with_one (node form w f l ps) p e
 
   chosen_low : (o : Option ℕ) (x : ℕ → Syntax) (t : Syntax) (n : ℕ) → ((c : ℕ) → height_of g (x c) ≤ n) →

@@ -32,7 +32,7 @@ use Rattle.cl_short_vec.specs.Faults.{refusals}
 use Rattle.cl_short_vec.specs.Scalar.{scalar, scalars}
 use Rattle.cl_short_vec_faults.specs.PlainForm.{plain_of, plains_of}
 use Rattle.cl_short_vec_faults.specs.Plainly.{NoPoint, NoPoints, Plainly}
-use Rattle.cl_short_vec_faults.specs.Law.{AllGive, ExpressionsFollow}
+use Rattle.cl_short_vec_faults.specs.Law.{ExpressionsFollow, Called}
 use Rattle.cl_short_vec_faults.specs.SoundBut.{SoundBut, AllSoundBut}
 use Rattle.cl_short_vec_faults.proofs.Refused.{AllStay, parts_stay, free_apart, free_no_vector, expression_names}
 use Rattle.cl_short_vec_faults.proofs.PlainForms.{plain_made}
@@ -209,7 +209,7 @@ scalar_declarator names w f l (more a (more b (more c ps))) = refl
 -- ---- the walk
 
 module _ (follow : ExpressionsFollow) (asked : Asked) (names : Names) (plain form : Env) (pl : Plainly names plain form)
-    (gi : AllGive asked plain) where
+    (gi : Called asked plain) where
   -- an expression at which no vector may stand
   pub part_expression : (t : Syntax) → IsExpressionOf true t → NoPoint t → refusals Free (marked names t) ≡ [] →
       SoundTree asked plain roles.Other (plain_of t) →

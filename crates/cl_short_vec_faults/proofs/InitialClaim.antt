@@ -27,9 +27,8 @@ use Rattle.cl_short_vec.specs.Unit.{declared_name, declarator_lines}
 use Rattle.cl_short_vec_faults.specs.PlainForm.{plain_of}
 use Rattle.cl_short_vec_faults.specs.Plainly.{NoPoint}
 use Rattle.cl_short_vec_faults.specs.SoundBut.{AllSoundBut}
-use Rattle.cl_short_vec_faults.specs.Beside.{Beside}
+use Rattle.cl_short_vec_faults.specs.Beside.{IsName, Beside}
 use Rattle.cl_short_vec_faults.specs.Leaves.{NumbersAmong}
-use Rattle.cl_short_vec_faults.proofs.VectorNames.{IsVectorName}
 use Rattle.cl_short_vec_faults.proofs.Ordered.{Ordered}
 use Rattle.cl_short_vec_faults.proofs.LineAdds.{IsOwn}
 
@@ -55,7 +54,7 @@ pub record Initial (asked : Asked) (names : Names) (bound : ℕ) (plain form : E
   -- the declarator has no brackets and no star, and its name is new
   pub single : dimensions_in w ≡ 0
   pub set' : is_set w ≡ true
-  pub name' : IsVectorName (name_in w)
+  pub name' : IsName (name_in w)
   pub new : is_declared plain (name_in w) ≡ false
   pub ordered : Ordered (set_declarator w f l value)
   pub behind' : bound ≤ f

@@ -301,7 +301,7 @@ module _ (follow : InitialsFollow) (asked : Asked) (outer names : Names) (bound 
   unfolding marked
   lines_here =
       follow asked names plain form v type value (marked names d) in_block x.typed x.vector' (own_space _ x.own)
-      x.name'.is.plain (λ e. false≢true (ap has_bytes (sym e) ∙ x.name'.is.some)) x.name'.no_flag x.shape x.no_point
+      x.name'.plain (λ e. false≢true (ap has_bytes (sym e) ∙ x.name'.some)) x.shape x.no_point
       x.stays x.same (tree_alike asked typed plain roles.Other (plain_of value) (plain_made value x.shape) to_plain
       x.sound).0 (in_order value x.ordered.1) few_tokens numbers_there
       (λ r i. helping_new bound plain.scopes form.scopes (record { first = i.0; last = i.0 }) r x.beside.scopes i.3
@@ -311,7 +311,7 @@ module _ (follow : InitialsFollow) (asked : Asked) (outer names : Names) (bound 
     where
       no_component : (c : ℕ) (b : Bool) → is_declared form (component_name q c) ≡ b → b ≡ false
       no_component c true e = absurd (false≢true (sym x.new ∙
-          component_beside bound plain.scopes form.scopes q c x.beside.scopes x.name'.is e))
+          component_beside bound plain.scopes form.scopes q c x.beside.scopes x.name' e))
       no_component c false e = refl
 
   abbrev its_lines : Forest
@@ -361,7 +361,7 @@ module _ (follow : InitialsFollow) (asked : Asked) (outer names : Names) (bound 
       (variable_declares plain q f (var_kinds.Scalar v.of) mm) (but_begin asked names q bound plain form x.beside) in
       record {
         plainly = plainly_after;
-        scopes = scopes_lines (suc l) (first_of value) (last_of value) q x.name'.is few_tokens c mm plain.scopes
+        scopes = scopes_lines (suc l) (first_of value) (last_of value) q x.name' few_tokens c mm plain.scopes
             form.scopes
             after.scopes (scopes_later bound (suc l) plain.scopes form.scopes (omega arith) x.beside.scopes) same_outer
             (λ y h. lines_of_it.others false y h.0 h.1);
@@ -374,7 +374,7 @@ module _ (follow : InitialsFollow) (asked : Asked) (outer names : Names) (bound 
     where
       named_by : (r : List ℕ) (b : Bool) → bytes_eq q r ≡ b →
           is_other (if b then Vectors v Variable else names r) ≡ false → IsName r
-      named_by r true a o = subst IsName ((bytes_decides q r).0 a) x.name'.is
+      named_by r true a o = subst IsName ((bytes_decides q r).0 a) x.name'
       named_by r false a o = x.beside.named r o
 
 -- the lines of a vector variable with its initialiser

@@ -22,7 +22,7 @@ use Rattle.cl_short_vec.specs.Nodes.{span_of}
 use Rattle.cl_short_vec.specs.declared.roles.Role.{Role}
 use Rattle.cl_short_vec.specs.declared.roles.Role.TheVariants.{Free, Used, Target, Typed, Listed, Base}
 use Rattle.cl_short_vec.specs.Types.{picked, selection_in}
-use Rattle.cl_short_vec.specs.Kinds.{Names, is_vector, later, prefix_kind, postfix_kind}
+use Rattle.cl_short_vec.specs.Kinds.{Names, within, is_vector, later, prefix_kind, postfix_kind}
 use Rattle.cl_short_vec.specs.Marks.{Mark, mark, unmarked, marking, kind_at, kind_by, marked, marked_parts}
 use Rattle.cl_short_vec.specs.Marks.{front_type}
 use Rattle.cl_short_vec.specs.Roles.{used_in, is_place, is_element, role_of, paren_role, selected_role, operand_role}
@@ -370,11 +370,12 @@ mutual
       ((place_stays names Base a h.1 x.none' x.place).component c.0 s)
   expression_stays names role (node forms.CallNode w f l parts) h r v =
       let t = node forms.CallNode w f l parts in
-      let ms = marked_parts forms.CallNode parts names true parts in
+      let inner = within forms.CallNode w names in
+      let ms = marked_parts forms.CallNode parts inner true parts in
       let k = kind_at (marked names t) in
       let d = apart role t k ms v in
       let stay = parts_stay role t k ms (λ x y q. used_free k d.0) r in
-      node_stays forms.CallNode w f l parts k ms refl (arguments_stay parts names true parts h stay)
+      node_stays forms.CallNode w f l parts k ms refl (arguments_stay parts inner true parts h stay)
   expression_stays names role t h r v = absurd h
 
   arguments_stay : (all : Forest) (names : Names) (front : Bool) (ps : Forest) → AreExpressionsOf true ps →
@@ -471,4 +472,4 @@ mutual
       }
   place_stays names role (node forms.PostfixNode w f l (more a (more b (more c cs)))) h r e = absurd h
   place_stays names role (node form w f l ps) h r e =
-      absurd (false≢true (place_form form w names (marked_parts form ps names true ps) e))
+      absurd (false≢true (place_form form w names (marked_parts form ps (within form w names) true ps) e))

@@ -61,6 +61,7 @@ pub mod Elements
 pub mod Calling
 pub mod Selected
 pub mod Flags
+pub mod FenceArguments
 pub mod Placing
 pub mod InitialClaim
 pub mod NamesApart
@@ -121,7 +122,6 @@ pub mod InitialLines
 pub mod LoopParts
 pub mod StatementLoops
 pub mod Declarations
-pub mod VectorNames
 pub mod KeptCounted
 pub mod KeptExpressions
 pub mod KeptStatements

@@ -40,6 +40,7 @@ plainly_block names p s h = record {
   owner = h.owner;
   declared = h.declared;
   flags = h.flags;
+  outside = h.outside;
   in_body = h.in_body;
   in_loop = h.in_loop;
   in_switch = h.in_switch;
@@ -77,6 +78,7 @@ plainly_behind names plain env inner y h a b = let s = block_scopes env inner y 
   owner = a.owner;
   declared = a.declared;
   flags = a.flags;
+  outside = a.outside;
   in_body = a.in_body;
   in_loop = a.in_loop;
   in_switch = a.in_switch;

@@ -8,7 +8,7 @@ use lib.Pointwise.{bytes_decides}
 use Rattle.cl_model.specs.Lists.{Each, IsOneOf, AllDiffer}
 use Rattle.cl_model.specs.declared.program.VarKind.{VarKind}
 use Rattle.cl_tree.specs.Syntax.{Syntax, first_of, last_of}
-use Rattle.cl_meaning.specs.Spelling.{is_const, flag_in}
+use Rattle.cl_meaning.specs.Spelling.{is_const}
 use Rattle.cl_meaning.specs.Types.{space_among}
 use Rattle.cl_meaning.specs.Declarations.{word_of, parts_of, with_variable}
 use Rattle.cl_meaning.specs.declared.kind.Meaning.TheVariants as meanings
@@ -163,15 +163,15 @@ module _ (asked : Asked) (names : Names) (plain form : Env) (v : Vector) (t e : 
   typed : VectorType asked names t v
   typed = vector_typed asked names t v ht hv
 
-  first_stage : Stage asked names plain b.give b.nameless form []
+  first_stage : Stage asked names plain (b.give, b.alone) b.nameless form []
   first_stage = record { alike = b.alike; inner = b.inner; all = tt }
 
   leaf_lines : Each (IsNumberLeaf plain) (initial_steps v x n) → AllDiffer (map step_name (initial_steps v x n)) →
       AllFresh form (map step_name (initial_steps v x n)) →
-      Leaves asked names plain b.give b.nameless form (Some type) what ss [] (map step_name st)
+      Leaves asked names plain (b.give, b.alone) b.nameless form (Some type) what ss [] (map step_name st)
   leaf_lines nums differ fresh =
       let m = map_append step_name ss st in
-      leaves_sound asked names plain b.give b.nameless form (Some type) what ss [] (map step_name st) first_stage
+      leaves_sound asked names plain (b.give, b.alone) b.nameless form (Some type) what ss [] (map step_name st) first_stage
       ((fits_in asked names plain form b.alike b.give b.alone b.unflagged e he ne so).steps false v.of Used refl re
       (each_split (IsNumberLeaf plain) ss st nums).0) (initial_ordered v n) (subst (AllFresh form) m fresh)
       (subst AllDiffer m differ)
@@ -248,7 +248,7 @@ module _ (asked : Asked) (names : Names) (plain form : Env) (v : Vector) (t e : 
 
   -- ---- what is visible behind the lines
 
-  module _ (point : has_point x.name ≡ false) (flag : flag_in x.name ≡ None) (env to : Env)
+  module _ (point : has_point x.name ≡ false) (env to : Env)
       (alike : Plainly names plain env) (s : Sets env to x.name v.of constant (numbers 0 1 v.count)) (token number : ℕ)
       (kind : VarKind) where
     abbrev plain' : Env
@@ -260,7 +260,6 @@ module _ (asked : Asked) (names : Names) (plain form : Env) (v : Vector) (t e : 
 
     itself : StandsAlike (Vectors v Variable) x.name plain' to
     itself = (
-      flag,
       constant,
       ap unnumbered (adds_itself plain plain' x.name (meanings.Scalar v.of constant number) plain_adds),
       λ c l. number_among (λ k. meant_by to (component_name x.name k) ≡ Some (meanings.Scalar v.of constant 0))
@@ -280,6 +279,7 @@ module _ (asked : Asked) (names : Names) (plain form : Env) (v : Vector) (t e : 
       owner = s.owner ∙ alike.owner ∙ sym plain_adds.owner;
       declared = s.before ∙ alike.declared ∙ sym plain_adds.before;
       flags = s.flags ∙ alike.flags ∙ sym plain_adds.flags;
+      outside = plain_adds.flags ∙ alike.outside;
       in_body = s.body ∙ alike.in_body ∙ sym plain_adds.body;
       in_loop = s.loops ∙ alike.in_loop ∙ sym plain_adds.loops;
       in_switch = s.switches ∙ alike.in_switch ∙ sym plain_adds.switches;
@@ -302,12 +302,12 @@ module _ (asked : Asked) (names : Names) (plain form : Env) (v : Vector) (t e : 
         narrow_by true q = count_small (vector_type t) v hv (type_small t)
         narrow_by false q = alike.narrow q
 
-  pub initial_sound : has_point x.name ≡ false → flag_in x.name ≡ None →
-      Each (IsNumberLeaf plain) (initial_steps v x n) → InOrder e → last_of e < 2 ^ 64 →
+  pub initial_sound : has_point x.name ≡ false → Each (IsNumberLeaf plain) (initial_steps v x n) → InOrder e →
+      last_of e < 2 ^ 64 →
       AllDiffer (map step_name (initial_steps v x n)) → AllFresh form (map step_name (initial_steps v x n)) →
       InitialFollows asked names plain form v x.name constant (first_of e) (last_of e)
       (declarator_lines v type d (Some n))
-  initial_sound point flag nums order end differ fresh =
+  initial_sound point nums order end differ fresh =
       let m = map_append step_name ss st in
       let leaves = leaf_lines nums differ fresh in
       let env = behind_lines form (lines_of (Some type) what ss) in
@@ -342,7 +342,7 @@ module _ (asked : Asked) (names : Names) (plain form : Env) (v : Vector) (t e : 
         plainly = λ front token number kind.
             subst (Plainly (with_name names x.name (Vectors v Variable))
             (with_variable plain x.name token kind (meanings.Scalar v.of constant number))) (sym (at front))
-            (plainly_declared point flag env to leaves.stage.alike s token number kind);
+            (plainly_declared point env to leaves.stage.alike s token number kind);
         others = λ front q k u. ap (λ z. is_declared z q) (at front) ∙
             r.kept q (λ i. not_among order end q k u (subst (λ z. IsOneOf z q) (sym m)
             (one_right (map step_name ss) (map step_name st) q i))) ∙
@@ -351,7 +351,7 @@ module _ (asked : Asked) (names : Names) (plain form : Env) (v : Vector) (t e : 
       }
 
 pub initials_follow : InitialsFollow
-initials_follow asked names plain form v t e d b ht hv own point named flag he ne re same so order end nums g k =
-    initial_sound asked names plain form v t e d b ht hv own he ne re same so point flag nums order end
+initials_follow asked names plain form v t e d b ht hv own point named he ne re same so order end nums g k =
+    initial_sound asked names plain form v t e d b ht hv own he ne re same so point nums order end
     (names_differ asked names plain form v t e d b ht hv own he ne re same so point named order end)
     (names_fresh asked names plain form v t e d b ht hv own he ne re same so order end g k)

@@ -35,7 +35,7 @@ use Rattle.cl_short_vec.specs.declared.roles.Role.{Role}
 use Rattle.cl_short_vec.specs.declared.roles.Role.TheVariants.{Free, Used, Target, Base, Listed, Items}
 use Rattle.cl_short_vec.specs.Types.{selection_in}
 use Rattle.cl_short_vec.specs.Plain.{is_pointed}
-use Rattle.cl_short_vec.specs.Kinds.{Names, behind, later, is_vector, joined_kind, postfix_kind, called_kind}
+use Rattle.cl_short_vec.specs.Kinds.{Names, within, behind, later, is_vector, joined_kind, postfix_kind, called_kind}
 use Rattle.cl_short_vec.specs.Marks.{Mark, mark, unmarked, marking, kind_at}
 use Rattle.cl_short_vec.specs.Marks.{vector_among, kind_by, marked, marked_parts}
 use Rattle.cl_short_vec.specs.Roles.{is_element, is_element_kind, element_by, role_of, is_list_cast}
@@ -127,7 +127,7 @@ module _ (asked : Asked) (names : Names) (plain form : Env) (alike : Plainly nam
   unfolding marked
   number_steps (node g w f l parts) h n so listed of role i r c v e =
       let t = node g w f l parts in
-      let ms = marked_parts g parts names true parts in
+      let ms = marked_parts g parts (within g w names) true parts in
       let k = known_kind asked t plain roles.Other h give so in
       let z = number_is (kind_of plain (plain_of t)) k.0 k.1 e.0 in (
         record {
@@ -249,7 +249,7 @@ module _ (asked : Asked) (names : Names) (plain form : Env) (alike : Plainly nam
 
   -- a node that is a vector
   vector_steps : (g : Form) (w : List ℕ) (f l : ℕ) (parts : Forest) → let t = node g w f l parts in
-      let ms = marked_parts g parts names true parts in
+      let ms = marked_parts g parts (within g w names) true parts in
       let k = kind_by names g w ms in
       IsExpressionOf true t → NoPoint t → SoundTree asked plain roles.Other (plain_of t) → (of : IntType)
       (listed : Bool) (role : Role) → is_item listed role ≡ true → refusals role (mark t k ms) ≡ [] →
@@ -400,16 +400,16 @@ module _ (asked : Asked) (names : Names) (plain form : Env) (alike : Plainly nam
   -- ---- nodes
 
   abbrev NodeMark : Form → List ℕ → ℕ → ℕ → Forest → Mark
-  NodeMark g w f l parts = mark (node g w f l parts) (kind_by names g w (marked_parts g parts names true parts))
-      (marked_parts g parts names true parts)
+  NodeMark g w f l parts = mark (node g w f l parts) (kind_by names g w (marked_parts g parts (within g w names) true parts))
+      (marked_parts g parts (within g w names) true parts)
 
   -- items of a list, each where it is
   items_steps : (g : Form) (w : List ℕ) (f l : ℕ) (parts : Forest) → IsExpressionOf true (node g w f l parts) →
       (of : IntType) (role : Role) → is_item true role ≡ true → refusals role (NodeMark g w f l parts) ≡ [] →
-      (Needs g (kind_by names g w (marked_parts g parts names true parts)) →
-      AllFit asked names plain parts (marked_parts g parts names true parts)) → is_comma g ≡ true →
-      AreNumbers asked names plain (all_steps true of (marked_parts g parts names true parts)) →
-      Fit asked names plain (all_steps true of (marked_parts g parts names true parts))
+      (Needs g (kind_by names g w (marked_parts g parts (within g w names) true parts)) →
+      AllFit asked names plain parts (marked_parts g parts (within g w names) true parts)) → is_comma g ≡ true →
+      AreNumbers asked names plain (all_steps true of (marked_parts g parts (within g w names) true parts)) →
+      Fit asked names plain (all_steps true of (marked_parts g parts (within g w names) true parts))
   unfolding marked_parts role_of
   items_steps forms.ExprNode w f l (more a (more b none)) h of role i r g c e =
       let t = node forms.ExprNode w f l (more a (more b none)) in
@@ -433,8 +433,8 @@ module _ (asked : Asked) (names : Names) (plain form : Env) (alike : Plainly nam
   -- a list in parentheses
   list_in : (g : Form) (w : List ℕ) (f l : ℕ) (parts : Forest) → IsExpressionOf true (node g w f l parts) →
       (of : IntType) (role : Role) → is_list_role role ≡ true → refusals role (NodeMark g w f l parts) ≡ [] →
-      (Needs g (kind_by names g w (marked_parts g parts names true parts)) →
-      AllFit asked names plain parts (marked_parts g parts names true parts)) →
+      (Needs g (kind_by names g w (marked_parts g parts (within g w names) true parts)) →
+      AllFit asked names plain parts (marked_parts g parts (within g w names) true parts)) →
       AreNumbers asked names plain (inside_steps of (NodeMark g w f l parts)) →
       Fit asked names plain (inside_steps of (NodeMark g w f l parts))
   unfolding marked_parts role_of inside_steps kind_by
@@ -457,13 +457,13 @@ module _ (asked : Asked) (names : Names) (plain form : Env) (alike : Plainly nam
 
   node_fits : (g : Form) (w : List ℕ) (f l : ℕ) (parts : Forest) → IsExpressionOf true (node g w f l parts) →
       NoPoint (node g w f l parts) → SoundTree asked plain roles.Other (plain_of (node g w f l parts)) →
-      (Needs g (kind_by names g w (marked_parts g parts names true parts)) →
-      AllFit asked names plain parts (marked_parts g parts names true parts)) →
+      (Needs g (kind_by names g w (marked_parts g parts (within g w names) true parts)) →
+      AllFit asked names plain parts (marked_parts g parts (within g w names) true parts)) →
       FitsIn asked names plain (NodeMark g w f l parts)
   unfolding marked steps_in
   node_fits g w f l parts h n so x =
       let t = node g w f l parts in
-      let ms = marked_parts g parts names true parts in
+      let ms = marked_parts g parts (within g w names) true parts in
       let k = kind_by names g w ms in record {
         steps = λ listed of role i r. node_steps asked names plain listed of t k ms (all_steps true of ms)
             (all_steps false (type_in (vector_among ms)) ms) (list_steps (type_in k) ms)

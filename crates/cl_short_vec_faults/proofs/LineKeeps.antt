@@ -77,9 +77,9 @@ module _ (env to : Env) (name : List ℕ) (m : Meaning) (a : Adds env to name m)
       (is_vector k ≡ true → (c : ℕ) → bytes_eq name (component_name q c) ≡ false) → StandsAlike k q plain env →
       StandsAlike k q plain to
   stands_kept (Other b) q plain e g h = same_meant q e ∙ h
-  stands_kept (Pointer s c v) q plain e g h = (h.0, same_meant q e ∙ h.1, h.2)
+  stands_kept (Pointer s c v) q plain e g h = (same_meant q e ∙ h.0, h.1)
   stands_kept (Vectors v Variable) q plain e g h =
-      (h.0, h.1, h.2, λ c l. same_meant (component_name q c) (g refl c) ∙ h.3 c l)
+      (h.0, h.1, λ c l. same_meant (component_name q c) (g refl c) ∙ h.2 c l)
   stands_kept (Vectors v Value) q plain e g h = absurd h
   stands_kept (Vectors v (Element s c)) q plain e g h = absurd h
 
@@ -90,6 +90,7 @@ module _ (env to : Env) (name : List ℕ) (m : Meaning) (a : Adds env to name m)
     owner = a.owner ∙ h.owner;
     declared = a.before ∙ h.declared;
     flags = a.flags ∙ h.flags;
+    outside = h.outside;
     in_body = a.body ∙ h.in_body;
     in_loop = a.loops ∙ h.in_loop;
     in_switch = a.switches ∙ h.in_switch;

@@ -45,7 +45,7 @@ use Rattle.cl_short_vec.specs.Unit.{pointed_at, address_at, offset_line, number_
 use Rattle.cl_short_vec.specs.Unit.{load_line}
 use Rattle.cl_short_vec_faults.specs.PlainForm.{plain_of}
 use Rattle.cl_short_vec_faults.specs.Plainly.{has_point, unnumbered, NoPoint, StandsAlike, Plainly}
-use Rattle.cl_short_vec_faults.specs.Law.{AllGive, is_of_vectors, KindAs}
+use Rattle.cl_short_vec_faults.specs.Law.{is_of_vectors, KindAs, Called}
 use Rattle.cl_short_vec_faults.specs.Parts.{StandsForNumber, StandsForPointer, HelpedBy}
 use Rattle.cl_short_vec_faults.proofs.LineKeeps.{step_name}
 use Rattle.cl_short_vec_faults.proofs.Building.{Good}
@@ -61,7 +61,7 @@ use Rattle.cl_short_vec_faults.proofs.LineWords.{declared_with, typed_declared, 
 use Rattle.cl_short_vec_faults.proofs.LineWords.{component_is_name}
 use Rattle.cl_short_vec_faults.proofs.LineAdds.{adds_itself}
 use Rattle.cl_short_vec_faults.proofs.LineDeclares.{IsTyped, Declares, number_declaration, pointer_declaration}
-use Rattle.cl_short_vec_faults.proofs.LineSeen.{typed_by, alike_typed, plainly_typed, tree_alike, give_alike}
+use Rattle.cl_short_vec_faults.proofs.LineSeen.{called_alike, typed_by, alike_typed, plainly_typed, tree_alike}
 
 -- ---- types
 
@@ -204,7 +204,7 @@ pub record Line (asked : Asked) (env : Env) (s : Step) (t : Syntax) : Type 0 whe
   pub declares : Declares asked env roles.Other (step_name s) meaning t
   pub helped : HelpedBy (behind env t) s
 
-module _ (asked : Asked) (names : Names) (plain : Env) (give : AllGive asked plain) (env : Env)
+module _ (asked : Asked) (names : Names) (plain : Env) (give : Called asked plain) (env : Env)
     (alike : Plainly names plain env) (inner : 2 ≤ length env.scopes) where
   -- the plain form at a declarator of that type
   plain_at : (d : Declared) (t : Syntax) → IsExpressionOf true t → SoundTree asked plain roles.Other (plain_of t) →
@@ -220,7 +220,7 @@ module _ (asked : Asked) (names : Names) (plain : Env) (give : AllGive asked pla
   element_address m f d =
       let l = f.leaf in
       let p = placed asked (typed_by plain d) (typed_by env d) names l.role roles.Other l.tree l.expression l.points
-      (plainly_typed names plain env d alike) (give_alike asked plain (typed_by plain d) (alike_typed plain d) give)
+      (plainly_typed names plain env d alike) (called_alike asked plain (typed_by plain d) (alike_typed plain d) give)
       l.refused (ap is_place f.kind) (plain_at d l.tree l.expression l.sound).0 in
       let k : KindAs (Vectors f.vector (Element f.space f.constant)) (Some p.kind) =
       subst (λ z. KindAs z (Some p.kind)) f.kind p.as' in
@@ -266,7 +266,7 @@ module _ (asked : Asked) (names : Names) (plain : Env) (give : AllGive asked pla
       let l = f.leaf in
       let so = plain_at d l.tree l.expression l.sound in
       let c = claim asked (typed_by plain d) (typed_by env d) names l.role roles.Other l.tree l.expression l.points
-      (plainly_typed names plain env d alike) (give_alike asked plain (typed_by plain d) (alike_typed plain d) give)
+      (plainly_typed names plain env d alike) (called_alike asked plain (typed_by plain d) (alike_typed plain d) give)
       l.refused f.apart so.0 in
       let same : c.kind ≡ kinds.Number f.of f.reached =
       some_same c.kind (kinds.Number f.of f.reached) (sym c.plain ∙ so.1 ∙ f.number) in
@@ -289,7 +289,7 @@ module _ (asked : Asked) (names : Names) (plain : Env) (give : AllGive asked pla
   pub component_number : (x : Named) (c : ℕ) → CopyFits names x c → StandsForNumber env (component_name x.name c)
   component_number x c f =
       let h = subst (λ z. StandsAlike z x.name plain env) f.named (alike.names' x.name f.source) in
-      (f.vector.of, h.1, h.3 c f.within)
+      (f.vector.of, h.0, h.2 c f.within)
 
   pub component_word : (x : Named) (c : ℕ) → CopyFits names x c →
       name_in (component_name x.name c) ≡ component_name x.name c

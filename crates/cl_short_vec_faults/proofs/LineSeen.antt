@@ -27,7 +27,7 @@ use Rattle.cl_short_vec.specs.declared.kinds.Kind.TheVariants.{Vectors, Pointer,
 use Rattle.cl_short_vec.specs.Kinds.{Names}
 use Rattle.cl_short_vec.specs.Nodes.{component_name}
 use Rattle.cl_short_vec_faults.specs.Plainly.{unnumbered, PointsAs, StandsAlike, Plainly}
-use Rattle.cl_short_vec_faults.specs.Law.{AllGive}
+use Rattle.cl_short_vec_faults.specs.Law.{AllGive, Called}
 use Rattle.cl_short_vec_faults.specs.Parts.{KnownAlone}
 use Rattle.cl_short_vec_faults.proofs.Building.{seen, NoFault, taken, built, fine, no_fault, kind_here}
 use Rattle.cl_short_vec_faults.proofs.Unchanged.{NameSame, FrontSame, FlagsSame, fine_same, step_same}
@@ -149,20 +149,21 @@ give_alike asked p s a h q c e = h q c (sym (alike_callee p s a q) ∙ e)
 pub alone_alike : (p s : Env) → Alike p s → KnownAlone p → KnownAlone s
 alone_alike p s a h q i c n e = h q i c n (sym (alike_callee p s a q) ∙ e)
 
+pub called_alike : (asked : Asked) (p s : Env) → Alike p s → Called asked p → Called asked s
+called_alike asked p s a h = (give_alike asked p s a h.0, alone_alike p s a h.1)
+
 pub stands_alike : (k : vectors.Kind) (q : List ℕ) (p s p' s' : Env) → Alike p p' → Alike s s' → StandsAlike k q p s →
     StandsAlike k q p' s'
 stands_alike (Other y) q p s p' s' a b h =
     ap unnumbered (b.meanings q) ∙ h ∙ sym (ap unnumbered (a.meanings q))
 stands_alike (Pointer s c v) q p f p' f' a b h = (
-  h.0,
-  ap unnumbered (b.meanings q) ∙ h.1 ∙ sym (ap unnumbered (a.meanings q)),
-  subst (λ z. PointsAs s c v (on_one z kind_of_meaning)) (sym (a.meanings q)) h.2,
+  ap unnumbered (b.meanings q) ∙ h.0 ∙ sym (ap unnumbered (a.meanings q)),
+  subst (λ z. PointsAs s c v (on_one z kind_of_meaning)) (sym (a.meanings q)) h.1,
 )
 stands_alike (Vectors v Variable) q p s p' s' a b h = (
   h.0,
-  h.1,
-  ap unnumbered (a.meanings q) ∙ h.2,
-  λ c l. ap unnumbered (b.meanings (component_name q c)) ∙ h.3 c l,
+  ap unnumbered (a.meanings q) ∙ h.1,
+  λ c l. ap unnumbered (b.meanings (component_name q c)) ∙ h.2 c l,
 )
 stands_alike (Vectors v Value) q p s p' s' a b h = absurd h
 stands_alike (Vectors v (Element r c)) q p s p' s' a b h = absurd h
@@ -174,12 +175,11 @@ pub stands_moved : (k : vectors.Kind) (q : List ℕ) (p s p' s' : Env) → meani
     StandsAlike k q p' s'
 stands_moved (Other y) q p s p' s' a b g h = ap unnumbered b ∙ h ∙ sym (ap unnumbered a)
 stands_moved (Pointer sp c v) q p s p' s' a b g h = (
-  h.0,
-  ap unnumbered b ∙ h.1 ∙ sym (ap unnumbered a),
-  subst (λ z. PointsAs sp c v (on_one z kind_of_meaning)) (sym a) h.2,
+  ap unnumbered b ∙ h.0 ∙ sym (ap unnumbered a),
+  subst (λ z. PointsAs sp c v (on_one z kind_of_meaning)) (sym a) h.1,
 )
 stands_moved (Vectors v Variable) q p s p' s' a b g h =
-    (h.0, h.1, ap unnumbered a ∙ h.2, λ c l. ap unnumbered (g c) ∙ h.3 c l)
+    (h.0, ap unnumbered a ∙ h.1, λ c l. ap unnumbered (g c) ∙ h.2 c l)
 stands_moved (Vectors v Value) q p s p' s' a b g h = absurd h
 stands_moved (Vectors v (Element sp c)) q p s p' s' a b g h = absurd h
 
@@ -198,6 +198,7 @@ plainly_typed names p s d h = record {
   owner = h.owner;
   declared = refl;
   flags = h.flags;
+  outside = h.outside;
   in_body = h.in_body;
   in_loop = h.in_loop;
   in_switch = h.in_switch;

@@ -41,7 +41,7 @@ use Rattle.cl_short_vec.specs.Unit.{lines_of, assigned_of, set_block, helped_ele
 use Rattle.cl_short_vec.proofs.Small.{mark_small, marked_small}
 use Rattle.cl_short_vec_faults.specs.PlainForm.{plain_of, plains_of}
 use Rattle.cl_short_vec_faults.specs.Plainly.{NoPoint, Plainly}
-use Rattle.cl_short_vec_faults.specs.Law.{AllGive, KindAs}
+use Rattle.cl_short_vec_faults.specs.Law.{KindAs, Called}
 use Rattle.cl_short_vec_faults.specs.Parts.{StandsForPointer, HelpedBy}
 use Rattle.cl_short_vec_faults.specs.Lines.{IsNumberLeaf, InOrder, InBlock, StatementFollows, SettingsFollow}
 use Rattle.cl_short_vec_faults.proofs.LineKeeps.{step_name}
@@ -61,7 +61,7 @@ use Rattle.cl_short_vec_faults.proofs.PartCalls.{calls_known}
 use Rattle.cl_short_vec_faults.proofs.PartShown.{each_split}
 use Rattle.cl_short_vec_faults.proofs.PartFits.{node_fits, has_wide}
 use Rattle.cl_short_vec_faults.proofs.PartTrees.{Shown, shown}
-use Rattle.cl_short_vec_faults.proofs.LineSeen.{alike_opened, tree_alike, give_alike, alone_alike}
+use Rattle.cl_short_vec_faults.proofs.LineSeen.{called_alike, alike_opened, tree_alike, alone_alike}
 use Rattle.cl_short_vec_faults.proofs.LineLeaves.{helped_good}
 use Rattle.cl_short_vec_faults.proofs.LineOrders.{append_apart, setting_leaves, setting_apart, setting_ordered}
 use Rattle.cl_short_vec_faults.proofs.LineSteps.{LinesSound, behind_lines, lines_parts, lines_append, behind_append}
@@ -153,7 +153,7 @@ module _ (asked : Asked) (names : Names) (plain form : Env) (h : InBlock asked n
   target = target_is asked names plain form h.alike a ha na Target ra is_target_place parts_here.0
 
   there : Placed asked plain form m (plain_of a)
-  there = placed asked plain form names Target roles.Other a ha na h.alike h.give ra is_target_place parts_here.0
+  there = placed asked plain form names Target roles.Other a ha na h.alike (h.give, h.alone) ra is_target_place parts_here.0
 
   small : count_in (kind_at (under m)) ≤ 16
   small = by target
@@ -194,8 +194,8 @@ module _ (asked : Asked) (names : Names) (plain form : Env) (h : InBlock asked n
   abbrev here' : Env
   here' = own_block form
 
-  give' : AllGive asked there'
-  give' = give_alike asked plain there' (alike_opened plain) h.give
+  give' : Called asked there'
+  give' = called_alike asked plain there' (alike_opened plain) (h.give, h.alone)
 
   first_stage : Stage asked names there' give' h.nameless here' []
   first_stage = record {

@@ -30,7 +30,7 @@ use Rattle.cl_short_vec.specs.Order.{Step, Offset, Number, Copy, Load, Set, Stor
 use Rattle.cl_short_vec.specs.Parts.{Assigned}
 use Rattle.cl_short_vec.specs.Unit.{line_of, lines_of}
 use Rattle.cl_short_vec_faults.specs.Plainly.{Plainly}
-use Rattle.cl_short_vec_faults.specs.Law.{AllGive}
+use Rattle.cl_short_vec_faults.specs.Law.{Called}
 use Rattle.cl_short_vec_faults.specs.Parts.{HelpedBy}
 use Rattle.cl_short_vec_faults.proofs.LineKeeps.{step_name}
 use Rattle.cl_short_vec_faults.proofs.Building.{Good}
@@ -127,7 +127,7 @@ LeafFits asked names plain (Load m c) = LoadFits m c
 LeafFits asked names plain (Set x c j) = ⊥
 LeafFits asked names plain (Store m c j) = ⊥
 
-module _ (asked : Asked) (names : Names) (plain : Env) (give : AllGive asked plain)
+module _ (asked : Asked) (names : Names) (plain : Env) (give : Called asked plain)
     (nameless : is_vector (names []) ≡ false) where
   -- behind the lines of some steps
   pub record Stage (env : Env) (done : List Step) : Type 0 where

@@ -22,7 +22,7 @@ use Rattle.cl_short_vec.specs.declared.kinds.Kind.{Kind}
 use Rattle.cl_short_vec.specs.declared.kinds.Kind.TheVariants.{Vectors, Other}
 use Rattle.cl_short_vec.specs.declared.roles.Role.{Role}
 use Rattle.cl_short_vec.specs.Types.{vector, selected, selection_in}
-use Rattle.cl_short_vec.specs.Kinds.{Names, postfix_kind, selection_of, several}
+use Rattle.cl_short_vec.specs.Kinds.{Names, within, postfix_kind, selection_of, several}
 use Rattle.cl_short_vec.specs.Marks.{Mark, mark, unmarked, marking, kind_at, kind_by, marked, marked_parts}
 use Rattle.cl_short_vec.specs.Roles.{is_place, is_element, is_element_kind, role_of, paren_role, selected_role}
 use Rattle.cl_short_vec.specs.Faults.{refusals}
@@ -236,4 +236,4 @@ module _ (asked : Asked) (names : Names) (plain : Env) where
           (ap (λ b. if b then under m else marked names t) (ap is_some z))
       target_is (node forms.PostfixNode w f l (more a (more b (more c cs)))) h n role r p so = absurd h
       target_is (node g w f l ps) h n role r p so =
-          absurd (false≢true (place_form g w names (marked_parts g ps names true ps) p))
+          absurd (false≢true (place_form g w names (marked_parts g ps (within g w names) true ps) p))

@@ -18,7 +18,7 @@ use Rattle.cl_short_vec.specs.declared.made.Made.{Made}
 use Rattle.cl_short_vec.specs.declared.made.Made.TheVariants as made
 use Rattle.cl_short_vec.specs.declared.roles.Role.TheVariants.{Target, Used}
 use Rattle.cl_short_vec.specs.Types.{numbers, selection_in, is_one_of, all_differ}
-use Rattle.cl_short_vec.specs.Kinds.{Names, later}
+use Rattle.cl_short_vec.specs.Kinds.{Names, within, later}
 use Rattle.cl_short_vec.specs.Marks.{Mark, mark, Marks, unmarked, marking, tree_at, kind_at, vector_among, kind_by}
 use Rattle.cl_short_vec.specs.Marks.{marked}
 use Rattle.cl_short_vec.specs.Marks.{marked_parts}
@@ -61,7 +61,7 @@ mutual
   unfolding marked marked_parts
 
   pub marked_in_order : (t : Syntax) (names : Names) → InOrder t → MarkInOrder (marked names t)
-  marked_in_order (node form w f l parts) names h = (h.0, parts_in_order parts form parts names true f l h.1)
+  marked_in_order (node form w f l parts) names h = (h.0, parts_in_order parts form parts (within form w names) true f l h.1)
 
   parts_in_order : (ps : Forest) (form : _) (all : Forest) (names : Names) (front : Bool) (f l : ℕ) →
       PartsInOrder f l ps → MarksInOrder f l (marked_parts form all names front ps)
@@ -297,4 +297,4 @@ mutual
       picked_whole (selection_in w) (kind_at (marked names t)) (kind_at (marked names a))
       (components_of (marked names a)) (two_unselected w f l a b bs h)
   target_differs (node g w f l ps) names h r p =
-      absurd (false≢true (place_form g w names (marked_parts g ps names true ps) p))
+      absurd (false≢true (place_form g w names (marked_parts g ps (within g w names) true ps) p))

@@ -151,13 +151,12 @@ alike_at : (k : vectors.Kind) (q : List ℕ) (p s p' s' : Env) → meaning_of p'
     ((c : ℕ) → meaning_of s' (component_name q c) ≡ meaning_of s (component_name q c)) → StandsAlike k q p s →
     StandsAlike k q p' s'
 alike_at (Other y) q p s p' s' a b d h = ap unnumbered b ∙ h ∙ sym (ap unnumbered a)
-alike_at (Pointer sp c v) q p s p' s' a b d (g, h, r) = (
-  g,
+alike_at (Pointer sp c v) q p s p' s' a b d (h, r) = (
   ap unnumbered b ∙ h ∙ sym (ap unnumbered a),
   subst (λ z. PointsAs sp c v (on_one z kind_of_meaning)) (sym a) r,
 )
-alike_at (Vectors v Variable) q p s p' s' a b d (g, fixed, h, r) =
-    (g, fixed, ap unnumbered a ∙ h, λ c l. ap unnumbered (d c) ∙ r c l)
+alike_at (Vectors v Variable) q p s p' s' a b d (fixed, h, r) =
+    (fixed, ap unnumbered a ∙ h, λ c l. ap unnumbered (d c) ∙ r c l)
 alike_at (Vectors v Value) q p s p' s' a b d h = absurd h
 alike_at (Vectors v (Element sp c)) q p s p' s' a b d h = absurd h
 
@@ -242,6 +241,7 @@ module _ (asked : Asked) (names : Names) (n : ℕ) (p s : Env) (name : List ℕ)
       owner = y.owner;
       declared = y.declared;
       flags = y.flags;
+      outside = y.outside;
       in_body = y.in_body;
       in_loop = y.in_loop;
       in_switch = y.in_switch;
@@ -270,6 +270,7 @@ beside_names asked names others n p s e h = let y = h.plainly in record {
     owner = y.owner;
     declared = y.declared;
     flags = y.flags;
+    outside = y.outside;
     in_body = y.in_body;
     in_loop = y.in_loop;
     in_switch = y.in_switch;

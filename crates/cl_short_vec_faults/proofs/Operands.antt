@@ -54,7 +54,6 @@ use Rattle.cl_short_vec_faults.proofs.Prefixes.{type_kept, size_claim}
 use Rattle.cl_short_vec_faults.proofs.Steps.{sign_claim, content_claim, address_claim, before_claim}
 use Rattle.cl_short_vec_faults.proofs.Elements.{index_claim}
 use Rattle.cl_short_vec_faults.proofs.Calling.{AllHave}
-use Rattle.cl_short_vec_faults.proofs.Flags.{flags_stay}
 use Rattle.cl_short_vec_faults.proofs.Placing.{Placed}
 
 -- ---- names
@@ -69,7 +68,7 @@ small_names names p s h q = small_width (names q) (h.narrow q)
 
 -- ---- leaves
 
-leaf_claim : (asked : Asked) (p s : Env) (place : Role) (form : Form) (w : List ℕ) (f l : ℕ) (j : vectors.Kind)
+pub leaf_claim : (asked : Asked) (p s : Env) (place : Role) (form : Form) (w : List ℕ) (f l : ℕ) (j : vectors.Kind)
     (k : Kind) (e : is_expression form ≡ true) (c : is_call form ≡ false) → s.owner ≡ p.owner → NameSame p s form w →
     FrontSame form none none → FlagsSame form none none → SoundTree asked p place (node form w f l none) →
     kind_step p form w none [] ≡ Some k → KindAs j (Some k) →
@@ -243,16 +242,6 @@ scalar_call w f l ps k unmarked = refl
 scalar_call w f l ps k (marking a unmarked) = refl
 scalar_call w f l ps k (marking a (marking b unmarked)) = refl
 scalar_call w f l ps k (marking a (marking b (marking c ms))) = refl
-
-pub call_flags : (parts all : Forest) (names : Names) (p s : Env) → AreExpressionsOf true parts → NoPoints parts →
-    Plainly names p s → AllStay (marked_parts forms.CallNode all names true parts) →
-    are_flags_alone (plains_of parts) ≡ true →
-    are_flags_alone (scalars (marked_parts forms.CallNode all names true parts)) ≡ true
-unfolding marked_parts plains_of scalars
-call_flags none all names p s h n pl st e = absurd (false≢true e)
-call_flags (more a none) all names p s h n pl st e =
-    (flags_stay a names Free p s h.0 n.0 pl st.0 (free_no_vector a names h.0 st.0)).0 e
-call_flags (more a (more b bs)) all names p s h n pl st e = absurd (false≢true e)
 
 -- one argument more
 pub one_more : (asked : Asked) (p s : Env) (t u : Syntax) (P S : Forest) (j : vectors.Kind) →

@@ -53,9 +53,9 @@ alone_meant s q = refl
 none_other : (k : vectors.Kind) (q : List ℕ) (p s : Env) → meaning_of p q ≡ None → StandsAlike k q p s →
     (visible : Bool) × (k ≡ Other visible)
 none_other (Other visible) q p s e h = (visible, refl)
-none_other (Pointer sp c v) q p s e (g, h, (r, reach, i)) =
+none_other (Pointer sp c v) q p s e (h, (r, reach, i)) =
     absurd (none-some _ (sym (ap (λ z. on_one z kind_of_meaning) e) ∙ i))
-none_other (Vectors v Variable) q p s e (g, fixed, h, r) = absurd (none-some _ (sym (ap unnumbered e) ∙ h))
+none_other (Vectors v Variable) q p s e (fixed, h, r) = absurd (none-some _ (sym (ap unnumbered e) ∙ h))
 none_other (Vectors v Value) q p s e h = absurd h
 none_other (Vectors v (Element sp c)) q p s e h = absurd h
 
@@ -81,7 +81,7 @@ free_alike k q p s v h a b d e = by k v h
 
     by : (k : vectors.Kind) → is_vector k ≡ false → StandsAlike k q p s → FreeAlike a b
     by (Other b) v h = same h
-    by (Pointer sp c u) v (g, h, r) = same h
+    by (Pointer sp c u) v (h, r) = same h
     by (Vectors u r) v h = absurd (false≢true (sym v))
 
 announced_by : (p s : Env) (name : List ℕ) (a b : Option Entry) → FreeAlike a b →

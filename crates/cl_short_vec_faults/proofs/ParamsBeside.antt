@@ -42,7 +42,7 @@ use Rattle.cl_short_vec_faults.specs.PlainForm.{plain_of, plains_of}
 use Rattle.cl_short_vec_faults.specs.Plainly.{unnumbered, StandsAlike, width_in}
 use Rattle.cl_short_vec_faults.specs.SoundBut.{SoundBut, AllSoundBut}
 use Rattle.cl_short_vec_faults.specs.Beside.{IsName, Beside}
-use Rattle.cl_short_vec_faults.specs.UnitLaw.{NoFlagIn, NoFlagBehind, DeclaredNames, AllDeclaredNames}
+use Rattle.cl_short_vec_faults.specs.UnitLaw.{DeclaredNames, AllDeclaredNames}
 use Rattle.cl_short_vec_faults.proofs.PlainForms.{type_plain}
 use Rattle.cl_short_vec_faults.proofs.BesideMoves.{beside_marked}
 use Rattle.cl_short_vec_faults.proofs.FrontFaults.{is_still, still_but, Frame, seen_at, sound_frame, frame_but}
@@ -175,13 +175,12 @@ narrow_param (more type others) =
 -- a pointer to vectors points to numbers of the type of their components
 pointer_alike : (name : List ℕ) (p s : Env) (type : Syntax) (d : Declared) (fixed : Bool) (x : ℕ) → IsType type →
     declared_in (plain_of type) ≡ Some d → meaning_of p name ≡ Some (param_meaning d (Some fixed) x) →
-    meaning_of s name ≡ Some (param_meaning d (Some fixed) x) → (o : Option Vector) → NoFlagIn o name →
+    meaning_of s name ≡ Some (param_meaning d (Some fixed) x) → (o : Option Vector) →
     vector_type type ≡ o → StandsAlike (pointed_by o (Some fixed) type) name p s
-pointer_alike name p s type d fixed x h dt a b None fl e = ap unnumbered b ∙ sym (ap unnumbered a)
-pointer_alike name p s type d fixed x h dt a b (Some v) fl e =
+pointer_alike name p s type d fixed x h dt a b None e = ap unnumbered b ∙ sym (ap unnumbered a)
+pointer_alike name p s type d fixed x h dt a b (Some v) e =
     let c : d ≡ declared_with (space_among (parts_of type)) (is_const (word_of type)) v.of =
     same_Some _ _ (sym dt ∙ components_declared type v h e) in (
-      fl,
       ap unnumbered b ∙ sym (ap unnumbered a),
       (
         roots.Param x,
@@ -201,16 +200,16 @@ number_alike name p s type m a b o = subst (λ k. StandsAlike k name p s) (sym (
     (ap unnumbered b ∙ sym (ap unnumbered a))
 
 param_alike : (name : List ℕ) (p s : Env) (w : List ℕ) (f l : ℕ) (parts : Forest) (d : Declared) (x : ℕ) →
-    IsParam (node forms.ParamNode w f l parts) → NoFlagBehind parts name → first_type (plains_of parts) ≡ Some d →
+    IsParam (node forms.ParamNode w f l parts) → first_type (plains_of parts) ≡ Some d →
     meaning_of p name ≡ Some (param_meaning d (second_star (plains_of parts)) x) →
     meaning_of s name ≡ Some (param_meaning d (second_star (plains_of parts)) x) →
     StandsAlike (parameter_kind parts) name p s
 unfolding plain_of plains_of
-param_alike name p s w f l (more t none) d x h fl dt a b =
+param_alike name p s w f l (more t none) d x h dt a b =
     number_alike name p s t (param_meaning d None x) a b (vector_type t)
-param_alike name p s w f l (more t (more (node forms.StarNode w' f' l' none) none)) d x h fl dt a b =
-    pointer_alike name p s t d (is_const w') x h dt a b (vector_type t) fl refl
-param_alike name p s w f l parts d x h fl dt a b = absurd h
+param_alike name p s w f l (more t (more (node forms.StarNode w' f' l' none) none)) d x h dt a b =
+    pointer_alike name p s t d (is_const w') x h dt a b (vector_type t) refl
+param_alike name p s w f l parts d x h dt a b = absurd h
 
 -- ---- both sides
 
@@ -267,7 +266,7 @@ module _ (asked : Asked) where
   no_call p name d (Some fixed) x c h = none-some c h
 
   param_fresh : (p s : Env) (w : List ℕ) (f l : ℕ) (parts : Forest) (d : Declared) (x y : ℕ) → x ≡ y →
-      IsParam (node forms.ParamNode w f l parts) → IsName (name_in w) × NoFlagBehind parts (name_in w) →
+      IsParam (node forms.ParamNode w f l parts) → IsName (name_in w) →
       has_scope p.scopes ≡ true →
       has_scope s.scopes ≡ true → first_type (plains_of parts) ≡ Some d →
       Fresh asked p s (name_in w) (parameter_kind parts)
@@ -278,9 +277,9 @@ module _ (asked : Asked) where
       let star = second_star (plains_of parts) in
       let m = firm (param_meaning d star x) in
       subst (λ z. Fresh asked p s name (parameter_kind parts) m (firm (param_meaning d star z))) e (record {
-        is = is.0;
+        is = is;
         narrow = narrow_param parts;
-        alike = param_alike name (declare p name m) (declare s name m) w f l parts d x h is.1 dt
+        alike = param_alike name (declare p name m) (declare s name m) w f l parts d x h dt
             (meant_there p t name m) (meant_there s t' name m);
         both = ((λ z. refl), λ z. refl);
         gives = λ c z. absurd (no_call p name d star x c z);
@@ -289,7 +288,7 @@ module _ (asked : Asked) where
 
   -- behind a parameter
   param_further : (names : Names) (n : ℕ) (p s : Env) (w : List ℕ) (f l : ℕ) (parts : Forest) (d : Declared) →
-      IsParam (node forms.ParamNode w f l parts) → IsName (name_in w) × NoFlagBehind parts (name_in w) →
+      IsParam (node forms.ParamNode w f l parts) → IsName (name_in w) →
       first_type (plains_of parts) ≡ Some d → Further asked names n p s p s →
       Further asked (behind_parameter names (node forms.ParamNode w f l parts)) n p s
       (with_parameter p (name_in w) l (Some d) (second_star (plains_of parts)))

@@ -25,7 +25,7 @@ use Rattle.cl_short_vec.specs.declared.kinds.Kind.TheVariants.{Vectors, Pointer,
 use Rattle.cl_short_vec.specs.declared.made.Made.{Made}
 use Rattle.cl_short_vec.specs.declared.made.Made.TheVariants as made
 use Rattle.cl_short_vec.specs.Types.{selection_in}
-use Rattle.cl_short_vec.specs.Kinds.{Names, later, behind, is_vector, prefix_kind}
+use Rattle.cl_short_vec.specs.Kinds.{Names, within, later, behind, is_vector, prefix_kind}
 use Rattle.cl_short_vec.specs.Marks.{Mark, mark, Marks, unmarked, marking, tree_at, kind_at, front_kind, back_kind}
 use Rattle.cl_short_vec.specs.Marks.{kind_by, marked, marked_parts}
 use Rattle.cl_short_vec.specs.Faults.{types_differ, fits, given_by, sum, items_by, items_given, fills, inside_fills}
@@ -234,16 +234,18 @@ marked_many (more p ps) form all names front = ap suc (marked_many ps form all (
 -- a node of that production with these parts
 abbrev NodeMark : Names → Form → List ℕ → ℕ → ℕ → Forest → Mark
 NodeMark names form w f l parts = mark (node form w f l parts)
-    (kind_by names form w (marked_parts form parts names true parts)) (marked_parts form parts names true parts)
+    (kind_by names form w (marked_parts form parts (within form w names) true parts))
+    (marked_parts form parts (within form w names) true parts)
 
 module _ (asked : Asked) where
   asks_node : (names : Names) (form : Form) (w : List ℕ) (f l : ℕ) (parts : Forest) (env : Env) →
       IsExpressionOf true (node form w f l parts) → CallKnownBy env form w (many parts) →
       NoneRefused (NodeMark names form w f l parts) →
-      AllShown asked (inside env form w) parts (marked_parts form parts names true parts) →
+      AllShown asked (inside env form w) parts (marked_parts form parts (within form w names) true parts) →
       Asks asked env (made_of false (node form w f l parts)
-      (kind_by names form w (marked_parts form parts names true parts))) (node form w f l parts)
-      (kind_by names form w (marked_parts form parts names true parts)) (marked_parts form parts names true parts)
+      (kind_by names form w (marked_parts form parts (within form w names) true parts))) (node form w f l parts)
+      (kind_by names form w (marked_parts form parts (within form w names) true parts))
+      (marked_parts form parts (within form w names) true parts)
   unfolding marked_parts kind_by made_in types_differ inside
   asks_node names forms.NumberNode w f l none env h c r g = tt
   asks_node names forms.TruthNode w f l none env h c r g = tt
@@ -333,19 +335,21 @@ module _ (asked : Asked) where
       postfix_asks asked env (selection_in w) (postfix_in w) (node forms.PostfixNode w f l (more a (more b none)))
       (marked names a) (marking (marked (behind names a) b) unmarked) refl (g.0 h.1).operand
   asks_node names forms.CallNode w f l parts env h c r g =
-      let ms = marked_parts forms.CallNode parts names true parts in
+      let inner = within forms.CallNode w names in
+      let ms = marked_parts forms.CallNode parts inner true parts in
       let t = node forms.CallNode w f l parts in
       call_asks asked env t ms (node_fits r.0 t (kind_by names forms.CallNode w ms) ms r.1).2
-      (subst (CallsKnown env (name_in w)) (sym (marked_many parts forms.CallNode parts names true)) c)
-      (alone_all asked (inside env forms.CallNode w) parts forms.CallNode parts names true h g)
+      (subst (CallsKnown env (name_in w)) (sym (marked_many parts forms.CallNode parts inner true)) c)
+      (alone_all asked (inside env forms.CallNode w) parts forms.CallNode parts inner true h g)
   asks_node names form w f l parts env h c r g = absurd h
 
   items_node : (names : Names) (form : Form) (w : List ℕ) (f l : ℕ) (parts : Forest) (env : Env) →
       IsExpressionOf true (node form w f l parts) →
-      AllShown asked (inside env form w) parts (marked_parts form parts names true parts) →
+      AllShown asked (inside env form w) parts (marked_parts form parts (within form w names) true parts) →
       Asks asked env (made_of false (node form w f l parts)
-      (kind_by names form w (marked_parts form parts names true parts))) (node form w f l parts)
-      (kind_by names form w (marked_parts form parts names true parts)) (marked_parts form parts names true parts) →
+      (kind_by names form w (marked_parts form parts (within form w names) true parts))) (node form w f l parts)
+      (kind_by names form w (marked_parts form parts (within form w names) true parts))
+      (marked_parts form parts (within form w names) true parts) →
       Items asked env (NodeMark names form w f l parts)
   unfolding marked_parts inside
   items_node names forms.ExprNode w f l (more a (more b none)) env h g o =
@@ -356,13 +360,13 @@ module _ (asked : Asked) where
   items_node names forms.ExprNode w f l parts env h g o = absurd h
   items_node names form w f l parts env h g o =
       single_items asked env (node form w f l parts)
-      (kind_by names form w (marked_parts form parts names true parts)) (marked_parts form parts names true parts)
-      refl o
+      (kind_by names form w (marked_parts form parts (within form w names) true parts))
+      (marked_parts form parts (within form w names) true parts) refl o
 
   wide_node : (names : Names) (form : Form) (w : List ℕ) (f l : ℕ) (parts : Forest) (env : Env) →
       IsExpressionOf true (node form w f l parts) →
-      AllShown asked (inside env form w) parts (marked_parts form parts names true parts) → (v : Vector) (n : ℕ) →
-      items_given v (NodeMark names form w f l parts) ≡ Some n → width_of (NodeMark names form w f l parts) ≡ n
+      AllShown asked (inside env form w) parts (marked_parts form parts (within form w names) true parts) →
+      (v : Vector) (n : ℕ) → items_given v (NodeMark names form w f l parts) ≡ Some n → width_of (NodeMark names form w f l parts) ≡ n
   unfolding marked_parts inside
   wide_node names forms.ExprNode w f l (more a (more b none)) env h g v n e =
       let parts = more a (more b none) in
@@ -372,13 +376,13 @@ module _ (asked : Asked) where
   wide_node names forms.ExprNode w f l parts env h g v n e = absurd h
   wide_node names form w f l parts env h g v n e =
       let t = node form w f l parts in
-      let ms = marked_parts form parts names true parts in
+      let ms = marked_parts form parts (within form w names) true parts in
       let k = kind_by names form w ms in
       width_alone t k ms refl ∙ given_count v k n (sym (given_alone v t k ms refl) ∙ e)
 
   inside_node : (names : Names) (form : Form) (w : List ℕ) (f l : ℕ) (parts : Forest) (env : Env) →
       IsExpressionOf true (node form w f l parts) →
-      AllShown asked (inside env form w) parts (marked_parts form parts names true parts) →
+      AllShown asked (inside env form w) parts (marked_parts form parts (within form w names) true parts) →
       (v : Vector) → is_paren form ≡ true → inside_fills v (NodeMark names form w f l parts) ≡ true →
       InList asked env v.count (NodeMark names form w f l parts)
   unfolding marked_parts inside
@@ -393,10 +397,10 @@ module _ (asked : Asked) where
   node_shown : (names : Names) (form : Form) (w : List ℕ) (f l : ℕ) (parts : Forest) (env : Env) →
       IsExpressionOf true (node form w f l parts) → CallKnownBy env form w (many parts) →
       NoneRefused (NodeMark names form w f l parts) →
-      AllShown asked (inside env form w) parts (marked_parts form parts names true parts) →
+      AllShown asked (inside env form w) parts (marked_parts form parts (within form w names) true parts) →
       Shown asked env (NodeMark names form w f l parts)
   node_shown names form w f l parts env h c r g =
-      let ms = marked_parts form parts names true parts in
+      let ms = marked_parts form parts (within form w names) true parts in
       let o = asks_node names form w f l parts env h c r g in record {
         operand = asked_alone asked env (node form w f l parts) (kind_by names form w ms) ms o;
         items = items_node names form w f l parts env h g o;
@@ -420,12 +424,12 @@ module _ (asked : Asked) where
           ((q : List ℕ) → callee_of env q ≡ callee_of form q) → NoneRefused (marked names t) →
           Shown asked env (marked names t)
       shown (node g w f l parts) names env h c s r =
-          let ms = marked_parts g parts names true parts in
+          let ms = marked_parts g parts (within g w names) true parts in
           let k = kind_by names g w ms in
           let t = node g w f l parts in
           let e = expression_form t h in
           node_shown names g w f l parts env h (called_by env g w (many parts) s c.0) r
-          (all_shown parts g parts names true (inside env g w) c.1 (λ q. inside_callees g e env w q ∙ s q)
+          (all_shown parts g parts (within g w names) true (inside env g w) c.1 (λ q. inside_callees g e env w q ∙ s q)
           (parts_none r.0 (mark t k ms) true ms (node_fits r.0 t k ms r.1).0))
 
       all_shown : (ps : Forest) (g : Form) (all : Forest) (names : Names) (front : Bool) (env : Env) →

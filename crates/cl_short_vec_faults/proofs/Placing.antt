@@ -86,11 +86,11 @@ component_good asked s w c at place t r e =
     }) st
 
 pub variable_placed : (asked : Asked) (p s : Env) (w : List ℕ) (f l : ℕ) (k : vectors.Kind) →
-    StandsAlike k (name_in w) p s → is_place k ≡ true →
+    StandsAlike k (name_in w) p s → s.flags ≡ p.flags → p.flags ≡ false → is_place k ≡ true →
     Placed asked p s (mark (node forms.VariableNode w f l none) k unmarked) (node forms.VariableNode w f l none)
 unfolding under components_of is_element component_at kind_step
-variable_placed asked p s w f l (Vectors v Variable) h e =
-    let x = vector_same v p s (name_in w) h in record {
+variable_placed asked p s w f l (Vectors v Variable) h fl o e =
+    let x = vector_same v p s (name_in w) h fl o in record {
       made = (refl, tt);
       kind = kinds.Number v.of (reach.Variable x.fixed);
       plain = kind_here p forms.VariableNode w f l none refl tt ∙ x.plain;
@@ -100,10 +100,10 @@ variable_placed asked p s w f l (Vectors v Variable) h e =
       below = all_under (Vectors v Variable);
       many = all_many (Vectors v Variable) refl;
     }
-variable_placed asked p s w f l (Vectors v Value) h e = absurd h
-variable_placed asked p s w f l (Vectors v (Element sp c)) h e = absurd h
-variable_placed asked p s w f l (Pointer sp c v) h e = absurd (false≢true e)
-variable_placed asked p s w f l (Other b) h e = absurd (false≢true e)
+variable_placed asked p s w f l (Vectors v Value) h fl o e = absurd h
+variable_placed asked p s w f l (Vectors v (Element sp c)) h fl o e = absurd h
+variable_placed asked p s w f l (Pointer sp c v) h fl o e = absurd (false≢true e)
+variable_placed asked p s w f l (Other b) h fl o e = absurd (false≢true e)
 
 -- ---- elements
 

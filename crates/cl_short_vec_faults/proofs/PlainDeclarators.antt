@@ -325,11 +325,11 @@ module _ (follow : ExpressionsFollow) (asked : Asked) (names : Names) (n : ℕ) 
       (declarator_holds.next (behind p t) true t (kind_of p t) ∙ star_leaves p w' f' l') so.1 in
       star_parts asked p s w' f' l' (plains_of ps)
       (scalars (marked_parts forms.DeclaratorNode (more t ps) names false ps))
-      (length_pairs follow asked names p s h.plainly h.gives (more t ps) false (Some l') ps x np.1 r.1 so')
+      (length_pairs follow asked names p s h.plainly (h.gives, h.alone) (more t ps) false (Some l') ps x np.1 r.1 so')
   declarator_parts w f l (more (node form w' f' l' qs) ps) x np r so =
       let all = more (node form w' f' l' qs) ps in
       no_star_parts asked p s (plains_of all) (scalars (marked_parts forms.DeclaratorNode all names true all))
-      (length_pairs follow asked names p s h.plainly h.gives all true None all x np r so)
+      (length_pairs follow asked names p s h.plainly (h.gives, h.alone) all true None all x np r so)
 
   pub plain_declarator : (d : Declared) → p.declared ≡ Some d → (w : List ℕ) (f l : ℕ) (ps : Forest) →
       IsDeclaratorOf true (node forms.DeclaratorNode w f l ps) → NoPoints ps → IsName (name_in w) →

@@ -14,7 +14,7 @@ use Rattle.cl_short_vec.specs.declared.kinds.Kind.TheVariants.{Vectors, Pointer,
 use Rattle.cl_short_vec.specs.declared.roles.Role.{Role}
 use Rattle.cl_short_vec.specs.declared.roles.Role.TheVariants.{Free, Used, Target, Whole, Listed, Items}
 use Rattle.cl_short_vec.specs.Types.{vector_in}
-use Rattle.cl_short_vec.specs.Kinds.{Names, behind, is_vector}
+use Rattle.cl_short_vec.specs.Kinds.{Names, within, behind, is_vector}
 use Rattle.cl_short_vec.specs.Marks.{Mark, mark, Marks, unmarked, marking, kind_at, front_kind, marked, marked_parts}
 use Rattle.cl_short_vec.specs.Roles.{is_place, role_of, paren_role, used_in, item_role, sets_vector}
 use Rattle.cl_short_vec.specs.Faults.{misplaced_kind, misplaced, no_component, types_differ}
@@ -111,7 +111,7 @@ kind_placed role (node form w f l parts) names h r =
     sym (misplaced_by role form w f l parts (kind_at (marked names (node form w f l parts)))
     (expression_form (node form w f l parts) h)) ∙
     (node_none role (node form w f l parts) (kind_at (marked names (node form w f l parts)))
-    (marked_parts form parts names true parts) r).1
+    (marked_parts form parts (within form w names) true parts) r).1
 
 -- a type that is no vector
 pub type_placed : (w : List ℕ) (f l : ℕ) (parts : Forest) (names : Names) →

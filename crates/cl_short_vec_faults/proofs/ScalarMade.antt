@@ -235,11 +235,14 @@ mutual
       (more a (more b none)) (scalar (marked names a)) (scalar (marked (kinds.behind names a) b))
       (scalar_made names a h.1) (scalar_made (kinds.behind names a) b h.2)
   scalar_made names (node forms.CallNode w f l none) h = (refl, tt)
-  scalar_made names (node forms.CallNode w f l (more a none)) h = (refl, (inl (scalar_made names a h.0), tt))
+  scalar_made names (node forms.CallNode w f l (more a none)) h =
+      (refl, (inl (scalar_made (kinds.within forms.CallNode w names) a h.0), tt))
   scalar_made names (node forms.CallNode w f l (more a (more b none))) h =
-      (refl, (inl (scalar_made names a h.0), (inl (scalar_made (kinds.behind names a) b h.1.0), tt)))
+      let inner = kinds.within forms.CallNode w names in
+      (refl, (inl (scalar_made inner a h.0), (inl (scalar_made (kinds.behind inner a) b h.1.0), tt)))
   scalar_made names (node forms.CallNode w f l (more a (more b (more c ps)))) h =
-      (refl, scalars_made names forms.CallNode refl (more a (more b (more c ps))) true (more a (more b (more c ps))) h)
+      let qs = more a (more b (more c ps)) in
+      (refl, scalars_made (kinds.within forms.CallNode w names) forms.CallNode refl qs true qs h)
   scalar_made names t h = absurd h
 
   pub scalars_made : (names : Names) (form : Form) → is_expression form ≡ true → (all : Forest) (front : Bool)
@@ -330,11 +333,14 @@ mutual
       (scalar (marked names a)) (scalar (marked (kinds.behind names a) b)) (scalar_made names a h.1)
       (scalar_made (kinds.behind names a) b h.2)
   component_made c s names (node forms.CallNode w f l none) h = (refl, tt)
-  component_made c s names (node forms.CallNode w f l (more a none)) h = (refl, (inl (scalar_made names a h.0), tt))
+  component_made c s names (node forms.CallNode w f l (more a none)) h =
+      (refl, (inl (scalar_made (kinds.within forms.CallNode w names) a h.0), tt))
   component_made c s names (node forms.CallNode w f l (more a (more b none))) h =
-      (refl, (inl (scalar_made names a h.0), (inl (scalar_made (kinds.behind names a) b h.1.0), tt)))
+      let inner = kinds.within forms.CallNode w names in
+      (refl, (inl (scalar_made inner a h.0), (inl (scalar_made (kinds.behind inner a) b h.1.0), tt)))
   component_made c s names (node forms.CallNode w f l (more a (more b (more d ps)))) h =
-      (refl, scalars_made names forms.CallNode refl (more a (more b (more d ps))) true (more a (more b (more d ps))) h)
+      let qs = more a (more b (more d ps)) in
+      (refl, scalars_made (kinds.within forms.CallNode w names) forms.CallNode refl qs true qs h)
   component_made c s names t h = absurd h
 
 -- so it leaves what is visible

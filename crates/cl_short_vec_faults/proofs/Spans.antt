@@ -18,7 +18,7 @@ use Rattle.cl_short_vec.specs.declared.nodes.Span.{Span}
 use Rattle.cl_short_vec.specs.declared.kinds.Kind.{Kind}
 use Rattle.cl_short_vec.specs.declared.kinds.Kind.TheVariants.{Pointer, Other}
 use Rattle.cl_short_vec.specs.declared.roles.Role.{Role}
-use Rattle.cl_short_vec.specs.Kinds.{Names, is_vector, prefix_kind, postfix_kind, later}
+use Rattle.cl_short_vec.specs.Kinds.{Names, within, is_vector, prefix_kind, postfix_kind, later}
 use Rattle.cl_short_vec.specs.Plain.{is_pointed}
 use Rattle.cl_short_vec.specs.Marks.{Mark, mark, unmarked, marking, kind_at, kind_by, marked, marked_parts}
 use Rattle.cl_short_vec.specs.Roles.{is_place}
@@ -250,7 +250,7 @@ place_at (node forms.PostfixNode w f l (more a (more b none))) names h o i e =
     }
 place_at (node forms.PostfixNode w f l (more a (more b (more c cs)))) names h o i e = absurd h
 place_at (node form w f l ps) names h o i e =
-    absurd (false≢true (place_form form w names (marked_parts form ps names true ps) e))
+    absurd (false≢true (place_form form w names (marked_parts form ps (within form w names) true ps) e))
 
 -- ---- expressions that are no vectors
 

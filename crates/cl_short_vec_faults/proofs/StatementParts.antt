@@ -73,7 +73,7 @@ pub shown : (asked : Asked) (names : Names) (n : ℕ) (p s : Env) (place : Role)
     NoPoint t → Beside asked names n p s → refusals Free (marked names t) ≡ [] →
     SoundTree asked p place (plain_of t) → Shown asked p s place t (scalarised (marked names t))
 shown asked names n p s place t h np b r so =
-    let x = claim asked p s names Free place t h np b.plainly b.gives r (free_apart t names h r) so in
+    let x = claim asked p s names Free place t h np b.plainly (b.gives, b.alone) r (free_apart t names h r) so in
     subst (Shown asked p s place t) (sym (expression_scalar names t h)) (record {
       sound = sound_but asked s place (scalar (marked names t)) x.good.sound;
       kind = x.good.kind ∙ sym x.plain;

@@ -18,7 +18,7 @@ use Rattle.cl_check_sound.proofs.Neutral.{neutral}
 use Rattle.cl_short_vec.specs.declared.kinds.Kind as vectors
 use Rattle.cl_short_vec.specs.declared.kinds.Kind.TheVariants.{Vectors}
 use Rattle.cl_short_vec.specs.declared.roles.Role.TheVariants.{Free, Whole}
-use Rattle.cl_short_vec.specs.Kinds.{Names, is_other, is_vector, pointer_alone}
+use Rattle.cl_short_vec.specs.Kinds.{Names, within, is_other, is_vector, pointer_alone}
 use Rattle.cl_short_vec.specs.Kinds as kinds
 use Rattle.cl_short_vec.specs.Marks.{marked, marked_parts, kind_at, kind_by}
 use Rattle.cl_short_vec.specs.Roles.{role_of}
@@ -76,7 +76,7 @@ simple_stays names w f l e r = part_none Free _ _ _ r
 -- the whole expression of a statement has to do with vectors only where it sets one
 whole_apart : (names : Names) (form : Form) (w : List ℕ) (f l : ℕ) (ps : Forest) →
     IsExpressionOf true (node form w f l ps) → refusals Whole (marked names (node form w f l ps)) ≡ [] →
-    assigns Whole form (marked_parts form ps names true ps) ≡ false →
+    assigns Whole form (marked_parts form ps (within form w names) true ps) ≡ false →
     is_of_vectors Whole (marked names (node form w f l ps)) ≡ false
 unfolding marked
 whole_apart names form w f l ps e r a = rw (kind_placed Whole (node form w f l ps) names e r) a
@@ -97,8 +97,8 @@ simple_value asked names n p s w f l e i v h =
     let t = node forms.SimpleNode w f l (more e none) in
     let P = plain_of e in
     let q = scalar (marked names e) in
-    let x = claim asked p s names Whole roles.Whole e i h.no_point.1.0 h.beside.plainly h.beside.gives
-    (simple_stays names w f l e h.stays) v h.sound.0.0 in
+    let x = claim asked p s names Whole roles.Whole e i h.no_point.1.0 h.beside.plainly
+    (h.beside.gives, h.beside.alone) (simple_stays names w f l e h.stays) v h.sound.0.0 in
     let c = h.from in
     let d = ordered_le t h.ordered in
     let bp = simple_behind p w f l P ∙ ap (closed p) (neutral p P x.made) in

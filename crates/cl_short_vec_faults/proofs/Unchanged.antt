@@ -134,11 +134,12 @@ flags_same _ p s role w f P S ks n g h = refl
 
 -- ---- all of them
 
-pub fine_same : (form : Form) → is_expression form ≡ true → (asked : Asked) (p s : Env) (role : Role) (w : List ℕ)
+-- the argument of a fence is looked at by itself
+fine_but : (form : Form) → is_expression form ≡ true → (asked : Asked) (p s : Env) (role : Role) (w : List ℕ)
     (f : ℕ) (P S : Forest) (ks : List (Option Kind)) → NameSame p s form w → s.owner ≡ p.owner →
-    FrontSame form P S → FlagsSame form P S → Fine asked (seen p role form w f P ks) →
-    Fine asked (seen s role form w f S ks)
-fine_same form e asked p s role w f P S ks n o t g h = record {
+    FrontSame form P S → barrier_flags (seen s role form w f S ks) form ≡ false →
+    Fine asked (seen p role form w f P ks) → Fine asked (seen s role form w f S ks)
+fine_but form e asked p s role w f P S ks n o t g h = record {
   known = unknown_same form p s role w f P S ks n ∙ h.known;
   fit = misfit_same form e p s role w f P S ks n t ∙ h.fit;
   tested = ap (λ z. is_tested role && given z (λ a. not (is_number a))) (step_same form p s w P S ks n t) ∙ h.tested;
@@ -148,8 +149,15 @@ fine_same form e asked p s role w f P S ks n o t g h = record {
   written = target_same form is_constant_memory p s role w f P S ks ∙ h.written;
   ends = recursion_same form asked p s role w f P S ks n o ∙ h.ends;
   rooted = root_same form e p s role w f P S ks ∙ h.rooted;
-  flagged = flags_same form p s role w f P S ks n g h.flagged;
+  flagged = g;
 }
+
+pub fine_same : (form : Form) → is_expression form ≡ true → (asked : Asked) (p s : Env) (role : Role) (w : List ℕ)
+    (f : ℕ) (P S : Forest) (ks : List (Option Kind)) → NameSame p s form w → s.owner ≡ p.owner →
+    FrontSame form P S → FlagsSame form P S → Fine asked (seen p role form w f P ks) →
+    Fine asked (seen s role form w f S ks)
+fine_same form e asked p s role w f P S ks n o t g h =
+    fine_but form e asked p s role w f P S ks n o t (flags_same form p s role w f P S ks n g h.flagged) h
 
 listed_same : (form : Form) (asked : Asked) (p s : Env) (w : List ℕ) → NameSame p s form w → ListedAt asked p form w →
     ListedAt asked s form w
@@ -159,10 +167,10 @@ listed_same _ asked p s w n h = tt
 -- a node of parts of the same kinds
 pub good_same : (form : Form) → is_expression form ≡ true → (asked : Asked) (p s : Env) (role : Role) (w : List ℕ)
     (f l : ℕ) (P S : Forest) (ks : List (Option Kind)) (k : Kind) → AreOperands S → NameSame p s form w →
-    s.owner ≡ p.owner → FrontSame form P S → FlagsSame form P S → ListedAt asked p form w →
-    SoundHere asked (inside s form w) S → kinds_here (inside s form w) S ≡ ks →
+    s.owner ≡ p.owner → FrontSame form P S → barrier_flags (seen s role form w f S ks) form ≡ false →
+    ListedAt asked p form w → SoundHere asked (inside s form w) S → kinds_here (inside s form w) S ≡ ks →
     Fine asked (seen p role form w f P ks) → kind_step p form w P ks ≡ Some k →
     Good asked s role (node form w f l S) k
 good_same form e asked p s role w f l P S ks k hs n o t g li ss ke h st =
     good asked s role form w f l S ks k e hs ss ke (listed_same form asked p s w n li)
-    (fine_same form e asked p s role w f P S ks n o t g h) (step_same form p s w P S ks n t ∙ st)
+    (fine_but form e asked p s role w f P S ks n o t g h) (step_same form p s w P S ks n t ∙ st)

@@ -68,6 +68,7 @@ start_beside asked places gs = record {
     owner = refl;
     declared = refl;
     flags = refl;
+    outside = refl;
     in_body = refl;
     in_loop = refl;
     in_switch = refl;

@@ -42,8 +42,7 @@ use Rattle.cl_short_vec_faults.specs.PlainForm.{plain_of, plains_of}
 use Rattle.cl_short_vec_faults.specs.Plainly.{NoPoint, NoPoints, PointsAs}
 use Rattle.cl_short_vec_faults.specs.Law.{ExpressionsFollow}
 use Rattle.cl_short_vec_faults.specs.SoundBut.{SoundBut}
-use Rattle.cl_short_vec_faults.specs.Beside.{Beside}
-use Rattle.cl_short_vec_faults.proofs.VectorNames.{IsVectorName}
+use Rattle.cl_short_vec_faults.specs.Beside.{IsName, Beside}
 use Rattle.cl_short_vec_faults.proofs.Building.{NoFault, Good}
 use Rattle.cl_short_vec_faults.proofs.Refused.{AllStay, expression_form}
 use Rattle.cl_short_vec_faults.proofs.PlainForms.{plain_made}
@@ -87,7 +86,7 @@ constant_there (Some c) dims e = (c, refl)
 
 module _ (follow : ExpressionsFollow) (asked : Asked) (names : Names) (n : ℕ) (p s : Env)
     (be : Beside asked names n p s) (v : Vector) (few : v.count ≤ 16) (type : Syntax)
-    (typed : p.declared ≡ Some (components_of_type v type)) (w : List ℕ) (f l : ℕ) (i : IsVectorName (name_in w))
+    (typed : p.declared ≡ Some (components_of_type v type)) (w : List ℕ) (f l : ℕ) (i : IsName (name_in w))
   where
     abbrev d : Declared
     d = components_of_type v type
@@ -129,13 +128,13 @@ module _ (follow : ExpressionsFollow) (asked : Asked) (names : Names) (n : ℕ) 
         let s' = with_declarator s (Some d) y k in
         let means : meaning_of p' q ≡ Some (meanings.Array (space_or_private d.space) d.of d.constant
         (next_root p (kept_in p d)) each.Element) =
-        plain_meant asked names n p s be d x y k same q i.is refl refl ∙ array_means x k sp one ex kept in
+        plain_meant asked names n p s be d x y k same q i refl refl ∙ array_means x k sp one ex kept in
         let points : PointsAs (space_or_private d.space) d.constant v (on_one (meaning_of p' q) kind_of_meaning) =
         (next_root p (kept_in p d), reach.Value, ap (λ z. on_one z kind_of_meaning) means) in (
-          sound_declarator asked names n p s be d typed w f l i.is P S same ep es fit leave so so',
-          goes_declarator asked names n p s be d typed w f l i.is P S same ep es fit leave so (pointer_to v type) few
-              (i.no_flag, meant_both asked names n p s be d x y k same q i.is refl refl, points),
-          walks_declarator asked names n p s be d typed w f l i.is P S same ep es fit leave so,
+          sound_declarator asked names n p s be d typed w f l i P S same ep es fit leave so so',
+          goes_declarator asked names n p s be d typed w f l i P S same ep es fit leave so (pointer_to v type) few
+              (meant_both asked names n p s be d x y k same q i refl refl, points),
+          walks_declarator asked names n p s be d typed w f l i P S same ep es fit leave so,
         )
       where
         array_means : (x : Declarator) (k : Option Kind) → x.star ≡ None → x.dimensions ≡ 1 →
@@ -159,7 +158,7 @@ module _ (follow : ExpressionsFollow) (asked : Asked) (names : Names) (n : ℕ) 
     unfolding inside behind_parts later
     array_of_one e h np r a so =
         let P = more (plain_of e) none in
-        let x = part_either follow asked names p s be.plainly be.gives e h np r so.0.0 in
+        let x = part_either follow asked names p s be.plainly (be.gives, be.alone) e h np r so.0.0 in
         let sp = ap (λ b. if b then Some (is_const (word_of (plain_of e))) else None) x.no_star.0 in
         let tm = and_false (nat_le 1 (dimensions_in w)) (too_many_initialisers (declarator_in w f P)
         (dims_of (declarator_in w f P))) (ap (nat_le 1) a.one) (so.1.0 faults.ArrayLength) in

@@ -35,9 +35,8 @@ use Rattle.cl_short_vec_faults.specs.PlainForm.{plain_of, plains_of}
 use Rattle.cl_short_vec_faults.specs.Plainly.{NoPoints}
 use Rattle.cl_short_vec_faults.specs.Law.{ExpressionsFollow}
 use Rattle.cl_short_vec_faults.specs.SoundBut.{AllSoundBut}
-use Rattle.cl_short_vec_faults.specs.Beside.{Beside}
-use Rattle.cl_short_vec_faults.specs.UnitLaw.{NoFlagAmong, AllDeclaredNames}
-use Rattle.cl_short_vec_faults.proofs.VectorNames.{IsVectorName}
+use Rattle.cl_short_vec_faults.specs.Beside.{IsName, Beside}
+use Rattle.cl_short_vec_faults.specs.UnitLaw.{AllDeclaredNames}
 use Rattle.cl_short_vec_faults.proofs.Ordered.{Ordered, OrderedIn}
 use Rattle.cl_short_vec_faults.proofs.PlainDeclarators.{Walks, walks_same, walks_then}
 use Rattle.cl_short_vec_faults.proofs.PlainDeclarations.{AllStayAs, declarator_free, declarators_next}
@@ -78,7 +77,7 @@ module _ (follow : ExpressionsFollow) (asked : Asked) (n : ℕ) (v : Vector) (fe
   -- where a variable has no initialiser
   pub one_vector : (a : Around) (names : Names) (p s : Env) → Beside asked names n p s →
       p.declared ≡ Some (components_of_type v type) → (w : List ℕ) (f l : ℕ) (ps : Forest) →
-      IsDeclaratorOf true (node forms.DeclaratorNode w f l ps) → NoPoints ps → IsVectorName (name_in w) →
+      IsDeclaratorOf true (node forms.DeclaratorNode w f l ps) → NoPoints ps → IsName (name_in w) →
       refusals (declaring a v its_space) (marked names (node forms.DeclaratorNode w f l ps)) ≡ [] →
       (is_variable w ps ≡ true → star_in ps ≡ None → (declarator_in w f (plains_of ps)).init ≡ None) →
       SoundTree asked p roles.Other (plain_of (node forms.DeclaratorNode w f l ps)) → (k : ℕ) →
@@ -166,7 +165,7 @@ behind_vector names type d v e = ap (λ o. kinds.behind_declared o names type d)
 module _ (follow : ExpressionsFollow) (asked : Asked) (n : ℕ) (v : Vector) (few : v.count ≤ 16) (type : Syntax)
     (vector : vector_type type ≡ Some v) (a : Around) (one : IsOneNode a) where
   pub vector_declarators : (ds all : Forest) (names : Names) (p s : Env) (bp : Before) (k i m : ℕ) →
-      AreDeclaratorsOf true ds → NoPoints ds → AllDeclaredNames ds → NoFlagAmong (Some v) ds → OrderedIn i ds m →
+      AreDeclaratorsOf true ds → NoPoints ds → AllDeclaredNames ds → OrderedIn i ds m →
       AllStayAs (declaring a v (space_among (parts_of type)))
       (marked_parts forms.DeclareNode (more type all) names false ds) → Beside asked names n p s →
       p.declared ≡ Some (components_of_type v type) → SoundParts asked p forms.DeclareNode bp (plains_of ds) →
@@ -177,13 +176,13 @@ module _ (follow : ExpressionsFollow) (asked : Asked) (n : ℕ) (v : Vector) (fe
       (all_declarators v (marked_parts forms.DeclareNode (more type all) names false ds))) ×
       Walks p (behind_parts p forms.DeclareNode false (plains_of ds))
   unfolding marked_parts plain_of plains_of inside
-  vector_declarators none all names p s bp k i m h np dn nf o r be typed so = (
+  vector_declarators none all names p s bp k i m h np dn o r be typed so = (
     tt,
     subst (λ z. Beside asked names n z (behind_parts s forms.DeclareNode false none)) (sym (no_parts p false))
         (subst (λ z. Beside asked names n p z) (sym (no_parts s false)) be),
     subst (Walks p) (sym (no_parts p false)) (walks_same p),
   )
-  vector_declarators (more (node forms.DeclaratorNode w f l ps) ds) all names p s bp k i m h np dn nf o r be typed so =
+  vector_declarators (more (node forms.DeclaratorNode w f l ps) ds) all names p s bp k i m h np dn o r be typed so =
       let t = node forms.DeclaratorNode w f l ps in
       let P = node forms.DeclaratorNode w f l (plains_of ps) in
       let after = behind_declarator names type t in
@@ -193,13 +192,13 @@ module _ (follow : ExpressionsFollow) (asked : Asked) (n : ℕ) (v : Vector) (fe
       let s' = behind_parts s forms.DeclareNode false these in
       let st = declarator_stays a v (space_among (parts_of type)) names w f l ps r.0 in
       let x = one_vector follow asked n v few type a names p s be typed w f l ps h.0 np.0.1
-      (record { is = dn.0.0; no_flag = nf.0 }) r.0
+      dn.0.0 r.0
       (λ va ss. no_initial a one asked p v (space_among (parts_of type)) names w f l ps h.0 np.0.1 o.1 st va ss so.0.0)
       so.0 k in
       let be' = subst (λ z. Beside asked z n p' s') (sym (behind_vector names type t v vector)) x.1 in
       let so' = subst (λ z. SoundParts asked z forms.DeclareNode (Some l) (plains_of ds))
       (declarators_next p' (is_front bp) P (kind_of p P) refl) so.1 in
-      let y = λ (j : ℕ). vector_declarators ds all after p' s' (Some l) j (suc l) m h.1 np.1 dn.1 nf.1 o.2 r.1 be'
+      let y = λ (j : ℕ). vector_declarators ds all after p' s' (Some l) j (suc l) m h.1 np.1 dn.1 o.2 r.1 be'
       (x.2.declared' ∙ typed) so' in
       let ep = sym (declarators_behind p false P (plains_of ds) refl) in
       let es = sym (joined_behind asked forms.DeclareNode these others s) in (
@@ -210,4 +209,4 @@ module _ (follow : ExpressionsFollow) (asked : Asked) (n : ℕ) (v : Vector) (fe
             (behind_parts p' forms.DeclareNode false (plains_of ds)) z) es (y 0).1),
         subst (Walks p) ep (walks_then p p' (behind_parts p' forms.DeclareNode false (plains_of ds)) x.2 (y 0).2),
       )
-  vector_declarators (more t ds) all names p s bp k i m h np dn nf o r be typed so = absurd h.0
+  vector_declarators (more t ds) all names p s bp k i m h np dn o r be typed so = absurd h.0

@@ -45,7 +45,6 @@ use Rattle.cl_short_vec.specs.Unit.{component_declarators}
 use Rattle.cl_short_vec_faults.specs.Plainly.{meant_by, unnumbered}
 use Rattle.cl_short_vec_faults.specs.SoundBut.{SoundBut, AllSoundBut, is_of_size}
 use Rattle.cl_short_vec_faults.specs.Beside.{IsName, ScopesBeside, Beside}
-use Rattle.cl_short_vec_faults.proofs.VectorNames.{IsVectorName}
 use Rattle.cl_short_vec_faults.proofs.Building.{seen, NoFault}
 use Rattle.cl_short_vec_faults.proofs.Points.{HasNoBlank, front_blank, component_named}
 use Rattle.cl_short_vec_faults.proofs.LineWords as words
@@ -133,7 +132,7 @@ some_scope p s asked names x n h = subst (λ z. 1 ≤ z) (sym h.depth) h.open'
 
 -- In front of it, no node of the plain form is at fault: `p` is visible there in the plain form, and `s` here.
 module _ (asked : Asked) (names : Names) (n : ℕ) (p s : Env) (be : Beside asked names n p s) (d : Declared)
-    (typed : p.declared ≡ Some d) (w : List ℕ) (f l : ℕ) (i : IsVectorName (name_in w)) (P : Forest)
+    (typed : p.declared ≡ Some d) (w : List ℕ) (f l : ℕ) (i : IsName (name_in w)) (P : Forest)
     (single : dimensions_in w ≡ 0) (starless : star_in P ≡ None) (unset : (declarator_in w f P).init ≡ None)
     (private : space_or_private d.space ≡ spaces.Private)
     (ep : behind_parts p forms.DeclaratorNode true P ≡ p)
@@ -188,7 +187,7 @@ module _ (asked : Asked) (names : Names) (n : ℕ) (p s : Env) (be : Beside aske
   none_yet = record {
     but = but_plain asked names q n p s p' mp (λ e r. refl) plain_declares (but_begin asked names q n p s be);
     fresh = λ c a b. not_true (is_declared s (component_name q c))
-        (λ t. false≢true (sym new ∙ component_beside n p.scopes s.scopes q c be.scopes i.is t));
+        (λ t. false≢true (sym new ∙ component_beside n p.scopes s.scopes q c be.scopes i t));
     told = λ c a b. absurd (omega arith);
     arrays = refl;
     tables = refl;
@@ -274,11 +273,11 @@ module _ (asked : Asked) (names : Names) (n : ℕ) (p s : Env) (be : Beside aske
 
     apart : (k : ℕ) → k < 2 ^ 64 → (c ≡ k → ⊥) → Apart cw (component_name q k)
     apart k b h = apart_from cw (component_name q k)
-        (λ e. h (component_number q q c k i.is.plain i.is.plain small b e))
+        (λ e. h (component_number q q c k i.plain i.plain small b e))
 
     one_more : Upto (suc c) next
     one_more = record {
-      but = but_component asked names q n p' si next c mc i.is there comp_declares u.but;
+      but = but_component asked names q n p' si next c mc i there comp_declares u.but;
       fresh = λ k a b. declares_no_other si next cw mc some comp_declares (component_name q k)
           (apart k b (λ e. (omega arith))) ∙ u.fresh k (omega arith) b;
       told = λ k a b. tell k a b (nat_eq c k) refl;
@@ -343,8 +342,8 @@ module _ (asked : Asked) (names : Names) (n : ℕ) (p s : Env) (be : Beside aske
       let typed' = ap (λ z. Some (meanings.Scalar z d.constant 0)) (sym e) in (
         g.0,
         subst (λ z. Beside asked (with_name names q (Vectors v Variable)) n z si) (sym variable_goes)
-            (but_done asked names q n p' si (Vectors v Variable) i.is (ap length u.arrays ∙ be.plainly.arrays)
+            (but_done asked names q n p' si (Vectors v Variable) i (ap length u.arrays ∙ be.plainly.arrays)
             (ap length u.tables ∙ be.plainly.tables) few
-            (i.no_flag, d.constant, means ∙ typed', λ c h. u.told c (omega arith) (omega arith) ∙ typed') u.but),
+            (d.constant, means ∙ typed', λ c h. u.told c (omega arith) (omega arith) ∙ typed') u.but),
         subst (Walks p) (sym variable_goes) (declares_walks p p' q mp be.open' plain_declares),
       )

@@ -29,6 +29,7 @@ use Rattle.cl_short_vec.specs.Order.{count_in, under}
 use Rattle.cl_short_vec.specs.Scalar.{scalar, component_at}
 use Rattle.cl_short_vec_faults.specs.PlainForm.{plain_of}
 use Rattle.cl_short_vec_faults.specs.Plainly.{NoPoint, PointsAs, Plainly}
+use Rattle.cl_short_vec_faults.specs.Parts.{KnownAlone}
 
 -- what a name calls gives something: a function without a definition is not called, and no result has a type outside
 -- the profile
@@ -39,6 +40,10 @@ CalleeGives asked q (known i) = Unit {0}
 
 abbrev pub AllGive : Asked → Env → Type 0
 AllGive asked env = (q : List ℕ) (c : Callee) → callee_of env q ≡ Some c → CalleeGives asked q c
+
+-- what is known of the functions that are called; no function of the unit has a name that is known without a declaration
+abbrev pub Called : Asked → Env → Type 0
+Called asked env = AllGive asked env × KnownAlone env
 
 -- items of a list of components, or the parentheses around them
 abbrev pub lists : vector_roles.Role → Form → Bool
@@ -71,7 +76,7 @@ KindAs (Other b) k = Unit {0}
 -- both have the same kind.
 abbrev pub ExpressionsFollow : Type 0
 ExpressionsFollow = (asked : Asked) (names : Names) (plain form : Env) (role : vector_roles.Role) (place : Role)
-    (t : Syntax) → IsExpressionOf true t → NoPoint t → Plainly names plain form → AllGive asked plain →
+    (t : Syntax) → IsExpressionOf true t → NoPoint t → Plainly names plain form → Called asked plain →
     refusals role (marked names t) ≡ [] → is_of_vectors role (marked names t) ≡ false →
     SoundTree asked plain place (plain_of t) →
     Follows asked form place (scalar (marked names t)) (kind_of plain (plain_of t)) ×
@@ -81,7 +86,7 @@ ExpressionsFollow = (asked : Asked) (names : Names) (plain form : Env) (role : v
 -- or element is, and it has the kind of the plain form.
 abbrev pub ComponentsFollow : Type 0
 ComponentsFollow = (asked : Asked) (names : Names) (plain form : Env) (role : vector_roles.Role) (place : Role)
-    (t : Syntax) → IsExpressionOf true t → NoPoint t → Plainly names plain form → AllGive asked plain →
+    (t : Syntax) → IsExpressionOf true t → NoPoint t → Plainly names plain form → Called asked plain →
     refusals role (marked names t) ≡ [] → is_place (kind_at (marked names t)) ≡ true →
     SoundTree asked plain place (plain_of t) →
     ((c : ℕ) (s : Span) → c < count_in (kind_at (under (marked names t))) →

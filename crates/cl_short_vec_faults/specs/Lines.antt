@@ -7,7 +7,7 @@ use Rattle.cl_model.specs.declared.program.Space.TheVariants as spaces
 use Rattle.cl_model.specs.declared.program.VarKind.{VarKind}
 use Rattle.cl_tree.specs.declared.tree.Form.TheVariants as forms
 use Rattle.cl_tree.specs.Syntax.{Syntax, node, Forest, none, more, first_of, last_of}
-use Rattle.cl_meaning.specs.Spelling.{setting_in, is_const, flag_in}
+use Rattle.cl_meaning.specs.Spelling.{setting_in, is_const}
 use Rattle.cl_meaning.specs.Types.{space_among}
 use Rattle.cl_meaning.specs.Declarations.{word_of, parts_of, with_variable}
 use Rattle.cl_meaning.specs.declared.kind.Meaning.TheVariants as meanings
@@ -117,14 +117,13 @@ pub record InitialFollows (asked : Asked) (names : Names) (plain form : Env) (v 
 
 -- Where no node of the plain form of the initialiser of a vector variable is at fault, its leaves are numbers, its
 -- tokens are in order, and no helping variable of one of them and no component of the variable is declared, no node of
--- the lines is at fault. The variable has a name, and not that of a memory fence.
+-- the lines is at fault. The variable has a name.
 abbrev pub InitialsFollow : Type 0
 InitialsFollow = (asked : Asked) (names : Names) (plain form : Env) (v : Vector) (t e : Syntax) (d : Mark) →
     let x = declared_name (tree_at d) in
     let n = marked names e in
     let ss = initial_steps v x n in InBlock asked names plain form → IsType t → vector_type t ≡ Some v →
-    IsOwnSpace (space_among (parts_of t)) → has_point x.name ≡ false → (x.name ≡ [] → ⊥) → flag_in x.name ≡ None →
-    IsExpressionOf true e → NoPoint e → refusals Used n ≡ [] → agrees (Vectors v Value) (kind_at n) ≡ true →
+    IsOwnSpace (space_among (parts_of t)) → has_point x.name ≡ false → (x.name ≡ [] → ⊥) → IsExpressionOf true e → NoPoint e → refusals Used n ≡ [] → agrees (Vectors v Value) (kind_at n) ≡ true →
     SoundTree asked plain roles.Other (plain_of e) → InOrder e → last_of e < 2 ^ 64 →
     Each (IsNumberLeaf plain) ss →
     ((q : List ℕ) → InRange (first_of e) (last_of e) q → is_declared form q ≡ false) →

@@ -7,7 +7,7 @@ use Rattle.cl_model.specs.declared.program.Root.{Root}
 use Rattle.cl_tree.specs.declared.tree.Form.{Form}
 use Rattle.cl_tree.specs.declared.tree.Form.TheVariants as forms
 use Rattle.cl_tree.specs.Syntax.{Syntax, node, Forest, none, more}
-use Rattle.cl_meaning.specs.Spelling.{name_in, flag_in}
+use Rattle.cl_meaning.specs.Spelling.{name_in}
 use Rattle.cl_meaning.specs.declared.kind.Each.TheVariants as each
 use Rattle.cl_meaning.specs.declared.kind.Reach.{Reach}
 use Rattle.cl_meaning.specs.declared.kind.Kind.{Kind}
@@ -63,15 +63,13 @@ abbrev pub PointsAs : Space → Bool → Vector → Option Kind → Type 0
 PointsAs s c v k = (r : Root) × (p : Reach) × (k ≡ Some (kinds.Pointer s v.of c r each.Element p))
 
 -- A name stands for the same in the plain form and in the form, where its kind is this one. A vector variable is a
--- number there, and here one for each component. Neither it nor a pointer to vectors has the name of a memory fence,
--- which would hide it in the argument of a fence.
+-- number there, and here one for each component.
 abbrev pub StandsAlike : vectors.Kind → List ℕ → (plain form : Env) → Type 0
 StandsAlike (Other b) q plain form = meant_by form q ≡ meant_by plain q
-StandsAlike (Pointer s c v) q plain form = (flag_in q ≡ None) × (meant_by form q ≡ meant_by plain q) ×
+StandsAlike (Pointer s c v) q plain form = (meant_by form q ≡ meant_by plain q) ×
     PointsAs s c v (on_one (meaning_of plain q) kind_of_meaning)
 StandsAlike (Vectors v Variable) q plain form =
-    (flag_in q ≡ None) × (fixed : Bool) × (meant_by plain q ≡ Some (meanings.Scalar v.of fixed 0)) ×
-    ((c : ℕ) → c < v.count → meant_by form (component_name q c) ≡ Some (meanings.Scalar v.of fixed 0))
+    (fixed : Bool) × (meant_by plain q ≡ Some (meanings.Scalar v.of fixed 0)) × ((c : ℕ) → c < v.count → meant_by form (component_name q c) ≡ Some (meanings.Scalar v.of fixed 0))
 StandsAlike (Vectors v r) q plain form = ⊥
 
 -- how many components the vectors of a kind have
@@ -81,12 +79,13 @@ width_in (Pointer s c v) = v.count
 width_in (Other b) = 0
 
 -- What is visible in the plain form is visible in the form too, where names stand for these vectors, none of more than
--- 16 components.
+-- 16 components. It is not the argument of a fence, where the names of fences are known first.
 pub record Plainly (names : Names) (plain form : Env) : Type 0 where
   pub functions : form.functions ≡ plain.functions
   pub owner : form.owner ≡ plain.owner
   pub declared : form.declared ≡ plain.declared
   pub flags : form.flags ≡ plain.flags
+  pub outside : plain.flags ≡ false
   pub in_body : form.in_body ≡ plain.in_body
   pub in_loop : form.in_loop ≡ plain.in_loop
   pub in_switch : form.in_switch ≡ plain.in_switch

@@ -9,16 +9,13 @@ use Rattle.cl_tree.specs.declared.tree.Form.TheVariants as forms
 use Rattle.cl_tree.specs.Grammar.{SpellsUnit}
 use Rattle.cl_limits.specs.Kernel.{at_limit}
 use Rattle.cl_limits.specs.Judged.{nodes_of, asked_in, sized_in, IsSound}
-use Rattle.cl_meaning.specs.Spelling.{name_in, flag_in}
+use Rattle.cl_meaning.specs.Spelling.{name_in}
 use Rattle.cl_meaning.specs.declared.fault.Fault.{Fault}
 use Rattle.cl_meaning.specs.declared.fault.Fault.TheVariants as faults
 use Rattle.cl_meaning.specs.Faults.{at_fault, looked}
 use Rattle.cl_meaning.specs.Visible.{Node}
 use Rattle.cl_meaning.specs.Meant.{start_of}
-use Rattle.cl_meaning.specs.Declarations.{word_of}
 use Rattle.cl_check_sound.specs.Shape.{IsUnitOf}
-use Rattle.cl_short_vec.specs.declared.types.Vector.{Vector}
-use Rattle.cl_short_vec.specs.Types.{vector_type}
 use Rattle.cl_short_vec.specs.Kinds.{no_names}
 use Rattle.cl_short_vec.specs.Marks.{marked}
 use Rattle.cl_short_vec.specs.Faults.{refusal_of}
@@ -29,54 +26,19 @@ use Rattle.cl_short_vec_faults.specs.Beside.{IsName}
 use Rattle.cl_short_vec_faults.specs.SoundBut.{is_of_size}
 use Rattle.cl_short_vec_faults.specs.Leaves.{LeavesFit}
 
--- ---- names of memory fences
-
--- what is declared behind a vector type has another name
-abbrev pub NoFlagIn : Option Vector → List ℕ → Type 0
-NoFlagIn None q = Unit {0}
-NoFlagIn (Some v) q = flag_in q ≡ None
-
-abbrev pub NoFlagAmong : Option Vector → (declarators : Forest) → Type 0
-NoFlagAmong v none = Unit {0}
-NoFlagAmong v (more d ds) = NoFlagIn v (name_in (word_of d)) × NoFlagAmong v ds
-
--- of a declaration's parts, and of a parameter's with its name
-abbrev pub NoFlagDeclared : Forest → Type 0
-NoFlagDeclared none = Unit {0}
-NoFlagDeclared (more type ds) = NoFlagAmong (vector_type type) ds
-
-abbrev pub NoFlagBehind : Forest → List ℕ → Type 0
-NoFlagBehind none q = Unit {0}
-NoFlagBehind (more type star) q = NoFlagIn (vector_type type) q
-
-abbrev pub NoFlagBy : Form → List ℕ → Forest → Type 0
-NoFlagBy forms.DeclareNode w parts = NoFlagDeclared parts
-NoFlagBy forms.ParamNode w parts = NoFlagBehind parts (name_in w)
-NoFlagBy form w parts = Unit {0}
-
--- no vector variable, no array of vectors and no parameter that points to vectors has the name of a memory fence
-abbrev mutual
-  pub NoFlags : Syntax → Type 0
-  NoFlags (node form w f l parts) = NoFlagBy form w parts × AllNoFlags parts
-
-  pub AllNoFlags : Forest → Type 0
-  AllNoFlags none = Unit {0}
-  AllNoFlags (more p ps) = NoFlags p × AllNoFlags ps
-
 -- ---- names that are declared
 
--- what is declared has a name of a source, and behind a vector type not that of a memory fence
-abbrev pub DeclaredNameBy : Form → List ℕ → Forest → Type 0
-DeclaredNameBy forms.DeclaratorNode w parts = IsName (name_in w)
-DeclaredNameBy forms.ParamNode w parts = IsName (name_in w) × NoFlagBehind parts (name_in w)
-DeclaredNameBy forms.DeclareNode w parts = NoFlagDeclared parts
-DeclaredNameBy forms.FunctionNode w parts = IsName (name_in w)
-DeclaredNameBy forms.PrototypeNode w parts = IsName (name_in w)
-DeclaredNameBy form w parts = Unit {0}
+-- what is declared has a name of a source
+abbrev pub DeclaredNameBy : Form → List ℕ → Type 0
+DeclaredNameBy forms.DeclaratorNode w = IsName (name_in w)
+DeclaredNameBy forms.ParamNode w = IsName (name_in w)
+DeclaredNameBy forms.FunctionNode w = IsName (name_in w)
+DeclaredNameBy forms.PrototypeNode w = IsName (name_in w)
+DeclaredNameBy form w = Unit {0}
 
 abbrev mutual
   pub DeclaredNames : Syntax → Type 0
-  DeclaredNames (node form w f l parts) = DeclaredNameBy form w parts × AllDeclaredNames parts
+  DeclaredNames (node form w f l parts) = DeclaredNameBy form w × AllDeclaredNames parts
 
   pub AllDeclaredNames : Forest → Type 0
   AllDeclaredNames none = Unit {0}

@@ -10,8 +10,8 @@ ghost use Rattle.cl_short_vec_faults.specs.UnitLaw.{UnitsFollow};
 
 /// An expression of which no condition on vectors is told, and which is no vector, is at fault without vectors only
 /// where its plain form is: that has numbers in the place of vectors, and no selections. Both have the same kind. So
-/// has each component of a vector variable or element. Neither a vector variable nor a pointer to vectors has the
-/// name of a memory fence (OpenCL 1.2, sections 6.1.2, 6.1.7 and 6.12.8).
+/// has each component of a vector variable or element. In the argument of a fence the names of memory fences are known
+/// first (OpenCL 1.2, sections 6.1.2, 6.1.7 and 6.12.8).
 pub fn expressions_law()
     ensures expressions { ExpressionsFollow }
     ensures components { ComponentsFollow }
@@ -39,8 +39,7 @@ pub fn initials_law()
 /// In a unit of which no condition on vectors is told, a node of the unit without vectors is at fault, but by the
 /// length of an array, only where a node of the plain form of the unit is, or where a leaf of a vector statement
 /// should be a number and is none. Barriers stand too deep in its kernel only where they do in that of the plain
-/// form. No vector variable, array of vectors or pointer to vectors has the name of a memory fence (OpenCL 1.2, sections
-/// 6.1.2, 6.1.7, 6.3 and 6.12.8).
+/// form (OpenCL 1.2, sections 6.1.2, 6.1.7, 6.3 and 6.12.8).
 pub fn units_law()
     ensures { UnitsFollow }
 {}

@@ -5,7 +5,7 @@ use Rattle.cl_tree.specs.declared.tree.Form.{Form}
 use Rattle.cl_tree.specs.Syntax.{Syntax, node, Forest, none, more, joined}
 use Rattle.cl_limits.specs.Limits.{count_nodes, count_forest}
 use Rattle.cl_short_vec.specs.Types.{numbers}
-use Rattle.cl_short_vec.specs.Kinds.{Names, later}
+use Rattle.cl_short_vec.specs.Kinds.{Names, within, later}
 use Rattle.cl_short_vec.specs.Marks.{Mark, mark, Marks, unmarked, marking, marked, marked_parts}
 use Rattle.cl_short_vec.specs.Nodes.{with_parts}
 
@@ -50,7 +50,7 @@ mutual
 
   -- as many as the tree
   pub marked_size : (t : Syntax) (names : Names) → size (marked names t) ≡ count_nodes t
-  marked_size (node form w f l ps) names = ap suc (parts_size form ps names true ps)
+  marked_size (node form w f l ps) names = ap suc (parts_size form ps (within form w names) true ps)
 
   pub parts_size : (form : Form) (all : Forest) (names : Names) (front : Bool) (ps : Forest) →
       sizes (marked_parts form all names front ps) ≡ count_forest ps

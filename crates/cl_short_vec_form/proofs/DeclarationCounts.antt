@@ -1,7 +1,8 @@
 -- What stands for a declaration has at most 64 nodes for each node and each component of its widest vector, in one
 -- node and as the lines of a block.
 use Rattle.std.proofs.Common.{◌≡◌, ℕ, suc, ◌+◌, ◌*◌, ◌≤◌, nat_eq, List, [], ◌∷◌, length, Option, Some, None}
-use Rattle.std.proofs.Common.{Bool, true, false, if◌then◌else◌, arith}
+use Rattle.std.proofs.Common.{Bool, true, false, if◌then◌else◌, refl, arith}
+use Rattle.cl_tree.specs.declared.tree.Form.TheVariants as forms
 use Rattle.cl_tree.specs.Syntax.{Syntax, none, more, joined}
 use Rattle.cl_tree.specs.Nodes.{forest1}
 use Rattle.cl_meaning.specs.Spelling.{dimensions_in, is_set}
@@ -12,7 +13,7 @@ use Rattle.cl_short_vec.specs.declared.kinds.Kind.{Kind}
 use Rattle.cl_short_vec.specs.Types.{vector_type, numbers}
 use Rattle.cl_short_vec.specs.Marks.{Mark, mark, Marks, unmarked, marking, tree_at, back}
 use Rattle.cl_short_vec.specs.Order.{Named}
-use Rattle.cl_short_vec.specs.Nodes.{with_parts}
+use Rattle.cl_short_vec.specs.Nodes.{at, span_of, with_parts}
 use Rattle.cl_short_vec.specs.Scalar.{scalar, scalars}
 use Rattle.cl_short_vec.specs.Unit.{name_span, declared_name, component_declarators, length_at, is_length_form}
 use Rattle.cl_short_vec.specs.Unit.{length_or_part, lengths_at, declarators_of, all_declarators, declaration_by}
@@ -73,7 +74,7 @@ declarators_count : (v : Vector) (m : Mark) (c : ℕ) → 1 ≤ c → v.count �
 declarators_count v (mark d k parts) c o h = by (nat_eq (dimensions_in (word_of d)) 0)
   where
     by : (z : Bool) → count_forest (if z then component_declarators (declared_name d) (numbers 0 1 v.count) else
-        forest1 (with_parts d (lengths_at v parts))) ≤ 36 * suc (sizes parts) * c
+        forest1 (at forms.DeclaratorNode (word_of d) (span_of d) (lengths_at v parts))) ≤ 36 * suc (sizes parts) * c
     by true =
         let i = components_count (declared_name d) (numbers 0 1 v.count) in
         let n = numbers_length 0 1 v.count in
@@ -81,8 +82,7 @@ declarators_count v (mark d k parts) c o h = by (nat_eq (dimensions_in (word_of 
         (omega arith)
     by false =
         let ls = lengths_at v parts in
-        array_fits (count_nodes (with_parts d ls)) (count_forest ls) (sizes parts) c o (with_count d ls)
-        (lengths_count v parts)
+        array_fits (suc (count_forest ls)) (count_forest ls) (sizes parts) c o refl (lengths_count v parts)
 
 declarators_sum : (x y z m n c : ℕ) → z ≡ x + y → x ≤ 36 * m * c → y ≤ 36 * n * c → z ≤ 36 * (m + n) * c
 declarators_sum x y z m n c e h k = omega arith

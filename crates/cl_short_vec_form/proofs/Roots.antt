@@ -19,7 +19,7 @@ use Rattle.cl_short_vec.specs.declared.types.Vector.{Vector}
 use Rattle.cl_short_vec.specs.declared.kinds.Kind.{Kind}
 use Rattle.cl_short_vec.specs.declared.kinds.Kind.TheVariants.{Pointer, Other}
 use Rattle.cl_short_vec.specs.Types.{selection_in}
-use Rattle.cl_short_vec.specs.Kinds.{Names, later}
+use Rattle.cl_short_vec.specs.Kinds.{Names, within, later}
 use Rattle.cl_short_vec.specs.Plain.{is_pointed}
 use Rattle.cl_short_vec.specs.Marks.{tree_at, kind_at, marked, marked_parts}
 use Rattle.cl_short_vec.specs.Faults.{components_of}
@@ -130,15 +130,17 @@ mutual
   pub scalar_root : (t : Syntax) (names : Names) → Expresses t → Neat t → Expresses (scalar (marked names t))
   scalar_root (node form w f l none) names e h = leaf_root form w f l e
   scalar_root (node form w f l (more a none)) names e h =
+      let inner = within form w names in
       let ps = more a none in
       let s : Span = record { first = f; last = l } in
-      one_root form w f l ps a (kind_at (marked names a)) (components_of (marked names (node form w f l ps)))
-      (scalar (marked names a)) (λ c. component_at c s (marked names a)) e h (λ d n. scalar_root a names d n)
-      (λ d n c. place_root a names c s d n)
+      one_root form w f l ps a (kind_at (marked inner a)) (components_of (marked names (node form w f l ps)))
+      (scalar (marked inner a)) (λ c. component_at c s (marked inner a)) e h (λ d n. scalar_root a inner d n)
+      (λ d n c. place_root a inner c s d n)
   scalar_root (node form w f l (more a (more b none))) names e h =
+      let inner = within form w names in
       let ps = more a (more b none) in
-      let n = later form ps names true a in
-      two_root form w f l ps (kind_at (marked names a)) (kind_at (marked n b)) (scalar (marked names a))
+      let n = later form ps inner true a in
+      two_root form w f l ps (kind_at (marked inner a)) (kind_at (marked n b)) (scalar (marked inner a))
       (scalar (marked n b)) e
   scalar_root (node form w f l (more a (more b (more c cs)))) names e h = e
 
@@ -146,12 +148,14 @@ mutual
       Expresses (component_at c s (marked names t))
   place_root (node form w f l none) names c s e h = refl
   place_root (node form w f l (more a none)) names c s e h =
-      place_of_one form w f l (more a none) a (kind_at (marked names a)) c s (scalar (marked names a))
-      (component_at c s (marked names a)) e h (λ d n. place_root a names c s d n)
+      let inner = within form w names in
+      place_of_one form w f l (more a none) a (kind_at (marked inner a)) c s (scalar (marked inner a))
+      (component_at c s (marked inner a)) e h (λ d n. place_root a inner c s d n)
   place_root (node form w f l (more a (more b none))) names c s e h =
+      let inner = within form w names in
       let ps = more a (more b none) in
-      let n = later form ps names true a in
-      place_of_two form w f l ps (kind_at (marked names a)) c s (scalar (marked names a)) (scalar (marked n b)) e
+      let n = later form ps inner true a in
+      place_of_two form w f l ps (kind_at (marked inner a)) c s (scalar (marked inner a)) (scalar (marked n b)) e
   place_root (node form w f l (more a (more b (more d ds)))) names c s e h = e
 
 -- ---- expressions, lists and stars

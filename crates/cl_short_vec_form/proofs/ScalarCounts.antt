@@ -91,6 +91,7 @@ element_count form k c s t a b = two_parts t a b
 content_count : (form : Form) (o : Option Prefix) (k : Kind) (c : ℕ) (s : Span) (t p : Syntax) →
     count_nodes (content_component form o k c s t p) ≤ count_nodes p + 6
 content_count forms.UnaryNode (Some prefixes.Content) (Pointer space d v) c s t p = omega arith
+content_count forms.PostfixNode o k c s t p = omega arith
 content_count form o k c s t p = one_part t p
 
 chosen_count : (o : Option ℕ) (g : ℕ → Syntax) (t : Syntax) (n : ℕ) → ((c : ℕ) → count_nodes (g c) ≤ n) →

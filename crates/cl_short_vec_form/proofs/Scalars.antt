@@ -25,7 +25,7 @@ use Rattle.cl_short_vec.specs.declared.types.Vector.{Vector}
 use Rattle.cl_short_vec.specs.declared.kinds.Kind.{Kind}
 use Rattle.cl_short_vec.specs.declared.kinds.Kind.TheVariants.{Pointer, Other}
 use Rattle.cl_short_vec.specs.Types.{vector_in, selection_in}
-use Rattle.cl_short_vec.specs.Kinds.{Names, later}
+use Rattle.cl_short_vec.specs.Kinds.{Names, within, later}
 use Rattle.cl_short_vec.specs.Plain.{is_pointed}
 use Rattle.cl_short_vec.specs.Marks.{kind_at, marked, marked_parts}
 use Rattle.cl_short_vec.specs.Faults.{components_of}
@@ -48,32 +48,6 @@ words_plain w = by (vector_in w) refl
     by : (o : Option Vector) → vector_in w ≡ o → is_some (vector_in (component_words o w)) ≡ false
     by None e = ap is_some e
     by (Some v) e = constant_plain (is_const w) v.of
-
-selection_tells : (w : List ℕ) → is_some (selection_in w) ≡ selects w
-unfolding selection_in
-selection_tells w = by (is_text (codes ". ") (take 2 w))
-  where
-    by : (b : Bool) → is_some (if b then Some (drop 2 w) else None) ≡ b
-    by true = refl
-    by false = refl
-
--- a word that begins with a point is no operator behind an operand
-no_operator : (byte : ℕ) (word : List ℕ) → byte ≡ 46 → is_some (postfix_in (byte ∷ word)) ≡ false
-unfolding postfix_in
-no_operator byte word e = ap (λ b. is_some (postfix_in (b ∷ word))) e
-
-operator_plain : (w : List ℕ) → is_some (postfix_in w) ≡ true → is_pointed w ≡ false
-operator_plain [] h = refl
-operator_plain (byte ∷ word) h = by (nat_eq byte 46) refl
-  where
-    by : (b : Bool) → nat_eq byte 46 ≡ b → b ≡ false
-    by false e = refl
-    by true e = absurd (false≢true (sym (no_operator byte word (eqb-true byte 46 e)) ∙ h))
-
--- what selects nothing begins with no point
-no_point : (w : List ℕ) → PostfixOf true w (Unit {0}) → is_some (selection_in w) ≡ false → is_pointed w ≡ false
-no_point w (inl h) e = operator_plain w h.0
-no_point w (inr h) e = absurd (false≢true (sym e ∙ (selection_tells w ∙ h.0)))
 
 -- ---- no part
 
@@ -151,17 +125,16 @@ content_calm w f l ps (Some prefixes.Content) (Pointer space d v) c s p h =
     (further_calm c (long_at 0 at) (long_calm 0 at))
 content_calm w f l ps o k c s p h = (refl, refl, (h, tt))
 
--- a place behind a selection, and a step
+-- a place behind a selection, and anything else behind an operand
 through_postfix : (w : List ℕ) (f l : ℕ) (ps : Forest) (k : Kind) (c : ℕ) (s : Span) (p q : Syntax) →
-    PostfixOf true w (Unit {0}) → Calm p → Calm q →
-    Calm (if is_some (selection_in w) then q else
+    Calm p → Calm q → Calm (if is_some (selection_in w) then q else
     content_component forms.PostfixNode (prefix_in w) k c s (node forms.PostfixNode w f l ps) p)
-through_postfix w f l ps k c s p q h i j = by (is_some (selection_in w)) refl
+through_postfix w f l ps k c s p q i j = by (is_some (selection_in w))
   where
-    by : (z : Bool) → is_some (selection_in w) ≡ z → Calm (if z then q else
+    by : (z : Bool) → Calm (if z then q else
         content_component forms.PostfixNode (prefix_in w) k c s (node forms.PostfixNode w f l ps) p)
-    by true e = j
-    by false e = (step_selects_nothing w f l p (no_point w h e), refl, (i, tt))
+    by true = j
+    by false = (refl, refl, (i, tt))
 
 -- a component of the part is `q`
 place_of_one : (form : Form) (w : List ℕ) (f l : ℕ) (ps : Forest) (a : Syntax) (k : Kind) (c : ℕ) (s : Span)
@@ -174,7 +147,7 @@ place_of_one forms.DeclareNode w f l ps a k c s p q e h i j = absurd (false≢tr
 place_of_one forms.ParenNode w f l ps a k c s p q e h i j = j h.0 h.1
 place_of_one forms.UnaryNode w f l ps a k c s p q e h i j = content_calm w f l ps (prefix_in w) k c s p i
 place_of_one forms.PostfixNode w f l ps a k c s p q e h i j =
-    through_postfix w f l ps k c s p q h.0 i (j h.1 h.2)
+    through_postfix w f l ps k c s p q i (j h.1 h.2)
 place_of_one form w f l ps a k c s p q e h i j = (refl, refl, (i, tt))
 
 -- ---- two parts
@@ -249,24 +222,27 @@ mutual
   pub scalar_calm : (t : Syntax) (names : Names) → Neat t → Calm (scalar (marked names t))
   scalar_calm (node form w f l none) names h = leaf_calm form w f l h
   scalar_calm (node form w f l (more a none)) names h =
+      let inner = within form w names in
       let ps = more a none in
       let x = neat_parts form w f l ps h in
       let s : Span = record { first = f; last = l } in
-      one_calm form w f l ps a (kind_at (marked names a)) (components_of (marked names (node form w f l ps)))
-      (scalar (marked names a)) (λ c. component_at c s (marked names a)) h (scalar_calm a names x.0)
-      (λ e n c. place_calm a names c s e n)
+      one_calm form w f l ps a (kind_at (marked inner a)) (components_of (marked names (node form w f l ps)))
+      (scalar (marked inner a)) (λ c. component_at c s (marked inner a)) h (scalar_calm a inner x.0)
+      (λ e n c. place_calm a inner c s e n)
   scalar_calm (node form w f l (more a (more b none))) names h =
+      let inner = within form w names in
       let ps = more a (more b none) in
-      let n = later form ps names true a in
+      let n = later form ps inner true a in
       let x = neat_parts form w f l ps h in
-      two_calm form w f l a b (kind_at (marked names a)) (kind_at (marked n b)) (scalar (marked names a))
-      (scalar (marked n b)) h (scalar_calm a names x.0) (scalar_calm b n x.1.0)
+      two_calm form w f l a b (kind_at (marked inner a)) (kind_at (marked n b)) (scalar (marked inner a))
+      (scalar (marked n b)) h (scalar_calm a inner x.0) (scalar_calm b n x.1.0)
   scalar_calm (node form w f l (more a (more b (more c cs)))) names h =
+      let inner = within form w names in
       let ps = more a (more b (more c cs)) in
-      let n = later form ps names true a in
-      many_calm form w f l a b (more c cs) (scalar (marked names a)) (scalar (marked n b))
+      let n = later form ps inner true a in
+      many_calm form w f l a b (more c cs) (scalar (marked inner a)) (scalar (marked n b))
       (scalars (marked_parts form ps (later form ps n false b) false (more c cs))) h
-      (scalars_calm form ps names true (more a (more b (more c cs))) (neat_parts form w f l ps h))
+      (scalars_calm form ps inner true (more a (more b (more c cs))) (neat_parts form w f l ps h))
 
   pub scalars_calm : (form : Form) (all : Forest) (names : Names) (front : Bool) (ps : Forest) → AreNeat ps →
       AreCalm (scalars (marked_parts form all names front ps))
@@ -279,19 +255,22 @@ mutual
       Calm (component_at c s (marked names t))
   place_calm (node form w f l none) names c s e h = (refl, refl, tt)
   place_calm (node form w f l (more a none)) names c s e h =
+      let inner = within form w names in
       let ps = more a none in
-      place_of_one form w f l ps a (kind_at (marked names a)) c s (scalar (marked names a))
-      (component_at c s (marked names a)) e h (scalar_calm a names (neat_parts form w f l ps h).0)
-      (λ d n. place_calm a names c s d n)
+      place_of_one form w f l ps a (kind_at (marked inner a)) c s (scalar (marked inner a))
+      (component_at c s (marked inner a)) e h (scalar_calm a inner (neat_parts form w f l ps h).0)
+      (λ d n. place_calm a inner c s d n)
   place_calm (node form w f l (more a (more b none))) names c s e h =
+      let inner = within form w names in
       let ps = more a (more b none) in
-      let n = later form ps names true a in
+      let n = later form ps inner true a in
       let x = neat_parts form w f l ps h in
-      place_of_two form w f l ps (kind_at (marked names a)) c s (scalar (marked names a)) (scalar (marked n b)) e
-      (scalar_calm a names x.0) (scalar_calm b n x.1.0)
+      place_of_two form w f l ps (kind_at (marked inner a)) c s (scalar (marked inner a)) (scalar (marked n b)) e
+      (scalar_calm a inner x.0) (scalar_calm b n x.1.0)
   place_calm (node form w f l (more a (more b (more d ds)))) names c s e h =
+      let inner = within form w names in
       let ps = more a (more b (more d ds)) in
-      let n = later form ps names true a in
-      many_calm form w f l a b (more d ds) (scalar (marked names a)) (scalar (marked n b))
+      let n = later form ps inner true a in
+      many_calm form w f l a b (more d ds) (scalar (marked inner a)) (scalar (marked n b))
       (scalars (marked_parts form ps (later form ps n false b) false (more d ds))) h
-      (scalars_calm form ps names true (more a (more b (more d ds))) (neat_parts form w f l ps h))
+      (scalars_calm form ps inner true (more a (more b (more d ds))) (neat_parts form w f l ps h))

@@ -11,7 +11,7 @@ use Rattle.cl_limits.specs.Limits.{count_nodes, count_forest}
 use Rattle.cl_check_sound.specs.Shape.{IsType, IsParam, IsExpressionOf, IsDeclarationOf, IsSimpleOf, IsStatementOf}
 use Rattle.cl_check_sound.specs.Shape.{AreStatementsOf, AreLinesOf}
 use Rattle.cl_short_vec.specs.declared.nodes.Span.{Span}
-use Rattle.cl_short_vec.specs.Kinds.{Names, later, is_vector}
+use Rattle.cl_short_vec.specs.Kinds.{Names, within, later, is_vector}
 use Rattle.cl_short_vec.specs.Marks.{Mark, unmarked, tree_at, kind_at, marked, marked_parts}
 use Rattle.cl_short_vec.specs.Order.{operator_in}
 use Rattle.cl_short_vec.specs.Nodes.{span_of}
@@ -188,13 +188,14 @@ parts_sum x y m n c h k = omega arith
 
 -- a node around parts that are small enough together
 enclosed : {x : ℕ} (form : Form) (w : List ℕ) (f l : ℕ) (ps : Forest) (names : Names) (c : ℕ) →
-    widest (marked names (node form w f l ps)) ≤ c → (widest_among (marked_parts form ps names true ps) ≤ c →
-    x ≤ 64 * sizes (marked_parts form ps names true ps) * c) →
-    suc x ≤ 64 * suc (sizes (marked_parts form ps names true ps)) * c
+    widest (marked names (node form w f l ps)) ≤ c →
+    (widest_among (marked_parts form ps (within form w names) true ps) ≤ c →
+    x ≤ 64 * sizes (marked_parts form ps (within form w names) true ps) * c) →
+    suc x ≤ 64 * suc (sizes (marked_parts form ps (within form w names) true ps)) * c
 unfolding marked
 enclosed {x} form w f l ps names c h g =
     let m = marked names (node form w f l ps) in
-    let ms = marked_parts form ps names true ps in
+    let ms = marked_parts form ps (within form w names) true ps in
     node_fits x (sizes ms) c (omega (arith, one_wide m))
     (g (parts_wide (node form w f l ps) (kind_at m) ms c h))
 

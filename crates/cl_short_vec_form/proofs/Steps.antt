@@ -19,7 +19,7 @@ use Rattle.cl_short_vec.specs.declared.kinds.Kind.TheVariants.{Vectors}
 use Rattle.cl_short_vec.specs.declared.made.Made.{Made}
 use Rattle.cl_short_vec.specs.declared.made.Made.TheVariants as made
 use Rattle.cl_short_vec.specs.Types.{numbers}
-use Rattle.cl_short_vec.specs.Kinds.{Names, later}
+use Rattle.cl_short_vec.specs.Kinds.{Names, within, later}
 use Rattle.cl_short_vec.specs.Plain.{has_vectors, have_vectors}
 use Rattle.cl_short_vec.specs.Marks.{Mark, tree_at, kind_at, vector_among, marked, marked_parts}
 use Rattle.cl_short_vec.specs.Roles.{is_paren}
@@ -108,14 +108,15 @@ mutual
   pub steps_calm : (listed : Bool) (of : IntType) (t : Syntax) (names : Names) → Neat t →
       StepsCalm (steps_in listed of (marked names t))
   steps_calm listed of (node form w f l ps) names h =
+      let inner = within form w names in
       let m = marked names (node form w f l ps) in
-      let ms = marked_parts form ps names true ps in
+      let ms = marked_parts form ps inner true ps in
       let o = neat_parts form w f l ps h in
       by_calm (made_of listed (node form w f l ps) (kind_at m)) of m (all_steps true of ms)
       (all_steps false (type_in (vector_among ms)) ms) (list_steps (type_in (kind_at m)) ms)
-      (scalar_calm (node form w f l ps) names h) (all_calm true of form ps names true ps o)
-      (all_calm false (type_in (vector_among ms)) form ps names true ps o)
-      (lists_calm (type_in (kind_at m)) form ps names true ps o)
+      (scalar_calm (node form w f l ps) names h) (all_calm true of form ps inner true ps o)
+      (all_calm false (type_in (vector_among ms)) form ps inner true ps o)
+      (lists_calm (type_in (kind_at m)) form ps inner true ps o)
 
   all_calm : (listed : Bool) (of : IntType) (form : Form) (all : Forest) (names : Names) (front : Bool) (ps : Forest) →
       AreNeat ps → StepsCalm (all_steps listed of (marked_parts form all names front ps))
@@ -135,8 +136,9 @@ mutual
 
   inside_calm : (of : IntType) (t : Syntax) (names : Names) → Neat t → StepsCalm (inside_steps of (marked names t))
   inside_calm of (node form w f l ps) names h =
-      either_steps (is_paren form) (all_steps true of (marked_parts form ps names true ps)) []
-      (all_calm true of form ps names true ps (neat_parts form w f l ps h)) tt
+      let inner = within form w names in
+      either_steps (is_paren form) (all_steps true of (marked_parts form ps inner true ps)) []
+      (all_calm true of form ps inner true ps (neat_parts form w f l ps h)) tt
 
 -- ---- statements
 
@@ -144,12 +146,13 @@ under_calm : (t : Syntax) (names : Names) → Neat t → Calm (scalar (under (ma
 unfolding under marked marked_parts
 under_calm (node form w f l none) names h = scalar_calm (node form w f l none) names h
 under_calm (node form w f l (more a ps)) names h =
-    by (is_through (node form w f l (more a ps))) (under_calm a names (neat_parts form w f l (more a ps) h).0)
+    let inner = within form w names in
+    by (is_through (node form w f l (more a ps))) (under_calm a inner (neat_parts form w f l (more a ps) h).0)
     (scalar_calm (node form w f l (more a ps)) names h)
   where
-    by : (z : Bool) → Calm (scalar (under (marked names a))) →
+    by : (z : Bool) → Calm (scalar (under (marked (within form w names) a))) →
         Calm (scalar (marked names (node form w f l (more a ps)))) →
-        Calm (scalar (if z then under (marked names a) else marked names (node form w f l (more a ps))))
+        Calm (scalar (if z then under (marked (within form w names) a) else marked names (node form w f l (more a ps))))
     by true i j = i
     by false i j = j
 

@@ -12,7 +12,7 @@ use Rattle.cl_short_vec.specs.declared.kinds.Reach.{Reach}
 use Rattle.cl_short_vec.specs.declared.kinds.Kind.{Kind}
 use Rattle.cl_short_vec.specs.declared.kinds.Kind.TheVariants.{Vectors, Pointer, Other}
 use Rattle.cl_short_vec.specs.Types.{vector, vector_type, selection_in, selected, picked}
-use Rattle.cl_short_vec.specs.Kinds.{Names, later, several, postfix_kind}
+use Rattle.cl_short_vec.specs.Kinds.{Names, within, later, several, postfix_kind}
 use Rattle.cl_short_vec.specs.Marks.{Mark, mark, Marks, unmarked, marking, front_kind, kind_by, marked}
 use Rattle.cl_short_vec.specs.Marks.{marked_parts}
 use Rattle.cl_short_vec.specs.Faults.{all_of, chosen, picked_by, components_by, components_of}
@@ -122,7 +122,8 @@ components_wide (node form w f l none) names =
     let h = all_wide (kind_by names form w unmarked) in
     omega arith
 components_wide (node form w f l (more a others)) names =
-    let rest = marked_parts form (more a others) (later form (more a others) names true a) false others in
-    let h = by_wide names form w (marking (marked names a) rest) (components_of (marked names a))
-    (widest (marked names a)) (components_wide a names) in
+    let inner = within form w names in
+    let rest = marked_parts form (more a others) (later form (more a others) inner true a) false others in
+    let h = by_wide inner form w (marking (marked inner a) rest) (components_of (marked inner a))
+    (widest (marked inner a)) (components_wide a inner) in
     omega arith

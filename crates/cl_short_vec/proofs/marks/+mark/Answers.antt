@@ -1,7 +1,7 @@
-use Rattle.std.proofs.Common.{◌≡◌, ◌∙◌, ap, arith, length, take, true}
+use Rattle.std.proofs.Common.{◌≡◌, ℕ, List, ◌∙◌, ap, arith, length, take, true}
 use Rattle.cl_tree.specs.declared.tree.Tree.TheViews.{out-Tree}
 use Rattle.cl_tree.specs.Syntax.{view, views}
-use Rattle.cl_short_vec.specs.Kinds.{later}
+use Rattle.cl_short_vec.specs.Kinds.{Names, within, later}
 use Rattle.cl_short_vec.specs.Marks.{marked_parts}
 use Rattle.cl_short_vec.specs.View.{marks_of, names_of}
 use Rattle.cl_short_vec.proofs.Marking.{marks_more, marks_done, tree_marked, ok_onto}
@@ -39,6 +39,10 @@ mark_tree-returns-clause-marked t c =
     (λ m h. h ∙ tree_marked (names_of c.args.names.now.items) (names_of c.deref-2.result.now) c.args.tree.now
     (marks_of c.in_ok-parts.parts.items)
     (ap (λ es. names_of es) (c.deref-2.ensures.value ∙ (c.truncate.ensures.items ∙
-    (ap (λ n. take n c.mark_parts.new.names.items) depth ∙ c.in_ok-parts.ensures.kept))))
-    (c.in_ok-parts.ensures.marked ∙ ap (λ ts. marked_parts (out-Tree c.args.tree.now).form (views ts)
-    (names_of c.args.names.now.items) true (views ts)) c.deref.ensures.value))
+    (ap (λ n. take n c.mark_parts.new.names.items) depth ∙ kept_on c.args.names.now.items c.within.new.names.items
+    c.mark_parts.new.names.items c.in_ok-within.ensures.kept c.in_ok-parts.ensures.kept))))
+    (c.in_ok-parts.ensures.marked ∙ (ap (λ ts. marked_parts (out-Tree c.args.tree.now).form (views ts)
+    (names_of c.within.new.names.items) true (views ts)) c.deref.ensures.value ∙
+    ap (λ (n : Names). marked_parts (out-Tree c.args.tree.now).form (views (out-Tree c.args.tree.now).parts.items) n true
+    (views (out-Tree c.args.tree.now).parts.items)) (c.in_ok-within.ensures.declared ∙
+    ap (λ (w : List ℕ). within (out-Tree c.args.tree.now).form w (names_of c.args.names.now.items)) c.bytes.ensures))))
