@@ -35,7 +35,7 @@ use Rattle.cl_short_vec.specs.declared.roles.Role.{Role}
 use Rattle.cl_short_vec.specs.declared.roles.Role.TheVariants.{Free, Used, Target, Base, Listed, Items}
 use Rattle.cl_short_vec.specs.Types.{selection_in}
 use Rattle.cl_short_vec.specs.Plain.{is_pointed}
-use Rattle.cl_short_vec.specs.Kinds.{Names, within, behind, later, is_vector, joined_kind, postfix_kind, called_kind}
+use Rattle.cl_short_vec.specs.Kinds.{Names, calls_fence, with_fences, within, behind, later, is_vector, joined_kind, postfix_kind, called_kind}
 use Rattle.cl_short_vec.specs.Marks.{Mark, mark, unmarked, marking, kind_at}
 use Rattle.cl_short_vec.specs.Marks.{vector_among, kind_by, marked, marked_parts}
 use Rattle.cl_short_vec.specs.Roles.{is_element, is_element_kind, element_by, role_of, is_list_cast}
@@ -376,10 +376,11 @@ module _ (asked : Asked) (names : Names) (plain form : Env) (alike : Plainly nam
       (element_leaves t h n so role r x (index_is (selection_in w) k (is_element m) z x))
   vector_steps forms.CallNode w f l parts h n so of listed role i r g v e =
       let t = node forms.CallNode w f l parts in
-      let ms = marked_parts forms.CallNode parts names true parts in
+      let inner = within forms.CallNode w names in
+      let ms = marked_parts forms.CallNode parts inner true parts in
       let k = kind_at (marked names t) in
       every_part asked names plain (type_in (vector_among ms)) (used_in k) ms
-      (all_parts parts forms.CallNode parts names true h (g v)) (used_inner k)
+      (all_parts parts forms.CallNode parts inner true h (g v)) (used_inner k)
       (all_none role (used_in k) (mark t k ms) true ms (λ x y q. refl) (node_none role t k ms r).0) e
   vector_steps forms.CastNode w f l (more (node forms.TypeNode tw tf tl tps) (more a none)) h n so of listed role i r
       g v
@@ -487,6 +488,12 @@ call_is : (o : Option Intrinsic) (z : Kind) → is_vector (called_kind o z) ≡ 
 call_is (Some (intrinsics.Function f)) (Vectors v r) h = (f, refl)
 call_is o z h = absurd (false≢true h)
 
+-- a call that is a vector is none of a fence
+function_within : (w : List ℕ) (names : Names) (z : Kind) →
+    is_vector (called_kind (intrinsic_in (name_in w)) z) ≡ true → within forms.CallNode w names ≡ names
+function_within w names z v = ap (λ o. if calls_fence o then with_fences names else names)
+    (call_is (intrinsic_in (name_in w)) z v).1
+
 callee_is : (o : Option Callee) → not (is_some o) ≡ false → (c : Callee) × (o ≡ Some c)
 callee_is None h = absurd (false≢true (sym h))
 callee_is (Some c) h = (c, refl)
@@ -529,9 +536,12 @@ module _ (asked : Asked) (names : Names) (plain form : Env) (alike : Plainly nam
         node_fits asked names plain form alike give forms.PostfixNode w f l (more a none) h n so
         (λ x. (λ y. fits_in a e n.1.0 (postfix_parts w f l a (is_pointed w) e so), tt))
     fits_in (node forms.CallNode w f l parts) h n so =
+        let inner = within forms.CallNode w names in
+        let among = vector_among (marked_parts forms.CallNode parts inner true parts) in
         node_fits asked names plain form alike give forms.CallNode w f l parts h n so
-        (λ v. all_fits parts forms.CallNode parts true refl (expressions_operands parts h) n.1
-        (call_parts w f l parts (vector_among (marked_parts forms.CallNode parts names true parts)) h so v))
+        (λ v. subst (λ z. AllFit asked names plain parts (marked_parts forms.CallNode parts z true parts))
+        (sym (function_within w names among v)) (all_fits parts forms.CallNode parts true refl
+        (expressions_operands parts h) n.1 (call_parts w f l parts among h so v)))
     fits_in (node forms.TypeNode w f l parts) h n so = absurd h
     fits_in (node g w f l parts) h n so =
         let e = expression_form (node g w f l parts) h in
