@@ -153,3 +153,46 @@ fn what_a_loop_reads_and_its_front_does_not_set_needs_clearing(
     assert_eq!(rt; found.wide.len(), 0);
     Ok(())
 }
+
+/// A branch in which one register is set and read, with a step between the two.
+fn branch(between: Step) -> [Step; 6] {
+    [
+        SET,
+        Step::Test {
+            to: M1,
+            from: V0,
+            mask: M0,
+        },
+        Step::SkipNone {
+            mask: M1,
+            target: 6,
+        },
+        Step::Copy {
+            to: V1,
+            from: V0,
+            mask: M1,
+        },
+        between,
+        sum(V2, V1, M1),
+    ]
+}
+
+#[test]
+fn what_a_branch_sets_before_it_reads_it_needs_no_clearing(rt: HostRuntime) -> Result<(), Fail> {
+    let found = cleared(rt.alloc(), &branch(sum(V0, V1, M1)))?;
+    assert_eq!(rt; found.narrow.len(), 0);
+    assert_eq!(rt; found.wide.len(), 0);
+    Ok(())
+}
+
+#[test]
+fn what_is_read_under_a_mask_that_was_written_needs_clearing(rt: HostRuntime) -> Result<(), Fail> {
+    let written = Step::MaskLess {
+        to: M1,
+        a: M0,
+        b: M1,
+    };
+    let found = cleared(rt.alloc(), &branch(written))?;
+    assert!(rt; found.narrow.as_slice() == [1].as_slice());
+    Ok(())
+}
