@@ -27,7 +27,7 @@ use Rattle.cl_short_vec.specs.declared.types.Vector.{Vector}
 use Rattle.cl_short_vec.specs.declared.kinds.Kind.{Kind}
 use Rattle.cl_short_vec.specs.declared.kinds.Kind.TheVariants.{Pointer, Other}
 use Rattle.cl_short_vec.specs.Plain.{is_pointed}
-use Rattle.cl_short_vec.specs.Kinds.{Names, later}
+use Rattle.cl_short_vec.specs.Kinds.{Names, within, later}
 use Rattle.cl_short_vec.specs.Marks.{Mark, mark, Marks, unmarked, marking, kind_at, marked, marked_parts}
 use Rattle.cl_short_vec.specs.Order.{is_through}
 use Rattle.cl_short_vec.specs.Nodes.{span_of, with_parts, scaled, component_name}
@@ -205,13 +205,14 @@ mutual
 
   pub marked_sourced : (t : Syntax) (names : Names) → Sourced t → SourcedMark (marked names t)
   marked_sourced (node form w f l none) names h = h
-  marked_sourced (node form w f l (more p ps)) names h = (
-    h.0,
-    (
-      marked_sourced p names h.1.0,
-      all_marked_sourced ps form (more p ps) (later form (more p ps) names true p) false h.1.1,
-    ),
-  )
+  marked_sourced (node form w f l (more p ps)) names h =
+      let inner = within form w names in (
+        h.0,
+        (
+          marked_sourced p inner h.1.0,
+          all_marked_sourced ps form (more p ps) (later form (more p ps) inner true p) false h.1.1,
+        ),
+      )
 
   all_marked_sourced : (parts : Forest) (form : Form) (all : Forest) (names : Names) (front : Bool) →
       AllSourced parts → SourcedMarks (marked_parts form all names front parts)

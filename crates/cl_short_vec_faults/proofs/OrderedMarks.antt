@@ -37,7 +37,7 @@ mutual
   marked_ordered names (node form w f l none) h = (h, omega arith)
   marked_ordered names (node form w f l (more p ps)) h = (
     ordered_le (node form w f l (more p ps)) h,
-    parts_ordered form (more p ps) names true (more p ps) f (suc l) h,
+    parts_ordered form (more p ps) (kinds.within form w names) true (more p ps) f (suc l) h,
   )
 
   parts_ordered : (form : _) (all : Forest) (names : Names) (front : Bool) (ps : Forest) (n m : ℕ) →

@@ -284,7 +284,8 @@ scalar_stands (node forms.UnaryNode w f l (more a none)) names role h o i r v =
 scalar_stands (node forms.TypeNode w f l (more a none)) names role h o i r v = absurd h
 scalar_stands (node form w f l (more a none)) names role h o i r v = own f l
 scalar_stands (node form w f l (more a (more b none))) names role h o i r v =
-    let n = later form (more a (more b none)) names true a in
-    two_has (λ (x y : ℕ). (x ≡ f) × (y ≤ l)) form (kind_at (marked names a)) (kind_at (marked n b)) w f l
-    (more a (more b none)) (scalar (marked names a)) (scalar (marked n b)) (own f l)
+    let inner = within form w names in
+    let n = later form (more a (more b none)) inner true a in
+    two_has (λ (x y : ℕ). (x ≡ f) × (y ≤ l)) form (kind_at (marked inner a)) (kind_at (marked n b)) w f l
+    (more a (more b none)) (scalar (marked inner a)) (scalar (marked n b)) (own f l)
 scalar_stands (node form w f l (more a (more b (more c cs)))) names role h o i r v = own f l

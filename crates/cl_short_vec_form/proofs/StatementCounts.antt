@@ -10,6 +10,8 @@ use Rattle.cl_meaning.specs.Declarations.{form_of}
 use Rattle.cl_limits.specs.Limits.{count_nodes, count_forest}
 use Rattle.cl_check_sound.specs.Shape.{IsType, IsParam, IsExpressionOf, IsDeclarationOf, IsSimpleOf, IsStatementOf}
 use Rattle.cl_check_sound.specs.Shape.{AreStatementsOf, AreLinesOf}
+use Rattle.cl_check_sound.specs.Shape.{IsBlockOf, IsHeadOf, IsResult, IsParams, IsDefinitionOf, BehindHeadsOf}
+use Rattle.cl_check_sound.specs.Shape.{IsFunctionOf, IsPrototypeOf, AreItemsOf, IsUnitOf}
 use Rattle.cl_short_vec.specs.declared.nodes.Span.{Span}
 use Rattle.cl_short_vec.specs.Kinds.{Names, within, later, is_vector}
 use Rattle.cl_short_vec.specs.Marks.{Mark, unmarked, tree_at, kind_at, marked, marked_parts}
@@ -118,10 +120,52 @@ mutual
   lines_typed (more p ps) (inl h, k) = (declaration_typed p h, lines_typed ps k)
   lines_typed (more p ps) (inr h, k) = (statement_typed p h, lines_typed ps k)
 
+block_typed : (t : Syntax) → IsBlockOf true t → IsTyped t
+block_typed (node forms.BlockNode w f l ps) h = lines_typed ps h
+block_typed t h = absurd h
+
+head_typed : (t : Syntax) → IsHeadOf true t → IsTyped t
+head_typed (node forms.HeadNode w f l ps) h = tt
+head_typed t h = absurd h
+
+result_typed : (t : Syntax) → IsResult t → IsTyped t
+result_typed (node forms.ResultNode w f l ps) h = tt
+result_typed t h = absurd h
+
+params_typed : (t : Syntax) → IsParams t → IsTyped t
+params_typed (node forms.ParamsNode w f l ps) h = tt
+params_typed t h = absurd h
+
+definition_typed : (ps : Forest) → IsDefinitionOf true ps → AreTyped ps
+definition_typed (more r (more p (more b none))) h =
+    (result_typed r h.0, (params_typed p h.1, (block_typed b h.2, tt)))
+definition_typed ps h = absurd h
+
+function_typed : (ps : Forest) → BehindHeadsOf true (IsDefinitionOf true) ps → AreTyped ps
+function_typed none h = absurd h
+function_typed (more (node form w f l qs) ps) (inl h) = (head_typed (node form w f l qs) h.0, function_typed ps h.1)
+function_typed (more (node form w f l qs) ps) (inr h) = definition_typed (more (node form w f l qs) ps) h
+
+item_typed : (t : Syntax) → IsFunctionOf true t ⊎ (IsPrototypeOf true t ⊎ IsDeclarationOf true t) → IsTyped t
+item_typed (node forms.FunctionNode w f l ps) (inl h) = function_typed ps h
+item_typed t (inl h) = absurd h
+item_typed (node forms.PrototypeNode w f l ps) (inr (inl h)) = tt
+item_typed t (inr (inl h)) = absurd h
+item_typed t (inr (inr h)) = declaration_typed t h
+
+items_typed : (ps : Forest) → AreItemsOf true ps → AreTyped ps
+items_typed none h = tt
+items_typed (more p ps) h = (item_typed p h.0, items_typed ps h.1)
+
+unit_typed : (t : Syntax) → IsUnitOf true t → IsTyped t
+unit_typed (node forms.UnitNode w f l ps) h = items_typed ps h
+unit_typed t h = absurd h
+
 part_typed : (t : Syntax) → IsPart t → IsTyped t
 part_typed t (inl h) = statement_typed t h
 part_typed t (inr (inl h)) = declaration_typed t h
-part_typed t (inr (inr h)) = param_typed t h
+part_typed t (inr (inr (inl h))) = param_typed t h
+part_typed t (inr (inr (inr h))) = unit_typed t h
 
 -- a type is short
 type_short : (t : Syntax) (names : Names) → IsType t → count_nodes (scalar (marked names t)) ≤ 2

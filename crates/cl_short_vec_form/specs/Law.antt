@@ -19,12 +19,12 @@ use Rattle.cl_short_vec_form.specs.Form.{IsScalarForm}
 use Rattle.cl_short_vec_form.specs.Sizes.{widest}
 use Rattle.cl_short_vec_form.specs.Stored.{stored, multiplied, elements_of}
 
--- a statement, a declaration or a parameter, as they are parsed
+-- a statement, a declaration, a parameter or a whole unit, as they are parsed
 abbrev pub IsPart : Syntax → Type 0
-IsPart t = IsStatementOf true t ⊎ (IsDeclarationOf true t ⊎ IsParam t)
+IsPart t = IsStatementOf true t ⊎ (IsDeclarationOf true t ⊎ (IsParam t ⊎ IsUnitOf true t))
 
--- What stands for a part, and for a line of a block, has at most 64 nodes for each of its nodes and each component of
--- its widest vector.
+-- What stands for the unit, for a part of it and for a line of a block has at most 64 nodes for each of its nodes and
+-- each component of its widest vector.
 abbrev pub FormsSmall : Type 0
 FormsSmall = (names : Names) (part : Syntax) → IsPart part →
     (count_nodes (scalarised (marked names part)) ≤ 64 * count_nodes part * widest (marked names part)) ×

@@ -4,8 +4,8 @@
 
 ghost use Rattle.cl_short_vec_form.specs.Law.{FormsAre, FormsLong, FormsPlain, FormsSmall, FormsStore};
 
-/// What stands for a statement, a declaration or a parameter has at most 64 n c nodes, where n is the number of its own
-/// nodes and c the number of components of its widest vector (OpenCL 1.2, section 6.1.2).
+/// What stands for a unit, a statement, a declaration or a parameter has at most 64 n c nodes, where n is the number of
+/// its own nodes and c the number of components of its widest vector (OpenCL 1.2, section 6.1.2).
 pub fn sizes_law()
     ensures { FormsSmall }
 {}
