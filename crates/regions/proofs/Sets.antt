@@ -1,12 +1,12 @@
 -- Lists that say of each cell whether it is live.
-use Rattle.std.proofs.Common.{◌≡◌, ◌≢◌, ℕ, suc, ◌+◌, ◌<◌, ◌≤◌, List, [], ◌∷◌, ◌++◌, append_assoc, length, get_or}
-use Rattle.std.proofs.Common.{drop, refl, ap, sym, ◌∙◌, arith, cond, below_more}
+use Rattle.std.proofs.Common.{◌≡◌, ◌≢◌, ℕ, zero, suc, ◌+◌, ◌<◌, ◌≤◌, List, [], ◌∷◌, ◌++◌, length, get_or}
+use Rattle.std.proofs.Common.{take, drop, add-one, zero-add, refl, ap, sym, ◌∙◌, arith, cond, below_more}
 use Rattle.std.specs.Prelude.{◌||◌, slice_set}
 use Rattle.std.specs.Prelude.{Bool as Test, true, false}
-use Rattle.std.proofs.lemmas.List.{get_or-set_same, get_or-set_other, length-set, drop_all}
+use Rattle.std.proofs.lemmas.List.{get_or-set_same, get_or-set_other, length-set, drop_all, append-nil}
 use Rattle.kir.specs.declared.line.Atom.{Atom}
 use Rattle.kir.specs.Live.{reads, some_reads}
-use Rattle.regions.specs.Living.{those, IsSet, Becomes}
+use Rattle.regions.specs.Living.{those, those_of, IsSet, Becomes}
 use Rattle.kir.proofs.Firsts.{first_left}
 
 -- a list of which the entries below a number have become what they are to be
@@ -117,25 +117,34 @@ marks_end old new all i done m =
 
 -- ---- the numbers of those that are live
 
-those_next : (n : ℕ) (b : Test) (set : List Test) → those n (b ∷ set) ≡ (cond b (n ∷ []) []) ++ those (suc n) set
-those_next n true set = refl
-those_next n false set = refl
+those_more : (set : List Test) (n first : ℕ) →
+    those first (take (suc n) set) ≡ those first (take n set) ++ cond (get_or set n false) ((first + n) ∷ []) []
+those_more [] zero first = refl
+those_more [] (suc n) first = refl
+those_more (true ∷ set) zero first = let same : first ≡ first + 0 = omega arith in ap (λ k. k ∷ []) same
+those_more (false ∷ set) zero first = refl
+those_more (true ∷ set) (suc n) first =
+    let same : suc first + n ≡ first + suc n = omega arith in
+    ap (λ l. first ∷ l) (those_more set n (suc first) ∙
+    ap (λ k. those (suc first) (take n set) ++ cond (get_or set n false) (k ∷ []) []) same)
+those_more (false ∷ set) (suc n) first =
+    let same : suc first + n ≡ first + suc n = omega arith in
+    those_more set n (suc first) ∙
+    ap (λ k. those (suc first) (take n set) ++ cond (get_or set n false) (k ∷ []) []) same
 
-pub those_found : (set : List Test) (list : List ℕ) (i n : ℕ) (b : Test) → i < length set → b ≡ get_or set i b →
-    b ≡ true → n ≡ i → list ++ those n (drop i set) ≡ those 0 set →
-    (list ++ n ∷ []) ++ those (n + 1) (drop (i + 1) set) ≡ those 0 set
-those_found set list i n b lt is live at same =
-    let one : suc n ≡ n + 1 = omega arith in
-    append_assoc list (n ∷ []) (those (n + 1) (drop (i + 1) set))
-    ∙ (ap (λ x. list ++ n ∷ those x (drop (i + 1) set)) (sym one)
-    ∙ (ap (λ x. list ++ those n (x ∷ drop (i + 1) set)) (sym live) ∙
-    (ap (λ x. list ++ those n x) (sym (first_left set i b lt is)) ∙ same)))
+those_then : (set : List Test) (n : ℕ) (b : Test) → get_or set n false ≡ b →
+    those_of (n + 1) set ≡ those_of n set ++ cond b (n ∷ []) []
+those_then set n b e =
+    ap (λ k. those 0 (take k set)) (add-one n) ∙ (those_more set n 0 ∙
+    (ap (λ c. those 0 (take n set) ++ cond c ((0 + n) ∷ []) []) e ∙
+    ap (λ k. those 0 (take n set) ++ cond b (k ∷ []) []) (zero-add n)))
 
-pub those_passed : (set : List Test) (list : List ℕ) (i n : ℕ) (b : Test) → i < length set → b ≡ get_or set i b →
-    b ≡ false → n ≡ i → list ++ those n (drop i set) ≡ those 0 set →
-    list ++ those (n + 1) (drop (i + 1) set) ≡ those 0 set
-those_passed set list i n b lt is dead at same =
-    let one : suc n ≡ n + 1 = omega arith in
-    ap (λ x. list ++ those x (drop (i + 1) set)) (sym one)
-    ∙ (ap (λ x. list ++ those n (x ∷ drop (i + 1) set)) (sym dead) ∙
-    (ap (λ x. list ++ those n x) (sym (first_left set i b lt is)) ∙ same))
+pub those_found : (set : List Test) (list longer : List ℕ) (n : ℕ) (b : Test) → b ≡ get_or set n false → b ≡ true →
+    longer ≡ list ++ n ∷ [] → list ≡ those_of n set → longer ≡ those_of (n + 1) set
+those_found set list longer n b is live e same =
+    e ∙ (ap (λ l. l ++ n ∷ []) same ∙ sym (those_then set n true (sym is ∙ live)))
+
+pub those_passed : (set : List Test) (list : List ℕ) (n : ℕ) (b : Test) → b ≡ get_or set n false → b ≡ false →
+    list ≡ those_of n set → list ≡ those_of (n + 1) set
+those_passed set list n b is dead same =
+    same ∙ (sym (append-nil (those_of n set)) ∙ sym (those_then set n false (sym is ∙ dead)))

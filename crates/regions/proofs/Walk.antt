@@ -4,7 +4,7 @@ use Rattle.std.proofs.Common.{Some, None, refl, ap, ap₂, sym, ◌∙◌, subst
 use Rattle.std.specs.Prelude.{◌||◌, slice_index_or}
 use Rattle.std.specs.Prelude.{Bool as Test, true, false}
 use Rattle.std.specs.declared.vec.Vec.{Vec}
-use Rattle.std.proofs.lemmas.List.{drop_all}
+use Rattle.std.proofs.lemmas.List.{drop_all, take_all}
 use Rattle.std.proofs.lemmas.Bool.{true≢false, false≢true}
 use Rattle.kir.specs.declared.line.Atom.{Atom}
 use Rattle.kir.specs.declared.line.Line.{Line}
@@ -20,7 +20,7 @@ use Rattle.regions.specs.declared.splitting.Cut.{Cut}
 use Rattle.regions.specs.declared.splitting.Ending.{Ending}
 use Rattle.regions.specs.Tree.{RegionOf, Tree, NoRegion, RegionThen, VoteThen, LoopThen}
 use Rattle.regions.specs.Split.{until_cut, live_from, region_to, cut_into}
-use Rattle.regions.specs.Living.{those, IsSet, IsPassing, Becomes, through, answer_live}
+use Rattle.regions.specs.Living.{those, those_of, IsSet, IsPassing, Becomes, through, answer_live}
 use Rattle.regions.specs.Cutting.{region_with, stacked, ended_by, ended, cut_by, AreLiveAt}
 use Rattle.kir.proofs.Firsts.{first_left, or_none}
 use Rattle.regions.proofs.Sets.{set_becomes, set_as}
@@ -45,9 +45,10 @@ those_live_from k (false ∷ set) n each =
 
 -- those of a set that says it of each cell
 pub those_live : (cells : ℕ) (set : List Test) (k : Tasks) → IsSet cells set (λ c. live_behind c k) →
-    those 0 set ≡ live_from 0 cells k
+    those_of cells set ≡ live_from 0 cells k
 those_live cells set k is =
-    those_live_from k set 0 (λ c lt. let e : c ≡ 0 + c = omega arith in
+    ap (those 0) (take_all cells set (let q = is.count in omega (arith, q)))
+    ∙ those_live_from k set 0 (λ c lt. let e : c ≡ 0 + c = omega arith in
     is.each c (let q = is.count in omega (arith, q, lt)) ∙ ap (λ m. live_behind m k) e)
     ∙ ap (λ n. live_from 0 n k) is.count
 
@@ -193,7 +194,7 @@ whole_cut cells ends first at (BarrierThen site rest) k e = absurd (true≢false
 -- such lines are one region
 pub whole_region : (cells : ℕ) (ends : Option Atom) (at : Place) (L : Lines) (k : Tasks) (behind : List Test)
     (list : List ℕ) (region : RegionOf) → holds_barrier L ≡ false → IsSet cells behind (λ c. live_behind c k)
-    → list ≡ those 0 behind → region ≡ region_with L ends list →
+    → list ≡ those_of cells behind → region ≡ region_with L ends list →
     RegionThen region NoRegion ≡ cut_into cells ends (until_cut L) at L k
 whole_region cells ends at L k behind list region quiet is listed e =
     ap (λ r. RegionThen r NoRegion) (e ∙ ap (region_with L ends) (listed ∙ those_live cells behind k is))
@@ -215,7 +216,7 @@ pub record Walked (cells : ℕ) (ends : Option Atom) (now behind : List Test) (l
 
 module _ (cells : ℕ) (ends : Option Atom) (now behind : List Test) (lines : List Line) where
   pub walked_start : (e : Ending) (dead live : List Test) → e.end ≡ length lines → e.answer ≡ ends →
-      e.live.items ≡ those 0 behind → e.choice ≡ None → e.behind.items ≡ [] → IsPassing cells NoLine dead live
+      e.live.items ≡ those_of cells behind → e.choice ≡ None → e.behind.items ≡ [] → IsPassing cells NoLine dead live
       → Walked cells ends now behind lines (length lines) e dead live
   walked_start e dead live at_end answer listed none nothing p =
       let gone : drop (length lines) lines ≡ [] = drop_all (length lines) lines (omega arith) in
@@ -290,7 +291,7 @@ module _ (cells : ℕ) (ends : Option Atom) (now behind : List Test) (lines : Li
       cut_by cut first (live_from 0 cells (LinesAt at (line_before l rest) k))
       (cut_into cells ends (until_cut rest) (Behind ∷ at) rest k))
       → e'.end ≡ j → ((first : Lines) →
-      ended first e' ≡ cut_by cut first (those 0 here)
+      ended first e' ≡ cut_by cut first (those_of cells here)
       (ended (lines_of (take (e.end - (j + 1)) (drop (j + 1) lines))) e))
       → Walked cells ends now behind lines j e' d1 l1
   walked_cut j l e e' dead live d1 l1 after here cut w lt is holds step b_after b_here cuts at_end closes =
@@ -340,7 +341,7 @@ module _ (cells : ℕ) (after : List Test) where
       yes_tree ≡ cut_into cells None (until_cut (lines_of chosen.items)) at (lines_of chosen.items) k)
       → ((at : Place) (k : Tasks) → AreLiveAt cells after after k →
       no_tree ≡ cut_into cells None (until_cut (lines_of other.items)) at (lines_of other.items) k)
-      → mixed ≡ record { lines = line_before l NoLine; answer = None; from_vote = false; live = those 0 after }
+      → mixed ≡ record { lines = line_before l NoLine; answer = None; from_vote = false; live = those_of cells after }
       → (ends : Option Atom) (first : Lines) (at : Place) (rest : Lines) (k : Tasks) →
       IsSet cells after (λ c. live_in c rest (live_now c k))
       → cut_into cells ends first at (line_before l rest) k ≡
@@ -390,7 +391,7 @@ module _ (cells : ℕ) (after : List Test) where
       test_tree ≡ cut_into cells (Some answer) (until_cut (lines_of test.items)) at (lines_of test.items) k)
       → ((at : Place) (k : Tasks) → AreLiveAt cells before_test before_test k →
       body_tree ≡ cut_into cells None (until_cut (lines_of body.items)) at (lines_of body.items) k)
-      → others ≡ record { lines = line_before l NoLine; answer = None; from_vote = true; live = those 0 after }
+      → others ≡ record { lines = line_before l NoLine; answer = None; from_vote = true; live = those_of cells after }
       → (ends : Option Atom) (first : Lines) (at : Place) (rest : Lines) (k : Tasks) →
       IsSet cells after (λ c. live_in c rest (live_now c k))
       → cut_into cells ends first at (line_before l rest) k

@@ -1,5 +1,5 @@
 -- Which cells are live, for all cells at once: a list says it of each.
-use Rattle.std.specs.Prelude.{◌≡◌, ℕ, suc, ◌<◌, List, [], ◌∷◌, length, ◌||◌, slice_index_or, cond}
+use Rattle.std.specs.Prelude.{◌≡◌, ℕ, suc, ◌<◌, List, [], ◌∷◌, length, take, ◌||◌, slice_index_or, cond}
 use Rattle.std.specs.Prelude.{Bool as Test, true, false}
 use Rattle.kir.specs.declared.line.Atom.{Atom}
 use Rattle.kir.specs.Tree.{Lines}
@@ -10,6 +10,10 @@ abbrev pub those : ℕ → List Test → List ℕ
 those first [] = []
 those first (true ∷ set) = first ∷ those (suc first) set
 those first (false ∷ set) = those (suc first) set
+
+-- those of so many cells
+abbrev pub those_of : (cells : ℕ) → List Test → List ℕ
+those_of cells set = those 0 (take cells set)
 
 -- the list says of each of so many cells whether it passes the test
 pub record IsSet (cells : ℕ) (set : List Test) (test : ℕ → Test) : Type 0 where

@@ -5,7 +5,7 @@ ghost use Rattle.std.specs.Prelude.{IfOk, OnOk, replicate, length, slice_index_o
 ghost use Rattle.kir.specs.Tree.{Lines, NoLine};
 ghost use Rattle.kir.specs.Listed.{line_before, lines_of, work_of};
 ghost use Rattle.kir.specs.Live.{reads, some_reads, work_reads};
-ghost use Rattle.regions.specs.Living.{those, Becomes, IsPassing, through, before_if, before_answer, before_loop};
+ghost use Rattle.regions.specs.Living.{those_of, Becomes, IsPassing, through, before_if, before_answer, before_loop};
 
 use kir::{Atom, Line, Work};
 use std::alloc::Global;
@@ -20,7 +20,7 @@ pub(crate) struct Passing {
 }
 
 /// So many cells, all live or all dead.
-pub(crate) fn all_cells(alloc: Global, cells: usize, live: bool) -> Result<Vec<bool>, Memory>
+pub(crate) fn all_cells(alloc: Global, cells: u32, live: bool) -> Result<Vec<bool>, Memory>
     ensures { IfOk result (λ set. set.items ≡ replicate cells live) }
 {
     let mut set = Vec::new(alloc);
@@ -40,30 +40,6 @@ pub(crate) fn copy_cells(alloc: Global, set: &[bool]) -> Result<Vec<bool>, Memor
     }
 }
 
-fn add_cell(list: &mut Vec<u32>, cell: usize) -> Result<(), Memory>
-    ensures { OnOk result (list.new.items ≡ list.old.items ++ cell ∷ []) }
-{
-    match u32::try_from(cell) {
-        Ok(cell) => push(list, cell),
-        Err(_) => Err(Memory),
-    }
-}
-
-/// The numbers of the cells that are live.
-pub(crate) fn listed_cells(alloc: Global, set: &[bool]) -> Result<Vec<u32>, Memory>
-    ensures { IfOk result (λ list. list.items ≡ those 0 set.now) }
-{
-    let mut list = Vec::new(alloc);
-    let mut cell = 0usize;
-    for live in set {
-        if *live {
-            add_cell(&mut list, cell)?;
-        }
-        cell += 1;
-    }
-    Ok(list)
-}
-
 /// The entry of a set with this number; dead where there is none.
 fn entry(set: &[bool], cell: usize) -> bool
     ensures { result ≡ slice_index_or set.now cell false }
@@ -72,6 +48,19 @@ fn entry(set: &[bool], cell: usize) -> bool
         Some(live) => *live,
         None => false,
     }
+}
+
+/// The numbers of those of so many cells that are live.
+pub(crate) fn listed_cells(alloc: Global, cells: u32, set: &[bool]) -> Result<Vec<u32>, Memory>
+    ensures { IfOk result (λ list. list.items ≡ those_of cells set.now) }
+{
+    let mut list = Vec::new(alloc);
+    for cell in 0..cells {
+        if entry(set, cell as usize) {
+            push(&mut list, cell)?;
+        }
+    }
+    Ok(list)
 }
 
 /// A cell that is set is dead before that.
@@ -236,7 +225,7 @@ fn live_before_loop(
 }
 
 /// What no lines make of so many cells.
-pub(crate) fn pass_none(alloc: Global, cells: usize) -> Result<Passing, Memory>
+pub(crate) fn pass_none(alloc: Global, cells: u32) -> Result<Passing, Memory>
     ensures { IfOk result (λ p. IsPassing cells NoLine p.dead.items p.live.items) }
 {
     let dead = all_cells(alloc, cells, false)?;
@@ -246,7 +235,7 @@ pub(crate) fn pass_none(alloc: Global, cells: usize) -> Result<Passing, Memory>
 
 /// What lines make of so many cells.
 #[cycle(live)]
-pub(crate) fn pass_lines(alloc: Global, cells: usize, lines: &[Line]) -> Result<Passing, Memory>
+pub(crate) fn pass_lines(alloc: Global, cells: u32, lines: &[Line]) -> Result<Passing, Memory>
     ensures { IfOk result (λ p. IsPassing cells (lines_of lines.now) p.dead.items p.live.items) }
 {
     let mut passing = pass_none(alloc, cells)?;
@@ -262,7 +251,7 @@ pub(crate) fn pass_lines(alloc: Global, cells: usize, lines: &[Line]) -> Result<
 #[cycle(live)]
 pub(crate) fn pass_line(
     alloc: Global,
-    cells: usize,
+    cells: u32,
     line: &Line,
     behind: &mut Passing,
 ) -> Result<(), Memory>

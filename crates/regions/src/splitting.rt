@@ -14,7 +14,7 @@ ghost use Rattle.regions.specs.View.{region_of, tree_before, IsOneRegion};
 ghost use Rattle.regions.specs.Split.{until_cut, live_from, cut_into, split_of};
 ghost use Rattle.regions.specs.Fragments.{EachRegion, IsPiece};
 ghost use Rattle.regions.specs.TreeRun.{RunsInterleave};
-ghost use Rattle.regions.specs.Living.{those, IsSet, answer_live};
+ghost use Rattle.regions.specs.Living.{those_of, IsSet, answer_live};
 ghost use Rattle.regions.specs.Cutting.{region_with, stacked, ended_by, ended, cut_by, AreLiveAt};
 
 use crate::copying::{copy_line, copy_lines};
@@ -87,7 +87,7 @@ fn cut_kernel(alloc: Global, kernel: &Kernel) -> Result<RegionTree, Memory>
     ensures cut { IfOk result (λ t. tree_before t NoRegion ≡ split_of (kernel_of kernel.now)) }
     ensures one { IfOk result (λ t. holds_barrier (kernel_of kernel.now).body ≡ false → IsOneRegion t) }
 {
-    let cells = kernel.cells.len();
+    let cells = kernel.cells.len() as u32;
     let none = all_cells(alloc, cells, false)?;
     cut_lines(alloc, cells, &kernel.body, None, &none, &none)
 }
@@ -97,7 +97,7 @@ fn cut_kernel(alloc: Global, kernel: &Kernel) -> Result<RegionTree, Memory>
 #[cycle(cut)]
 fn cut_lines(
     alloc: Global,
-    cells: usize,
+    cells: u32,
     lines: &[Line],
     ends: Option<Atom>,
     now: &Vec<bool>,
@@ -107,7 +107,7 @@ fn cut_lines(
         tree_before t NoRegion ≡ cut_into cells ends (until_cut (lines_of lines.now)) at (lines_of lines.now) k) }
     ensures one { IfOk result (λ t. holds_barrier (lines_of lines.now) ≡ false → IsOneRegion t) }
 {
-    let live = listed_cells(alloc, behind)?;
+    let live = listed_cells(alloc, cells, behind)?;
     if !lines_hold(lines) {
         let region = region_of_lines(alloc, lines, ends, live)?;
         return Ok(RegionTree::Items(region));
@@ -129,7 +129,7 @@ fn cut_lines(
             let cut = cut_line(alloc, cells, line, &after)?;
             pass_line(alloc, cells, line, &mut passing)?;
             let here = live_before(alloc, now, &passing)?;
-            ending = end_before(alloc, lines, i, cut, &here, ending)?;
+            ending = end_before(alloc, cells, lines, i, cut, &here, ending)?;
         } else {
             pass_line(alloc, cells, line, &mut passing)?;
         }
@@ -140,7 +140,7 @@ fn cut_lines(
 
 /// What becomes of a line that is a barrier or holds one, behind which the cells `now` are live.
 #[cycle(cut)]
-fn cut_line(alloc: Global, cells: usize, line: &Line, now: &Vec<bool>) -> Result<Cut, Memory>
+fn cut_line(alloc: Global, cells: u32, line: &Line, now: &Vec<bool>) -> Result<Cut, Memory>
     requires { holds_barrier (line_before line.now NoLine) ≡ true }
     ensures { IfOk result (λ cut. (ends : Option Atom) (first : Lines) (at : Place) (rest : Lines) (k : Tasks) →
         IsSet cells now.now.items (λ c. live_in c rest (live_now c k))
@@ -152,7 +152,7 @@ fn cut_line(alloc: Global, cells: usize, line: &Line, now: &Vec<bool>) -> Result
         Line::If { test, yes, no, .. } => {
             let yes = cut_part(alloc, cells, yes, None, now, now)?;
             let no = cut_part(alloc, cells, no, None, now, now)?;
-            let mixed = twin(alloc, line, now, false)?;
+            let mixed = twin(alloc, cells, line, now, false)?;
             Ok(Cut::Choice(*test, Choice { yes, no, mixed }))
         }
         Line::Loop {
@@ -171,7 +171,7 @@ fn cut_line(alloc: Global, cells: usize, line: &Line, now: &Vec<bool>) -> Result
             let ends = Some(*answer);
             let test = cut_part(alloc, cells, test, ends, &at_answer, &behind_answer)?;
             let body = cut_part(alloc, cells, body, None, &before_test, &before_test)?;
-            let rest = twin(alloc, line, now, true)?;
+            let rest = twin(alloc, cells, line, now, true)?;
             Ok(Cut::Loop(Round {
                 test_first: *test_first,
                 test,
@@ -198,7 +198,7 @@ struct Around {
 /// Those of a loop behind which the cells `now` are live.
 fn around_answer(
     alloc: Global,
-    cells: usize,
+    cells: u32,
     test: &[Line],
     answer: Atom,
     body: &[Line],
@@ -231,7 +231,7 @@ fn around_answer(
 #[cycle(cut)]
 fn cut_part(
     alloc: Global,
-    cells: usize,
+    cells: u32,
     lines: &[Line],
     ends: Option<Atom>,
     now: &Vec<bool>,
@@ -246,15 +246,21 @@ fn cut_part(
 }
 
 /// The plain twin of a line behind which the cells `now` are live: the line alone.
-fn twin(alloc: Global, line: &Line, now: &[bool], from_vote: bool) -> Result<Region, Memory>
+fn twin(
+    alloc: Global,
+    cells: u32,
+    line: &Line,
+    now: &[bool],
+    from_vote: bool,
+) -> Result<Region, Memory>
     ensures { IfOk result (λ r. region_of r ≡ record {
       lines = line_before line.now NoLine;
       answer = None;
       from_vote = from_vote;
-      live = those 0 now.now;
+      live = those_of cells now.now;
     }) }
 {
-    let live = listed_cells(alloc, now)?;
+    let live = listed_cells(alloc, cells, now)?;
     let line = copy_line(alloc, line)?;
     let mut lines = Vec::new(alloc);
     push(&mut lines, line)?;
@@ -288,6 +294,7 @@ fn region_of_lines(
 /// cells `here` are live, where the region behind it ends so.
 fn end_before(
     alloc: Global,
+    cells: u32,
     lines: &[Line],
     number: usize,
     cut: Cut,
@@ -298,11 +305,11 @@ fn end_before(
     requires within { ending.end ≤ length lines.now }
     ensures end { IfOk result (λ e. e.end ≡ number) }
     ensures ended { IfOk result (λ e. (first : Lines) →
-        ended first e ≡ cut_by cut first (those 0 here.now)
+        ended first e ≡ cut_by cut first (those_of cells here.now)
         (ended (lines_of (take (ending.end - (number + 1)) (drop (number + 1) lines.now))) ending)) }
 {
     let (behind, cut) = beside(close(alloc, lines, number + 1, ending), cut)?;
-    let (live, (behind, cut)) = beside(listed_cells(alloc, here), (behind, cut))?;
+    let (live, (behind, cut)) = beside(listed_cells(alloc, cells, here), (behind, cut))?;
     match cut {
         Cut::Barrier => Ok(Ending {
             end: number,

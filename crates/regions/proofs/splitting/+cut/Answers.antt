@@ -9,7 +9,7 @@ use Rattle.regions.specs.declared.splitting.Ending.{Ending}
 use Rattle.regions.specs.Tree.{NoRegion}
 use Rattle.regions.specs.View.{region_of, tree_before}
 use Rattle.regions.specs.Split.{until_cut, cut_into}
-use Rattle.regions.specs.Living.{those, IsSet, Becomes, through, answer_live}
+use Rattle.regions.specs.Living.{those_of, IsSet, Becomes, through, answer_live}
 use Rattle.regions.specs.Cutting.{AreLiveAt, ended, cut_by}
 use Rattle.regions.proofs.Walk.{whole_region, walked_start, walked_at, walked_quiet, walked_cut, cut_if, cut_loop}
 use Rattle.regions.proofs.splitting.+cut.Goals as goal
@@ -32,7 +32,7 @@ cut_line-returns-in_ok-mixed-in-If t c =
       lines = line_before c.args.line.now NoLine;
       answer = None;
       from_vote = false;
-      live = those 0 xs;
+      live = those_of c.args.cells xs;
     }) c.deref-in-If-2.ensures.value
     c.in_ok-mixed-in-If.ensures)
 
@@ -93,7 +93,7 @@ cut_line-returns-in_ok-rest-in-Loop t c =
       lines = line_before c.args.line.now NoLine;
       answer = None;
       from_vote = true;
-      live = those 0 xs;
+      live = those_of c.args.cells xs;
     }) c.deref-in-Loop-6.ensures.value
     c.in_ok-rest-in-Loop.ensures)
 
@@ -102,7 +102,7 @@ cut_lines-returns-then-not-lines_hold-clause-cut t c = λ at k is.
     whole_region c.args.cells c.args.ends at (lines_of c.args.lines.now) k c.args.behind.now.items
     c.in_ok-live.live.items (region_of c.in_ok-region.region) (sym c.lines_hold.ensures ∙
     c.if-not-lines_hold.true) is.there
-    (c.in_ok-live.ensures ∙ ap (those 0) c.deref.ensures.value) c.in_ok-region.ensures
+    (c.in_ok-live.ensures ∙ ap (those_of c.args.cells) c.deref.ensures.value) c.in_ok-region.ensures
 
 pub cut_lines-loop-i-init : goal.cut_lines-loop-i-init
 cut_lines-loop-i-init t c =
@@ -115,7 +115,7 @@ cut_lines-loop-i-init t c =
     } in
     walked_start c.args.cells c.args.ends c.args.now.now.items c.args.behind.now.items c.args.lines.now e
     c.in_ok-passing.passing.dead.items c.in_ok-passing.passing.live.items refl refl
-    (c.in_ok-live.ensures ∙ ap (those 0) c.deref.ensures.value) refl c.new.ensures.items c.in_ok-passing.ensures
+    (c.in_ok-live.ensures ∙ ap (those_of c.args.cells) c.deref.ensures.value) refl c.new.ensures.items c.in_ok-passing.ensures
 
 pub cut_lines-loop-i-preserved-then-line_holds : goal.cut_lines-loop-i-preserved-then-line_holds
 cut_lines-loop-i-preserved-then-line_holds t c =
@@ -143,7 +143,7 @@ cut_lines-loop-i-preserved-then-line_holds t c =
     c.in_ok-ending.ensures.end
     (subst (λ xs. (first : Lines) →
     ended first c.in_ok-ending.ending ≡
-    cut_by cut first (those 0 xs) (ended (lines_of (take (e.end - (i - 1 + 1)) (drop (i - 1 + 1) lines))) e))
+    cut_by cut first (those_of c.args.cells xs) (ended (lines_of (take (e.end - (i - 1 + 1)) (drop (i - 1 + 1) lines))) e))
     c.deref-then-line_holds-3.ensures.value c.in_ok-ending.ensures.ended)
 
 pub cut_lines-loop-i-preserved : goal.cut_lines-loop-i-preserved
