@@ -25,8 +25,8 @@ use std::alloc::Global;
 use wg_num::Memory;
 
 /// The lane code of a region of a kernel whose cells are kept as the plan says. It is the same at each width.
-/// `Memory` where an allocation is refused, and also where a number would pass 32 bits, where a built-in function has more
-/// than three arguments, and where the steps would be no code, as of a region that is none of the kernel's.
+/// `Memory` where an allocation is refused, and also where a number would pass 32 bits, and where the steps would be no
+/// code, as of a region that is none of the kernel's.
 pub fn lower_region(
     alloc: Global,
     region: &Region,

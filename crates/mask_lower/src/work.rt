@@ -1,6 +1,6 @@
 //! Lines that compute.
 
-ghost use Rattle.std.specs.Prelude.{◌≡◌, ◌++◌, ◌∷◌, [], slice_get, IfOk, OnOk};
+ghost use Rattle.std.specs.Prelude.{◌≡◌, ◌++◌, ◌∷◌, [], drop, slice_get, IfOk, OnOk};
 ghost use Rattle.kir.specs.Listed.{work_of};
 ghost use Rattle.mask_lower.specs.Atoms.{atoms_of};
 ghost use Rattle.mask_lower.specs.Registers.{frame_of, past};
@@ -167,6 +167,18 @@ struct Called {
     of: IntType,
 }
 
+/// The registers that are free for constants behind the arguments after the third, which no built-in function has.
+fn past_others(layout: &Layout, next: Free, args: &Vec<Atom>) -> Result<Free, Memory>
+    ensures { IfOk result (λ after. after ≡ past next (drop 3 args.now.items)) }
+{
+    let mut after = next;
+    for i in 3..args.len() {
+        let (_, behind) = read(&layout.cells, after, args[i])?;
+        after = behind;
+    }
+    Ok(after)
+}
+
 /// A built-in function takes three arguments at most.
 fn lower_builtin(
     code: &mut Vec<Step>,
@@ -181,9 +193,6 @@ fn lower_builtin(
         (code.new.items ≡ code.old.items ++ spec.builtin_code (frame_of layout.now) next what.f what.of
         args.now.items to mask ∷ []) × (after ≡ past next args.now.items)) }
 {
-    if args.len() > 3 {
-        return Err(Memory);
-    }
     let (a, next) = argument(layout, next, to, atom_of(args, 0))?;
     let (b, next) = argument(layout, next, to, atom_of(args, 1))?;
     let (c, next) = argument(layout, next, to, atom_of(args, 2))?;
@@ -199,7 +208,7 @@ fn lower_builtin(
             mask,
         },
     )?;
-    Ok(next)
+    past_others(layout, next, args)
 }
 
 /// The steps of a line that computes for this register; the registers that are free for constants
