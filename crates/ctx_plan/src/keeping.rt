@@ -1,7 +1,6 @@
 //! Which cells the text of a kernel names on both sides of a cut.
 
 ghost use Rattle.std.specs.Prelude.{◌≡◌, ◌∷◌, [], ◌||◌, replicate, None, IfOk};
-ghost use Rattle.std.specs.Prelude.{OnOk};
 ghost use Rattle.kir.specs.Tree.{NoLine};
 ghost use Rattle.kir.specs.Listed.{line_before, lines_of, work_of};
 ghost use Rattle.kir.specs.Cuts.{holds_barrier};
@@ -14,13 +13,14 @@ use kir::{Atom, Line, Work};
 use std::alloc::Global;
 use wg_num::Memory;
 
-/// Where cells are named: by the number of a cell, the number of the piece of the text between two cuts in which it
-/// was named first, from 0, and whether it was named in another one too; and the number of the present piece.
+/// Where cells are named: for each cell that is named, how many were named before it; whether a cell is named in a
+/// piece of the text between two cuts and in a later one; how many cells are named, and how many were at the last cut.
 #[derive(Drop)]
 pub struct Naming {
-    pub first: Vec<Option<u64>>,
+    pub first: Vec<Option<usize>>,
     pub across: Vec<bool>,
-    pub piece: u64,
+    pub count: usize,
+    pub before: usize,
 }
 
 /// A cell is named in the present piece.
@@ -31,9 +31,12 @@ fn name_cell(naming: &mut Naming, cell: u32)
     if cell < naming.first.len() && cell < naming.across.len() {
         let first = naming.first[cell];
         match first {
-            None => naming.first[cell] = Some(naming.piece),
-            Some(piece) => {
-                if piece != naming.piece {
+            None => {
+                naming.first[cell] = Some(naming.count);
+                naming.count = naming.count.saturating_add(1);
+            }
+            Some(number) => {
+                if number < naming.before {
                     naming.across[cell] = true;
                 }
             }
@@ -76,16 +79,12 @@ fn name_work(naming: &mut Naming, work: &Work)
 }
 
 /// The text goes on behind a cut, where there is one.
-fn pass_cut(naming: &mut Naming, cut: bool) -> Result<(), Memory>
-    ensures { OnOk result (Leads naming.old naming.new (cut_before cut [])) }
+fn pass_cut(naming: &mut Naming, cut: bool)
+    ensures { Leads naming.old naming.new (cut_before cut []) }
 {
     if cut {
-        match naming.piece.checked_add(1) {
-            Some(piece) => naming.piece = piece,
-            None => return Err(Memory),
-        }
+        naming.before = naming.count;
     }
-    Ok(())
 }
 
 /// Whether a barrier stands among either lines.
@@ -96,53 +95,49 @@ fn either_holds(first: &[Line], second: &[Line]) -> bool
 }
 
 #[cycle(naming)]
-fn name_lines(naming: &mut Naming, lines: &[Line]) -> Result<(), Memory>
-    ensures { OnOk result (Leads naming.old naming.new (pieces_of (lines_of lines.now))) }
+fn name_lines(naming: &mut Naming, lines: &[Line])
+    ensures { Leads naming.old naming.new (pieces_of (lines_of lines.now)) }
 {
     for line in lines {
-        name_line(naming, line)?;
+        name_line(naming, line);
     }
-    Ok(())
 }
 
 /// The cells that the lines of a branch, a test or a body name, behind a cut if there is one.
 #[cycle(naming)]
-fn name_part(naming: &mut Naming, cut: bool, lines: &[Line]) -> Result<(), Memory>
-    ensures { OnOk result (Leads naming.old naming.new (cut_before cut (pieces_of (lines_of lines.now)))) }
+fn name_part(naming: &mut Naming, cut: bool, lines: &[Line])
+    ensures { Leads naming.old naming.new (cut_before cut (pieces_of (lines_of lines.now))) }
 {
-    pass_cut(naming, cut)?;
-    name_lines(naming, lines)
+    pass_cut(naming, cut);
+    name_lines(naming, lines);
 }
 
 /// The cells that a line names, and its cuts, in the order of the text.
 #[cycle(naming)]
-fn name_line(naming: &mut Naming, line: &Line) -> Result<(), Memory>
-    ensures { OnOk result (Leads naming.old naming.new (pieces_of (line_before line.now NoLine))) }
+fn name_line(naming: &mut Naming, line: &Line)
+    ensures { Leads naming.old naming.new (pieces_of (line_before line.now NoLine)) }
 {
     match line {
         Line::Set { to, work } => {
             name_work(naming, work);
             name_cell(naming, *to);
-            Ok(())
         }
         Line::Load { to, index, .. } => {
             name_atom(naming, *index);
             name_cell(naming, *to);
-            Ok(())
         }
         Line::Store { index, from, .. } => {
             name_atom(naming, *index);
             name_atom(naming, *from);
-            Ok(())
         }
-        Line::Clear { .. } => Ok(()),
+        Line::Clear { .. } => {}
         Line::If { test, yes, no, .. } => {
             let cut = either_holds(yes, no);
-            pass_cut(naming, cut)?;
+            pass_cut(naming, cut);
             name_atom(naming, *test);
-            name_part(naming, cut, yes)?;
-            name_part(naming, cut, no)?;
-            pass_cut(naming, cut)
+            name_part(naming, cut, yes);
+            name_part(naming, cut, no);
+            pass_cut(naming, cut);
         }
         Line::Loop {
             test,
@@ -151,16 +146,16 @@ fn name_line(naming: &mut Naming, line: &Line) -> Result<(), Memory>
             ..
         } => {
             let cut = either_holds(test, body);
-            name_part(naming, cut, test)?;
+            name_part(naming, cut, test);
             name_atom(naming, *answer);
-            name_part(naming, cut, body)?;
-            pass_cut(naming, cut)
+            name_part(naming, cut, body);
+            pass_cut(naming, cut);
         }
         Line::Barrier { .. } => pass_cut(naming, true),
     }
 }
 
-fn not_named(alloc: Global, cells: usize) -> Result<Vec<Option<u64>>, Memory>
+fn not_named(alloc: Global, cells: usize) -> Result<Vec<Option<usize>>, Memory>
     ensures { IfOk result (λ v. v.items ≡ replicate cells None) }
 {
     let mut first = Vec::new(alloc);
@@ -181,9 +176,10 @@ pub(crate) fn named_across(alloc: Global, cells: usize, lines: &[Line]) -> Resul
     let mut naming = Naming {
         first,
         across,
-        piece: 0,
+        count: 0,
+        before: 0,
     };
-    name_lines(&mut naming, lines)?;
+    name_lines(&mut naming, lines);
     let Naming { across, .. } = naming;
     Ok(across)
 }

@@ -1,6 +1,5 @@
 use Rattle.std.proofs.Common.{[], ◌∷◌, ap, sym, ◌∙◌, subst}
 use Rattle.std.specs.Prelude.{◌||◌}
-use Rattle.std.proofs.lemmas.Result.{on_ok_weaker}
 use Rattle.kir.specs.Listed.{line_before, lines_of, work_of}
 use Rattle.kir.specs.Tree.{NoLine}
 use Rattle.kir.specs.Cuts.{holds_barrier}
@@ -19,35 +18,32 @@ name_line-returns-in-Set t c =
 pub name_lines-loop-line-preserved : goal.name_lines-loop-line-preserved
 name_lines-loop-line-preserved t c =
     lines_step c.args.naming.now c.loop-line.naming c.name_line.new.naming c.args.lines.now c.loop-line.line-index
-    c.line-item.result c.loop-line-test.true c.line-item.is c.loop-line.invariant c.in_ok-name_line.ensures
+    c.line-item.result c.loop-line-test.true c.line-item.is c.loop-line.invariant c.name_line.ensures
 
 pub name_part-returns : goal.name_part-returns
 name_part-returns t c =
-    on_ok_weaker c.name_lines.result (λ k.
     part_led c.args.naming.now c.pass_cut.new.naming c.name_lines.new.naming c.args.cut
-    (pieces_of (lines_of c.args.lines.now)) c.in_ok-pass_cut.ensures k) c.name_lines.ensures
+    (pieces_of (lines_of c.args.lines.now)) c.pass_cut.ensures c.name_lines.ensures
 
-pub name_line-returns-in_ok-name_part-in-If-2 : goal.name_line-returns-in_ok-name_part-in-If-2
-name_line-returns-in_ok-name_part-in-If-2 t c =
-    on_ok_weaker c.pass_cut-in-If.result (λ k.
+pub name_line-returns-in-If : goal.name_line-returns-in-If
+name_line-returns-in-If t c =
     if_led _ _ _ _ _ _ c.args.line.now c.in-If.site c.in-If.test c.in-If.yes c.in-If.no c.either_holds-cut.result
     c.in-If.is
     (c.either_holds-cut.ensures ∙
     (ap (λ xs. holds_barrier (lines_of xs) || holds_barrier (lines_of c.deref-in-If.result.now))
     c.deref.ensures.value ∙ ap (λ xs. holds_barrier (lines_of c.in-If.yes.items) ||
     holds_barrier (lines_of xs)) c.deref-in-If.ensures.value))
-    c.in_ok-pass_cut-in-If.ensures c.name_atom-in-If.ensures
+    c.pass_cut.ensures c.name_atom-in-If.ensures
     (subst (λ xs. Leads c.name_atom-in-If.new.naming c.name_part.new.naming
     (cut_before c.either_holds-cut.result (pieces_of (lines_of xs))))
-    c.deref-in-If-2.ensures.value c.in_ok-name_part-in-If.ensures)
+    c.deref-in-If-2.ensures.value c.name_part.ensures)
     (subst (λ xs. Leads c.name_part.new.naming c.name_part-in-If.new.naming
     (cut_before c.either_holds-cut.result (pieces_of (lines_of xs))))
-    c.deref-in-If-3.ensures.value c.in_ok-name_part-in-If-2.ensures)
-    k) c.pass_cut-in-If.ensures
+    c.deref-in-If-3.ensures.value c.name_part-in-If.ensures)
+    c.pass_cut-in-If.ensures
 
-pub name_line-returns-in_ok-name_part-in-Loop-2 : goal.name_line-returns-in_ok-name_part-in-Loop-2
-name_line-returns-in_ok-name_part-in-Loop-2 t c =
-    on_ok_weaker c.pass_cut-in-Loop.result (λ k.
+pub name_line-returns-in-Loop : goal.name_line-returns-in-Loop
+name_line-returns-in-Loop t c =
     loop_led _ _ _ _ _ c.args.line.now c.in-Loop.site c.in-Loop.test_first c.in-Loop.test c.in-Loop.answer
     c.in-Loop.body c.either_holds-cut-in-Loop.result c.in-Loop.is
     (c.either_holds-cut-in-Loop.ensures ∙
@@ -57,9 +53,9 @@ name_line-returns-in_ok-name_part-in-Loop-2 t c =
     c.deref-in-Loop-2.ensures.value))
     (subst (λ xs. Leads c.args.naming.now c.name_part-in-Loop.new.naming
     (cut_before c.either_holds-cut-in-Loop.result (pieces_of (lines_of xs))))
-    c.deref-in-Loop-3.ensures.value c.in_ok-name_part-in-Loop.ensures)
+    c.deref-in-Loop-3.ensures.value c.name_part-in-Loop.ensures)
     c.name_atom-in-Loop.ensures
     (subst (λ xs. Leads c.name_atom-in-Loop.new.naming c.name_part-in-Loop-2.new.naming
     (cut_before c.either_holds-cut-in-Loop.result (pieces_of (lines_of xs))))
-    c.deref-in-Loop-4.ensures.value c.in_ok-name_part-in-Loop-2.ensures)
-    k) c.pass_cut-in-Loop.ensures
+    c.deref-in-Loop-4.ensures.value c.name_part-in-Loop-2.ensures)
+    c.pass_cut-in-Loop.ensures

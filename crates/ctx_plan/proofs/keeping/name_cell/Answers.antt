@@ -15,10 +15,10 @@ returns-in-None c =
     let ok' = n.across.ok in
     let lt' : c.args.cell < length n.across.items = omega (arith, b, be, ok') in
     name_first n _ c.args.cell lt lt' refl (slice_get_read n.first.items (length n.first.items) c.args.cell
-    c.index-first.result.now refl lt c.index-first.ensures ∙ ap Some c.in-None.is) refl refl
+    c.index-first.result.now refl lt c.index-first.ensures ∙ ap Some c.in-None.is) refl refl (λ less. let g = c.saturating_add-naming.ensures in omega (arith, less, g, ok))
 
-pub returns-then-piece-naming : goal.returns-then-piece-naming
-returns-then-piece-naming c =
+pub returns-then-number-naming : goal.returns-then-number-naming
+returns-then-number-naming c =
     let n = c.args.naming.now in
     let a = c.if-cell-len.true in
     let ae = c.len.ensures in
@@ -28,12 +28,12 @@ returns-then-piece-naming c =
     let be = c.len-then-cell-len.ensures in
     let ok' = n.across.ok in
     let lt' : c.args.cell < length n.across.items = omega (arith, b, be, ok') in
-    name_across n _ c.args.cell lt lt' refl c.in-Some.piece (slice_get_read n.first.items (length n.first.items)
+    name_across n _ c.args.cell lt lt' refl c.in-Some.number (slice_get_read n.first.items (length n.first.items)
     c.args.cell c.index-first.result.now refl lt c.index-first.ensures ∙
-    ap Some c.in-Some.is) c.if-piece-naming.true refl refl
+    ap Some c.in-Some.is) c.if-number-naming.true refl refl refl
 
-pub returns-else-piece-naming : goal.returns-else-piece-naming
-returns-else-piece-naming c =
+pub returns-else-number-naming : goal.returns-else-number-naming
+returns-else-number-naming c =
     let n = c.args.naming.now in
     let a = c.if-cell-len.true in
     let ae = c.len.ensures in
@@ -43,6 +43,6 @@ returns-else-piece-naming c =
     let be = c.len-then-cell-len.ensures in
     let ok' = n.across.ok in
     let lt' : c.args.cell < length n.across.items = omega (arith, b, be, ok') in
-    name_again n _ c.args.cell lt lt' refl c.in-Some.piece (slice_get_read n.first.items (length n.first.items)
+    name_again n _ c.args.cell lt lt' refl c.in-Some.number (slice_get_read n.first.items (length n.first.items)
     c.args.cell c.index-first.result.now refl lt c.index-first.ensures ∙
-    ap Some c.in-Some.is) c.if-piece-naming.false refl refl
+    ap Some c.in-Some.is) c.if-number-naming.false refl refl refl
