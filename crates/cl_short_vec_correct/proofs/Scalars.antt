@@ -312,8 +312,8 @@ mutual
         (expression_is b (later forms.CallNode (more a (more b none)) inner true a) s.1.1.0 h.1.0, tt),
       )
   expression_is (node forms.CallNode w f l (more a (more b (more c cs)))) names s h =
-      let ps = more a (more b (more c cs)) in
-      expressions_are forms.CallNode ps (within forms.CallNode w names) true ps s.1 h
+      expressions_are forms.CallNode (more a (more b (more c cs))) (within forms.CallNode w names) true
+      (more a (more b (more c cs))) s.1 h
   expression_is t names s h = absurd h
 
   pub expressions_are : (form : Form) (all : Forest) (names : Names) (front : Bool) (ps : Forest) →
@@ -422,8 +422,8 @@ mutual
         (expression_is b (later forms.CallNode (more a (more b none)) inner true a) m.1.1.0 h.1.0, tt),
       )
   place_is (node forms.CallNode w f l (more a (more b (more d ds)))) names c s m z h =
-      let ps = more a (more b (more d ds)) in
-      expressions_are forms.CallNode ps (within forms.CallNode w names) true ps m.1 h
+      expressions_are forms.CallNode (more a (more b (more d ds))) (within forms.CallNode w names) true
+      (more a (more b (more d ds))) m.1 h
   place_is t names c s m z h = absurd h
 
 -- a list of initialisers

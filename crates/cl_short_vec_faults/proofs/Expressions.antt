@@ -32,6 +32,7 @@ use Rattle.cl_short_vec.specs.Scalar.{postfixed, scalar, scalars, component_at}
 use Rattle.cl_short_vec.proofs.Small.{SmallKind, mark_small, marked_small}
 use Rattle.cl_short_vec_faults.specs.PlainForm.{plain_of, plains_of}
 use Rattle.cl_short_vec_faults.specs.Plainly.{NoPoint, NoPoints, Plainly}
+use Rattle.cl_short_vec_faults.specs.Parts.{KnownAlone}
 use Rattle.cl_short_vec_faults.specs.Law.{Called, is_of_vectors, KindAs, ExpressionsFollow, ComponentsFollow}
 use Rattle.cl_short_vec_faults.proofs.Naming.{callee_same, plainly_inside, give_inside, alone_inside, other_callee}
 use Rattle.cl_short_vec_faults.proofs.Naming.{fence_callee}
@@ -62,6 +63,30 @@ small_at t names p s pl = mark_small (marked names t) (marked_small t names (sma
 indexes_some : (o : Option Postfix) → indexes o ≡ true → is_some o ≡ true
 indexes_some None h = absurd (false≢true h)
 indexes_some (Some q) h = refl
+
+-- the arguments of a call: those of a fence, and any others
+module _ (asked : Asked) (p s : Env) (names : Names) (q : List ℕ) (parts : Forest) (h : AreExpressionsOf true parts)
+    (alone : KnownAlone p) (owner : s.owner ≡ p.owner) (same : callee_of s q ≡ callee_of p q)
+    (there : not (is_some (callee_of p q)) ≡ false) (so : SoundHere asked (in_arguments p q) (plains_of parts))
+    (flags : is_fence_callee (callee_of p q) ≡ true → are_flags_alone (plains_of parts) ≡ true)
+    (others : AllStay (marked_parts forms.CallNode parts names true parts) → is_fence_callee (callee_of p q) ≡ false →
+    AllHave asked (in_arguments p q) (in_arguments s q) (plains_of parts)
+    (scalars (marked_parts forms.CallNode parts names true parts))) where
+  arguments : (b : Bool) → calls_fence (intrinsic_in q) ≡ b →
+      AllStay (marked_parts forms.CallNode parts (if b then with_fences names else names) true parts) →
+      AllHave asked (in_arguments p q) (in_arguments s q) (plains_of parts)
+      (scalars (marked_parts forms.CallNode parts (if b then with_fences names else names) true parts)) ×
+      (is_fence_callee (callee_of s q) ≡ true →
+      are_flags_alone (scalars (marked_parts forms.CallNode parts (if b then with_fences names else names) true parts)) ≡
+      true)
+  arguments true e st =
+      let f = fence_callee p q alone e there in
+      let x = fence_arguments asked (in_arguments p q) (in_arguments s q) f (ap is_fence_callee same ∙ f) owner parts
+      parts (with_fences names) h (fences_fenced names) st (flags f) so in
+      (x.0, λ i. x.1)
+  arguments false e st =
+      let o = other_callee p q (meaning_of p q) e in
+      (others st o, λ i. absurd (false≢true (sym o ∙ (sym (ap is_fence_callee same) ∙ i))))
 
 mutual
   unfolding scalar scalars marked marked_parts kind_by plain_of plains_of role_of
@@ -433,39 +458,15 @@ mutual
       let stay = parts_stay role t k ms (λ x y q. used_free k d.0) r in
       let here = call_here asked p place w f l (plains_of parts) (plains_made parts h) so in
       let same = callee_same names p s q pl n.0 here.1 in
-      let x = arguments asked p s names q parts (calls_fence (intrinsic_in q)) refl h n.1 pl g stay here.0 same here.1
-      here.2 in
+      let x = arguments asked p s names q parts h g.1 pl.owner same here.1 here.0 here.2 (λ st o.
+      claims asked (in_arguments p q) (in_arguments s q) parts names true parts h n.1 (plainly_inside names p s q pl same o)
+      (give_inside asked p q g.0, alone_inside p q g.1) st here.0) (calls_fence (intrinsic_in q)) refl stay in
       subst (λ z. Has asked p s place k (node forms.CallNode w f l (plains_of parts)) z)
       (sym (scalar_call w f l parts k ms))
       (subst (λ z. Has asked p s place z (node forms.CallNode w f l (plains_of parts))
       (node forms.CallNode w f l (scalars ms))) (sym (called_other (intrinsic_in (name_in w)) (vector_among ms) d.0))
       (call_claim asked p s place w f l (plains_of parts) (scalars ms) x.0 so g.0 same pl.owner x.1))
   claim asked p s names role place t h n pl g r v so = absurd h
-
-  -- the arguments of a call, where names stand for these
-  arguments : (asked : Asked) (p s : Env) (names : Names) (q : List ℕ) (parts : Forest) (b : Bool) →
-      calls_fence (intrinsic_in q) ≡ b → AreExpressionsOf true parts → NoPoints parts → Plainly names p s →
-      Called asked p →
-      AllStay (marked_parts forms.CallNode parts (if b then with_fences names else names) true parts) →
-      SoundHere asked (in_arguments p q) (plains_of parts) → callee_of s q ≡ callee_of p q →
-      not (is_some (callee_of p q)) ≡ false →
-      (is_fence_callee (callee_of p q) ≡ true → are_flags_alone (plains_of parts) ≡ true) →
-      AllHave asked (in_arguments p q) (in_arguments s q) (plains_of parts)
-      (scalars (marked_parts forms.CallNode parts (if b then with_fences names else names) true parts)) ×
-      (is_fence_callee (callee_of s q) ≡ true →
-      are_flags_alone (scalars (marked_parts forms.CallNode parts (if b then with_fences names else names) true parts)) ≡
-      true)
-  arguments asked p s names q parts true e h n pl g st so same u fl =
-      let f = fence_callee p q g.1 e u in
-      let x = fence_arguments asked (in_arguments p q) (in_arguments s q) f (ap is_fence_callee same ∙ f) pl.owner parts
-      parts (with_fences names) h (fences_fenced names) st (fl f) so in
-      (x.0, λ i. x.1)
-  arguments asked p s names q parts false e h n pl g st so same u fl =
-      let o = other_callee p q (meaning_of p q) e in (
-        claims asked (in_arguments p q) (in_arguments s q) parts names true parts h n
-            (plainly_inside names p s q pl same o) (give_inside asked p q g.0, alone_inside p q g.1) st so,
-        λ i. absurd (false≢true (sym o ∙ sym (ap is_fence_callee same) ∙ i)),
-      )
 
   claims : (asked : Asked) (p s : Env) (all : Forest) (names : Names) (front : Bool) (ps : Forest) →
       AreExpressionsOf true ps → NoPoints ps → Plainly names p s → Called asked p →

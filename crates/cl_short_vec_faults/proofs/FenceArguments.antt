@@ -118,7 +118,7 @@ module _ (asked : Asked) (p s : Env) (fp : p.flags ≡ true) (fs : s.flags ≡ t
       (j : vectors.Kind) × Kept j place names t
   unfolding marked marked_parts kind_by plain_of plains_of scalar role_of
   flags_claim (node forms.VariableNode w f l none) names role place h n r v e so =
-      (Other true, refl, flag_claim place w f l e so)
+      (Other true, (refl, flag_claim place w f l e so))
   flags_claim (node forms.VariableNode w f l (more a as')) names role place h n r v e so = absurd h
   flags_claim (node forms.ParenNode w f l none) names role place h n r v e so = absurd h
   flags_claim (node forms.ParenNode w f l (more a none)) names role place h n r v e so =
@@ -128,8 +128,10 @@ module _ (asked : Asked) (p s : Env) (fp : p.flags ≡ true) (fs : s.flags ≡ t
       (inl (plain_made a h), tt) so in
       let x = flags_claim a names _ roles.Other h n (part_none role t k (marked names a) r) v e here.0 in (
         x.0,
-        ap (λ z. node forms.ParenNode w f l (forest1 z)) x.1,
-        paren_claim asked p s place w f l x.0 (plain_of a) (plain_of a) ow x.2 so,
+        (
+          ap (λ z. node forms.ParenNode w f l (forest1 z)) x.1.0,
+          paren_claim asked p s place w f l x.0 (plain_of a) (plain_of a) ow x.1.1 so,
+        ),
       )
   flags_claim (node forms.ParenNode w f l (more a (more b bs))) names role place h n r v e so = absurd h
   flags_claim (node forms.BorNode w f l none) names role place h n r v e so = absurd h
@@ -148,10 +150,12 @@ module _ (asked : Asked) (p s : Env) (fp : p.flags ≡ true) (fs : s.flags ≡ t
       let y = one_flag b names' Free roles.Other h.2 n' stay.1.0 (free_no_vector b names' h.2 stay.1.0) d.1.0 d.1.1
       here.1.0 in (
         joined_kind (binary_in w) (Other true) (Other true),
-        ap (λ z. node forms.BorNode w f l (forest2 z (scalar (marked names' b)))) x.0 ∙
-            ap (λ z. node forms.BorNode w f l (forest2 (plain_of a) z)) y.0,
-        operator_claim asked p s place forms.BorNode refl w f l (Other true) (Other true) (plain_of a) (plain_of b)
-            (plain_of a) (plain_of b) x.1 y.1 so h.0 ow refl refl,
+        (
+          ap (λ z. node forms.BorNode w f l (forest2 z (scalar (marked names' b)))) x.0 ∙
+              ap (λ z. node forms.BorNode w f l (forest2 (plain_of a) z)) y.0,
+          operator_claim asked p s place forms.BorNode refl w f l (Other true) (Other true) (plain_of a) (plain_of b)
+              (plain_of a) (plain_of b) x.1 y.1 so h.0 ow refl refl,
+        ),
       )
   flags_claim (node forms.BorNode w f l (more a (more b (more c cs)))) names role place h n r v e so = absurd h
   flags_claim (node forms.PostfixNode w f l none) names role place h n r v e so = absurd h
@@ -172,7 +176,7 @@ module _ (asked : Asked) (p s : Env) (fp : p.flags ≡ true) (fs : s.flags ≡ t
   fence_arguments (more a none) all names h n st e so =
       let x = flags_claim a names Free roles.Other h.0 n st.0 (free_no_vector a names h.0 st.0) e so.0 in (
         one_more asked p s (plain_of a) (scalar (marked names a)) none none x.0
-            (subst (λ z. Has asked p s roles.Other x.0 (plain_of a) z) (sym x.1) x.2) (record {
+            (subst (λ z. Has asked p s roles.Other x.0 (plain_of a) z) (sym x.1.0) x.1.1) (record {
               kinds' = [];
               plain_made = tt;
               made = tt;
@@ -180,6 +184,6 @@ module _ (asked : Asked) (p s : Env) (fp : p.flags ≡ true) (fs : s.flags ≡ t
               form = refl;
               sound = tt;
             }),
-        ap are_flags x.1 ∙ e,
+        ap are_flags x.1.0 ∙ e,
       )
   fence_arguments (more a (more b bs)) all names h n st e so = absurd (false≢true e)

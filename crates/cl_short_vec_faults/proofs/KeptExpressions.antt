@@ -160,8 +160,8 @@ operand_stays names a (Some (prefixes.Step op)) h r v x y = x h r
 -- a node of two operands, which stand where a vector may if it is one
 operator_stays : (form : Form) (names : Names) (role : Role) (w : List ℕ) (f l : ℕ) (a b : Syntax) →
     let t = node form w f l (more a (more b none)) in
-    let m = marked names a in
-    let m' = marked (later form (more a (more b none)) names true a) b in
+    let m = marked (within form w names) a in
+    let m' = marked (later form (more a (more b none)) (within form w names) true a) b in
     let k = kind_at (marked names t) in
     let ms = marking m (marking m' unmarked) in one_component (mark t k ms) ≡ None →
     ((x y : Bool) (p : Mark) → role_of role (mark t k ms) x y p ≡ used_in k) → IsExpressionOf true a →
@@ -172,15 +172,16 @@ operator_stays : (form : Form) (names : Names) (role : Role) (w : List ℕ) (f l
 unfolding scalar marked marked_parts
 operator_stays form names role w f l a b one used ha hb r v x y =
     let t = node form w f l (more a (more b none)) in
-    let names' = later form (more a (more b none)) names true a in
-    let m = marked names a in
+    let inner = within form w names in
+    let names' = later form (more a (more b none)) inner true a in
+    let m = marked inner a in
     let m' = marked names' b in
     let k = kind_at (marked names t) in
     let ms = marking m (marking m' unmarked) in
     let d = apart role t k ms v in
     let stay = parts_stay role t k ms (λ i j p. used i j p ∙ used_free k d.0) r in
     two_stays t k m m' (scalar m) (scalar m') (two_by form (kind_at m) (kind_at m') t (scalar m) (scalar m')) one
-    (two_kept form (kind_at m) (kind_at m') t (scalar m) (scalar m')) (x stay.0 (free_apart a names ha stay.0))
+    (two_kept form (kind_at m) (kind_at m') t (scalar m) (scalar m')) (x stay.0 (free_apart a inner ha stay.0))
     (y stay.1.0 (free_apart b names' hb stay.1.0))
 
 mutual

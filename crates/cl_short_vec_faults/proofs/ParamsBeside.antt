@@ -348,7 +348,7 @@ module _ (asked : Asked) where
       let ow = fu.beside.plainly.owner in
       let once' = subst (λ o. (o.defining && is_declared s name) ≡ false) (sym ow)
       (not_twice p.owner.defining (is_declared p name) (is_declared s name) once
-      (last_declared n p.scopes s.scopes name is.0.0 fu.beside.scopes)) in
+      (last_declared n p.scopes s.scopes name is.0 fu.beside.scopes)) in
       let kernel' = subst (λ o. (o.kernel && given (first_type qs) (λ d. no_kernel_parameter d star)) ≡ false) (sym ow)
       kernel in
       let bp = param_leaves p w f l qs sh ∙ ap (λ z. with_parameter p name l z star) dt in

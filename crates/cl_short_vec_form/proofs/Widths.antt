@@ -124,6 +124,6 @@ components_wide (node form w f l none) names =
 components_wide (node form w f l (more a others)) names =
     let inner = within form w names in
     let rest = marked_parts form (more a others) (later form (more a others) inner true a) false others in
-    let h = by_wide inner form w (marking (marked inner a) rest) (components_of (marked inner a))
+    let h = by_wide names form w (marking (marked inner a) rest) (components_of (marked inner a))
     (widest (marked inner a)) (components_wide a inner) in
     omega arith
