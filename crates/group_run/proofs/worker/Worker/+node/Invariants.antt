@@ -4,6 +4,7 @@ use Rattle.lane_code.specs.View.{plain_of}
 use Rattle.lane_code.specs.Program.{work_of, code_of, names_of}
 use Rattle.lane_code.specs.Parts.{nodes_fit}
 use Rattle.lane_code.specs.Run.{items_end, work_end, rounds}
+use Rattle.lane_flat.specs.Trees.{AreFlatNodes}
 use Rattle.lane_machine.specs.Room.{HasRoomForEach, IsNoLess}
 use Rattle.lane_machine.specs.Machinery.{room_at}
 use Rattle.lane_machine.specs.Ends.{IsHeldFor}
@@ -12,16 +13,17 @@ use Rattle.group_run.proofs.NodeLaws.{node_weight, list_weight}
 use Rattle.group_run.proofs.worker.Worker.+node.Given as goal
 
 -- the nodes still to be done lead to the end of all
-abbrev pub invariant-nodes-loop-one : goal.invariant-nodes-loop-one
-invariant-nodes-loop-one l = record {
-  same : nodes_end (plain_of l.program) (launch_of l.launch) l.number (drop l.one-index l.one-items) l.self.turns
+abbrev pub invariant-nodes-loop-i : goal.invariant-nodes-loop-i
+invariant-nodes-loop-i l = record {
+  same : nodes_end (plain_of l.program) (launch_of l.launch) l.number (drop l.i l.nodes.items) l.self.turns
       l.self.group.kept (buffers_of l.buffers)
-      ≡ nodes_end (plain_of l.program) (launch_of l.launch) l.number l.one-items l.fn.self.turns l.fn.self.group.kept
+      ≡ nodes_end (plain_of l.program) (launch_of l.launch) l.number l.nodes.items l.fn.self.turns l.fn.self.group.kept
       (buffers_of l.fn.buffers);
-  fits : nodes_fit (names_of (plain_of l.program)) (drop l.one-index l.one-items) ≡ true;
-  each : HasRoomForEach (room_at l.program.width l.fn.self.machine) (drop l.one-index l.one-items);
+  fits : nodes_fit (names_of (plain_of l.program)) (drop l.i l.nodes.items) ≡ true;
+  each : HasRoomForEach (room_at l.program.width l.fn.self.machine) (drop l.i l.nodes.items);
   stands : IsHeldFor (plain_of l.program) (launch_of l.launch) l.number l.self.group;
   room : IsNoLess (room_at l.program.width l.fn.self.machine) (room_at l.program.width l.self.machine);
+  flat : AreFlatNodes (drop l.i l.nodes.items) (drop l.i l.flats.items);
 }
 
 -- the rounds from here on lead to the end of the loop
