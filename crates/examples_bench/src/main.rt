@@ -138,7 +138,7 @@ const STEPS: [Step; 12] = [
 
 /// The loop at a width.
 fn looping(alloc: Global, width: Width) -> Result<Example, Memory>
-    ensures { IfOk result (λ e. IsReady e.program e.launch e.machine e.group) }
+    ensures { IfOk result (λ e. IsReady e.program e.flat e.launch e.machine e.group) }
 {
     let Ok(steps) = STEPS.to_vec(alloc) else {
         return Err(Memory);

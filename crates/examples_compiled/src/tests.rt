@@ -9,6 +9,7 @@ use crate::{Ready, buffers_for, made_ready};
 use cl_model::{Buffers, Launch};
 use group_run::Launcher;
 use lane_code::{GroupProgram, Node, RegionEnd, RunEnd};
+use lane_flat::flat_code;
 use lane_machine::{Group, Machine};
 use std::alloc::Global;
 use std::test::Fail;
@@ -170,12 +171,14 @@ fn operations(alloc: Global, ready: &Ready) -> Result<Option<u64>, Memory>
     let Node::Items(code) = &ready.group.top else {
         return Ok(None);
     };
+    let flat = flat_code(alloc, code)?;
     let mut buffers = buffers_for(alloc, &ready.launch)?;
     let mut machine = boxed(alloc, Machine::new(alloc, &ready.group)?)?;
     let mut group = boxed(alloc, Group::new(alloc, &ready.group, &ready.launch)?)?;
     let mut turns = 1000;
     let end = machine.region(
         code,
+        &flat,
         &ready.group,
         &ready.launch,
         &mut buffers,

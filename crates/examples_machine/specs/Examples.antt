@@ -13,6 +13,8 @@ use Rattle.lane_code.specs.declared.code.Counts.{Counts}
 use Rattle.lane_code.specs.declared.program.GroupProgram.{GroupProgram}
 use Rattle.lane_code.specs.Fits.{Names}
 use Rattle.lane_code.specs.View.{plain_of}
+use Rattle.lane_flat.specs.declared.tree.FlatNode.{FlatNode}
+use Rattle.lane_flat.specs.Trees.{flats_of, IsFlatWork}
 use Rattle.lane_machine.specs.Held.{Held}
 use Rattle.lane_machine.specs.Machinery.{Machinery, room_at}
 use Rattle.lane_machine.specs.Room.{HasRoomFor}
@@ -42,11 +44,12 @@ names = record { params = params; tables = 0; locals = 0; privates = 1; columns 
 abbrev pub counts : Counts
 counts = record { narrow = 4; wide = 4; masks = 2; scalars = 2 }
 
--- the program, the launch, the machine and the group go together
-pub record IsReady (p : GroupProgram) (l : Launch) (m : Machinery) (g : Held) : Type 0 where
+-- the program, its flat codes, the launch, the machine and the group go together
+pub record IsReady (p : GroupProgram) (f : FlatNode) (l : Launch) (m : Machinery) (g : Held) : Type 0 where
   pub launched : launch_of l ≡ launch
   pub parameters : p.params.items ≡ params
   pub arrays : p.locals.items ≡ []
   pub made : IsGroupOf (plain_of p) (launch_of l) g.kept
   pub first : g.number ≡ 0
   pub room : HasRoomFor (room_at p.width m) (plain_of p).top
+  pub flat : IsFlatWork (plain_of p).top (flats_of f)

@@ -7,6 +7,7 @@ ghost use Rattle.examples_machine.specs.Examples.{launch, params, names, counts,
 
 use cl_model::{Bound, Buffers, Launch, Root, Space, VarKind};
 use lane_code::{Code, Counts, GroupProgram, Node, RegionEnd, Step};
+use lane_flat::{FlatNode, flat_tree};
 use lane_machine::{Group, Machine};
 use std::alloc::Global;
 use wg_num::{IntType, Memory, Place, Width, Word};
@@ -17,6 +18,7 @@ use wg_num::{IntType, Memory, Place, Width, Word};
 #[derive(Drop)]
 pub struct Example {
     pub program: GroupProgram,
+    pub flat: FlatNode,
     pub launch: Launch,
     pub machine: Machine,
     pub group: Group,
@@ -114,18 +116,24 @@ fn chunks_of(width: Width) -> u32
 fn run_chunk(
     machine: &mut Machine,
     program: &GroupProgram,
+    flat: &FlatNode,
     launch: &Launch,
     buffers: &mut Buffers,
     group: &mut Group,
     chunk: u32,
     turns: &mut u64,
 ) -> RegionEnd
-    requires ready { IsReady program.now launch.now machine.old group.old }
+    requires ready { IsReady program.now flat.now launch.now machine.old group.old }
     requires chunk { chunk < (20 + (lanes_of program.now.width - 1)) / lanes_of program.now.width }
-    ensures ready { IsReady program.now launch.now machine.new group.new }
+    ensures ready { IsReady program.now flat.now launch.now machine.new group.new }
 {
     match &program.top {
-        Node::Items(code) => machine.region(code, program, launch, buffers, group, chunk, turns),
+        Node::Items(code) => {
+            let FlatNode::Items(flat) = flat else {
+                unreachable!()
+            };
+            machine.region(code, flat, program, launch, buffers, group, chunk, turns)
+        }
         Node::Seq(_) | Node::Vote { .. } | Node::Loop { .. } => RegionEnd::Done,
     }
 }
@@ -135,15 +143,17 @@ impl Example {
     pub fn new(alloc: Global, width: Width, steps: Vec<Step>) -> Result<Example, Memory>
         requires well { is_code counts steps.items ≡ true }
         requires fits { code_fits names counts steps.items ≡ true }
-        ensures ready { IfOk result (λ e. IsReady e.program e.launch e.machine e.group) }
+        ensures ready { IfOk result (λ e. IsReady e.program e.flat e.launch e.machine e.group) }
         ensures width { IfOk result (λ e. e.program.width ≡ width) }
     {
         let program = program_of(alloc, width, steps)?;
+        let flat = flat_tree(alloc, &program.top)?;
         let launch = launched(alloc)?;
         let machine = Machine::new(alloc, &program)?;
         let group = Group::new(alloc, &program, &launch)?;
         Ok(Example {
             program,
+            flat,
             launch,
             machine,
             group,
@@ -152,14 +162,15 @@ impl Example {
 
     /// The code on one chunk.
     pub fn chunk(&mut self, buffers: &mut Buffers, chunk: u32, turns: &mut u64) -> RegionEnd
-        requires ready { IsReady self.old.program self.old.launch self.old.machine self.old.group }
+        requires ready { IsReady self.old.program self.old.flat self.old.launch self.old.machine self.old.group }
         requires chunk { chunk < (20 + (lanes_of self.old.program.width - 1)) / lanes_of self.old.program.width }
-        ensures ready { IsReady self.new.program self.new.launch self.new.machine self.new.group }
+        ensures ready { IsReady self.new.program self.new.flat self.new.launch self.new.machine self.new.group }
         ensures width { self.new.program.width ≡ self.old.program.width }
     {
         run_chunk(
             &mut self.machine,
             &self.program,
+            &self.flat,
             &self.launch,
             buffers,
             &mut self.group,
@@ -170,12 +181,13 @@ impl Example {
 
     /// The code on the first chunk.
     pub fn first_chunk(&mut self, buffers: &mut Buffers, turns: &mut u64) -> RegionEnd
-        requires ready { IsReady self.old.program self.old.launch self.old.machine self.old.group }
-        ensures ready { IsReady self.new.program self.new.launch self.new.machine self.new.group }
+        requires ready { IsReady self.old.program self.old.flat self.old.launch self.old.machine self.old.group }
+        ensures ready { IsReady self.new.program self.new.flat self.new.launch self.new.machine self.new.group }
     {
         run_chunk(
             &mut self.machine,
             &self.program,
+            &self.flat,
             &self.launch,
             buffers,
             &mut self.group,
@@ -186,8 +198,8 @@ impl Example {
 
     /// The code on each chunk, up to the first end that is not `Done`.
     pub fn chunks(&mut self, buffers: &mut Buffers, turns: &mut u64) -> RegionEnd
-        requires ready { IsReady self.old.program self.old.launch self.old.machine self.old.group }
-        ensures ready { IsReady self.new.program self.new.launch self.new.machine self.new.group }
+        requires ready { IsReady self.old.program self.old.flat self.old.launch self.old.machine self.old.group }
+        ensures ready { IsReady self.new.program self.new.flat self.new.launch self.new.machine self.new.group }
         ensures width { self.new.program.width ≡ self.old.program.width }
     {
         for chunk in 0..chunks_of(self.program.width) {
@@ -201,8 +213,8 @@ impl Example {
 
     /// The code on each chunk as a region, with the once slots of its start and its end.
     pub fn region(&mut self, buffers: &mut Buffers, turns: &mut u64) -> RegionEnd
-        requires ready { IsReady self.old.program self.old.launch self.old.machine self.old.group }
-        ensures ready { IsReady self.new.program self.new.launch self.new.machine self.new.group }
+        requires ready { IsReady self.old.program self.old.flat self.old.launch self.old.machine self.old.group }
+        ensures ready { IsReady self.new.program self.new.flat self.new.launch self.new.machine self.new.group }
         ensures width { self.new.program.width ≡ self.old.program.width }
     {
         self.group.begin();
@@ -213,8 +225,8 @@ impl Example {
 
     /// The group as at its start.
     pub fn clear(&mut self)
-        requires ready { IsReady self.old.program self.old.launch self.old.machine self.old.group }
-        ensures ready { IsReady self.new.program self.new.launch self.new.machine self.new.group }
+        requires ready { IsReady self.old.program self.old.flat self.old.launch self.old.machine self.old.group }
+        ensures ready { IsReady self.new.program self.new.flat self.new.launch self.new.machine self.new.group }
         ensures width { self.new.program.width ≡ self.old.program.width }
     {
         self.group.clear(0);

@@ -134,7 +134,7 @@ struct Seen {
 
 /// The code on the first chunk.
 fn on_first_chunk(example: Example, buffers: &mut Buffers) -> Seen
-    requires { IsReady example.program example.launch example.machine example.group }
+    requires { IsReady example.program example.flat example.launch example.machine example.group }
 {
     let mut example = example;
     let mut turns = 0;
@@ -146,7 +146,7 @@ fn on_first_chunk(example: Example, buffers: &mut Buffers) -> Seen
 }
 
 fn doubling(alloc: Global) -> Result<Example, Fail>
-    ensures { IfOk result (λ e. IsReady e.program e.launch e.machine e.group) }
+    ensures { IfOk result (λ e. IsReady e.program e.flat e.launch e.machine e.group) }
 {
     Ok(Example::new(alloc, Width::W8, DOUBLING.to_vec(alloc)?)?)
 }
@@ -225,7 +225,7 @@ const MARKING: [Step; 9] = [
 ];
 
 fn marking(alloc: Global) -> Result<Example, Fail>
-    ensures { IfOk result (λ e. IsReady e.program e.launch e.machine e.group) }
+    ensures { IfOk result (λ e. IsReady e.program e.flat e.launch e.machine e.group) }
 {
     Ok(Example::new(alloc, Width::W4, MARKING.to_vec(alloc)?)?)
 }
@@ -294,7 +294,7 @@ const STORING_BOOLS: [Step; 6] = [
 ];
 
 fn storing_bools(alloc: Global) -> Result<Example, Fail>
-    ensures { IfOk result (λ e. IsReady e.program e.launch e.machine e.group) }
+    ensures { IfOk result (λ e. IsReady e.program e.flat e.launch e.machine e.group) }
 {
     Ok(Example::new(alloc, Width::W8, STORING_BOOLS.to_vec(alloc)?)?)
 }
@@ -337,14 +337,14 @@ const VOTING: [Step; 5] = [
 ];
 
 fn voting(alloc: Global) -> Result<Example, Fail>
-    ensures { IfOk result (λ e. IsReady e.program e.launch e.machine e.group) }
+    ensures { IfOk result (λ e. IsReady e.program e.flat e.launch e.machine e.group) }
 {
     Ok(Example::new(alloc, Width::W16, VOTING.to_vec(alloc)?)?)
 }
 
 /// The answers of the group once the code has run on all chunks.
 fn answered(example: Example, buffers: &mut Buffers) -> Answers
-    requires { IsReady example.program example.launch example.machine example.group }
+    requires { IsReady example.program example.flat example.launch example.machine example.group }
 {
     let mut example = example;
     let mut turns = 0;

@@ -55,6 +55,7 @@ impl Worker {
     {
         self.machine.items(
             code,
+            flat,
             program,
             launch,
             buffers,

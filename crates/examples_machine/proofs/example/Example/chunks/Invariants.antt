@@ -4,6 +4,6 @@ use Rattle.examples_machine.proofs.example.Example.chunks.Given as goal
 
 abbrev pub invariant-loop-chunk : goal.invariant-loop-chunk
 invariant-loop-chunk l = record {
-  ready : IsReady l.self.program l.self.launch l.self.machine l.self.group;
+  ready : IsReady l.self.program l.self.flat l.self.launch l.self.machine l.self.group;
   width : l.self.program.width ≡ l.fn.self.program.width;
 }
