@@ -4,6 +4,7 @@
 use cl_model::Root;
 use lane_code::{Bank, Reg, Step};
 use lane_flat::{FlatStep, flat_of};
+use std::mem::size_of;
 use wg_num::{Bin, Fun, IntType, Un};
 
 /// A register of the bank.
@@ -308,4 +309,9 @@ fn what_is_rare_is_old(rt: HostRuntime) {
         })
     );
     assert!(rt; matches!(binary(Bin::Add, IntType::Int, Bank::Scalar), FlatStep::Old));
+}
+
+#[test]
+fn a_flat_step_has_24_bytes(rt: HostRuntime) {
+    assert_eq!(rt; size_of::<FlatStep>(), 24);
 }
