@@ -11,6 +11,7 @@ ghost use Rattle.lane_values.specs.Access.{is_within, is_fault, faults, put_elem
 ghost use Rattle.lane_kernels.specs.Vectors.{IsSize, IsNarrowSize, number_from, are_within};
 
 use crate::masks::is_full;
+use std::simd::prelude::*;
 use wg_num::IntType;
 
 /// How many bytes a value of the type has.
@@ -26,14 +27,14 @@ fn size_in_bytes(t: IntType) -> usize
     }
 }
 
-/// The number of the four bytes from a place on, lowest first.
+/// The number of the four bytes from a place on, lowest first, read as one vector, so that it is one load.
 #[inline(always)]
 fn four_bytes(bytes: &[u8], from: usize) -> u32
     requires { from + 4 ≤ length bytes.now }
     ensures { result ≡ number_l 256 (chunk from 4 bytes.now) }
 {
-    let high = bytes[from + 2] as u32 + 0x100 * bytes[from + 3] as u32;
-    bytes[from] as u32 + 0x100 * (bytes[from + 1] as u32 + 0x100 * high)
+    let four = Simd::<u8, 4>::from_slice(&bytes[from..from + 4]);
+    Simd::<u32, 1>::from_le_bytes(four).to_array()[0]
 }
 
 /// The number whose bytes stand at element `at`, lowest first.

@@ -7,6 +7,8 @@ ghost use Rattle.lane_values.specs.Lanes.{FitsLane, convert_lane};
 
 use crate::lanes32::{bias, extend32};
 use crate::lanes64::extend64;
+use crate::plain32::kept32;
+use crate::plain64::kept64;
 use crate::tally::Tally;
 use std::simd::prelude::*;
 use wg_num::IntType;
@@ -47,7 +49,7 @@ pub fn convert64<const W: usize>(
 
 /// Narrow lanes, read as values of `from`, as wide lanes.
 #[inline(always)]
-pub(crate) fn widened<const W: usize>(to: IntType, a: Simd<u32, W>, from: IntType) -> Simd<u64, W>
+pub fn widened<const W: usize>(to: IntType, a: Simd<u32, W>, from: IntType) -> Simd<u64, W>
     requires to { width_bits to ≡ 64 }
     requires from { FitsLane 32 from }
     ensures { result ≡ map (convert_lane 64 to from) a.entry }
@@ -99,6 +101,24 @@ pub(crate) fn narrowed<const W: usize>(to: IntType, a: Simd<u64, W>, from: IntTy
     ensures { result ≡ map (convert_lane 32 to from) a.entry }
 {
     extend32(to, low_halves(to, extend64(from, a)))
+}
+
+/// The low 32 bits.
+#[inline(always)]
+fn low_bits<const W: usize>(a: Simd<u64, W>) -> Simd<u32, W>
+    ensures { result ≡ map (λ x. x % 2 ^ 32) a.entry }
+{
+    (a & Simd::splat(0xffff_ffff)).cast::<u32>()
+}
+
+/// Wide lanes, read as values of `from`, as lanes of a type of 32 bits.
+#[inline(always)]
+pub fn low_words<const W: usize>(to: IntType, a: Simd<u64, W>, from: IntType) -> Simd<u32, W>
+    requires to { width_bits to ≡ 32 }
+    requires from { width_bits from ≡ 64 }
+    ensures { result ≡ map (convert_lane 32 to from) a.entry }
+{
+    kept32(to, low_bits(kept64(from, a)))
 }
 
 /// From wide lanes to narrow ones.

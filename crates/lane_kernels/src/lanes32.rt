@@ -268,7 +268,12 @@ fn are_at_most<const W: usize>(bias: u32, a: Simd<u32, W>, b: Simd<u32, W>) -> S
 
 /// Numbers whose low bits have the values that the operator gives.
 #[inline(always)]
-fn numbers32<const W: usize>(op: Bin, t: IntType, a: Simd<u32, W>, b: Simd<u32, W>) -> Simd<u32, W>
+pub(crate) fn numbers32<const W: usize>(
+    op: Bin,
+    t: IntType,
+    a: Simd<u32, W>,
+    b: Simd<u32, W>,
+) -> Simd<u32, W>
     requires narrow { FitsLane 32 t }
     requires left { Each1 (IsLane 32 t) a }
     requires right { is_shift op ≡ false → Each1 (IsLane 32 t) b }

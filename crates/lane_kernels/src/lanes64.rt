@@ -271,7 +271,12 @@ fn are_at_most<const W: usize>(bias: u64, a: Simd<u64, W>, b: Simd<u64, W>) -> S
 
 /// Numbers whose low bits have the values that the operator gives.
 #[inline(always)]
-fn numbers64<const W: usize>(op: Bin, t: IntType, a: Simd<u64, W>, b: Simd<u64, W>) -> Simd<u64, W>
+pub(crate) fn numbers64<const W: usize>(
+    op: Bin,
+    t: IntType,
+    a: Simd<u64, W>,
+    b: Simd<u64, W>,
+) -> Simd<u64, W>
     requires narrow { FitsLane 64 t }
     requires left { Each1 (IsLane 64 t) a }
     requires right { is_shift op ≡ false → Each1 (IsLane 64 t) b }
