@@ -3,6 +3,7 @@ pub mod Held
 pub mod Machinery
 pub mod Room
 pub mod Rows
+pub mod Sites
 pub mod Sizes
 pub mod Spots
 pub mod Standing

@@ -1,13 +1,14 @@
 //! The steps that load and store.
 ghost use Rattle.std.specs.Prelude.{◌≡◌, ◌≢◌, ◌<◌, ◌≤◌, ◌^◌, ℕ, [], length, map};
-ghost use Rattle.std.specs.Prelude.{slice_index_or};
+ghost use Rattle.std.specs.Prelude.{slice_index_or, None};
+ghost use Rattle.std.specs.Bool.{OnTrue, OnFalse};
 ghost use Rattle.cl_model.specs.Sizes.{Launch as PlainLaunch};
 ghost use Rattle.cl_model.specs.View.{buffers_of, launch_of};
 ghost use Rattle.lane_code.specs.Groups.{reached};
 ghost use Rattle.lane_code.specs.Registers.{Registers as PlainRegisters};
 ghost use Rattle.lane_code.specs.Program.{Plain};
 ghost use Rattle.lane_code.specs.View.{plain_of};
-ghost use Rattle.lane_code.specs.Acts.{shared_bytes, load_at, store_at};
+ghost use Rattle.lane_code.specs.Acts.{On, shared_bytes, load_at, store_at};
 ghost use Rattle.lane_code.specs.declared.step.Bank.TheVariants.{Wide, Mask, Scalar};
 ghost use Rattle.lane_machine.specs.State.{IsIn, FitsBank};
 ghost use Rattle.lane_machine.specs.Standing.{chunk_from, standing, accessed, reached_of, MayStore, MayWrite};
@@ -72,6 +73,7 @@ fn bytes_of<'a>(
 }
 
 /// A load of the active lanes; it answers the lowest active lane that is out of range.
+#[inline(always)]
 pub(crate) fn load_step<const W: usize>(
     r: &mut Registers<W>,
     object: Object,
@@ -110,6 +112,7 @@ pub(crate) fn load_step<const W: usize>(
 
 /// A store of the active lanes, as far as none is out of range; it answers the lowest active lane
 /// that is.
+#[inline(always)]
 pub(crate) fn store_step<const W: usize>(
     r: &Registers<W>,
     object: Object,
@@ -152,6 +155,7 @@ pub(crate) fn store_step<const W: usize>(
 }
 
 /// The load of a step, by the root that it names.
+#[inline(always)]
 pub(crate) fn load<const W: usize>(
     r: &mut Registers<W>,
     root: Root,
@@ -182,7 +186,59 @@ pub(crate) fn load<const W: usize>(
     load_step(r, object, access, group, buffers, setting, tally)
 }
 
+#[inline(always)]
+fn is_none(fault: Option<u32>) -> bool
+    ensures none { OnTrue result (fault ≡ None) }
+    ensures some { OnFalse result (fault ≢ None) }
+{
+    match fault {
+        None => true,
+        Some(_) => false,
+    }
+}
+
+/// The load of a step from an object that all lanes share, if no active lane is out of range.
+#[inline(always)]
+pub(crate) fn load_done<const W: usize>(
+    r: &mut Registers<W>,
+    root: Root,
+    access: Access,
+    group: &Group,
+    buffers: &Buffers,
+    setting: Setting,
+    tally: &mut Tally,
+) -> bool
+    requires lanes { W ≤ 64 }
+    requires first { setting.first < 2 ^ 32 }
+    requires fits { FitsBank access.of access.value.bank }
+    requires scalar { access.value.bank ≢ Scalar }
+    requires wide { access.index.bank ≡ Wide }
+    requires to { IsIn r.old.plain access.value }
+    requires index { access.index.number < length r.old.plain.wide }
+    requires mask { access.mask.number < length r.old.plain.masks }
+    ensures done { OnTrue result ((number site : ℕ)
+        → load_at (chunk_from (plain_of setting.entry.program.now) (launch_of setting.entry.launch.now) number
+        setting.entry.first W)
+        (standing r.old.plain group.now.kept (buffers_of buffers.now)) site access.of access.index access.value
+        access.mask
+        (reached (length setting.entry.program.now.locals.items) (launch_of setting.entry.launch.now) root)
+        ≡ On (standing r.new.plain group.now.kept (buffers_of buffers.now))) }
+    ensures kept { OnFalse result (r.new.plain ≡ r.old.plain) }
+    ensures room { r.new.room ≡ r.old.room }
+{
+    let object = object_of(setting.program, setting.launch, root);
+    match object {
+        Object::Private(_) => false,
+        Object::Buffer(_) | Object::Table(_) | Object::Local(_) | Object::Missing => {
+            let bytes = bytes_of(object, group, buffers, setting.program);
+            let fault = load_shared(r, bytes, access, tally);
+            is_none(fault)
+        }
+    }
+}
+
 /// The store of a step, by the root that it names.
+#[inline(always)]
 pub(crate) fn store<const W: usize>(
     r: &Registers<W>,
     root: Root,

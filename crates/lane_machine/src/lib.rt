@@ -8,6 +8,8 @@ mod chunks;
 mod clearing;
 mod dispatch;
 mod ends;
+mod flat;
+mod flat_operators;
 mod group_start;
 mod group_state;
 mod group_steps;

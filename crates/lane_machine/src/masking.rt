@@ -56,6 +56,7 @@ fn active64<const W: usize>(mask: [bool; W], a: Simd<u64, W>) -> [bool; W]
 }
 
 /// The lanes of both masks.
+#[inline(always)]
 pub(crate) fn and_step<const W: usize>(r: &mut Registers<W>, to: Reg, a: Reg, b: Reg)
     requires lanes { W ≤ 64 }
     requires to { to.number < length r.old.plain.masks }
@@ -69,6 +70,7 @@ pub(crate) fn and_step<const W: usize>(r: &mut Registers<W>, to: Reg, a: Reg, b:
 }
 
 /// The lanes of either mask.
+#[inline(always)]
 pub(crate) fn or_step<const W: usize>(r: &mut Registers<W>, to: Reg, a: Reg, b: Reg)
     requires lanes { W ≤ 64 }
     requires to { to.number < length r.old.plain.masks }
@@ -82,6 +84,7 @@ pub(crate) fn or_step<const W: usize>(r: &mut Registers<W>, to: Reg, a: Reg, b: 
 }
 
 /// The lanes of the one mask that are not in the other.
+#[inline(always)]
 pub(crate) fn less_step<const W: usize>(r: &mut Registers<W>, to: Reg, a: Reg, b: Reg)
     requires lanes { W ≤ 64 }
     requires to { to.number < length r.old.plain.masks }
@@ -114,6 +117,7 @@ fn test_wide<const W: usize>(r: &mut Registers<W>, to: Reg, from: Reg, mask: Reg
 }
 
 /// The active lanes whose value is not 0.
+#[inline(always)]
 pub(crate) fn test_step<const W: usize>(r: &mut Registers<W>, to: Reg, from: Reg, mask: Reg)
     requires lanes { W ≤ 64 }
     requires to { to.number < length r.old.plain.masks }

@@ -34,6 +34,7 @@ pub(crate) fn const_step<const W: usize>(r: &mut Registers<W>, to: Reg, number: 
 }
 
 /// Copies a register into one of the same bank.
+#[inline(always)]
 pub(crate) fn copy_step<const W: usize>(r: &mut Registers<W>, to: Reg, from: Reg, mask: Reg)
     requires lanes { W ≤ 64 }
     requires to { IsIn r.old.plain to }
@@ -67,6 +68,7 @@ pub(crate) fn copy_step<const W: usize>(r: &mut Registers<W>, to: Reg, from: Reg
 }
 
 /// The scalar into every lane of a register.
+#[inline(always)]
 pub(crate) fn spread_step<const W: usize>(r: &mut Registers<W>, to: Reg, from: Reg)
     requires to { IsIn r.old.plain to }
     requires from { from.number < length r.old.plain.scalars }
@@ -94,6 +96,7 @@ pub(crate) fn lowest_place<const W: usize>(mask: [bool; W]) -> Option<u32>
 }
 
 /// The scalar becomes the value of the lowest active lane of a register.
+#[inline(always)]
 pub(crate) fn first_step<const W: usize>(
     r: &mut Registers<W>,
     to: Reg,
@@ -121,7 +124,8 @@ pub(crate) fn first_step<const W: usize>(
     }
 }
 
-fn convert_narrow<const W: usize>(
+#[inline(always)]
+pub(crate) fn convert_narrow<const W: usize>(
     r: &mut Registers<W>,
     to: Reg,
     kind: IntType,

@@ -43,7 +43,8 @@ fn one_builtin(f: Fun, t: IntType, p: u64, q: u64, s: u64, tally: &mut Tally) ->
     builtin64(f, t, first, second, third, tally).to_array()[0]
 }
 
-fn unary_narrow<const W: usize>(
+#[inline(always)]
+pub(crate) fn unary_narrow<const W: usize>(
     r: &mut Registers<W>,
     op: Un,
     out: Output,
@@ -137,7 +138,8 @@ pub(crate) fn unary_step<const W: usize>(
     }
 }
 
-fn binary_narrow<const W: usize>(
+#[inline(always)]
+pub(crate) fn binary_narrow<const W: usize>(
     r: &mut Registers<W>,
     op: Bin,
     out: Output,
@@ -267,7 +269,8 @@ pub(crate) fn binary_step<const W: usize>(
     }
 }
 
-fn builtin_narrow<const W: usize>(
+#[inline(always)]
+pub(crate) fn builtin_narrow<const W: usize>(
     r: &mut Registers<W>,
     f: Fun,
     out: Output,

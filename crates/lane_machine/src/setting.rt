@@ -2,12 +2,14 @@
 
 use cl_model::Launch;
 use lane_code::{Code, Counts, GroupProgram, Step};
+use lane_flat::FlatStep;
 
 /// A region that is to be run: its code, the program and the launch that it belongs to, and the
 /// number of the chunk in its group.
 #[derive(Clone, Copy)]
 pub(crate) struct Task<'a> {
     pub code: &'a Code,
+    pub flat: &'a [FlatStep],
     pub program: &'a GroupProgram,
     pub launch: &'a Launch,
     pub chunk: u32,
@@ -18,6 +20,7 @@ pub(crate) struct Task<'a> {
 #[derive(Clone, Copy)]
 pub(crate) struct Setting<'a> {
     pub steps: &'a [Step],
+    pub flat: &'a [FlatStep],
     pub counts: Counts,
     pub program: &'a GroupProgram,
     pub launch: &'a Launch,

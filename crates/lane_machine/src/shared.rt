@@ -127,6 +127,7 @@ fn load_some<const W: usize>(
     }
 }
 
+#[inline(always)]
 fn load_narrow<const W: usize>(
     r: &mut Registers<W>,
     bytes: &[u8],
@@ -217,6 +218,7 @@ fn load_wide<const W: usize>(
 }
 
 /// Loads the active lanes; or answers the lowest active lane that is out of range.
+#[inline(always)]
 pub(crate) fn load_shared<const W: usize>(
     r: &mut Registers<W>,
     bytes: &[u8],

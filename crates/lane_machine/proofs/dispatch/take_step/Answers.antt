@@ -9,8 +9,8 @@ use Rattle.lane_machine.proofs.dispatch.take_step.Goals as goal
 pub returns-in-SkipNone-clause-act : goal.returns-in-SkipNone-clause-act
 returns-in-SkipNone-clause-act g c =
     let a = c.args in
-    let chunk = chunk_from (plain_of a.setting.program.now) (launch_of a.setting.launch.now) a.group.now.number
-    a.setting.first g.row.W in
+    let chunk = chunk_from (plain_of a.setting.now.program.now) (launch_of a.setting.now.launch.now) a.group.now.number
+    a.setting.now.first g.row.W in
     let now = standing a.r.now.plain a.group.now.kept (buffers_of a.buffers.now) in
     subst (λ (x : Step). act chunk x now ≡ acted c.skip_none.result now) (sym c.in-SkipNone.is)
     (c.skip_none.ensures.act chunk a.group.now.kept (buffers_of a.buffers.now))
@@ -18,8 +18,8 @@ returns-in-SkipNone-clause-act g c =
 pub returns-in-SkipZero-clause-act : goal.returns-in-SkipZero-clause-act
 returns-in-SkipZero-clause-act g c =
     let a = c.args in
-    let chunk = chunk_from (plain_of a.setting.program.now) (launch_of a.setting.launch.now) a.group.now.number
-    a.setting.first g.row.W in
+    let chunk = chunk_from (plain_of a.setting.now.program.now) (launch_of a.setting.now.launch.now) a.group.now.number
+    a.setting.now.first g.row.W in
     let now = standing a.r.now.plain a.group.now.kept (buffers_of a.buffers.now) in
     subst (λ (x : Step). act chunk x now ≡ acted c.skip_zero.result now) (sym c.in-SkipZero.is)
     (c.skip_zero.ensures.act chunk a.group.now.kept (buffers_of a.buffers.now))
@@ -27,8 +27,8 @@ returns-in-SkipZero-clause-act g c =
 pub returns-in-Turn-clause-act : goal.returns-in-Turn-clause-act
 returns-in-Turn-clause-act g c =
     let a = c.args in
-    let chunk = chunk_from (plain_of a.setting.program.now) (launch_of a.setting.launch.now) a.group.now.number
-    a.setting.first g.row.W in
+    let chunk = chunk_from (plain_of a.setting.now.program.now) (launch_of a.setting.now.launch.now) a.group.now.number
+    a.setting.now.first g.row.W in
     let now = standing a.r.now.plain a.group.now.kept (buffers_of a.buffers.now) in
     subst (λ (x : Step). act chunk x now ≡ acted c.turn.result now) (sym c.in-Turn.is)
     (c.turn.ensures.act chunk a.group.now.kept (buffers_of a.buffers.now))
@@ -36,8 +36,8 @@ returns-in-Turn-clause-act g c =
 pub returns-in-Mark-clause-act : goal.returns-in-Mark-clause-act
 returns-in-Mark-clause-act g c =
     let a = c.args in
-    let chunk = chunk_from (plain_of a.setting.program.now) (launch_of a.setting.launch.now) a.group.now.number
-    a.setting.first g.row.W in
+    let chunk = chunk_from (plain_of a.setting.now.program.now) (launch_of a.setting.now.launch.now) a.group.now.number
+    a.setting.now.first g.row.W in
     let now = standing a.r.now.plain a.group.now.kept (buffers_of a.buffers.now) in
     subst (λ (x : Step). act chunk x now ≡ acted c.mark.result now) (sym c.in-Mark.is)
     (c.mark.ensures.act chunk a.group.now.kept (buffers_of a.buffers.now))

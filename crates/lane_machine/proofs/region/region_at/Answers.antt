@@ -8,6 +8,7 @@ use Rattle.lane_code.specs.View.{plain_of}
 use Rattle.lane_code.specs.Program.{names_of}
 use Rattle.lane_code.specs.Fits.{all_steps, step_fits}
 use Rattle.lane_code.specs.Meaning.{Ended}
+use Rattle.lane_flat.specs.Stands.{IsFlat}
 use Rattle.lane_machine.specs.Standing.{HasCounts}
 use Rattle.lane_machine.proofs.ReadyLaws.{right}
 use Rattle.lane_machine.proofs.RegionLaws.{started, region_is}
@@ -74,6 +75,8 @@ run-requires g c =
     right (nat_lt 0 counts.masks) (tests a.task.code.now.steps.items) c.requires.code in
     let code : all_steps (step_fits names counts (length c.deref.result.now)) 0 c.deref.result.now ≡ true =
     subst (λ s. tests s ≡ true) (sym c.deref.ensures.value) fits in
+    let flat : IsFlat c.deref.result.now a.task.flat.now =
+    subst (λ (s : List Step). IsFlat s a.task.flat.now) (sym c.deref.ensures.value) c.requires.flat in
     let registers : HasCounts counts c.restart.new.self.plain =
     started counts g.row.W c.whole-size.result c.first_in-first.result c.restart.new.self.plain
     c.restart.ensures.written in (
@@ -88,7 +91,7 @@ run-requires g c =
               subst (λ n. c.first_in-first.result < n) e c.first_in-first.ensures.below,
               (
                 c.requires.sizes,
-                (code, (registers, c.requires.names)),
+                (code, (flat, (registers, c.requires.names))),
               ),
             ),
           ),

@@ -32,12 +32,15 @@ region_at-requires c =
             (
               c.requires.code,
               (
-                sizes,
+                c.requires.flat,
                 (
-                  c.requires.chunk,
+                  sizes,
                   (
-                    c.requires.number,
-                    ((has_names p (launch_of c.args.launch.now) c.args.group.now.kept c.requires.made), there),
+                    c.requires.chunk,
+                    (
+                      c.requires.number,
+                      ((has_names p (launch_of c.args.launch.now) c.args.group.now.kept c.requires.made), there),
+                    ),
                   ),
                 ),
               ),
@@ -70,12 +73,15 @@ region_at-requires-in-W4 c =
             (
               c.requires.code,
               (
-                sizes,
+                c.requires.flat,
                 (
-                  c.requires.chunk,
+                  sizes,
                   (
-                    c.requires.number,
-                    ((has_names p (launch_of c.args.launch.now) c.args.group.now.kept c.requires.made), there),
+                    c.requires.chunk,
+                    (
+                      c.requires.number,
+                      ((has_names p (launch_of c.args.launch.now) c.args.group.now.kept c.requires.made), there),
+                    ),
                   ),
                 ),
               ),
@@ -108,12 +114,15 @@ region_at-requires-in-W8 c =
             (
               c.requires.code,
               (
-                sizes,
+                c.requires.flat,
                 (
-                  c.requires.chunk,
+                  sizes,
                   (
-                    c.requires.number,
-                    ((has_names p (launch_of c.args.launch.now) c.args.group.now.kept c.requires.made), there),
+                    c.requires.chunk,
+                    (
+                      c.requires.number,
+                      ((has_names p (launch_of c.args.launch.now) c.args.group.now.kept c.requires.made), there),
+                    ),
                   ),
                 ),
               ),
@@ -146,12 +155,15 @@ region_at-requires-in-W16 c =
             (
               c.requires.code,
               (
-                sizes,
+                c.requires.flat,
                 (
-                  c.requires.chunk,
+                  sizes,
                   (
-                    c.requires.number,
-                    ((has_names p (launch_of c.args.launch.now) c.args.group.now.kept c.requires.made), there),
+                    c.requires.chunk,
+                    (
+                      c.requires.number,
+                      ((has_names p (launch_of c.args.launch.now) c.args.group.now.kept c.requires.made), there),
+                    ),
                   ),
                 ),
               ),
