@@ -22,7 +22,8 @@ leads_then a b c xs ys l m = record {
   naming = λ e. m.naming (l.naming e);
   same =
       λ e d lt lt' rest.
-      m.same (l.naming e) d (let q = l.first_count in omega (arith, q)) (let q = l.across_count in omega (arith, q)) rest
+      m.same (l.naming e) d (let q = l.first_count in omega (arith, q)) (let q = l.across_count in omega (arith, q))
+      rest
       ∙ (l.same e d lt lt' (ys ++ rest) ∙ ap (is_across a d) (sym (append_assoc xs ys rest)));
 }
 
@@ -134,7 +135,8 @@ module _ (n n' : Naming) (d : ℕ) (in_first : d < length n.first.items) (in_acr
       let b0 = e.before in
       record {
         count = count ∙ (c0 ∙ sym (ap named_among first));
-        numbers = λ c p is. let r = e.numbers c p (sym (ap (λ xs. slice_get xs c) first) ∙ is) in omega (arith, r, count);
+        numbers =
+            λ c p is. let r = e.numbers c p (sym (ap (λ xs. slice_get xs c) first) ∙ is) in omega (arith, r, count);
         before = omega (arith, b0, count, stays);
       }
 
@@ -178,7 +180,8 @@ module _ (n n' : Naming) (d : ℕ) (in_first : d < length n.first.items) (in_acr
           let one = count_one e in
           omega (arith, r, one)
 
-      at_same : IsNaming n → (c : ℕ) → d ≡ c → (rest : List Piece) → is_across n' c rest ≡ is_across n c (Names d ∷ rest)
+      at_same : IsNaming n → (c : ℕ) → d ≡ c → (rest : List Piece) →
+          is_across n' c rest ≡ is_across n c (Names d ∷ rest)
       at_same e c q rest =
           let there : slice_get n'.first.items c ≡ Some (Some n.count) = ap (λ xs. slice_get xs c) first ∙
           (ap (slice_get (slice_set n.first.items d (Some n.count))) (sym q) ∙
@@ -312,7 +315,8 @@ not_there (suc cells) (suc c) lt = not_there cells c (omega (arith, lt))
 
 -- from a start at which nothing is named
 pub named_whole : (cells : ℕ) (start last : Naming) (pieces : List Piece) → start.first.items ≡ replicate cells None →
-    start.across.items ≡ replicate cells false → start.count ≡ 0 → start.before ≡ 0 → Leads start last pieces → last.across.items ≡ named_from 0 cells pieces
+    start.across.items ≡ replicate cells false → start.count ≡ 0 → start.before ≡ 0 →
+    Leads start last pieces → last.across.items ≡ named_from 0 cells pieces
 named_whole cells start last pieces first across none_yet begun l =
     ext_get_or false last.across.items (named_from 0 cells pieces) (count ∙
     sym (named_count 0 cells pieces)) (λ c lt. each c (omega (arith, lt, count)))
@@ -347,7 +351,8 @@ named_whole cells start last pieces first across none_yet begun l =
         let zero_c : c ≡ 0 + c = omega arith in
         sym (or_nothing (get_or last.across.items c false) (adds_across c (slice_get last.first.items c) last.before
         []) (adds_nothing c (slice_get last.first.items c) last.before))
-        ∙ (l.same (record { count = counted; numbers = none_early; before = omega (arith, begun) }) c (let q = ap length first ∙ length-replicate cells None in
+        ∙ (l.same (record { count = counted; numbers = none_early; before = omega (arith, begun) }) c
+        (let q = ap length first ∙ length-replicate cells None in
         omega (arith, lt, q)) (let q = ap length across ∙ length-replicate cells false in
         omega (arith, lt, q)) []
         ∙ (ap (λ b. b || adds_across c (slice_get start.first.items c) start.before (pieces ++ [])) dead

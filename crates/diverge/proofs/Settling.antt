@@ -36,7 +36,8 @@ enough_first program s e =
 split : (program : Program) (k : ℕ) (s t : State) (b : Bool) → t ≡ round program s → t.grew ≡ b →
     rounds program (suc k) s ≡ (if b then rounds program k t else t)
 split program k s t b h g =
-    ap (λ (u : State). if u.grew then rounds program k u else u) (sym h) ∙ ap (λ c. if c then rounds program k t else t) g
+    ap (λ (u : State). if u.grew then rounds program k u else u) (sym h) ∙
+    ap (λ c. if c then rounds program k t else t) g
 
 less_after : (program : Program) (s t : State) (b : Bool) → t ≡ round program s → t.grew ≡ b →
     all_lacking t.rows + counts b ≤ all_lacking s.rows

@@ -21,7 +21,8 @@ past_three next (a ∷ []) = refl
 past_three next (a ∷ b ∷ []) = refl
 past_three next (a ∷ b ∷ c ∷ rest) = refl
 
-pub others_end : (after r : Free) (args : List Atom) (i : ℕ) → length args ≤ i → past after (drop i args) ≡ r → after ≡ r
+pub others_end : (after r : Free) (args : List Atom) (i : ℕ) → length args ≤ i → past after (drop i args) ≡ r →
+    after ≡ r
 others_end after r args i done h = sym (ap (past after) (drop_all i args done)) ∙ h
 
 pub builtin_read : (f : Frame) (next n1 n2 n3 n4 : Free) (g : Fun) (of : IntType) (args : List Atom)

@@ -15,7 +15,8 @@ returns-in-None c =
     let ok' = n.across.ok in
     let lt' : c.args.cell < length n.across.items = omega (arith, b, be, ok') in
     name_first n _ c.args.cell lt lt' refl (slice_get_read n.first.items (length n.first.items) c.args.cell
-    c.index-first.result.now refl lt c.index-first.ensures ∙ ap Some c.in-None.is) refl refl (λ less. let g = c.saturating_add-naming.ensures in omega (arith, less, g, ok))
+    c.index-first.result.now refl lt c.index-first.ensures ∙ ap Some c.in-None.is) refl refl
+    (λ less. let g = c.saturating_add-naming.ensures in omega (arith, less, g, ok))
 
 pub returns-then-number-naming : goal.returns-then-number-naming
 returns-then-number-naming c =

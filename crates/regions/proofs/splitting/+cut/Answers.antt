@@ -115,7 +115,8 @@ cut_lines-loop-i-init t c =
     } in
     walked_start c.args.cells c.args.ends c.args.now.now.items c.args.behind.now.items c.args.lines.now e
     c.in_ok-passing.passing.dead.items c.in_ok-passing.passing.live.items refl refl
-    (c.in_ok-live.ensures ∙ ap (those_of c.args.cells) c.deref.ensures.value) refl c.new.ensures.items c.in_ok-passing.ensures
+    (c.in_ok-live.ensures ∙ ap (those_of c.args.cells) c.deref.ensures.value) refl c.new.ensures.items
+    c.in_ok-passing.ensures
 
 pub cut_lines-loop-i-preserved-then-line_holds : goal.cut_lines-loop-i-preserved-then-line_holds
 cut_lines-loop-i-preserved-then-line_holds t c =
@@ -143,7 +144,8 @@ cut_lines-loop-i-preserved-then-line_holds t c =
     c.in_ok-ending.ensures.end
     (subst (λ xs. (first : Lines) →
     ended first c.in_ok-ending.ending ≡
-    cut_by cut first (those_of c.args.cells xs) (ended (lines_of (take (e.end - (i - 1 + 1)) (drop (i - 1 + 1) lines))) e))
+    cut_by cut first (those_of c.args.cells xs)
+    (ended (lines_of (take (e.end - (i - 1 + 1)) (drop (i - 1 + 1) lines))) e))
     c.deref-then-line_holds-3.ensures.value c.in_ok-ending.ensures.ended)
 
 pub cut_lines-loop-i-preserved : goal.cut_lines-loop-i-preserved
