@@ -28,8 +28,8 @@ use std::alloc::Global;
 use std::marker::Model;
 use wg_num::{Memory, Width};
 
-/// The registers of a chunk, at the width of the program that it was made for, and a count of the
-/// vector operations that were called.
+/// The registers of a chunk, at the width of the program that it was made for, and a count of the calls of vector
+/// operations that ask for operator and type.
 #[derive(Drop)]
 pub struct Machine {
     pub tally: Tally,
@@ -75,7 +75,7 @@ impl Machine {
         })
     }
 
-    /// Does a code of the program on one chunk of a group, exactly as the code means, and takes no
+    /// Does a code of the program on one chunk of a group by its flat code, exactly as the code means, and takes no
     /// memory.
     pub fn region(
         &mut self,
@@ -127,8 +127,8 @@ impl Machine {
         }
     }
 
-    /// Does a region of the program: a code on all chunks of a group, exactly as that means, and takes no memory. Where
-    /// the code is known to ask all items one question, that is answered once.
+    /// Does a region of the program: a code on all chunks of a group, by its flat code and exactly as the code means. It
+    /// takes no memory. Where the code is known to ask all items one question, that is answered once.
     #[inline(always)]
     pub fn items(
         &mut self,
