@@ -12,4 +12,5 @@ pub mod Units
 pub mod Plainness
 pub mod Unselected
 pub mod Rows
+pub mod Numbers
 pub mod Small

@@ -10,7 +10,9 @@ ghost use Rattle.cl_short_vec.specs.View.{names_of};
 
 use crate::kinds::{Kind, Reach};
 use crate::types::{Vector, vector_type};
-use cl_meaning::{Intrinsic, declared_of, dimensions_of, intrinsic_of, is_const, name_of, space_of};
+use cl_meaning::{
+    Intrinsic, declared_of, dimensions_of, intrinsic_of, is_const, name_of, space_of,
+};
 use cl_model::Space;
 use cl_scope::{second_star, star_in};
 use cl_tree::{Form, Tree};

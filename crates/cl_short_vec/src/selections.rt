@@ -1,6 +1,6 @@
 //! Selections of the components of a vector (OpenCL 1.2, section 6.1.7).
 
-ghost use Rattle.std.specs.Prelude.{◌≡◌, option_map, IfOk, map};
+ghost use Rattle.std.specs.Prelude.{◌≡◌, ◌+◌, ◌*◌, ◌^◌, ◌<◌, option_map, IfOk, map};
 ghost use Rattle.cl_short_vec.specs.Types as spec;
 
 use std::alloc::Global;
@@ -16,6 +16,7 @@ pub fn selection_of(word: &[u8]) -> Option<&[u8]>
 
 /// So many numbers from one on, each so much above the one before.
 fn numbers(alloc: Global, first: usize, by: usize, count: usize) -> Result<Vec<usize>, Memory>
+    requires room { first + by * count < 2 ^ 64 }
     ensures { IfOk result (λ v. v.items ≡ spec.numbers first by count) }
 {
     let mut list = Vec::new(alloc);
@@ -24,9 +25,7 @@ fn numbers(alloc: Global, first: usize, by: usize, count: usize) -> Result<Vec<u
     while left > 0 {
         push(&mut list, next)?;
         left -= 1;
-        if left > 0 {
-            next = next.checked_add(by).ok_or(Memory)?;
-        }
+        next += by;
     }
     Ok(list)
 }

@@ -449,7 +449,13 @@ fn put_declarator(
     }
     let parts = lengths_at(alloc, vector, &declarator.parts)?;
     let word = declarator.tree.word.bytes();
-    let tree = node(alloc, Form::DeclaratorNode, word, span_of(declarator.tree), parts)?;
+    let tree = node(
+        alloc,
+        Form::DeclaratorNode,
+        word,
+        span_of(declarator.tree),
+        parts,
+    )?;
     push(list, tree)
 }
 
