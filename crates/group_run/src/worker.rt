@@ -7,8 +7,7 @@ ghost use Rattle.lane_code.specs.Fits.{code_fits, LaunchFits};
 ghost use Rattle.lane_code.specs.Program.{code_of, work_of, names_of, work_fits};
 ghost use Rattle.lane_code.specs.Parts.{nodes_fit};
 ghost use Rattle.lane_code.specs.Run.{items_end, work_end, groups_end};
-ghost use Rattle.lane_flat.specs.Stands.{IsFlat};
-ghost use Rattle.lane_flat.specs.Trees.{flats_of, IsFlatWork, AreFlatNodes};
+ghost use Rattle.lane_flat.specs.Trees.{flats_of, IsFlatCode, IsFlatWork, AreFlatNodes};
 ghost use Rattle.lane_machine.specs.Room.{HasRoom, HasRoomFor, HasRoomForEach, IsNoLess};
 ghost use Rattle.lane_machine.specs.Zeroed.{IsGroupOf};
 ghost use Rattle.lane_machine.specs.Machinery.{room_at};
@@ -19,7 +18,7 @@ ghost use Rattle.group_run.specs.Nodes.{nodes_end, turn_end};
 use crate::sizes::groups_in_launch;
 use cl_model::{Buffers, Launch};
 use lane_code::{Code, GroupProgram, Node, RunEnd};
-use lane_flat::{FlatNode, FlatStep};
+use lane_flat::{FlatCode, FlatNode};
 use lane_machine::{Answers, Group, Machine, has_done};
 
 /// The machine, what a group keeps, and the turns that are left.
@@ -39,13 +38,13 @@ impl Worker {
         launch: &Launch,
         number: u64,
         code: &Code,
-        flat: &[FlatStep],
+        flat: &FlatCode,
         buffers: &mut Buffers,
     ) -> RunEnd
         requires stands { IsHeldFor (plain_of program.now) (launch_of launch.now) number self.old.group }
         requires fits { code_fits (names_of (plain_of program.now)) code.now.counts code.now.steps.items ≡ true }
         requires room { HasRoom code.now.counts (room_at program.now.width self.old.machine) }
-        requires flat { IsFlat code.now.steps.items flat.now }
+        requires flat { IsFlatCode (code_of code.now) flat.now }
         ensures end { items_end (plain_of program.now) (launch_of launch.now) number (code_of code.now) self.old.turns
             self.old.group.kept (buffers_of buffers.old) ≡ ended result self.new.turns self.new.group.kept
             (buffers_of buffers.new) }

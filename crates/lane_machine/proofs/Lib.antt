@@ -17,3 +17,4 @@ pub mod SizeLaws
 pub mod VoteLaws
 pub mod WindowLaws
 pub mod ZeroLaws
+pub mod StartLaws

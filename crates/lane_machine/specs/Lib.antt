@@ -1,3 +1,4 @@
+pub mod Blanked
 pub mod Ends
 pub mod Held
 pub mod Machinery

@@ -6,7 +6,7 @@ ghost use Rattle.lane_code.specs.Program.{code_of, names_of};
 ghost use Rattle.lane_code.specs.Fits.{code_fits};
 ghost use Rattle.lane_code.specs.Meaning.{region_end};
 ghost use Rattle.lane_code.specs.Run.{chunk_at, chunk_count, chunk_ended, chunks_end, items_end};
-ghost use Rattle.lane_flat.specs.Stands.{IsFlat};
+ghost use Rattle.lane_flat.specs.Trees.{IsFlatCode};
 ghost use Rattle.lane_machine.specs.Ends.{ended, IsHeldFor};
 ghost use Rattle.lane_machine.specs.Room.{HasRoom, IsNoLess};
 
@@ -46,7 +46,7 @@ fn chunk<const W: usize>(
     requires stands { IsHeldFor (plain_of task.program.now) (launch_of task.launch.now) group.old.number group.old }
     requires fits { code_fits (names_of (plain_of task.program.now)) task.code.now.counts task.code.now.steps.items ≡
         true }
-    requires flat { IsFlat task.code.now.steps.items task.flat.now }
+    requires flat { IsFlatCode (code_of task.code.now) task.flat.now }
     requires chunk { task.chunk < chunk_count (plain_of task.program.now) (launch_of task.launch.now) }
     requires room { HasRoom task.code.now.counts r.old.room }
     ensures end { chunk_ended (chunk_at (plain_of task.entry.program.now) (launch_of task.entry.launch.now)
@@ -81,7 +81,7 @@ fn chunks<const W: usize>(
     requires stands { IsHeldFor (plain_of task.program.now) (launch_of task.launch.now) group.old.number group.old }
     requires fits { code_fits (names_of (plain_of task.program.now)) task.code.now.counts task.code.now.steps.items ≡
         true }
-    requires flat { IsFlat task.code.now.steps.items task.flat.now }
+    requires flat { IsFlatCode (code_of task.code.now) task.flat.now }
     requires room { HasRoom task.code.now.counts r.old.room }
     ensures end { chunks_end (plain_of task.entry.program.now) (launch_of task.entry.launch.now) group.old.number
         (code_of task.entry.code.now) 0 (chunk_count (plain_of task.entry.program.now)
@@ -125,7 +125,7 @@ pub(crate) fn items_at<const W: usize>(
     requires stands { IsHeldFor (plain_of task.program.now) (launch_of task.launch.now) group.old.number group.old }
     requires fits { code_fits (names_of (plain_of task.program.now)) task.code.now.counts task.code.now.steps.items ≡
         true }
-    requires flat { IsFlat task.code.now.steps.items task.flat.now }
+    requires flat { IsFlatCode (code_of task.code.now) task.flat.now }
     requires room { HasRoom task.code.now.counts r.old.room }
     ensures end { items_end (plain_of task.entry.program.now) (launch_of task.entry.launch.now) group.old.number
         (code_of task.entry.code.now) turns.old group.old.kept (buffers_of buffers.old) ≡

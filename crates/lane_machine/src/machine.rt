@@ -7,7 +7,7 @@ ghost use Rattle.lane_code.specs.Program.{code_of, names_of};
 ghost use Rattle.lane_code.specs.Fits.{code_fits, LaunchFits};
 ghost use Rattle.lane_code.specs.Meaning.{region_end};
 ghost use Rattle.lane_code.specs.Run.{chunk_at, chunk_count, items_end};
-ghost use Rattle.lane_flat.specs.Stands.{IsFlat};
+ghost use Rattle.lane_flat.specs.Trees.{IsFlatCode};
 ghost use Rattle.lane_machine.specs.Ends.{ended, IsHeldFor};
 ghost use Rattle.lane_machine.specs.Zeroed.{IsGroupOf};
 ghost use Rattle.lane_machine.specs.Room.{HasRoom, HasRoomFor, IsNoLess};
@@ -22,7 +22,7 @@ use crate::setting::Task;
 use cl_model::{Buffers, Launch};
 use lane_alike::question_of;
 use lane_code::{Code, GroupProgram, RegionEnd, RunEnd};
-use lane_flat::FlatStep;
+use lane_flat::FlatCode;
 use lane_kernels::Tally;
 use std::alloc::Global;
 use std::marker::Model;
@@ -80,7 +80,7 @@ impl Machine {
     pub fn region(
         &mut self,
         code: &Code,
-        flat: &[FlatStep],
+        flat: &FlatCode,
         program: &GroupProgram,
         launch: &Launch,
         buffers: &mut Buffers,
@@ -89,7 +89,7 @@ impl Machine {
         turns: &mut u64,
     ) -> RegionEnd
         requires code { code_fits (names_of (plain_of program.now)) code.now.counts code.now.steps.items ≡ true }
-        requires flat { IsFlat code.now.steps.items flat.now }
+        requires flat { IsFlatCode (code_of code.now) flat.now }
         requires launch { LaunchFits (plain_of program.now).params (sum (plain_of program.now).locals)
             (launch_of launch.now) }
         requires chunk { chunk < chunk_count (plain_of program.now) (launch_of launch.now) }
@@ -133,7 +133,7 @@ impl Machine {
     pub fn items(
         &mut self,
         code: &Code,
-        flat: &[FlatStep],
+        flat: &FlatCode,
         program: &GroupProgram,
         launch: &Launch,
         buffers: &mut Buffers,
@@ -142,7 +142,7 @@ impl Machine {
     ) -> RunEnd
         requires stands { IsHeldFor (plain_of program.now) (launch_of launch.now) group.old.number group.old }
         requires fits { code_fits (names_of (plain_of program.now)) code.now.counts code.now.steps.items ≡ true }
-        requires flat { IsFlat code.now.steps.items flat.now }
+        requires flat { IsFlatCode (code_of code.now) flat.now }
         requires room { HasRoom code.now.counts (room_at program.now.width self.old) }
         ensures end { items_end (plain_of program.now) (launch_of launch.now) group.old.number (code_of code.now)
             turns.old group.old.kept (buffers_of buffers.old) ≡ ended result turns.new group.new.kept

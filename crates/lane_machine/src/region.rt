@@ -3,11 +3,11 @@ ghost use Rattle.std.specs.Prelude.{◌≡◌, ◌<◌, ◌≤◌, ◌+◌, ◌-
 ghost use Rattle.cl_model.specs.Sizes.{group_count};
 ghost use Rattle.cl_model.specs.View.{buffers_of, launch_of};
 ghost use Rattle.lane_code.specs.View.{plain_of};
-ghost use Rattle.lane_code.specs.Program.{names_of};
+ghost use Rattle.lane_code.specs.Program.{code_of, names_of};
 ghost use Rattle.lane_code.specs.Fits.{code_fits};
 ghost use Rattle.lane_code.specs.Meaning.{region_end};
 ghost use Rattle.lane_code.specs.Run.{chunk_at, chunk_count};
-ghost use Rattle.lane_flat.specs.Stands.{IsFlat};
+ghost use Rattle.lane_flat.specs.Trees.{IsFlatCode};
 ghost use Rattle.lane_machine.specs.Sizes.{HasSizes};
 ghost use Rattle.lane_machine.specs.Standing.{HasNames};
 ghost use Rattle.lane_machine.specs.Room.{HasRoom, IsNoLess};
@@ -48,7 +48,7 @@ pub(crate) fn region_at<const W: usize>(
     requires width { (plain_of task.program.now).width ≡ W }
     requires code { code_fits (names_of (plain_of task.program.now)) task.code.now.counts task.code.now.steps.items ≡
         true }
-    requires flat { IsFlat task.code.now.steps.items task.flat.now }
+    requires flat { IsFlatCode (code_of task.code.now) task.flat.now }
     requires sizes { HasSizes (launch_of task.launch.now) }
     requires chunk { task.chunk < chunk_count (plain_of task.program.now) (launch_of task.launch.now) }
     requires number { group.old.number < group_count (launch_of task.launch.now) }
@@ -77,10 +77,10 @@ pub(crate) fn region_at<const W: usize>(
 {
     let size = whole(&task.launch.local);
     let first = first_in::<W>(size, task.chunk);
-    r.restart(task.code.counts, size as usize, first);
+    r.restart_for(task.code.counts, &task.flat.cleared, size as usize, first);
     let setting = Setting {
         steps: &task.code.steps,
-        flat: task.flat,
+        flat: &task.flat.steps,
         counts: task.code.counts,
         program: task.program,
         launch: task.launch,

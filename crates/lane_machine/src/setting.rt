@@ -2,14 +2,14 @@
 
 use cl_model::Launch;
 use lane_code::{Code, Counts, GroupProgram, Step};
-use lane_flat::FlatStep;
+use lane_flat::{FlatCode, FlatStep};
 
-/// A region that is to be run: its code, the program and the launch that it belongs to, and the
+/// A region that is to be run: its code and flat code, the program and the launch that it belongs to, and the
 /// number of the chunk in its group.
 #[derive(Clone, Copy)]
 pub(crate) struct Task<'a> {
     pub code: &'a Code,
-    pub flat: &'a [FlatStep],
+    pub flat: &'a FlatCode,
     pub program: &'a GroupProgram,
     pub launch: &'a Launch,
     pub chunk: u32,

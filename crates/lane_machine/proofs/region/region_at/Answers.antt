@@ -8,51 +8,53 @@ use Rattle.lane_code.specs.View.{plain_of}
 use Rattle.lane_code.specs.Program.{names_of}
 use Rattle.lane_code.specs.Fits.{all_steps, step_fits}
 use Rattle.lane_code.specs.Meaning.{Ended}
+use Rattle.lane_flat.specs.declared.flat_step.FlatStep.{FlatStep}
 use Rattle.lane_flat.specs.Stands.{IsFlat}
 use Rattle.lane_machine.specs.Standing.{HasCounts}
 use Rattle.lane_machine.proofs.ReadyLaws.{right}
-use Rattle.lane_machine.proofs.RegionLaws.{started, region_is}
+use Rattle.lane_machine.proofs.RegionLaws.{started_alike, region_alike}
 use Rattle.lane_machine.proofs.SizeLaws.{all_items, item_small}
 use Rattle.lane_machine.proofs.region.region_at.Goals as goal
 
 pub returns-clause-end : goal.returns-clause-end
 returns-clause-end g c =
     let a = c.args in
-    ap (λ (e : Ended). e.end) (region_is (plain_of a.task.program.now) (launch_of a.task.launch.now)
-    a.group.now.number a.task.chunk
-    g.row.W c.whole-size.result c.first_in-first.result a.turns.now a.task.code.now.counts a.task.code.now.steps.items
-    c.deref.result.now a.group.now.kept (buffers_of a.buffers.now) c.restart.new.self.plain _ c.requires.width
-    c.whole-size.ensures.value c.first_in-first.ensures.value c.restart.ensures.written c.deref.ensures.value
-    c.run.ensures.end)
+    (region_alike a.task.code.now.counts a.task.flat.now.cleared.narrow.items a.task.flat.now.cleared.wide.items
+    c.restart_for.new.self.plain g.row.W c.whole-size.result c.first_in-first.result c.restart_for.ensures.full
+    c.restart_for.ensures.part (plain_of a.task.program.now) (launch_of a.task.launch.now)
+    (names_of (plain_of a.task.program.now)) a.group.now.number a.task.chunk a.turns.now a.task.code.now.steps.items
+    c.deref.result.now a.group.now.kept (buffers_of a.buffers.now) _ c.whole-size.ensures.value c.requires.flat.cleared
+    c.requires.code c.requires.width c.first_in-first.ensures.value c.deref.ensures.value c.run.ensures.end).end
 
 pub returns-clause-turns : goal.returns-clause-turns
 returns-clause-turns g c =
     let a = c.args in
-    ap (λ (e : Ended). e.turns) (region_is (plain_of a.task.program.now) (launch_of a.task.launch.now)
-    a.group.now.number
-    a.task.chunk g.row.W c.whole-size.result c.first_in-first.result a.turns.now a.task.code.now.counts
-    a.task.code.now.steps.items c.deref.result.now a.group.now.kept (buffers_of a.buffers.now)
-    c.restart.new.self.plain _ c.requires.width c.whole-size.ensures.value c.first_in-first.ensures.value
-    c.restart.ensures.written c.deref.ensures.value c.run.ensures.end)
+    (region_alike a.task.code.now.counts a.task.flat.now.cleared.narrow.items a.task.flat.now.cleared.wide.items
+    c.restart_for.new.self.plain g.row.W c.whole-size.result c.first_in-first.result c.restart_for.ensures.full
+    c.restart_for.ensures.part (plain_of a.task.program.now) (launch_of a.task.launch.now)
+    (names_of (plain_of a.task.program.now)) a.group.now.number a.task.chunk a.turns.now a.task.code.now.steps.items
+    c.deref.result.now a.group.now.kept (buffers_of a.buffers.now) _ c.whole-size.ensures.value c.requires.flat.cleared
+    c.requires.code c.requires.width c.first_in-first.ensures.value c.deref.ensures.value c.run.ensures.end).turns
 
 pub returns-clause-group : goal.returns-clause-group
 returns-clause-group g c =
     let a = c.args in
-    ap (λ (e : Ended). e.state.group) (region_is (plain_of a.task.program.now) (launch_of a.task.launch.now)
-    a.group.now.number
-    a.task.chunk g.row.W c.whole-size.result c.first_in-first.result a.turns.now a.task.code.now.counts
-    a.task.code.now.steps.items c.deref.result.now a.group.now.kept (buffers_of a.buffers.now)
-    c.restart.new.self.plain _ c.requires.width c.whole-size.ensures.value c.first_in-first.ensures.value
-    c.restart.ensures.written c.deref.ensures.value c.run.ensures.end)
+    (region_alike a.task.code.now.counts a.task.flat.now.cleared.narrow.items a.task.flat.now.cleared.wide.items
+    c.restart_for.new.self.plain g.row.W c.whole-size.result c.first_in-first.result c.restart_for.ensures.full
+    c.restart_for.ensures.part (plain_of a.task.program.now) (launch_of a.task.launch.now)
+    (names_of (plain_of a.task.program.now)) a.group.now.number a.task.chunk a.turns.now a.task.code.now.steps.items
+    c.deref.result.now a.group.now.kept (buffers_of a.buffers.now) _ c.whole-size.ensures.value c.requires.flat.cleared
+    c.requires.code c.requires.width c.first_in-first.ensures.value c.deref.ensures.value c.run.ensures.end).group
 
 pub returns-clause-buffers : goal.returns-clause-buffers
 returns-clause-buffers g c =
     let a = c.args in
-    ap (λ (e : Ended). e.state.buffers) (region_is (plain_of a.task.program.now) (launch_of a.task.launch.now)
-    a.group.now.number a.task.chunk g.row.W c.whole-size.result c.first_in-first.result a.turns.now
-    a.task.code.now.counts a.task.code.now.steps.items c.deref.result.now a.group.now.kept (buffers_of a.buffers.now)
-    c.restart.new.self.plain _ c.requires.width c.whole-size.ensures.value c.first_in-first.ensures.value
-    c.restart.ensures.written c.deref.ensures.value c.run.ensures.end)
+    (region_alike a.task.code.now.counts a.task.flat.now.cleared.narrow.items a.task.flat.now.cleared.wide.items
+    c.restart_for.new.self.plain g.row.W c.whole-size.result c.first_in-first.result c.restart_for.ensures.full
+    c.restart_for.ensures.part (plain_of a.task.program.now) (launch_of a.task.launch.now)
+    (names_of (plain_of a.task.program.now)) a.group.now.number a.task.chunk a.turns.now a.task.code.now.steps.items
+    c.deref.result.now a.group.now.kept (buffers_of a.buffers.now) _ c.whole-size.ensures.value c.requires.flat.cleared
+    c.requires.code c.requires.width c.first_in-first.ensures.value c.deref.ensures.value c.run.ensures.end).buffers
 
 pub run-requires : goal.run-requires
 run-requires g c =
@@ -75,11 +77,13 @@ run-requires g c =
     right (nat_lt 0 counts.masks) (tests a.task.code.now.steps.items) c.requires.code in
     let code : all_steps (step_fits names counts (length c.deref.result.now)) 0 c.deref.result.now ≡ true =
     subst (λ s. tests s ≡ true) (sym c.deref.ensures.value) fits in
-    let flat : IsFlat c.deref.result.now a.task.flat.now =
-    subst (λ (s : List Step). IsFlat s a.task.flat.now) (sym c.deref.ensures.value) c.requires.flat in
-    let registers : HasCounts counts c.restart.new.self.plain =
-    started counts g.row.W c.whole-size.result c.first_in-first.result c.restart.new.self.plain
-    c.restart.ensures.written in (
+    let same : IsFlat c.deref.result.now a.task.flat.now.steps.items =
+    subst (λ (s : List Step). IsFlat s a.task.flat.now.steps.items) (sym c.deref.ensures.value) c.requires.flat.steps in
+    let flat : IsFlat c.deref.result.now c.deref-2.result.now =
+    subst (λ (f : List FlatStep). IsFlat c.deref.result.now f) (sym c.deref-2.ensures.value) same in
+    let registers : HasCounts counts c.restart_for.new.self.plain =
+    started_alike counts a.task.flat.now.cleared.narrow.items a.task.flat.now.cleared.wide.items c.restart_for.new.self.plain
+    g.row.W c.whole-size.result c.first_in-first.result c.restart_for.ensures.full c.restart_for.ensures.part in (
       omega arith,
       (
         c.requires.lanes,
