@@ -240,12 +240,11 @@ mutual
   scalar_made names (node forms.CallNode w f l (more a (more b none))) h =
       let inner = kinds.within forms.CallNode w names in
       (refl, (inl (scalar_made inner a h.0), (inl (scalar_made (kinds.behind inner a) b h.1.0), tt)))
-  scalar_made names (node forms.CallNode w f l (more a (more b (more c ps)))) h =
-      (
-        refl,
-        scalars_made (kinds.within forms.CallNode w names) forms.CallNode refl (more a (more b (more c ps))) true
-            (more a (more b (more c ps))) h,
-      )
+  scalar_made names (node forms.CallNode w f l (more a (more b (more c ps)))) h = (
+    refl,
+    scalars_made (kinds.within forms.CallNode w names) forms.CallNode refl (more a (more b (more c ps))) true
+        (more a (more b (more c ps))) h,
+  )
   scalar_made names t h = absurd h
 
   pub scalars_made : (names : Names) (form : Form) → is_expression form ≡ true → (all : Forest) (front : Bool)
@@ -341,12 +340,11 @@ mutual
   component_made c s names (node forms.CallNode w f l (more a (more b none))) h =
       let inner = kinds.within forms.CallNode w names in
       (refl, (inl (scalar_made inner a h.0), (inl (scalar_made (kinds.behind inner a) b h.1.0), tt)))
-  component_made c s names (node forms.CallNode w f l (more a (more b (more d ps)))) h =
-      (
-        refl,
-        scalars_made (kinds.within forms.CallNode w names) forms.CallNode refl (more a (more b (more d ps))) true
-            (more a (more b (more d ps))) h,
-      )
+  component_made c s names (node forms.CallNode w f l (more a (more b (more d ps)))) h = (
+    refl,
+    scalars_made (kinds.within forms.CallNode w names) forms.CallNode refl (more a (more b (more d ps))) true
+        (more a (more b (more d ps))) h,
+  )
   component_made c s names t h = absurd h
 
 -- so it leaves what is visible
