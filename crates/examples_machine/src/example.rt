@@ -6,7 +6,7 @@ ghost use Rattle.wg_num.specs.Operators.{lanes_of};
 ghost use Rattle.examples_machine.specs.Examples.{launch, params, names, counts, IsReady};
 
 use cl_model::{Bound, Buffers, Launch, Root, Space, VarKind};
-use lane_code::{Code, Counts, GroupProgram, Node, RegionEnd, Step};
+use lane_code::{Code, Counts, GroupProgram, Node, RegionEnd, RunEnd, Step};
 use lane_flat::{FlatNode, flat_tree};
 use lane_machine::{Group, Machine};
 use std::alloc::Global;
@@ -138,6 +138,30 @@ fn run_chunk(
     }
 }
 
+/// The code of a program on all chunks of its group.
+fn run_items(
+    machine: &mut Machine,
+    program: &GroupProgram,
+    flat: &FlatNode,
+    launch: &Launch,
+    buffers: &mut Buffers,
+    group: &mut Group,
+    turns: &mut u64,
+) -> RunEnd
+    requires ready { IsReady program.now flat.now launch.now machine.old group.old }
+    ensures ready { IsReady program.now flat.now launch.now machine.new group.new }
+{
+    match &program.top {
+        Node::Items(code) => {
+            let FlatNode::Items(flat) = flat else {
+                unreachable!()
+            };
+            machine.items(code, flat, program, launch, buffers, group, turns)
+        }
+        Node::Seq(_) | Node::Vote { .. } | Node::Loop { .. } => RunEnd::Done,
+    }
+}
+
 impl Example {
     /// The code at a width, with a group and a machine for it.
     pub fn new(alloc: Global, width: Width, steps: Vec<Step>) -> Result<Example, Memory>
@@ -192,6 +216,22 @@ impl Example {
             buffers,
             &mut self.group,
             0,
+            turns,
+        )
+    }
+
+    /// The code on all chunks, by the call that a launch makes.
+    pub fn items(&mut self, buffers: &mut Buffers, turns: &mut u64) -> RunEnd
+        requires ready { IsReady self.old.program self.old.flat self.old.launch self.old.machine self.old.group }
+        ensures ready { IsReady self.new.program self.new.flat self.new.launch self.new.machine self.new.group }
+    {
+        run_items(
+            &mut self.machine,
+            &self.program,
+            &self.flat,
+            &self.launch,
+            buffers,
+            &mut self.group,
             turns,
         )
     }

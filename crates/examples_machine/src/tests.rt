@@ -4,7 +4,7 @@ ghost use Rattle.examples_machine.specs.Examples.{IsReady};
 
 use crate::Example;
 use cl_model::{Buffers, Query, Root};
-use lane_code::{Bank, Code, Reg, RegionEnd, Step};
+use lane_code::{Bank, Code, Reg, RegionEnd, RunEnd, Step};
 use lane_machine::Answers;
 use std::alloc::Global;
 use std::test::Fail;
@@ -161,6 +161,28 @@ fn the_tally_counts_the_calls_on_vectors(rt: HostRuntime) -> Result<(), Fail> {
         (0, RegionEnd::Done, 2)
     );
     assert_eq!(rt; (int_at(&buffers, 7), int_at(&buffers, 8)), (14, 7));
+    Ok(())
+}
+
+/// How the example's code ends on all chunks, and the calls on vectors counted behind it.
+fn on_all_chunks(example: Example, buffers: &mut Buffers) -> (RunEnd, u64)
+    requires { IsReady example.program example.flat example.launch example.machine example.group }
+{
+    let mut example = example;
+    let mut turns = 0;
+    let end = example.items(buffers, &mut turns);
+    let after = example.machine.tally.count();
+    drop(example);
+    (end, after)
+}
+
+// A load and a store on each of three chunks, the last of which has four items.
+#[test]
+fn a_region_counts_the_calls_on_vectors(rt: HostRuntime) -> Result<(), Fail> {
+    let mut buffers = ints(rt.alloc(), 20, 7)?;
+    let seen = on_all_chunks(doubling(rt.alloc())?, &mut buffers);
+    assert_eq!(rt; seen, (RunEnd::Done, 6));
+    assert_eq!(rt; (int_at(&buffers, 7), int_at(&buffers, 19)), (14, 14));
     Ok(())
 }
 
