@@ -62,16 +62,16 @@ node-node-requires t c =
     let room = subst (λ (n : Node). HasRoomFor before (work_of n)) v.is c.requires.room in
     let w = c.in-Vote-flat in
     let flat = subst₂ (λ (n : Node) (f : FlatNode). IsFlatWork (work_of n) (flats_of f)) v.is w.is c.requires.flat in (
-      omega (arith, ap node_weight v.is, ap node_weight c.deref-in-Yes.ensures),
+      omega (arith, ap node_weight v.is, ap node_weight c.deref.ensures),
       (
         c.items-end.ensures.stands,
         (
-          fits_here names v.yes.value c.deref-in-Yes.result.now c.deref-in-Yes.ensures fits.0,
+          fits_here names v.yes.value c.deref.result.now c.deref.ensures fits.0,
           (
-            room_here before after v.yes.value c.deref-in-Yes.result.now c.deref-in-Yes.ensures
+            room_here before after v.yes.value c.deref.result.now c.deref.ensures
                 c.items-end.ensures.room room.1,
-            flat_here v.yes.value c.deref-in-Yes.result.now w.flat_yes.value c.deref-in-Yes-2.result.now
-                c.deref-in-Yes.ensures c.deref-in-Yes-2.ensures flat.1,
+            flat_here v.yes.value c.deref.result.now w.flat_yes.value c.deref-in-Yes.result.now
+                c.deref.ensures c.deref-in-Yes.ensures flat.1,
           ),
         ),
       ),
