@@ -121,7 +121,8 @@ impl Pool {
         self.keep(name, bytes);
     }
 
-    // Puts a file into the pool, beside what is reserved.
+    // Puts a file into the pool, beside what is reserved. A sum that has no room in 64 bits is more than any list holds,
+    // so that `reserve` refuses it.
     pub(crate) fn add(&mut self, name: &str, bytes: &[u8]) -> Result<(), Memory>
         ensures files { OnOk result (files_at self.new.bytes.items self.new.spans.items ≡
             files_at self.old.bytes.items self.old.spans.items ++ (name.now, bytes.now) ∷ []) }
@@ -129,15 +130,10 @@ impl Pool {
             files_at self.old.bytes.items self.old.spans.items) }
         ensures reserved { (self.new.saves ≡ self.old.saves) × (self.new.room ≡ self.old.room) }
     {
-        let Some(more) = (self.room as usize)
-            .checked_add(name.len())
-            .and_then(|sum| sum.checked_add(bytes.len()))
-        else {
-            return Err(Memory);
-        };
-        let Some(entries) = (self.saves as usize).checked_add(1) else {
-            return Err(Memory);
-        };
+        let more = (self.room as usize)
+            .saturating_add(name.len())
+            .saturating_add(bytes.len());
+        let entries = (self.saves as usize).saturating_add(1);
         if self.bytes.reserve(more).is_err() || self.spans.reserve(entries).is_err() {
             return Err(Memory);
         }
