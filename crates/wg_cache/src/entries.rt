@@ -47,7 +47,7 @@ fn object_behind(alloc: Global, key: &[u8], bytes: &[u8]) -> Result<Object, Deco
     }
 }
 
-/// The whole file of a name; `None` where there is none. `Memory` comes also where it has 2^64 - 1 bytes or more.
+/// The whole file of a name, since no list has as many bytes as are asked for; `None` where there is none.
 fn load_whole<S: Store>(
     alloc: Global,
     store: &mut S,
@@ -69,14 +69,7 @@ fn load_whole<S: Store>(
         unreachable!()
     };
     match store.load(alloc, text, u64::MAX) {
-        Ok(bytes) => {
-            if bytes.len() as u64 == u64::MAX {
-                drop(bytes);
-                Err(LoadError::Memory)
-            } else {
-                Ok(Some(bytes))
-            }
-        }
+        Ok(bytes) => Ok(Some(bytes)),
         Err(LoadError::Absent) => Ok(None),
         Err(LoadError::Failed) => Err(LoadError::Failed),
         Err(LoadError::Memory) => Err(LoadError::Memory),
