@@ -1,5 +1,5 @@
 //! From the bytes of a source to its unit.
-ghost use Rattle.std.specs.Prelude.{◌≡◌, ◌≤◌, false, List, length, All, IfOk, IfErr};
+ghost use Rattle.std.specs.Prelude.{◌≡◌, ◌≤◌, false, List, length, Some, All, IfOk, IfErr};
 ghost use Rattle.cl_token.specs.declared.token.Token.{Token as AnyToken};
 ghost use Rattle.cl_token.specs.Answers.{IsRefusedOrMemory as IsUncutOrMemory};
 ghost use Rattle.cl_token.specs.Cuts.{Cuts, limit};
@@ -19,7 +19,7 @@ use cl_short_vec::{VectorError, scalarise};
 use cl_token::{LexError, Token, place_of, tokens};
 use cl_tree::Tree;
 use std::alloc::Global;
-use wg_num::Place;
+use wg_num::{Memory, Place};
 
 /// Why a source is refused.
 #[derive(Clone, Copy)]
@@ -41,18 +41,17 @@ pub(crate) fn token_place(source: &[u8], tokens: &[Token], number: u32) -> Place
     }
 }
 
-// The condition of an error of the tokens and the offset at which it stands, or none where memory
-// ran out.
-fn lexical_condition(error: LexError) -> Option<(Condition, u32)>
-    ensures { result ≡ condition_of_lexical error }
+// The condition of an error of the tokens and the offset at which it stands; `Memory` where memory ran out.
+fn lexical_condition(error: LexError) -> Result<(Condition, u32), Memory>
+    ensures { IfOk result (λ found. condition_of_lexical error ≡ Some found) }
 {
     match error {
-        LexError::NoToken { at } => Some((Condition::NoToken, at)),
-        LexError::OpenComment { at } => Some((Condition::OpenComment, at)),
-        LexError::BadNumber { at } => Some((Condition::BadNumber, at)),
-        LexError::LargeNumber { at } => Some((Condition::LargeNumber, at)),
-        LexError::TooLong => Some((Condition::TooLong, 0)),
-        LexError::Memory => None,
+        LexError::NoToken { at } => Ok((Condition::NoToken, at)),
+        LexError::OpenComment { at } => Ok((Condition::OpenComment, at)),
+        LexError::BadNumber { at } => Ok((Condition::BadNumber, at)),
+        LexError::LargeNumber { at } => Ok((Condition::LargeNumber, at)),
+        LexError::TooLong => Ok((Condition::TooLong, 0)),
+        LexError::Memory => Err(Memory),
     }
 }
 
@@ -62,11 +61,11 @@ fn uncut(source: &[u8], error: LexError) -> SourceError
     ensures { (defines : List Define) → IsRefusal source.now defines result }
 {
     match lexical_condition(error) {
-        Some((condition, at)) => SourceError::Refused {
+        Ok((condition, at)) => SourceError::Refused {
             condition,
             place: place_of(source, at),
         },
-        None => SourceError::Memory,
+        Err(Memory) => SourceError::Memory,
     }
 }
 
@@ -83,19 +82,18 @@ fn cut_source(alloc: Global, source: &[u8]) -> Result<Vec<Token>, SourceError>
     }
 }
 
-// The condition of an error of the expansion and the token at which it stands, or none where memory
-// ran out.
-fn expansion_condition(error: PrepError) -> Option<(Condition, u32)>
-    ensures { result ≡ condition_of_expansion error }
+// The condition of an error of the expansion and the token at which it stands; `Memory` where memory ran out.
+fn expansion_condition(error: PrepError) -> Result<(Condition, u32), Memory>
+    ensures { IfOk result (λ found. condition_of_expansion error ≡ Some found) }
 {
     match error {
-        PrepError::BadDirective { token } => Some((Condition::BadDirective, token)),
-        PrepError::NoName { token } => Some((Condition::NoName, token)),
-        PrepError::Redefined { token } => Some((Condition::Redefined, token)),
-        PrepError::NoOpening { token } => Some((Condition::NoOpening, token)),
-        PrepError::NotClosed { token } => Some((Condition::NotClosed, token)),
-        PrepError::TooMany { token } => Some((Condition::TooMany, token)),
-        PrepError::Memory => None,
+        PrepError::BadDirective { token } => Ok((Condition::BadDirective, token)),
+        PrepError::NoName { token } => Ok((Condition::NoName, token)),
+        PrepError::Redefined { token } => Ok((Condition::Redefined, token)),
+        PrepError::NoOpening { token } => Ok((Condition::NoOpening, token)),
+        PrepError::NotClosed { token } => Ok((Condition::NotClosed, token)),
+        PrepError::TooMany { token } => Ok((Condition::TooMany, token)),
+        PrepError::Memory => Err(Memory),
     }
 }
 
@@ -108,11 +106,11 @@ fn unexpanded(source: &[u8], defines: &Defines, tokens: &[Token], error: PrepErr
     ensures { IsRefusal source.now defines.now.list.items result }
 {
     match expansion_condition(error) {
-        Some((condition, token)) => SourceError::Refused {
+        Ok((condition, token)) => SourceError::Refused {
             condition,
             place: token_place(source, tokens, token),
         },
-        None => SourceError::Memory,
+        Err(Memory) => SourceError::Memory,
     }
 }
 
