@@ -26,10 +26,10 @@ use Rattle.kir_moves.specs.Leads.{Leads, into_chosen, into_other, past_loop, to_
 use Rattle.kir_moves.proofs.Known.{TasksFit}
 use Rattle.kir_moves.proofs.Own.{own_leads, waits_where}
 use Rattle.kir_lower_shape.specs.Marks.{point_marked}
-use Rattle.kir_lower_parting.specs.Coming.{StandsAtBarrier}
-use Rattle.kir_lower_parting.specs.Covering.{ComesToLine}
-use Rattle.kir_lower_parting.specs.Reaching.{PassesTo, TurnsTo, Answers, as_is, answered, CoversFewer}
-use Rattle.kir_lower_parting.proofs.Reached.{stands_waits, IsOwnStep, test_steps, covers_less, covers_by, covers_lead}
+use Rattle.kir_lower_simulation.specs.Coming.{StandsAtBarrier}
+use Rattle.kir_lower_simulation.specs.Covering.{ComesToLine}
+use Rattle.kir_lower_simulation.specs.Reaching.{PassesTo, TurnsTo, Answers, as_is, answered, CoversFewer}
+use Rattle.kir_lower_simulation.proofs.Reached.{stands_waits, IsOwnStep, test_steps, covers_less, covers_by, covers_lead}
 use Rattle.kir_lower_simulation.specs.Setting.{Setting, program_item}
 use Rattle.kir_lower_simulation.specs.Facts.{HoldsTypes, Rules}
 use Rattle.kir_lower_simulation.proofs.CellTypes.{fits_keep, types_keep}

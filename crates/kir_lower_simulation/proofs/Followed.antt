@@ -29,11 +29,11 @@ use Rattle.kir_lower_shape.specs.Marks.{point_marked}
 use Rattle.kir_lower_shape.specs.CodeMarks.{kernel_marks}
 use Rattle.kir_lower_shape.proofs.Follow.{Follows, second_goes, begins, fewer, by_goes, by_load, by_store, by_wait}
 use Rattle.kir_lower_shape.proofs.Follow.{by_end}
-use Rattle.kir_lower_parting.specs.Nodes.{AreInPlace}
-use Rattle.kir_lower_parting.specs.Reaching.{CoversFewer}
-use Rattle.kir_lower_parting.proofs.Standing.{lead_keeps}
-use Rattle.kir_lower_parting.proofs.Parting.{lead_placed, step_leads as program_leads}
-use Rattle.kir_lower_parting.proofs.Reached.{parting_alike}
+use Rattle.kir_lower_simulation.specs.Nodes.{AreInPlace}
+use Rattle.kir_lower_simulation.specs.Reaching.{CoversFewer}
+use Rattle.kir_lower_simulation.proofs.Standing.{lead_keeps}
+use Rattle.kir_lower_simulation.proofs.Parting.{lead_placed, step_leads as program_leads}
+use Rattle.kir_lower_simulation.proofs.Reached.{parting_alike}
 use Rattle.kir_lower_simulation.specs.Setting.{Setting, Store, kernel_item, program_item}
 use Rattle.kir_lower_simulation.specs.Facts.{HoldsTypes, Facts, Rules}
 use Rattle.kir_lower_simulation.proofs.CellTypes.{fits_keep, types_start}

@@ -1,3 +1,8 @@
+pub mod Entries
+pub mod Standing
+pub mod Barriers
+pub mod Parting
+pub mod Reached
 pub mod Lines
 pub mod Keeping
 pub mod Actions

@@ -26,9 +26,9 @@ use Rattle.kir.specs.Homes.{IsCellOf, IsOf}
 use Rattle.kir.specs.Matching.{StandsAlike, StepsTo, ComesNext, arrives, passes, ComesToScope, IsInScope, value_in}
 use Rattle.kir_lower_shape.specs.Marks.{Way, Marks, MarkThen, marks_at, first_way, point_marked}
 use Rattle.kir.specs.Meaning.{GoesOn}
-use Rattle.kir_lower_parting.specs.Nodes.{AreInPlace}
-use Rattle.kir_lower_parting.proofs.Standing.{lead_keeps}
-use Rattle.kir_lower_parting.proofs.Parting.{step_leads}
+use Rattle.kir_lower_simulation.specs.Nodes.{AreInPlace}
+use Rattle.kir_lower_simulation.proofs.Standing.{lead_keeps}
+use Rattle.kir_lower_simulation.proofs.Parting.{step_leads}
 use Rattle.kir_lower_simulation.specs.Setting.{Setting, Store, updated, kernel_item, Activation, frame, inside}
 use Rattle.kir_lower_simulation.specs.Setting.{own_variable}
 use Rattle.kir_lower_simulation.specs.Facts.{Facts, Rules}

@@ -17,9 +17,9 @@ use Rattle.cl_model.specs.Agreement.{IsInScopeAt, IsInScopeList, IsInScopeArm, I
 use Rattle.cl_model.specs.Valid.{DeclaredFits, StatementFits, AllFit, ArmsFit, declarations, all_declarations}
 use Rattle.cl_model.specs.Valid.{arms_declarations, numbers_below, IsValid}
 use Rattle.kir_lower_shape.proofs.Below.{valid_any}
-use Rattle.kir_lower_parting.specs.Nodes.{no_node, statement_node, expression_node, optional_node, operand_node}
-use Rattle.kir_lower_parting.specs.Nodes.{nth_node, arm_node, child, IsRealFrom, IsReal, AreInPlace}
-use Rattle.kir_lower_parting.proofs.Standing.{real_point}
+use Rattle.kir_lower_simulation.specs.Nodes.{no_node, statement_node, expression_node, optional_node, operand_node}
+use Rattle.kir_lower_simulation.specs.Nodes.{nth_node, arm_node, child, IsRealFrom, IsReal, AreInPlace}
+use Rattle.kir_lower_simulation.proofs.Standing.{real_point}
 use Rattle.kir_lower_simulation.specs.Setting.{Setting, Activation}
 use Rattle.kir_lower_simulation.specs.Bodies.{declares_it, if_last, ends_in, ends_of_list, ends_of_arms}
 

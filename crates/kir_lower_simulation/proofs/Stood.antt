@@ -13,7 +13,7 @@ use Rattle.kir_lower.specs.Code.{Calls}
 use Rattle.kir_lower.specs.Whole.{lowered_of}
 use Rattle.kir_lower_shape.specs.CodeMarks.{CallMarks, kernel_marks}
 use Rattle.kir_lower_shape.proofs.Follow.{spent}
-use Rattle.kir_lower_parting.specs.Reaching.{Reaches, here, goes, turns, CoversFewer}
+use Rattle.kir_lower_simulation.specs.Reaching.{Reaches, here, goes, turns, CoversFewer}
 use Rattle.kir_lower_simulation.specs.Setting.{Setting, kernel_item, program_item, Activation}
 use Rattle.kir_lower_simulation.specs.Facts.{Rules}
 use Rattle.kir_lower_simulation.specs.Ready.{IsUnderWay}

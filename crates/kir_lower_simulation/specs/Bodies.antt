@@ -24,7 +24,7 @@ use Rattle.kir_lower.specs.Whole.{names_at, way_behind, instance_at, with_instan
 use Rattle.kir_lower.specs.Ways.{way_out, way_out_of_all, way_out_of_arms}
 use Rattle.kir_lower.specs.Code.{Calls, statement_code, list_code, arms_code, result_code}
 use Rattle.kir_lower_shape.specs.Marks.{Way}
-use Rattle.kir_lower_parting.specs.Nodes.{AreInPlace}
+use Rattle.kir_lower_simulation.specs.Nodes.{AreInPlace}
 use Rattle.kir_lower_simulation.specs.Setting.{Setting, Store, Activation, frame, inside, behind_variables}
 use Rattle.kir_lower_simulation.specs.Held.{Within, IsMade, IsWithin}
 use Rattle.kir_lower_simulation.specs.Ready.{HasOwn, IsSound, AreSound, AreNext, LeadsToStatement, LeadsToList}

@@ -18,7 +18,7 @@ use Rattle.kir.specs.Homes.{IsCellOf}
 use Rattle.kir.specs.Matching.{StandsAlike, StepsTo, ComesToScope, value_in}
 use Rattle.kir_moves.proofs.Known.{TasksFit}
 use Rattle.kir_lower_shape.specs.Marks.{point_marked}
-use Rattle.kir_lower_parting.specs.Nodes.{AreInPlace}
+use Rattle.kir_lower_simulation.specs.Nodes.{AreInPlace}
 use Rattle.kir_lower_simulation.specs.Setting.{Setting, Store, kernel_item, program_item}
 
 -- before a line that reads or sets a variable's cell: where the program's item stands, and what the variable holds

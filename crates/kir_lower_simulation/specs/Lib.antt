@@ -1,3 +1,7 @@
+pub mod Coming
+pub mod Covering
+pub mod Nodes
+pub mod Reaching
 pub mod Setting
 pub mod Exits
 pub mod Facts

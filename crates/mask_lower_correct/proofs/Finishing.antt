@@ -60,8 +60,8 @@ use Rattle.mask_lower.proofs.Ends.{ends_even}
 use Rattle.mask_lower_correct.proofs.Ends.{ends_kept, ends_apart}
 use Rattle.mask_lower_correct.proofs.Exiting.{HomeSame, Left, exit_runs}
 use Rattle.mask_lower_correct.proofs.Setting.{put_of, put_there}
-use Rattle.regions_unset.proofs.Unset.{unset_kept}
-use Rattle.regions_unset.proofs.Living.{unset_before}
+use Rattle.mask_lower_correct.proofs.Unset.{unset_kept}
+use Rattle.mask_lower_correct.proofs.Living.{unset_before}
 use Rattle.kir_uniform.specs.Uniform.{sets_in}
 use Rattle.kir_uniform.proofs.Living.{true_or_false}
 use Rattle.mask_lower_correct.proofs.Soundness.{yes_at, test_runs, yes_is}

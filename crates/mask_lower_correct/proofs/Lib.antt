@@ -1,3 +1,5 @@
+pub mod Unset
+pub mod Living
 pub mod CellValues
 pub mod View
 pub mod LaneValues

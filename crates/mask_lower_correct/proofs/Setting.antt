@@ -11,7 +11,7 @@ use Rattle.regions.specs.Tree.{RegionOf}
 use Rattle.regions.specs.Spans.{Spans, piece, whole, from_answer}
 use Rattle.kir_uniform.specs.Uniform.{sets_in}
 use Rattle.kir_uniform.proofs.Living.{or_either, turned}
-use Rattle.regions_unset.proofs.Living.{joined_live}
+use Rattle.mask_lower_correct.proofs.Living.{joined_live}
 use Rattle.mask_lower.specs.Atoms.{atoms_of, atoms_in}
 use Rattle.mask_lower.specs.Homes.{sets_first, put_cells}
 use Rattle.mask_lower_correct.proofs.Frames.{some_left, some_right}

@@ -52,7 +52,7 @@ pub fn compile_program(
     ensures name { IfOk result (λ c. c.group.kernel ≡ name.now) }
     ensures passes { IfOk result (λ c. IsCompilation (lanes_of width) c) }
 {
-    // `lowered`: kir_lower_shape, kir_lower_parting, kir_lower_simulation, kir_lower_uniform
+    // `lowered`: kir_lower_shape, kir_lower_simulation, kir_lower_uniform
     let lowered = lower(alloc, &program)?;
     // `simplified`: clauses of `simplify`
     let kernel = simplify(alloc, lowered)?;

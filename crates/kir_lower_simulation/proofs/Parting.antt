@@ -34,10 +34,10 @@ use Rattle.kir_lower.specs.Whole.{lowered_of}
 use Rattle.kir_lower_shape.specs.Marks.{Marks, point_marked}
 use Rattle.kir_lower_shape.specs.CodeMarks.{kernel_marks}
 use Rattle.kir_lower_shape.proofs.OneToOne.{points_differ}
-use Rattle.kir_lower_parting.specs.Coming.{behind_call, RunLeads, EvaluateLeads, TaskLeads, TasksLead, StandsAtBarrier}
-use Rattle.kir_lower_parting.specs.Covering.{StandsAtLine, ComesToLine}
-use Rattle.kir_lower_parting.specs.Nodes.{IsBarrierNode, node_at, AreInPlace}
-use Rattle.kir_lower_parting.proofs.Standing.{at_barrier}
+use Rattle.kir_lower_simulation.specs.Coming.{behind_call, RunLeads, EvaluateLeads, TaskLeads, TasksLead, StandsAtBarrier}
+use Rattle.kir_lower_simulation.specs.Covering.{StandsAtLine, ComesToLine}
+use Rattle.kir_lower_simulation.specs.Nodes.{IsBarrierNode, node_at, AreInPlace}
+use Rattle.kir_lower_simulation.proofs.Standing.{at_barrier}
 
 -- ---- steps of the program's item
 

@@ -10,11 +10,11 @@ use Rattle.cl_model.specs.Task.{Task, Run, Evaluate, Finish, Peek, Alter, Decide
 use Rattle.cl_model.specs.Task.{Initialise, Branch, InLoop, Select, InSwitch, Leave, point_of}
 use Rattle.cl_model.specs.Steps.{each_operand, in_order, test_tasks, step_tasks, iteration, behind_break}
 use Rattle.cl_model.specs.Steps.{behind_continue, initial_tasks, Entry, arm_tasks, entry_of, entry_tasks}
-use Rattle.kir_lower_parting.specs.Coming.{behind_call, EvaluateLeads, RunLeads, TaskLeads, TasksLead, StandsAtBarrier}
-use Rattle.kir_lower_parting.specs.Nodes.{Node, no_node, statement_node, list_node, round_node, expression_node}
-use Rattle.kir_lower_parting.specs.Nodes.{operand_node, nth_node, arm_node, child, node_from, node_at, IsBarrierNode}
-use Rattle.kir_lower_parting.specs.Nodes.{IsNode, IsRealFrom, IsReal, IsInPlace, AreInPlace}
-use Rattle.kir_lower_parting.proofs.Entries.{Enters, enters_nowhere, enters_here, enters_later, value_enters}
+use Rattle.kir_lower_simulation.specs.Coming.{behind_call, EvaluateLeads, RunLeads, TaskLeads, TasksLead, StandsAtBarrier}
+use Rattle.kir_lower_simulation.specs.Nodes.{Node, no_node, statement_node, list_node, round_node, expression_node}
+use Rattle.kir_lower_simulation.specs.Nodes.{operand_node, nth_node, arm_node, child, node_from, node_at, IsBarrierNode}
+use Rattle.kir_lower_simulation.specs.Nodes.{IsNode, IsRealFrom, IsReal, IsInPlace, AreInPlace}
+use Rattle.kir_lower_simulation.proofs.Entries.{Enters, enters_nowhere, enters_here, enters_later, value_enters}
 
 module _ (program : Program) where
   -- one way behind another

@@ -21,15 +21,15 @@ use Rattle.kir_moves.specs.Leads.{Leads, there, by_leg}
 use Rattle.kir_lower.specs.Whole.{lowered_of}
 use Rattle.kir_lower_shape.specs.Marks.{Marks, point_marked}
 use Rattle.kir_lower_shape.specs.CodeMarks.{kernel_marks}
-use Rattle.kir_lower_parting.specs.Coming.{StandsAtBarrier}
-use Rattle.kir_lower_parting.specs.Covering.{ComesToLine}
-use Rattle.kir_lower_parting.specs.Nodes.{IsBarrierNode, node_at, AreInPlace}
-use Rattle.kir_lower_parting.specs.Reaching.{PassesTo, TurnsTo, Answers, as_is, answered, Reaches, here, goes, turns}
-use Rattle.kir_lower_parting.specs.Reaching.{CoversFewer}
+use Rattle.kir_lower_simulation.specs.Coming.{StandsAtBarrier}
+use Rattle.kir_lower_simulation.specs.Covering.{ComesToLine}
+use Rattle.kir_lower_simulation.specs.Nodes.{IsBarrierNode, node_at, AreInPlace}
+use Rattle.kir_lower_simulation.specs.Reaching.{PassesTo, TurnsTo, Answers, as_is, answered, Reaches, here, goes, turns}
+use Rattle.kir_lower_simulation.specs.Reaching.{CoversFewer}
 use Rattle.kir_moves.proofs.Coming.{come_trans}
-use Rattle.kir_lower_parting.proofs.Standing.{lead_keeps}
-use Rattle.kir_lower_parting.proofs.Barriers.{kernel_marked, point_is_barrier}
-use Rattle.kir_lower_parting.proofs.Parting.{step_leads, answer_leads, stands_there, comes_to_line}
+use Rattle.kir_lower_simulation.proofs.Standing.{lead_keeps}
+use Rattle.kir_lower_simulation.proofs.Barriers.{kernel_marked, point_is_barrier}
+use Rattle.kir_lower_simulation.proofs.Parting.{step_leads, answer_leads, stands_there, comes_to_line}
 
 -- an item that stands at a barrier waits
 pub stands_waits : (program : Program) (launch : Launch) (j : ProgramItem) (point : ProgramPoint) (ts : List Task) →

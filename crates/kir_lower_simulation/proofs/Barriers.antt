@@ -43,10 +43,10 @@ use Rattle.kir_lower_shape.proofs.Cutless.{Cutless, action_cutless, initial_cutl
 use Rattle.kir_lower_shape.proofs.Cutless.{selected_cutless, fallen_cutless, result_cutless, parameters_cutless}
 use Rattle.kir_lower_shape.proofs.Shapes.{shaped_all, expression_shaped, operands_shaped, optional_shaped}
 use Rattle.kir_lower_shape.proofs.Shapes.{statement_shaped, list_shaped, round_shaped, arms_shaped, call_shaped}
-use Rattle.kir_lower_parting.specs.Nodes.{Node, statement_node, list_node, round_node, expression_node, optional_node}
-use Rattle.kir_lower_parting.specs.Nodes.{operand_node, nth_node, arm_node, child, node_at, IsBarrierNode, WayLeads}
-use Rattle.kir_lower_parting.specs.Nodes.{BarriersMarked, AreMarked}
-use Rattle.kir_lower_parting.proofs.Standing.{node_further, node_twice}
+use Rattle.kir_lower_simulation.specs.Nodes.{Node, statement_node, list_node, round_node, expression_node, optional_node}
+use Rattle.kir_lower_simulation.specs.Nodes.{operand_node, nth_node, arm_node, child, node_at, IsBarrierNode, WayLeads}
+use Rattle.kir_lower_simulation.specs.Nodes.{BarriersMarked, AreMarked}
+use Rattle.kir_lower_simulation.proofs.Standing.{node_further, node_twice}
 
 -- the lines of calls have marks
 abbrev CallsShaped : Calls → CallMarks → Type 0

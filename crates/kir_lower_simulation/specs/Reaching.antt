@@ -10,8 +10,8 @@ use Rattle.cl_model.specs.Steps.{before, item_next as program_next}
 use Rattle.cl_model.specs.Meaning.{is_test, IsWithin}
 use Rattle.kir.specs.Places.{Tasks}
 use Rattle.kir_lower_shape.specs.Marks.{Marks}
-use Rattle.kir_lower_parting.specs.Coming.{StandsAtBarrier}
-use Rattle.kir_lower_parting.specs.Covering.{ComesToLine}
+use Rattle.kir_lower_simulation.specs.Coming.{StandsAtBarrier}
+use Rattle.kir_lower_simulation.specs.Covering.{ComesToLine}
 
 -- a step that begins no iteration may lead there; a barrier is passed
 abbrev pub PassesTo : {S : Type 0} → (Access → Type 0) → Next S → S → Type 0

@@ -1,4 +1,0 @@
-pub mod Coming
-pub mod Covering
-pub mod Nodes
-pub mod Reaching

@@ -1,2 +1,0 @@
-pub mod Unset
-pub mod Living

@@ -1,2 +1,0 @@
-//! Cells that a region does not set, in the runs of items: laws alone.
-#![tactic(auto)]
