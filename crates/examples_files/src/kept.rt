@@ -2,7 +2,7 @@
 
 ghost use Rattle.std.specs.Prelude.{IfOk, IsUtf8};
 
-use crate::tests::small;
+use crate::objects::small;
 use cl_prep::{Define, Defines};
 use std::alloc::Global;
 use std::test::Fail;
