@@ -11,7 +11,7 @@ use wg_num::{IntType, Place, Word};
 #[derive(Drop)]
 pub(crate) struct Text {
     text: String,
-    is_whole: bool,
+    refused: Option<AllocError>,
 }
 
 impl Text {
@@ -19,14 +19,14 @@ impl Text {
     pub(crate) fn new(alloc: Global) -> Text {
         Text {
             text: String::new(alloc),
-            is_whole: true,
+            refused: None,
         }
     }
 
     // Notes whether something was put.
     fn note(&mut self, put: Result<(), AllocError>) {
-        if put.is_err() {
-            self.is_whole = false;
+        if let Err(error) = put {
+            self.refused = Some(error);
         }
     }
 
@@ -51,12 +51,14 @@ impl Text {
 
     /// The whole text; `Memory` where memory was refused.
     pub(crate) fn finish(self) -> Result<String, DumpError> {
-        let Text { text, is_whole } = self;
-        if is_whole {
-            return Ok(text);
+        let Text { text, refused } = self;
+        match refused {
+            None => Ok(text),
+            Some(AllocError) => {
+                drop(text);
+                Err(DumpError::Memory)
+            }
         }
-        drop(text);
-        Err(DumpError::Memory)
     }
 }
 
