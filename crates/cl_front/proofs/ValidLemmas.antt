@@ -15,7 +15,8 @@ use Rattle.cl_short_vec_correct.proofs.FormUnits.{forms_shaped}
 use Rattle.cl_front.specs.Typed.{HasTypedUnit, places_of}
 use Rattle.cl_front.specs.Law.{ProgramsValid}
 
-accepted_valid : (source : List ℕ) (defines : List Define) (kernel : List ℕ) (typed : Unit') → DefinesFit defines →
+-- the unit of an accepted source
+pub accepted_valid : (source : List ℕ) (defines : List Define) (kernel : List ℕ) (typed : Unit') → DefinesFit defines →
     HasTypedUnit source defines kernel typed → IsValid (erased.program_of typed)
 accepted_valid source defines kernel typed fit c =
     let places = places_of source c.expanded in

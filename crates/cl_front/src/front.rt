@@ -43,7 +43,8 @@ pub(crate) fn token_place(source: &[u8], tokens: &[Token], number: u32) -> Place
 
 // The condition of an error of the tokens and the offset at which it stands; `Memory` where memory ran out.
 fn lexical_condition(error: LexError) -> Result<(Condition, u32), Memory>
-    ensures { IfOk result (λ found. condition_of_lexical error ≡ Some found) }
+    ensures ok { IfOk result (λ found. condition_of_lexical error ≡ Some found) }
+    ensures err { IfErr result (λ e. condition_of_lexical error ≡ None) }
 {
     match error {
         LexError::NoToken { at } => Ok((Condition::NoToken, at)),
@@ -84,7 +85,8 @@ fn cut_source(alloc: Global, source: &[u8]) -> Result<Vec<Token>, SourceError>
 
 // The condition of an error of the expansion and the token at which it stands; `Memory` where memory ran out.
 fn expansion_condition(error: PrepError) -> Result<(Condition, u32), Memory>
-    ensures { IfOk result (λ found. condition_of_expansion error ≡ Some found) }
+    ensures ok { IfOk result (λ found. condition_of_expansion error ≡ Some found) }
+    ensures err { IfErr result (λ e. condition_of_expansion error ≡ None) }
 {
     match error {
         PrepError::BadDirective { token } => Ok((Condition::BadDirective, token)),

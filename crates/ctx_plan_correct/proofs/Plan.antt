@@ -213,7 +213,8 @@ module _ (program : Program) (names : List (List Named)) (kernel : Kernel) (vary
   home_fits c cell h e OfFlag k is = made_fits c cell h e (ap is_made e ∙ ap is_made_kind k) (entry across c) refl is
   home_fits c cell h e OfValue k is = made_fits c cell h e (ap is_made e ∙ ap is_made_kind k) (entry across c) refl is
 
-  homes_fit : (c : ℕ) (h : Home) → slice_get (plan_of program kernel varying).homes c ≡ Some h →
+  -- each home is that of its cell
+  pub homes_fit : (c : ℕ) (h : Home) → slice_get (plan_of program kernel varying).homes c ≡ Some h →
       HasHome program kernel c (sort_of h)
   homes_fit c h e = let r = of_cell c h e in home_fits c r.0 h r.1 r.0.kind refl r.2
 

@@ -73,7 +73,7 @@ built_by Does code (LoopThen first test body others rest) (VoteWork t a r m behi
 -- ---- slots
 
 -- a cell that has a once slot by its home is that of a variable that does not vary
-steady_home : (program : Program) (kernel : Kernel) (c : ℕ) (h : kir.Home) → HasHome program kernel c h →
+pub steady_home : (program : Program) (kernel : Kernel) (c : ℕ) (h : kir.Home) → HasHome program kernel c h →
     h ≡ kir.Once → IsSteady program kernel c
 steady_home program kernel c _ (once {v = v} cell crosses steady) e =
     record { variable = v; cell = cell; steady = steady }

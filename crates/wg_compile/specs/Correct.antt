@@ -57,6 +57,10 @@ KeepsOnceWhatIsEqual program kernel plan =
     (c s : ℕ) → slice_get plan.homes c ≡ Some (home.Once s) → (v : Variable) × IsCellOf kernel v c ×
     HoldsEqual program v
 
+-- the same of the kernel and the plan that the passes make of a unit, whatever a call of them answers
+abbrev pub KeepsOnceIn : Unit' → Type 0
+KeepsOnceIn u = KeepsOnceWhatIsEqual (program_of u) (kernel_in u) (plan_in u)
+
 -- what each pass means, one field a pass in the order of the calls:
 -- `lower`: the kernel without calls comes from the program, and its histories and runs are matched by the program's;
 -- it begins with one `Set` from its argument for each parameter;

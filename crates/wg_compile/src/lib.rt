@@ -4,7 +4,9 @@
 ghost use Rattle.std.specs.Prelude.{◌≡◌, IfOk};
 ghost use Rattle.wg_num.specs.Operators.{lanes_of};
 ghost use Rattle.cl_meaning.specs.View.{unit_of};
-ghost use Rattle.wg_compile.specs.Correct.{IsCompilation};
+ghost use Rattle.cl_check_sound.specs.Erased.{program_of};
+ghost use Rattle.cl_model.specs.Valid.{IsValid};
+ghost use Rattle.wg_compile.specs.Correct.{IsCompilation, KeepsOnceIn};
 
 use cl_model::Program;
 use ctx_plan::Plan;
@@ -40,8 +42,9 @@ pub struct Compiled {
 /// The kernel of a typed program, under this name, at a lane width: the passes, one after the other.
 /// What each answers is its function of the program; of a valid program (OpenCL 1.2, 6.11 and the
 /// clauses that `docs/MEANING.md` names) all are correct, each as its field of `IsCorrect` says, so that
-/// the program of a work-group ends in outcomes of the program in each launch that fits. `Memory` where
-/// none is to be had, and where a number of a pass has no room in 32 or 64 bits.
+/// the program of a work-group ends in outcomes of the program in each launch that fits. Whatever is
+/// answered, what the kernel keeps once for a work-group has equal values in all its work-items. `Memory`
+/// where none is to be had, and where a number of a pass has no room in 32 or 64 bits.
 pub fn compile_program(
     alloc: Global,
     program: Program,
@@ -51,6 +54,7 @@ pub fn compile_program(
     ensures program { IfOk result (λ c. unit_of c.program ≡ unit_of program) }
     ensures name { IfOk result (λ c. c.group.kernel ≡ name.now) }
     ensures passes { IfOk result (λ c. IsCompilation (lanes_of width) c) }
+    ensures once { IsValid (program_of (unit_of program)) → KeepsOnceIn (unit_of program) }
 {
     // `lowered`: kir_lower_shape, kir_lower_simulation, kir_lower_uniform
     let lowered = lower(alloc, &program)?;

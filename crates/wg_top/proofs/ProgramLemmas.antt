@@ -10,7 +10,11 @@ use Rattle.launch_file.specs.declared.text.LaunchPart.{LaunchPart}
 use Rattle.launch_file.specs.Texts.{Text, Part, part_of}
 use Rattle.cl_front.specs.declared.condition.Condition.{Condition}
 use Rattle.cl_front.specs.Typed.{HasTypedUnit, IsFaulty}
+use Rattle.cl_check_sound.specs.Law.{DefinesFit}
 use Rattle.cl_front.proofs.CompileLemmas.{refused_or_compiled, one_typed}
+use Rattle.cl_front.proofs.ValidLemmas.{accepted_valid}
+use Rattle.wg_compile.specs.Correct.{KeepsOnceIn}
+use Rattle.wg_compile.proofs.Plans.{kept_in}
 use Rattle.wg_top.specs.declared.RunError.{RunError}
 use Rattle.wg_top.specs.declared.RunError.TheVariants.{Source, Memory}
 use Rattle.wg_top.specs.Stages.{ProgramCause, KernelCause, KernelsCause}
@@ -38,6 +42,13 @@ no_refused bytes defines (part ∷ parts) (u ∷ us) condition place refused are
   | inl faulty ↦ refused_or_compiled bytes defines part.kernel condition place u (inr faulty) are.0
   | inr later ↦ no_refused bytes defines parts us condition place later.1 are.1
 ]
+
+-- ---- what is kept once of the unit of an accepted source has equal values
+
+pub kept_once_in_each : (source : List ℕ) (defines : List Define) (kernel : List ℕ) (unit : Unit') →
+    DefinesFit defines → HasTypedUnit source defines kernel unit → KeepsOnceIn unit
+kept_once_in_each source defines kernel unit fit typed =
+    kept_in unit (accepted_valid source defines kernel unit fit typed)
 
 -- ---- one launch more
 

@@ -1,14 +1,17 @@
 //! The top call: from words to a status, from files to files, through all passes of the compiler.
 #![tactic(auto)]
 
-ghost use Rattle.std.specs.Prelude.{◌≡◌, ◌⊎◌, List, map, string_bytes, is_some, true};
+ghost use Rattle.std.specs.Prelude.{◌≡◌, ◌⊎◌, ℕ, List, map, string_bytes, is_some, true};
 ghost use Rattle.command_words.specs.Command.{Files, Request, run, TakesWords, files_of, request_of};
 ghost use Rattle.command_words.specs.Command.{ObjectFiles, exec, cached, build_of, object_of};
 ghost use Rattle.launch_file.specs.Texts.{Text};
 ghost use Rattle.wg_outside.specs.Counts.{Rose};
 ghost use Rattle.wg_top.specs.Causes.{AcceptedClean, HasLoops};
 ghost use Rattle.wg_top.specs.declared.RunError.{RunError};
+ghost use Rattle.cl_prep.specs.declared.prep.Define.{Define};
+ghost use Rattle.cl_check_sound.specs.Law.{DefinesFit};
 ghost use Rattle.cl_front.specs.Forms.{FormsHold};
+ghost use Rattle.cl_front.specs.Typed.{HasTypedUnit};
 ghost use Rattle.cl_meaning.specs.Typed.{Unit'};
 ghost use Rattle.wg_top.specs.Ends.{EndsCached, Ends, EndsShowing, EndsSample, EndsAsked};
 ghost use Rattle.wg_top.specs.Ends.{AcceptedFor, FindsFor, NoStoreFault, KeepsOut, SaysLine};
@@ -22,6 +25,7 @@ ghost use Rattle.wg_top.specs.CompiledShown.{showing};
 ghost use Rattle.wg_top.specs.Lines.{status_of};
 ghost use Rattle.wg_top.specs.Promise.{Promised};
 ghost use Rattle.wg_top.specs.Linked.{links};
+ghost use Rattle.wg_compile.specs.Correct.{KeepsOnceIn};
 
 use crate::cached::run_cached;
 use crate::objects::{build_source, exec_object};
@@ -353,6 +357,11 @@ pub fn wgcc<S: Store, O: Sink, E: Sink>(
     // numbers given for names are to be below 2^63, as those of each launch file are from which
     // something ran, was shown or built, or was refused for its source: fields `fit` of `ends`.
     ensures vectors { FormsHold }
+
+    // Of each kernel of an accepted source, whatever a run of it ends with: what is kept once for a
+    // work-group has equal values in all its work-items.
+    ensures once { (source : List ℕ) (defines : List Define) (kernel : List ℕ) (unit : Unit') →
+        DefinesFit defines → HasTypedUnit source defines kernel unit → KeepsOnceIn unit }
 
     // Words that the command does not take.
     ensures usage { (TakesWords (map string_bytes words.now) → ⊥) → (result ≡ 2) ⊎ (result ≡ 8) }

@@ -10,6 +10,7 @@ use Rattle.wg_top.proofs.ExecOfSourceLemmas.{exec_of_source}
 use Rattle.wg_top.proofs.HonestEndLemmas.{with_honest}
 use Rattle.wg_top.proofs.PromiseLemmas.{promise}
 use Rattle.cl_front.proofs.FaultLemmas.{forms_hold}
+use Rattle.wg_top.proofs.ProgramLemmas.{kept_once_in_each}
 use Rattle.wg_top.proofs.wgcc.Goals as goal
 
 pub returns-in-Ok-clause-ends : goal.returns-in-Ok-clause-ends
@@ -291,3 +292,12 @@ returns-in-Err-Memory-clause-vectors g c = forms_hold
 
 pub returns-in-Err-Usage-clause-vectors : goal.returns-in-Err-Usage-clause-vectors
 returns-in-Err-Usage-clause-vectors g c = forms_hold
+
+pub returns-in-Ok-clause-once : goal.returns-in-Ok-clause-once
+returns-in-Ok-clause-once g c = kept_once_in_each
+
+pub returns-in-Err-Memory-clause-once : goal.returns-in-Err-Memory-clause-once
+returns-in-Err-Memory-clause-once g c = kept_once_in_each
+
+pub returns-in-Err-Usage-clause-once : goal.returns-in-Err-Usage-clause-once
+returns-in-Err-Usage-clause-once g c = kept_once_in_each
