@@ -1,37 +1,39 @@
 -- Whether a program of a work-group asks the machine for few registers, columns and slots.
-use Rattle.std.specs.Prelude.{ℕ, List, [], ◌∷◌, ◌&&◌, nat_le}
+use Rattle.std.specs.Prelude.{ℕ, zero, suc, ◌/◌, List, [], ◌∷◌, ◌&&◌, nat_le}
 use Rattle.std.specs.Prelude.{Bool as Test, true}
 use Rattle.lane_code.specs.declared.code.Counts.{Counts}
 use Rattle.lane_code.specs.declared.code.Node.{Node}
 use Rattle.lane_code.specs.Program.{Work, Items, Seq, Vote, Loop, Works, idle, then_work, work_of}
 use Rattle.lane_code.specs.Program.{Plain}
 
--- so many registers of a bank are few, 2^22 of them at most
-abbrev pub are_few : ℕ → Test
-are_few n = nat_le n 4194304
+-- how many registers of a bank a code may have in a file with so many launches: 2^22, shared evenly
+abbrev pub share_of : ℕ → ℕ
+share_of zero = 4194304
+share_of (suc launches) = 4194304 / suc launches
 
--- a code has few registers of each bank
-abbrev pub has_few : Counts → Test
-has_few c = are_few c.narrow && are_few c.wide && are_few c.masks && are_few c.scalars
+-- a code has at most so many registers of each bank
+abbrev pub has_few : ℕ → Counts → Test
+has_few most c = nat_le c.narrow most && nat_le c.wide most && nat_le c.masks most && nat_le c.scalars most
 
--- each code of the work has few
+-- each code of the work has
 abbrev mutual
-  pub has_few_in : Work → Test
-  has_few_in (Items code) = has_few code.counts
-  has_few_in (Seq works) = have_few_in works
-  has_few_in (Vote test agreed refused mixed) =
-      has_few test.counts && has_few mixed.counts && has_few_in agreed && has_few_in refused
-  has_few_in (Loop test_first test body rest) = has_few rest.counts && has_few_in test && has_few_in body
+  pub has_few_in : ℕ → Work → Test
+  has_few_in most (Items code) = has_few most code.counts
+  has_few_in most (Seq works) = have_few_in most works
+  has_few_in most (Vote test agreed refused mixed) =
+      has_few most test.counts && has_few most mixed.counts && has_few_in most agreed && has_few_in most refused
+  has_few_in most (Loop test_first test body rest) =
+      has_few most rest.counts && has_few_in most test && has_few_in most body
 
-  pub have_few_in : Works → Test
-  have_few_in idle = true
-  have_few_in (then_work first others) = has_few_in first && have_few_in others
+  pub have_few_in : ℕ → Works → Test
+  have_few_in most idle = true
+  have_few_in most (then_work first others) = has_few_in most first && have_few_in most others
 
--- each code of each of the nodes has few
-abbrev pub have_few : List Node → Test
-have_few [] = true
-have_few (n ∷ nodes) = has_few_in (work_of n) && have_few nodes
+-- each code of each of the nodes has
+abbrev pub have_few : ℕ → List Node → Test
+have_few most [] = true
+have_few most (n ∷ nodes) = has_few_in most (work_of n) && have_few most nodes
 
--- each code of the program has few registers, and there are 65,536 columns at most and as many slots
-abbrev pub is_within : Plain → Test
-is_within p = nat_le p.columns 65536 && nat_le p.slots 65536 && has_few_in p.top
+-- each code of the program has at most so many registers, and there are 65,536 columns at most and as many slots
+abbrev pub is_within : ℕ → Plain → Test
+is_within most p = nat_le p.columns 65536 && nat_le p.slots 65536 && has_few_in most p.top

@@ -9,29 +9,41 @@ ghost use Rattle.wg_top.specs.Guard as spec;
 
 use lane_code::{Counts, GroupProgram, Node};
 
-// The most registers of a bank in a code.
-const REGISTERS_MOST: u32 = 4_194_304;
+// The most registers of a bank, in the largest codes of all launches of a file together.
+const REGISTERS_MOST: usize = 4_194_304;
 
 // The most columns, and the most slots.
 const CELLS_MOST: u32 = 65_536;
 
-// Whether a code has few registers of each bank.
-fn has_few(counts: Counts) -> bool
-    ensures { result ≡ spec.has_few counts }
+/// How many registers of a bank a code may have in a file with so many launches, each of which has registers of its
+/// own: 2^22, shared evenly.
+pub(crate) fn share_of(launches: usize) -> usize
+    ensures { result ≡ spec.share_of launches }
 {
-    counts.narrow <= REGISTERS_MOST
-        && counts.wide <= REGISTERS_MOST
-        && counts.masks <= REGISTERS_MOST
-        && counts.scalars <= REGISTERS_MOST
+    if launches == 0 {
+        REGISTERS_MOST
+    } else {
+        REGISTERS_MOST / launches
+    }
+}
+
+// Whether a code has at most so many registers of each bank.
+fn has_few(most: usize, counts: Counts) -> bool
+    ensures { result ≡ spec.has_few most counts }
+{
+    counts.narrow as usize <= most
+        && counts.wide as usize <= most
+        && counts.masks as usize <= most
+        && counts.scalars as usize <= most
 }
 
 // Whether each code of each of the nodes has few registers.
 #[cycle(few)]
-fn have_few(nodes: &Vec<Node>) -> bool
-    ensures { result ≡ spec.have_few nodes.now.items }
+fn have_few(most: usize, nodes: &Vec<Node>) -> bool
+    ensures { result ≡ spec.have_few most nodes.now.items }
 {
     for one in nodes {
-        if !has_few_in(one) {
+        if !has_few_in(most, one) {
             return false;
         }
     }
@@ -40,31 +52,36 @@ fn have_few(nodes: &Vec<Node>) -> bool
 
 // Whether each code of the node has few registers.
 #[cycle(few)]
-fn has_few_in(node: &Node) -> bool
-    ensures { result ≡ spec.has_few_in (work_of node.now) }
+fn has_few_in(most: usize, node: &Node) -> bool
+    ensures { result ≡ spec.has_few_in most (work_of node.now) }
 {
     match node {
-        Node::Items(code) => has_few(code.counts),
-        Node::Seq(nodes) => have_few(nodes),
+        Node::Items(code) => has_few(most, code.counts),
+        Node::Seq(nodes) => have_few(most, nodes),
         Node::Vote {
             test,
             yes,
             no,
             mixed,
-        } => { has_few(test.counts) && has_few(mixed.counts) && has_few_in(yes) && has_few_in(no) }
+        } => {
+            has_few(most, test.counts)
+                && has_few(most, mixed.counts)
+                && has_few_in(most, yes)
+                && has_few_in(most, no)
+        }
         Node::Loop {
             test,
             body,
             rest,
             ..
-        } => has_few(rest.counts) && has_few_in(test) && has_few_in(body),
+        } => has_few(most, rest.counts) && has_few_in(most, test) && has_few_in(most, body),
     }
 }
 
-/// Whether the program asks for no more registers, columns and slots than it may: 2^22 registers of a bank in a code,
-/// and 65,536 columns and as many slots.
-pub(crate) fn is_within(group: &GroupProgram) -> bool
-    ensures { result ≡ spec.is_within (plain_of group.now) }
+/// Whether the program asks for no more registers, columns and slots than it may: so many registers of a bank in a
+/// code, and 65,536 columns and as many slots.
+pub(crate) fn is_within(most: usize, group: &GroupProgram) -> bool
+    ensures { result ≡ spec.is_within most (plain_of group.now) }
 {
-    group.columns <= CELLS_MOST && group.slots <= CELLS_MOST && has_few_in(&group.top)
+    group.columns <= CELLS_MOST && group.slots <= CELLS_MOST && has_few_in(most, &group.top)
 }

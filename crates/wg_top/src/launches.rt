@@ -15,7 +15,7 @@ ghost use Rattle.wg_top.specs.Launches.{launches_in, HasLimits, IsReady, all_gro
 ghost use Rattle.wg_top.specs.CompiledLaunches.{AllFit, LaunchesRan, EndsSo, refusal_of};
 ghost use Rattle.wg_top.specs.CompiledLaunches.{start_place};
 
-use crate::guard::is_within;
+use crate::guard::{is_within, share_of};
 use crate::runnable::Runnable;
 use crate::{RunError, Summary};
 use cl_model::{Bound, Buffers, Launch};
@@ -136,15 +136,21 @@ pub fn has_room(locals: &[u64], args: &[Bound]) -> bool
 }
 
 // The program made ready for the launch; `Memory` also where the local memory of its groups
-// has no room, or the program asks for more registers, columns or slots than it may.
-fn prepare_one(alloc: Global, group: &GroupProgram, launch: Launch) -> Result<Launcher<'_>, Memory>
+// has no room, or the program asks for more columns or slots than it may, or for more than so many
+// registers.
+fn prepare_one(
+    alloc: Global,
+    most: usize,
+    group: &GroupProgram,
+    launch: Launch,
+) -> Result<Launcher<'_>, Memory>
     requires { LaunchFits (plain_of group.now).params 0 (launch_of launch) }
     ensures program { IfOk result (λ l. l.program ≡ group.now) }
     ensures launch { IfOk result (λ l. l.launch ≡ launch) }
     ensures fit { IfOk result (λ l. LaunchFits (plain_of l.program).params (sum (plain_of l.program).locals)
         (launch_of l.launch)) }
 {
-    if has_room(&group.locals, &launch.args) && is_within(group) {
+    if has_room(&group.locals, &launch.args) && is_within(most, group) {
         Launcher::prepare(alloc, group, launch)
     } else {
         Err(Memory)
@@ -165,13 +171,14 @@ pub(crate) fn prepare_each<'k>(
         All (λ l. LaunchFits (plain_of l.program).params (sum (plain_of l.program).locals) (launch_of l.launch))
         v.items) }
 {
+    let most = share_of(runnables.len());
     let mut launchers = Vec::new(alloc);
     let mut rest = launches.into_iter();
     for runnable in runnables {
         let Some(launch) = rest.next() else {
             return Ok(launchers);
         };
-        let launcher = prepare_one(alloc, runnable.group, launch)?;
+        let launcher = prepare_one(alloc, most, runnable.group, launch)?;
         if launchers.push(launcher).is_err() {
             return Err(Memory);
         }
