@@ -1,5 +1,5 @@
 -- All passes are correct, from what they answer.
-use Rattle.std.proofs.Common.{◌≡◌, ℕ, List, ◌∙◌, subst, true, false}
+use Rattle.std.proofs.Common.{◌≡◌, List, ◌∙◌, subst, true, false}
 use Rattle.std.specs.Prelude.{Bool as Test}
 use Rattle.wg_num.specs.declared.types.Width.{Width}
 use Rattle.wg_num.specs.Operators.{lanes_of}

@@ -1,6 +1,6 @@
 -- The kernel without calls comes from its program, and so does the simple one that is made of it: the whole record of
 -- a lowering, for the unit of a valid program.
-use Rattle.std.proofs.Common.{◌≡◌, true, ap, ◌∙◌}
+use Rattle.std.proofs.Common.{◌≡◌, true, ap}
 use Rattle.cl_model.specs.Calls.{kernel_of}
 use Rattle.cl_model.specs.Valid.{IsValid, parameter_kinds}
 use Rattle.cl_meaning.specs.Typed.{Unit'}

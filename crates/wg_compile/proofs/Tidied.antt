@@ -1,5 +1,5 @@
 -- A tidied code follows its region, and a program with tidied codes is built of them.
-use Rattle.std.proofs.Common.{◌≡◌, ℕ, ◌≤◌, List, refl, sym, ap, subst}
+use Rattle.std.proofs.Common.{◌≡◌, ℕ, ◌≤◌, List, sym, ap, subst}
 use Rattle.wg_num.specs.declared.types.Width.{Width}
 use Rattle.wg_num.specs.Operators.{lanes_of}
 use Rattle.cl_model.specs.Tree.{Program}
@@ -15,7 +15,6 @@ use Rattle.lane_code.specs.declared.end.RegionEnd.{RegionEnd}
 use Rattle.lane_code.specs.declared.end.RegionEnd.TheVariants as end
 use Rattle.lane_code.specs.Acts.{State}
 use Rattle.lane_code.specs.Groups.{Group}
-use Rattle.lane_code.specs.Meaning.{Ended}
 use Rattle.lane_code.specs.Program.{PlainCode, Work, Plain}
 use Rattle.lane_laws.specs.Chain.{Chain, NoWork, CodeThen, VoteThen as VoteWork, LoopThen as LoopWork}
 use Rattle.lane_laws.specs.Chain.{work_before}
@@ -25,7 +24,6 @@ use Rattle.regions.specs.Tree as tree
 use Rattle.regions.specs.Tree.{RegionOf}
 use Rattle.regions.specs.Split.{split_of}
 use Rattle.mask_lower.specs.Lowered.{region_code}
-use Rattle.mask_lower.specs.Counts.{load_steps, store_steps}
 use Rattle.mask_lower.specs.Following.{ChunkOf, ChunkDone, ChunkSays, Follows, SlotsBegun}
 use Rattle.mask_lower.specs.Layout.{kernel_chunk, HasShape, Mirrors}
 use Rattle.mask_lower.specs.Standing.{LanesStand, LanesVoted, OthersKept}

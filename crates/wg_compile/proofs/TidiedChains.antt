@@ -1,6 +1,6 @@
 -- What a program of a group has where its codes are tidied.
 use Rattle.std.proofs.Common.{◌≡◌, refl, ◌∙◌, ap}
-use Rattle.lane_code.specs.Program.{PlainCode, Work, Items, Seq, Vote, Loop, Works, idle, then_work}
+use Rattle.lane_code.specs.Program.{Work, Items, Seq, Vote, Loop, Works, idle, then_work}
 use Rattle.lane_laws.specs.Chain.{Chain, NoWork, CodeThen, VoteThen, LoopThen, work_before, works_before}
 use Rattle.lane_tidy.specs.Tidied.{tidied_of, tidied_work, tidied_works}
 use Rattle.item_loops.specs.Program.{IsOneCode}

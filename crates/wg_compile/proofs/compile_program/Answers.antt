@@ -18,6 +18,7 @@ use Rattle.wg_compile.specs.Passes.{group_in}
 use Rattle.wg_compile.proofs.Alike.{ends_alike}
 use Rattle.wg_compile.proofs.Exact.{lowered_is, kernel_is, varying_is, plan_is, regions_are, like_built, group_is}
 use Rattle.wg_compile.proofs.Correct.{correct_in}
+use Rattle.wg_compile.proofs.Plans.{kept_in}
 use Rattle.wg_compile.proofs.Tidied.{parts_tidied, one_tidied}
 use Rattle.wg_compile.proofs.compile_program.Goals as goal
 
@@ -62,3 +63,27 @@ returns-clause-passes c =
           c.in_ok-group.group.valid valid
           (λ v. varying_exact (program_of u) valid v.function v.number);
     }
+
+pub returns-clause-once : goal.returns-clause-once
+returns-clause-once c = kept_in (unit_of c.args.program)
+
+pub returns-in_err-lowered-clause-once : goal.returns-in_err-lowered-clause-once
+returns-in_err-lowered-clause-once c = kept_in (unit_of c.args.program)
+
+pub returns-in_err-kernel-clause-once : goal.returns-in_err-kernel-clause-once
+returns-in_err-kernel-clause-once c = kept_in (unit_of c.args.program)
+
+pub returns-in_err-varying-clause-once : goal.returns-in_err-varying-clause-once
+returns-in_err-varying-clause-once c = kept_in (unit_of c.args.program)
+
+pub returns-in_err-plan-clause-once : goal.returns-in_err-plan-clause-once
+returns-in_err-plan-clause-once c = kept_in (unit_of c.args.program)
+
+pub returns-in_err-regions-clause-once : goal.returns-in_err-regions-clause-once
+returns-in_err-regions-clause-once c = kept_in (unit_of c.args.program)
+
+pub returns-in_err-built-clause-once : goal.returns-in_err-built-clause-once
+returns-in_err-built-clause-once c = kept_in (unit_of c.args.program)
+
+pub returns-in_err-group-clause-once : goal.returns-in_err-group-clause-once
+returns-in_err-group-clause-once c = kept_in (unit_of c.args.program)
