@@ -1,5 +1,5 @@
 //! From the bytes of a source to its unit.
-ghost use Rattle.std.specs.Prelude.{◌≡◌, ◌≤◌, false, List, length, Some, All, IfOk, IfErr};
+ghost use Rattle.std.specs.Prelude.{◌≡◌, ◌≤◌, false, List, length, Some, None, All, IfOk, IfErr};
 ghost use Rattle.cl_token.specs.declared.token.Token.{Token as AnyToken};
 ghost use Rattle.cl_token.specs.Answers.{IsRefusedOrMemory as IsUncutOrMemory};
 ghost use Rattle.cl_token.specs.Cuts.{Cuts, limit};
