@@ -9,6 +9,7 @@ use Rattle.cl_model.specs.declared.launch.Bound.{Bound}
 use Rattle.cl_model.specs.declared.launch.Bound.TheVariants as bound
 use Rattle.cl_model.specs.Objects.{local_arguments}
 use Rattle.cl_model.specs.Sizes.{Launch, group_count, item_count}
+use Rattle.launch_file.specs.Binding.{total}
 use Rattle.lane_code.specs.declared.end.RunEnd.{RunEnd}
 use Rattle.lane_code.specs.declared.end.RunEnd.TheVariants as run
 use Rattle.lane_code.specs.Program.{Plain}
@@ -80,15 +81,10 @@ one_end (p ∷ ps) (launch ∷ launches) before (suc n) (suc m) x y a b not_x no
     one_end ps launches a.0 n m x y a.2 (subst (λ (bs : List (List ℕ)). EndsBehind ps launches bs m y) same b.2) not_x
     not_y
 
-groups-snoc : (launches : List Launch) (launch : Launch) →
-    all_groups (launches ++ launch ∷ []) ≡ all_groups launches + group_count launch
-groups-snoc [] launch = omega arith
-groups-snoc (first ∷ launches) launch = omega (arith, groups-snoc launches launch)
-
-items-snoc : (launches : List Launch) (launch : Launch) → all_items (launches ++ launch ∷ []) ≡ all_items launches +
-    item_count launch
-items-snoc [] launch = omega arith
-items-snoc (first ∷ launches) launch = omega (arith, items-snoc launches launch)
+-- a sum over a list, with one more at its end
+total-snoc : {X : Type 0} (count : X → ℕ) (xs : List X) (x : X) → total count (xs ++ x ∷ []) ≡ total count xs + count x
+total-snoc count [] x = omega arith
+total-snoc count (first ∷ xs) x = omega (arith, total-snoc count xs x)
 
 -- the first of some things, one more
 module _ {X : Type 0} (xs : List X) (k : ℕ) (x : X) (lt : k < length xs) (is : x ≡ get_or xs k x) where
@@ -106,11 +102,11 @@ module _ {X : Type 0} (xs : List X) (k : ℕ) (x : X) (lt : k < length xs) (is :
 
   pub more_groups : (view : X → Launch) →
       all_groups (map view (take (k + 1) xs)) ≡ all_groups (map view (take k xs)) + group_count (view x)
-  more_groups view = ap all_groups (more view) ∙ groups-snoc (map view (take k xs)) (view x)
+  more_groups view = ap all_groups (more view) ∙ total-snoc group_count (map view (take k xs)) (view x)
 
   pub more_items : (view : X → Launch) → all_items (map view (take (k + 1) xs)) ≡ all_items (map view (take k xs)) +
       item_count (view x)
-  more_items view = ap all_items (more view) ∙ items-snoc (map view (take k xs)) (view x)
+  more_items view = ap all_items (more view) ∙ total-snoc item_count (map view (take k xs)) (view x)
 
   module _ (program : X → Plain) (launch : X → Launch) where
     -- it is done, too

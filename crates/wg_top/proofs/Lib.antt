@@ -34,6 +34,7 @@ pub mod ExecOfSourceLemmas
 pub mod AskedLemmas
 pub mod MiddleLemmas
 pub mod PlanLemmas
+pub mod PromiseReading
 pub mod PromiseLaunches
 pub mod PromiseShown
 pub mod PromiseObjects

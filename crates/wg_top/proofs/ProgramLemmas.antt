@@ -40,7 +40,7 @@ no_refused bytes defines [] us condition place refused are = refused
 no_refused bytes defines (part ∷ parts) [] condition place refused are = are
 no_refused bytes defines (part ∷ parts) (u ∷ us) condition place refused are = elim refused [
   | inl faulty ↦ refused_or_compiled bytes defines part.kernel condition place u (inr faulty) are.0
-  | inr later ↦ no_refused bytes defines parts us condition place later.1 are.1
+  | inr later ↦ no_refused bytes defines parts us condition place later.2 are.1
 ]
 
 -- ---- what is kept once of the unit of an accepted source has equal values
@@ -68,7 +68,8 @@ pub refused_behind : (bytes : List ℕ) (defines : List Define) (parts : List Pa
 refused_behind bytes defines [] [] part rest condition place are one = inl one
 refused_behind bytes defines (p ∷ parts) (v ∷ us) part rest condition place are one =
     inr (
-      record { typed = v; compiled = are.0 },
+      v,
+      are.0,
       refused_behind bytes defines parts us part rest condition place are.1 one,
     )
 refused_behind bytes defines [] (v ∷ us) part rest condition place are one = absurd are

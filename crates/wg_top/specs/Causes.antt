@@ -19,7 +19,7 @@ use Rattle.cl_front.specs.Front.{HasUnit, StandsAt}
 use Rattle.wg_top.specs.Units.{HaveTypedUnits, IsFirstRefused, bind_refusal}
 use Rattle.wg_top.specs.Launches.{launches_in}
 use Rattle.wg_top.specs.Loops.{HaveNoLoop}
-use Rattle.wg_top.specs.Outcomes.{models_in, AreClean, AllLeave}
+use Rattle.wg_top.specs.Outcomes.{models_in, AreClean, Through, EachLeaves}
 use Rattle.launch_file.specs.declared.text.BufferText.{BufferText}
 use Rattle.wg_cache.specs.Keys.{IsCacheName}
 
@@ -162,7 +162,7 @@ pub record LeavesClean (old new : Option FileMap) (text : Text) (units : List Un
   pub before : List (List ℕ)
   pub loaded : BuffersLoaded old text before
   pub after : List (List ℕ)
-  pub leaves : AllLeave (models_in units) (launches_in text) before after
+  pub leaves : Through EachLeaves (models_in units) (launches_in text) before after
   pub saved : AllSavedAs old new (saves_of text.buffers) after
   pub others : KeepsAllBut old new (saves_of text.buffers)
 

@@ -1,11 +1,11 @@
 -- The launches of a launch file: their sizes, and how many groups and work-items they have.
-use Rattle.std.specs.Prelude.{◌≡◌, ◌+◌, ◌<◌, ◌≤◌, ◌^◌, ℕ, List, [], ◌∷◌, map}
+use Rattle.std.specs.Prelude.{◌≡◌, ◌<◌, ◌≤◌, ◌^◌, ℕ, List, map}
 use Rattle.cl_model.specs.Sizes.{Launch, product, group_count, item_count}
 use Rattle.cl_model.specs.Fitting.{DimensionFits}
 use Rattle.cl_model.specs.declared.launch.Launch.{Launch as Bindings}
 use Rattle.cl_model.specs.View.{launch_of}
 use Rattle.launch_file.specs.declared.text.BufferText.{BufferText}
-use Rattle.launch_file.specs.Binding.{launch_in, lengths_of, loads_of, saves_of}
+use Rattle.launch_file.specs.Binding.{launch_in, lengths_of, loads_of, saves_of, total}
 use Rattle.launch_file.specs.Texts.{Text}
 
 -- the launches that a launch file says
@@ -27,10 +27,8 @@ pub record IsReady (buffers : List BufferText) (launch : Bindings) : Type 0 wher
 
 -- how many groups the launches have together
 abbrev pub all_groups : List Launch → ℕ
-all_groups [] = 0
-all_groups (launch ∷ launches) = group_count launch + all_groups launches
+all_groups launches = total group_count launches
 
 -- how many work-items the launches have together
 abbrev pub all_items : List Launch → ℕ
-all_items [] = 0
-all_items (launch ∷ launches) = item_count launch + all_items launches
+all_items launches = total item_count launches

@@ -1,25 +1,19 @@
 -- Kernels without a loop.
-use Rattle.std.specs.Prelude.{◌≡◌, ◌||◌, true, false, ⊤, List, [], ◌∷◌}
+use Rattle.std.specs.Prelude.{◌≡◌, ◌||◌, true, false, List}
 use Rattle.std.specs.Prelude.{Bool as Test}
 use Rattle.cl_model.specs.Lists.{Each}
 use Rattle.cl_model.specs.Calls.{Instance, instances, function_at}
-use Rattle.cl_model.specs.Tree.{Statement, Do, Declare, Fill, Block, If, Loop, Switch, Break, Continue, Return}
-use Rattle.cl_model.specs.Tree.{Barrier, Statements, empty, also, Arms, no_arm, arm, Program}
+use Rattle.cl_model.specs.Tree.{Statement, Block, If, Loop, Switch, Statements, empty, also, Arms, no_arm, arm}
+use Rattle.cl_model.specs.Tree.{Program}
 
 -- a statement is a loop, or has one in it
 abbrev mutual
   pub has_loop : Statement → Test
-  has_loop (Do e) = false
-  has_loop (Declare x value) = false
-  has_loop (Fill site array values) = false
   has_loop (Block list) = have_loop list
   has_loop (If site test chosen other) = have_loop chosen || have_loop other
   has_loop (Loop site test_first test step body) = true
   has_loop (Switch site value arms) = arms_have_loop arms
-  has_loop (Break site) = false
-  has_loop (Continue site) = false
-  has_loop (Return site value) = false
-  has_loop (Barrier site) = false
+  has_loop s = false
 
   pub have_loop : Statements → Test
   have_loop empty = false
@@ -35,5 +29,4 @@ HasNoLoop program = Each (λ (i : Instance). have_loop (function_at program i.fu
 
 -- the same of each program
 abbrev pub HaveNoLoop : List Program → Type 0
-HaveNoLoop [] = ⊤
-HaveNoLoop (p ∷ programs) = HasNoLoop p × HaveNoLoop programs
+HaveNoLoop programs = Each HasNoLoop programs

@@ -17,13 +17,17 @@ models_in units = map program_of units
 
 -- ---- every launch
 
--- each launch may be done: after some run of it on the buffers that the one before it left every work-item has ended;
--- and the last one leaves these
+-- launch by launch, the buffers that the one before it left become others so; the last one leaves these
+abbrev pub Through : (Program → Launch → (before after : List (List ℕ)) → Type 0) → List Program → List Launch →
+    (before after : List (List ℕ)) → Type 0
+Through Leaves [] [] before after = after ≡ before
+Through Leaves (p ∷ programs) (launch ∷ launches) before after =
+    (mid : List (List ℕ)) × Leaves p launch before mid × Through Leaves programs launches mid after
+Through Leaves _ _ before after = ⊥
+
+-- each launch may be done: after some run of it on the buffers that the one before it left every work-item has ended
 abbrev pub AreDone : List Program → List Launch → (before after : List (List ℕ)) → Type 0
-AreDone [] [] before after = after ≡ before
-AreDone (p ∷ programs) (launch ∷ launches) before after =
-    (mid : List (List ℕ)) × EndsDone p launch before mid × AreDone programs launches mid after
-AreDone _ _ before after = ⊥
+AreDone = Through EndsDone
 
 -- so many launches may be done, and the next one may end so on the buffers that they leave
 abbrev pub EndBehind : (Program → Launch → List (List ℕ) → Type 0) → List Program → List Launch →
@@ -69,7 +73,4 @@ pub record EachLeaves (program : Program) (launch : Launch) (before after : List
 
 -- the same of each launch, on the buffers that the one before it leaves
 abbrev pub AllLeave : List Program → List Launch → (before after : List (List ℕ)) → Type 0
-AllLeave [] [] before after = after ≡ before
-AllLeave (p ∷ programs) (launch ∷ launches) before after =
-    (mid : List (List ℕ)) × EachLeaves p launch before mid × AllLeave programs launches mid after
-AllLeave _ _ before after = ⊥
+AllLeave = Through EachLeaves

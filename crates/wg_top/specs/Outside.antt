@@ -5,7 +5,7 @@ use Rattle.wg_top.specs.declared.RunError.TheVariants.{Memory}
 use Rattle.command_words.specs.Command.{Request, TakesWords, AskFor}
 use Rattle.launch_file.specs.Texts.{Text}
 use Rattle.cl_meaning.specs.Typed.{Unit'}
-use Rattle.wg_top.specs.Causes.{Standing, standing, LeavesClean}
+use Rattle.wg_top.specs.Causes.{Standing, LeavesClean}
 use Rattle.wg_top.specs.Lines.{IsSaid, error_line}
 
 -- a sink at one moment
@@ -37,9 +37,9 @@ abbrev pub outside : {S O E : Type 0} → (S → Option FileMap) → (S → ℕ)
     (E → Option (List ℕ)) → (E → ℕ) → S → O → E → Outside
 outside files faults misses out_written out_faults err_written err_faults store out err =
     record {
-      store = standing files faults misses store;
-      out = sink_standing out_written out_faults out;
-      err = sink_standing err_written err_faults err;
+      store = record { files = files store; faults = faults store; misses = misses store };
+      out = record { written = out_written out; faults = out_faults out };
+      err = record { written = err_written err; faults = err_faults err };
     }
 
 -- a run of clean launches succeeds and leaves what every interleaving leaves, or memory runs out and no file is changed

@@ -4,25 +4,26 @@ use Rattle.wg_outside.specs.Files.{FileMap, file_in}
 use Rattle.buffer_io.specs.Words.{words_of, bytes_of_words}
 use Rattle.command_words.specs.Command.{Files}
 
--- each group's words in reverse
-abbrev pub reversed_source : List ℕ
-reversed_source =
+-- how each source begins: a group's words go to local memory
+abbrev pub sample_opening : List ℕ
+sample_opening =
     codes "__kernel void sample(__global uint *a) {\n" ++
     codes "  __local uint t[256];\n" ++
     codes "  int l = get_local_id(0);\n" ++
     codes "  t[l] = a[get_global_id(0)];\n" ++
-    codes "  barrier(CLK_LOCAL_MEM_FENCE);\n" ++
+    codes "  barrier(CLK_LOCAL_MEM_FENCE);\n"
+
+-- each group's words in reverse
+abbrev pub reversed_source : List ℕ
+reversed_source =
+    sample_opening ++
     codes "  a[get_global_id(0)] = t[255 - l];\n" ++
     codes "}\n"
 
 -- each group's running sums
 abbrev pub summed_source : List ℕ
 summed_source =
-    codes "__kernel void sample(__global uint *a) {\n" ++
-    codes "  __local uint t[256];\n" ++
-    codes "  int l = get_local_id(0);\n" ++
-    codes "  t[l] = a[get_global_id(0)];\n" ++
-    codes "  barrier(CLK_LOCAL_MEM_FENCE);\n" ++
+    sample_opening ++
     codes "  int d;\n" ++
     codes "  uint v;\n" ++
     codes "  for (d = 1; d < 256; d *= 2) {\n" ++
@@ -38,11 +39,7 @@ summed_source =
 -- the greatest of each group's words
 abbrev pub greatest_source : List ℕ
 greatest_source =
-    codes "__kernel void sample(__global uint *a) {\n" ++
-    codes "  __local uint t[256];\n" ++
-    codes "  int l = get_local_id(0);\n" ++
-    codes "  t[l] = a[get_global_id(0)];\n" ++
-    codes "  barrier(CLK_LOCAL_MEM_FENCE);\n" ++
+    sample_opening ++
     codes "  for (int d = 128; d > 0; d /= 2) {\n" ++
     codes "    if (l < d) t[l] = max(t[l], t[l + d]);\n" ++
     codes "    barrier(CLK_LOCAL_MEM_FENCE);\n" ++

@@ -22,17 +22,13 @@ HaveTypedUnits source defines (part ∷ parts) (u ∷ us) =
     HasTypedUnit source defines part.kernel u × HaveTypedUnits source defines parts us
 HaveTypedUnits source defines _ _ = ⊥
 
--- the source has a typed unit with that kernel
-pub record HasTyped (source : List ℕ) (defines : List Define) (kernel : List ℕ) : Type 0 where
-  pub typed : Unit'
-  pub compiled : HasTypedUnit source defines kernel typed
-
--- the kernel of the first launch that is at fault
+-- the kernel of the first launch that is at fault; those of earlier ones have typed units
 abbrev pub IsFirstRefused : List ℕ → List Define → List Part → Condition → Place → Type 0
 IsFirstRefused source defines [] condition place = ⊥
 IsFirstRefused source defines (part ∷ parts) condition place =
     IsFaulty source defines part.kernel condition place ⊎
-    (HasTyped source defines part.kernel × IsFirstRefused source defines parts condition place)
+    ((typed : Unit') × HasTypedUnit source defines part.kernel typed ×
+    IsFirstRefused source defines parts condition place)
 
 -- what is there, or what comes later
 abbrev pub or_later : Option Refusal → Option Refusal → Option Refusal
