@@ -1,5 +1,5 @@
 -- The walk that adds up how large lines are.
-use Rattle.std.proofs.Common.{◌≡◌, ℕ, zero, suc, ◌+◌, ◌<◌, ◌≤◌, List, [], ◌∷◌, length, get_or, drop, sym, ap, ◌∙◌}
+use Rattle.std.proofs.Common.{◌≡◌, ℕ, zero, suc, ◌+◌, ◌<◌, ◌≤◌, List, [], ◌∷◌, length, get_or, drop, ap, ◌∙◌}
 use Rattle.std.proofs.Common.{arith, Global}
 use Rattle.std.specs.Prelude.{Bool as Test}
 use Rattle.std.specs.declared.vec.Vec.{Vec}
@@ -15,18 +15,18 @@ use Rattle.kir_simplify.specs.Passes.{atom_size, atoms_size, size_of}
 
 -- ---- atoms
 
-pub atoms_step : (size longer : ℕ) (xs : List Atom) (i : ℕ) (a : Atom) → i < length xs → a ≡ get_or xs i a →
-    longer ≡ size + atom_size a → size + atoms_size (drop i xs) ≡ atoms_size xs →
-    longer + atoms_size (drop (i + 1) xs) ≡ atoms_size xs
-atoms_step size longer xs i a lt is e same =
+pub atoms_step : (size longer total : ℕ) (xs : List Atom) (i : ℕ) (a : Atom) → i < length xs → a ≡ get_or xs i a →
+    longer ≡ size + atom_size a → size + atoms_size (drop i xs) ≡ total →
+    longer + atoms_size (drop (i + 1) xs) ≡ total
+atoms_step size longer total xs i a lt is e same =
     summed _ _ _ _ _ _ e (ap atoms_size (first_left xs i a lt is)) same
   where
     summed : (n l a r f t : ℕ) → l ≡ n + a → f ≡ a + r → n + f ≡ t → l + r ≡ t
     summed n l a r f t e g h = omega (arith, e, g, h)
 
-pub atoms_end : (size : ℕ) (xs : List Atom) (i : ℕ) → length xs ≤ i → size + atoms_size (drop i xs) ≡ atoms_size xs →
-    size ≡ atoms_size xs
-atoms_end size xs i done h = alone _ _ _ (ap atoms_size (drop_all i xs done)) h
+pub atoms_end : (size total : ℕ) (xs : List Atom) (i : ℕ) → length xs ≤ i → size + atoms_size (drop i xs) ≡ total →
+    size ≡ total
+atoms_end size total xs i done h = alone _ _ _ (ap atoms_size (drop_all i xs done)) h
   where
     alone : (n r t : ℕ) → r ≡ 0 → n + r ≡ t → n ≡ t
     alone n r t e h = omega (arith, e, h)
@@ -78,43 +78,41 @@ pub loop_larger : (l : Line) (site : ℕ) (first : Test) (test : Vec Line Global
 loop_larger l site first test answer body e =
     ap (λ x. size_of (line_before x NoLine)) e ∙ ap size_of (loop_listed site first test answer body NoLine)
 
-pub lines_step : (size one longer : ℕ) (ls : List Line) (i : ℕ) (l : Line) → i < length ls → l ≡ get_or ls i l →
-    one ≡ size_of (line_before l NoLine) → longer ≡ size + one →
-    size + size_of (lines_of (drop i ls)) ≡ size_of (lines_of ls) →
-    longer + size_of (lines_of (drop (i + 1) ls)) ≡ size_of (lines_of ls)
-lines_step size one longer ls i l lt is o e same =
-    summed _ _ _ _ _ _ _ e o (ap (λ xs. size_of (lines_of xs)) (first_left ls i l lt is) ∙
+pub lines_step : (size longer total : ℕ) (ls : List Line) (i : ℕ) (l : Line) → i < length ls → l ≡ get_or ls i l →
+    longer ≡ size + size_of (line_before l NoLine) → size + size_of (lines_of (drop i ls)) ≡ total →
+    longer + size_of (lines_of (drop (i + 1) ls)) ≡ total
+lines_step size longer total ls i l lt is e same =
+    summed _ _ _ _ _ _ e (ap (λ xs. size_of (lines_of xs)) (first_left ls i l lt is) ∙
     size_first l (lines_of (drop (i + 1) ls))) same
   where
-    summed : (n l o s r f t : ℕ) → l ≡ n + o → o ≡ s → f ≡ s + r → n + f ≡ t → l + r ≡ t
-    summed n l o s r f t e d g h = omega (arith, e, d, g, h)
+    summed : (n l s r f t : ℕ) → l ≡ n + s → f ≡ s + r → n + f ≡ t → l + r ≡ t
+    summed n l s r f t e g h = omega (arith, e, g, h)
 
-pub lines_end : (size : ℕ) (ls : List Line) (i : ℕ) → length ls ≤ i →
-    size + size_of (lines_of (drop i ls)) ≡ size_of (lines_of ls) → size ≡ size_of (lines_of ls)
-lines_end size ls i done h = alone _ _ _ (ap (λ xs. size_of (lines_of xs)) (drop_all i ls done)) h
+pub lines_end : (size total : ℕ) (ls : List Line) (i : ℕ) → length ls ≤ i →
+    size + size_of (lines_of (drop i ls)) ≡ total → size ≡ total
+lines_end size total ls i done h = alone _ _ _ (ap (λ xs. size_of (lines_of xs)) (drop_all i ls done)) h
   where
     alone : (n r t : ℕ) → r ≡ 0 → n + r ≡ t → n ≡ t
     alone n r t e h = omega (arith, e, h)
 
-pub if_sized : (l : Line) (site : ℕ) (test : Atom) (chosen other : Vec Line Global) (y n both t all out : ℕ) →
-    l ≡ line.If site test chosen other → y ≡ size_of (lines_of chosen.items) → n ≡ size_of (lines_of other.items) →
-    both ≡ y + n → t ≡ atom_size test → all ≡ t + both → out ≡ 1 + all → out ≡ size_of (line_before l NoLine)
-if_sized l site test chosen other y n both t all out e ey en eb et ea eo =
-    summed _ _ _ _ _ _ _ _ _ ey en eb et ea eo ∙ sym (ap (λ x. size_of (line_before x NoLine)) e ∙
-    ap size_of (if_listed site test chosen other NoLine))
+pub if_marked : (l : Line) (site : ℕ) (test : Atom) (chosen other : Vec Line Global) (old one read first all : ℕ) →
+    l ≡ line.If site test chosen other → one ≡ old + 1 → read ≡ one + atom_size test →
+    first ≡ read + size_of (lines_of chosen.items) → all ≡ first + size_of (lines_of other.items) →
+    all ≡ old + size_of (line_before l NoLine)
+if_marked l site test chosen other old one read first all e eo er ef ea =
+    summed _ _ _ _ _ _ _ _ _ eo er ef ea (if_larger l site test chosen other e)
   where
-    summed : (y n both t all out c o a : ℕ) → y ≡ c → n ≡ o → both ≡ y + n → t ≡ a → all ≡ t + both → out ≡ 1 + all →
-        out ≡ suc (a + (c + (o + 0)))
-    summed y n both t all out c o a ey en eb et ea eo = omega (arith, ey, en, eb, et, ea, eo)
+    summed : (old one read first all t c o s : ℕ) → one ≡ old + 1 → read ≡ one + t → first ≡ read + c →
+        all ≡ first + o → s ≡ suc (t + (c + (o + 0))) → all ≡ old + s
+    summed old one read first all t c o s eo er ef ea es = omega (arith, eo, er, ef, ea, es)
 
-pub loop_sized : (l : Line) (site : ℕ) (first : Test) (test : Vec Line Global) (answer : Atom)
-    (body : Vec Line Global) (y n both t all out : ℕ) → l ≡ line.Loop site first test answer body →
-    y ≡ size_of (lines_of test.items) → n ≡ size_of (lines_of body.items) → both ≡ y + n → t ≡ atom_size answer →
-    all ≡ t + both → out ≡ 1 + all → out ≡ size_of (line_before l NoLine)
-loop_sized l site first test answer body y n both t all out e ey en eb et ea eo =
-    summed _ _ _ _ _ _ _ _ _ ey en eb et ea eo ∙ sym (ap (λ x. size_of (line_before x NoLine)) e ∙
-    ap size_of (loop_listed site first test answer body NoLine))
+pub loop_marked : (l : Line) (site : ℕ) (first : Test) (test : Vec Line Global) (answer : Atom)
+    (body : Vec Line Global) (old one tested read all : ℕ) → l ≡ line.Loop site first test answer body →
+    one ≡ old + 1 → tested ≡ one + size_of (lines_of test.items) → read ≡ tested + atom_size answer →
+    all ≡ read + size_of (lines_of body.items) → all ≡ old + size_of (line_before l NoLine)
+loop_marked l site first test answer body old one tested read all e eo et er ea =
+    summed _ _ _ _ _ _ _ _ _ eo et er ea (loop_larger l site first test answer body e)
   where
-    summed : (y n both t all out c o a : ℕ) → y ≡ c → n ≡ o → both ≡ y + n → t ≡ a → all ≡ t + both → out ≡ 1 + all →
-        out ≡ suc (c + (a + (o + 0)))
-    summed y n both t all out c o a ey en eb et ea eo = omega (arith, ey, en, eb, et, ea, eo)
+    summed : (old one tested read all t a b s : ℕ) → one ≡ old + 1 → tested ≡ one + t → read ≡ tested + a →
+        all ≡ read + b → s ≡ suc (t + (a + (b + 0))) → all ≡ old + s
+    summed old one tested read all t a b s eo et er ea es = omega (arith, eo, et, er, ea, es)

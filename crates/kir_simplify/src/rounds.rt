@@ -28,8 +28,7 @@ pub fn round(alloc: Global, kernel: Kernel) -> Result<Kernel, Memory>
 /// The kernel made simple: what is computed of constants alone is computed (by the rules of OpenCL 1.2,
 /// 6.3, and C99, 6.5), branches that a constant chooses are taken, and no value is computed that no line
 /// reads. It has the given kernel's parameters, cells, arrays, tables and sites, it is simple, and each
-/// of its histories is one of the given kernel's. `Memory` where the allocator refuses; a kernel whose lines
-/// 64 bits do not count would be another cause, but fits in no memory.
+/// of its histories is one of the given kernel's. `Memory` where the allocator refuses.
 pub fn simplify(alloc: Global, kernel: Kernel) -> Result<Kernel, Memory>
     ensures exact { IfOk result (λ k. kernel_of k ≡ simplified_of (kernel_of kernel)) }
     ensures simple { IfOk result (λ k. IsSimple (kernel_of k)) }
@@ -37,9 +36,9 @@ pub fn simplify(alloc: Global, kernel: Kernel) -> Result<Kernel, Memory>
 {
     let mut simpler = kernel;
     loop {
-        let before = lines_size(&simpler.body)?;
+        let before = lines_size(alloc, &simpler.body)?;
         simpler = round(alloc, simpler)?;
-        let after = lines_size(&simpler.body)?;
+        let after = lines_size(alloc, &simpler.body)?;
         if after >= before {
             return Ok(simpler);
         }

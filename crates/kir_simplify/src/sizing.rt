@@ -1,98 +1,95 @@
-//! How large lines are: the cells that they read, their operators, and the lines themselves.
+//! How large lines are: the cells that they read, their operators, and the lines themselves. A list has one mark for
+//! each, so that their number has room.
 
-ghost use Rattle.std.specs.Prelude.{◌≡◌, ◌+◌, IfOk};
+ghost use Rattle.std.specs.Prelude.{◌≡◌, ◌+◌, IfOk, OnOk, length};
 ghost use Rattle.kir.specs.Listed.{line_before, lines_of, work_of};
 ghost use Rattle.kir.specs.Tree.{NoLine};
 ghost use Rattle.kir_simplify.specs.Passes.{atom_size, atoms_size, size_of, work_size};
 
 use kir::{Atom, Line, Work};
-use wg_num::Memory;
+use std::alloc::Global;
+use wg_num::{Memory, push};
 
-/// The sum. Memory where it has no room in 64 bits, which the size of no kernel in memory needs.
-fn add(a: u64, b: u64) -> Result<u64, Memory>
-    ensures { IfOk result (λ sum. sum ≡ a + b) }
+/// One mark more.
+fn mark(marks: &mut Vec<u8>) -> Result<(), Memory>
+    ensures { OnOk result (length marks.new.items ≡ length marks.old.items + 1) }
 {
-    match a.checked_add(b) {
-        Some(sum) => Ok(sum),
-        None => Err(Memory),
-    }
+    push(marks, 0)
 }
 
-/// One where a cell is read.
-fn atom_size(atom: Atom) -> u64
-    ensures { result ≡ atom_size atom }
+/// A mark where a cell is read.
+fn mark_atom(marks: &mut Vec<u8>, atom: Atom) -> Result<(), Memory>
+    ensures { OnOk result (length marks.new.items ≡ length marks.old.items + atom_size atom) }
 {
     match atom {
-        Atom::Const { .. } => 0,
-        Atom::Cell(_) => 1,
+        Atom::Const { .. } => Ok(()),
+        Atom::Cell(_) => mark(marks),
     }
 }
 
-/// How many cells are read.
-fn atoms_size(atoms: &[Atom]) -> Result<u64, Memory>
-    ensures { IfOk result (λ size. size ≡ atoms_size atoms.now) }
+/// A mark for each cell that is read.
+fn mark_atoms(marks: &mut Vec<u8>, atoms: &[Atom]) -> Result<(), Memory>
+    ensures { OnOk result (length marks.new.items ≡ length marks.old.items + atoms_size atoms.now) }
 {
-    let mut size = 0;
     for atom in atoms {
-        size = add(size, atom_size(*atom))?;
+        mark_atom(marks, *atom)?;
     }
-    Ok(size)
+    Ok(())
 }
 
-/// The cells that are read, and one for an operator, two for one of two operands.
-fn work_size(work: &Work) -> Result<u64, Memory>
-    ensures { IfOk result (λ size. size ≡ work_size (work_of work.now)) }
+/// A mark for each cell that is read, and one for an operator, two for one of two operands.
+fn mark_work(marks: &mut Vec<u8>, work: &Work) -> Result<(), Memory>
+    ensures { OnOk result (length marks.new.items ≡ length marks.old.items + work_size (work_of work.now)) }
 {
     match work {
-        Work::Unary { a, .. } | Work::Convert { a, .. } => add(1, atom_size(*a)),
+        Work::Unary { a, .. } | Work::Convert { a, .. } => {
+            mark(marks)?;
+            mark_atom(marks, *a)
+        }
         Work::Binary { a, b, .. } => {
-            let cells = add(atom_size(*a), atom_size(*b))?;
-            add(2, cells)
+            mark(marks)?;
+            mark(marks)?;
+            mark_atom(marks, *a)?;
+            mark_atom(marks, *b)
         }
         Work::Builtin { args, .. } => {
-            let cells = atoms_size(args)?;
-            add(1, cells)
+            mark(marks)?;
+            mark_atoms(marks, args)
         }
-        Work::Ask { dim, .. } => Ok(atom_size(*dim)),
-        Work::Argument(_) => Ok(0),
-        Work::Copy(a) => Ok(atom_size(*a)),
+        Work::Ask { dim, .. } => mark_atom(marks, *dim),
+        Work::Argument(_) => Ok(()),
+        Work::Copy(a) => mark_atom(marks, *a),
     }
 }
 
-/// The size of lines, with those inside them.
+/// The marks of lines, with those inside them.
 #[cycle(size)]
-pub(crate) fn lines_size(lines: &[Line]) -> Result<u64, Memory>
-    ensures { IfOk result (λ size. size ≡ size_of (lines_of lines.now)) }
+fn mark_lines(marks: &mut Vec<u8>, lines: &[Line]) -> Result<(), Memory>
+    ensures { OnOk result (length marks.new.items ≡ length marks.old.items + size_of (lines_of lines.now)) }
 {
-    let mut size = 0;
     for line in lines {
-        let one = line_size(line)?;
-        size = add(size, one)?;
+        mark_line(marks, line)?;
     }
-    Ok(size)
+    Ok(())
 }
 
-/// The size of a line, with those inside it.
+/// The marks of a line, with those inside it.
 #[cycle(size)]
-fn line_size(line: &Line) -> Result<u64, Memory>
-    ensures { IfOk result (λ size. size ≡ size_of (line_before line.now NoLine)) }
+fn mark_line(marks: &mut Vec<u8>, line: &Line) -> Result<(), Memory>
+    ensures { OnOk result (length marks.new.items ≡ length marks.old.items + size_of (line_before line.now NoLine)) }
 {
+    mark(marks)?;
     match line {
-        Line::Set { work, .. } => {
-            let size = work_size(work)?;
-            add(1, size)
-        }
-        Line::Load { index, .. } => add(1, atom_size(*index)),
+        Line::Set { work, .. } => mark_work(marks, work),
+        Line::Load { index, .. } => mark_atom(marks, *index),
         Line::Store { index, from, .. } => {
-            let cells = add(atom_size(*index), atom_size(*from))?;
-            add(1, cells)
+            mark_atom(marks, *index)?;
+            mark_atom(marks, *from)
         }
         Line::If { test, yes, no, .. } => {
-            let yes = lines_size(yes)?;
-            let no = lines_size(no)?;
-            let both = add(yes, no)?;
-            let all = add(atom_size(*test), both)?;
-            add(1, all)
+            mark_atom(marks, *test)?;
+            mark_lines(marks, yes)?;
+            mark_lines(marks, no)
         }
         Line::Loop {
             test,
@@ -100,12 +97,19 @@ fn line_size(line: &Line) -> Result<u64, Memory>
             body,
             ..
         } => {
-            let test = lines_size(test)?;
-            let body = lines_size(body)?;
-            let both = add(test, body)?;
-            let all = add(atom_size(*answer), both)?;
-            add(1, all)
+            mark_lines(marks, test)?;
+            mark_atom(marks, *answer)?;
+            mark_lines(marks, body)
         }
-        Line::Clear { .. } | Line::Barrier { .. } => Ok(1),
+        Line::Clear { .. } | Line::Barrier { .. } => Ok(()),
     }
+}
+
+/// The size of lines, with those inside them.
+pub(crate) fn lines_size(alloc: Global, lines: &[Line]) -> Result<usize, Memory>
+    ensures { IfOk result (λ size. size ≡ size_of (lines_of lines.now)) }
+{
+    let mut marks = Vec::new(alloc);
+    mark_lines(&mut marks, lines)?;
+    Ok(marks.len())
 }

@@ -1,35 +1,39 @@
-use Rattle.std.proofs.Common.{ap, ◌∙◌}
-use Rattle.std.proofs.lemmas.Result.{IfOk-weaker}
+use Rattle.std.proofs.Common.{◌+◌, length, ap, ◌∙◌}
+use Rattle.std.proofs.lemmas.Result.{on_ok_weaker}
 use Rattle.kir.specs.Listed.{lines_of}
 use Rattle.kir_simplify.specs.Passes.{size_of}
-use Rattle.kir_simplify.proofs.Sizes.{lines_step, if_sized, loop_sized}
+use Rattle.kir_simplify.proofs.Sizes.{lines_step, if_marked, loop_marked}
 use Rattle.kir_simplify.proofs.sizing.+size.Goals as goal
 
-pub line_size-returns-in_ok-all-in-If : goal.line_size-returns-in_ok-all-in-If
-line_size-returns-in_ok-all-in-If t c =
-    IfOk-weaker c.add-in-If-3.result _ _
-    (λ size e.
-    if_sized c.args.line.now c.in-If.site c.in-If.test c.in-If.yes c.in-If.no c.in_ok-yes-in-If.yes
-    c.in_ok-no-in-If.no c.in_ok-both-in-If.both c.atom_size-in-If.result c.in_ok-all-in-If.all size c.in-If.is
-    (c.in_ok-yes-in-If.ensures ∙ ap (λ xs. size_of (lines_of xs)) c.deref.ensures.value)
-    (c.in_ok-no-in-If.ensures ∙ ap (λ xs. size_of (lines_of xs)) c.deref-in-If.ensures.value)
-    c.in_ok-both-in-If.ensures c.atom_size-in-If.ensures c.in_ok-all-in-If.ensures e)
-    c.add-in-If-3.ensures
+pub mark_line-returns-in_ok-mark_lines-in-If : goal.mark_line-returns-in_ok-mark_lines-in-If
+mark_line-returns-in_ok-mark_lines-in-If t c =
+    let read = length c.mark_atom-in-If.new.marks.items in
+    let first = length c.mark_lines.new.marks.items in
+    on_ok_weaker c.mark_lines-in-If.result
+    (λ k.
+    if_marked c.args.line.now c.in-If.site c.in-If.test c.in-If.yes c.in-If.no (length c.args.marks.now.items)
+    (length c.mark.new.marks.items) read first (length c.mark_lines-in-If.new.marks.items) c.in-If.is
+    c.in_ok-mark.ensures c.in_ok-mark_atom-in-If.ensures
+    (c.in_ok-mark_lines-in-If.ensures ∙ ap (λ xs. read + size_of (lines_of xs)) c.deref.ensures.value)
+    (k ∙ ap (λ xs. first + size_of (lines_of xs)) c.deref-in-If.ensures.value))
+    c.mark_lines-in-If.ensures
 
-pub line_size-returns-in_ok-all-in-Loop : goal.line_size-returns-in_ok-all-in-Loop
-line_size-returns-in_ok-all-in-Loop t c =
-    IfOk-weaker c.add-in-Loop-3.result _ _
-    (λ size e.
-    loop_sized c.args.line.now c.in-Loop.site c.in-Loop.test_first c.in-Loop.test c.in-Loop.answer c.in-Loop.body
-    c.in_ok-test-in-Loop.test c.in_ok-body-in-Loop.body c.in_ok-both-in-Loop.both c.atom_size-in-Loop.result
-    c.in_ok-all-in-Loop.all size c.in-Loop.is
-    (c.in_ok-test-in-Loop.ensures ∙ ap (λ xs. size_of (lines_of xs)) c.deref-in-Loop.ensures.value)
-    (c.in_ok-body-in-Loop.ensures ∙ ap (λ xs. size_of (lines_of xs)) c.deref-in-Loop-2.ensures.value)
-    c.in_ok-both-in-Loop.ensures c.atom_size-in-Loop.ensures c.in_ok-all-in-Loop.ensures e)
-    c.add-in-Loop-3.ensures
+pub mark_line-returns-in_ok-mark_atom-in-Loop : goal.mark_line-returns-in_ok-mark_atom-in-Loop
+mark_line-returns-in_ok-mark_atom-in-Loop t c =
+    let one = length c.mark.new.marks.items in
+    let read = length c.mark_atom-in-Loop.new.marks.items in
+    on_ok_weaker c.mark_lines-in-Loop-2.result
+    (λ k.
+    loop_marked c.args.line.now c.in-Loop.site c.in-Loop.test_first c.in-Loop.test c.in-Loop.answer c.in-Loop.body
+    (length c.args.marks.now.items) one (length c.mark_lines-in-Loop.new.marks.items) read
+    (length c.mark_lines-in-Loop-2.new.marks.items) c.in-Loop.is c.in_ok-mark.ensures
+    (c.in_ok-mark_lines-in-Loop.ensures ∙ ap (λ xs. one + size_of (lines_of xs)) c.deref-in-Loop.ensures.value)
+    c.in_ok-mark_atom-in-Loop.ensures
+    (k ∙ ap (λ xs. read + size_of (lines_of xs)) c.deref-in-Loop-2.ensures.value))
+    c.mark_lines-in-Loop-2.ensures
 
-pub lines_size-loop-line-preserved : goal.lines_size-loop-line-preserved
-lines_size-loop-line-preserved t c =
-    lines_step c.loop-line.size c.in_ok-one.one c.in_ok-size.size c.args.lines.now c.loop-line.line-index
-    c.line-item.result c.loop-line-test.true c.line-item.is c.in_ok-one.ensures c.in_ok-size.ensures
-    c.loop-line.invariant
+pub mark_lines-loop-line-preserved : goal.mark_lines-loop-line-preserved
+mark_lines-loop-line-preserved t c =
+    lines_step (length c.loop-line.marks.items) (length c.mark_line.new.marks.items)
+    (length c.args.marks.now.items + size_of (lines_of c.args.lines.now)) c.args.lines.now c.loop-line.line-index
+    c.line-item.result c.loop-line-test.true c.line-item.is c.in_ok-mark_line.ensures c.loop-line.invariant

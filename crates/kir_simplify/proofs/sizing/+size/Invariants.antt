@@ -1,8 +1,9 @@
-use Rattle.std.proofs.Common.{◌≡◌, ◌+◌, drop}
+use Rattle.std.proofs.Common.{◌≡◌, ◌+◌, length, drop}
 use Rattle.kir.specs.Listed.{lines_of}
 use Rattle.kir_simplify.specs.Passes.{size_of}
 use Rattle.kir_simplify.proofs.sizing.+size.Given as goal
 
-abbrev pub invariant-lines_size-loop-line : goal.invariant-lines_size-loop-line
-invariant-lines_size-loop-line l =
-    l.size + size_of (lines_of (drop l.line-index l.lines)) ≡ size_of (lines_of l.lines)
+abbrev pub invariant-mark_lines-loop-line : goal.invariant-mark_lines-loop-line
+invariant-mark_lines-loop-line l =
+    length l.marks.items + size_of (lines_of (drop l.line-index l.lines)) ≡
+    length l.fn.marks.items + size_of (lines_of l.lines)
