@@ -121,8 +121,8 @@ impl Pool {
         self.keep(name, bytes);
     }
 
-    // Puts a file into the pool, beside what is reserved. A sum that has no room in 64 bits is more than any list holds,
-    // so that `reserve` refuses it.
+    // Puts a file into the pool, beside what is reserved. A sum that has no room in 64 bits is more than any list
+    // holds, so that `reserve` refuses it.
     pub(crate) fn add(&mut self, name: &str, bytes: &[u8]) -> Result<(), Memory>
         ensures files { OnOk result (files_at self.new.bytes.items self.new.spans.items ≡
             files_at self.old.bytes.items self.old.spans.items ++ (name.now, bytes.now) ∷ []) }

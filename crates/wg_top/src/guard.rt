@@ -1,6 +1,6 @@
-// What a program of a work-group may ask of the machine. An object file can ask for 2^32 registers in a few bytes, and
-// where the system grants more memory than it has, it would end the program. That no compiled kernel asks for so much is
-// not proved.
+// What a program of a work-group may ask of the machine. An object file can ask for 2^32 registers in a few bytes,
+// and where the system grants more memory than it has, it would end the program. That no compiled kernel asks for
+// so much is not proved.
 
 ghost use Rattle.std.specs.Prelude.{◌≡◌};
 ghost use Rattle.lane_code.specs.Program.{work_of};
