@@ -42,9 +42,9 @@ pub struct Compiled {
 /// The kernel of a typed program, under this name, at a lane width: the passes, one after the other.
 /// What each answers is its function of the program; of a valid program (OpenCL 1.2, 6.11 and the
 /// clauses that `docs/MEANING.md` names) all are correct, each as its field of `IsCorrect` says, so that
-/// the program of a work-group ends in outcomes of the program in each launch that fits. Whatever is
-/// answered, what the kernel keeps once for a work-group has equal values in all its work-items. `Memory`
-/// where none is to be had, and where a number of a pass has no room in 32 or 64 bits.
+/// the program of a work-group ends in outcomes of the program in each launch that fits. What the kernel
+/// of a valid program keeps once for a work-group has equal values in all its work-items, whatever is
+/// answered. `Memory` where none is to be had, and at the places of the passes in `docs/OUT_OF_MEMORY.md`.
 pub fn compile_program(
     alloc: Global,
     program: Program,
